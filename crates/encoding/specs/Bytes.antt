@@ -1,0 +1,10 @@
+-- Bytes as numbers.
+use Rattle.std.specs.Prelude.{◌≡◌, ℕ, ◌<◌, List, length, slice_index}
+
+-- every element is a byte
+abbrev pub IsBytes : List ℕ → Type 0
+IsBytes xs = (k : ℕ) → slice_index xs k < 256
+
+-- 32 bytes: an index, a hash or a nonce
+abbrev pub Is32Bytes : List ℕ → Type 0
+Is32Bytes xs = (length xs ≡ 32) × IsBytes xs

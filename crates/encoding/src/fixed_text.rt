@@ -1,0 +1,56 @@
+ghost use Rattle.std.specs.Prelude.{◌≡◌, ℕ, ◌+◌, ◌<◌, ◌≤◌, List, [], ◌∷◌, ◌++◌, length};
+
+use arrayvec::ArrayVec;
+use std::marker::Model;
+
+/// A text of bytes with room for `ROOM` of them, which takes no memory.
+#[derive(Debug, Drop)]
+pub struct FixedText<const ROOM: usize> {
+    bytes: ArrayVec<u8, ROOM>,
+}
+
+/// The text of a commitment, a root or a promise.
+pub type Text = FixedText<2400>;
+
+impl<const ROOM: usize> Model for FixedText<ROOM> {
+    ghost Value = { List ℕ };
+
+    ghost view = { λ text. text.bytes.items };
+}
+
+impl<const ROOM: usize> FixedText<ROOM> {
+    pub fn new() -> Self
+        ensures { result ≡ [] }
+    {
+        FixedText {
+            bytes: ArrayVec::new(),
+        }
+    }
+
+    /// The bytes so far.
+    pub fn bytes(&self) -> &[u8]
+        ensures value { result.now ≡ self.now }
+        ensures fits { length self.now ≤ ROOM }
+    {
+        self.bytes.as_slice()
+    }
+
+    /// Appends one byte.
+    pub fn push(&mut self, byte: u8)
+        requires { length self.old < ROOM }
+        ensures value { self.new ≡ self.old ++ byte ∷ [] }
+        ensures len { length self.new ≡ length self.old + 1 }
+    {
+        self.bytes.push(byte);
+    }
+
+    /// Appends bytes.
+    pub fn push_slice(&mut self, bytes: &[u8])
+        requires { length self.old + length bytes.now ≤ ROOM }
+        ensures value { self.new ≡ self.old ++ bytes.now }
+        ensures len { length self.new ≡ length self.old + length bytes.now }
+    {
+        let fits = self.bytes.try_extend_from_slice(bytes).is_ok();
+        prove!(fits);
+    }
+}

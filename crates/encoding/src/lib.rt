@@ -1,0 +1,16 @@
+//! The values that every other crate speaks of: an index and its bits, a hash, and byte texts of
+//! fixed capacity. After the prefixes of CONIKS, section 3.
+//!
+//! To the layers above: an index and a hash are 32 bytes, a text is a list of bytes that never
+//! outgrows its room, and nothing here takes memory.
+#![tactic(auto)]
+
+mod bits;
+mod fixed_text;
+mod hash32;
+mod index;
+
+pub use bits::{agree, bit, cut, with_one};
+pub use fixed_text::{FixedText, Text};
+pub use hash32::Hash32;
+pub use index::Index;

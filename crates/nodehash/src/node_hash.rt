@@ -1,0 +1,24 @@
+ghost use Rattle.std.specs.Prelude.{◌≡◌, ℕ, List};
+ghost use Rattle.encoding.specs.Bytes.{Is32Bytes};
+ghost use Rattle.nodehash.specs.Digests.{one_more};
+
+use encoding::Hash32;
+
+/// A hash function, and how many digests were taken with it.
+pub trait NodeHash {
+    // The digest of each byte string: one function for the type, whatever was digested before.
+    ghost digest_of: { List ℕ → List ℕ };
+
+    ghost digests: { Self → ℕ };
+
+    /// The digest of these bytes.
+    fn digest(&mut self, text: &[u8]) -> Hash32
+        ensures value { result ≡ digest_of text.now }
+        ensures count { digests self.new ≡ one_more (digests self.old) };
+
+    /// How many digests were taken. The count stays at `u64::MAX` once it is there.
+    fn count(&self) -> u64
+        ensures { result ≡ digests self.now };
+
+    ghost digest_size: { (text : List ℕ) → Is32Bytes (digest_of text) };
+}
