@@ -1,1 +1,5 @@
+pub mod Agreement
+pub mod BitLaws
 pub mod ByteLists
+pub mod Prefixes
+pub mod Sides

@@ -1,4 +1,5 @@
--- The bits of an index, counted from the greatest bit of its first byte (the prefixes of CONIKS, section 3).
+-- The bits of an index, counted from the greatest bit of its first byte, and its prefixes (those of
+-- CONIKS, section 3, which leaves the order of the bits open).
 use Rattle.std.specs.Prelude.{◌≡◌, ℕ, ◌-◌, ◌*◌, ◌/◌, ◌%◌, ◌^◌, List, [], ◌∷◌, slice_index, slice_set, bit_or}
 use Rattle.std.specs.Int.{bit_at}
 

@@ -49,3 +49,77 @@ pub fn agree(a: &Index, b: &Index, n: usize) -> bool
 {
     cut(a, n) == cut(b, n)
 }
+
+#[cfg(test)]
+mod tests {
+    use super::*;
+
+    // Zeros but for the first two bytes and the last.
+    fn index(first: u8, second: u8, last: u8) -> Index {
+        let mut bytes = [0; 32];
+        bytes[0] = first;
+        bytes[1] = second;
+        bytes[31] = last;
+        Index::new(bytes)
+    }
+
+    #[test]
+    fn reads_bits(rt: HostRuntime) {
+        // 10100101 00111100 .. 00000000 10000001
+        let whole = index(0xA5, 0x3C, 0x81);
+        let ones = [0, 2, 5, 7, 10, 11, 12, 13, 248, 255];
+        for k in 0..256 {
+            assert_eq!(rt; bit(&whole, k), ones.contains(&k), "bit {k}");
+        }
+    }
+
+    #[test]
+    fn cuts(rt: HostRuntime) {
+        let whole = index(0xA5, 0x3C, 0x81);
+        let cases = [
+            (0, index(0, 0, 0)),
+            (1, index(0x80, 0, 0)),
+            (7, index(0xA4, 0, 0)),
+            (8, index(0xA5, 0, 0)),
+            (10, index(0xA5, 0, 0)),
+            (11, index(0xA5, 0x20, 0)),
+            (248, index(0xA5, 0x3C, 0)),
+            (255, index(0xA5, 0x3C, 0x80)),
+            (256, whole),
+            (257, whole),
+            (usize::MAX, whole),
+        ];
+        for (n, prefix) in cases {
+            assert_eq!(rt; cut(&whole, n), prefix, "{n} bits");
+        }
+    }
+
+    #[test]
+    fn sets_a_bit(rt: HostRuntime) {
+        let whole = index(0xA5, 0x3C, 0x81);
+        assert_eq!(rt; with_one(&whole, 0), whole);
+        assert_eq!(rt; with_one(&whole, 1), index(0xE5, 0x3C, 0x81));
+        assert_eq!(rt; with_one(&whole, 8), index(0xA5, 0xBC, 0x81));
+        assert_eq!(rt; with_one(&whole, 15), index(0xA5, 0x3D, 0x81));
+        assert_eq!(rt; with_one(&index(0, 0, 0), 255), index(0, 0, 1));
+    }
+
+    #[test]
+    fn compares_prefixes(rt: HostRuntime) {
+        let whole = index(0xA5, 0x3C, 0x81);
+        // Each with the number of first bits that are the same.
+        let others = [
+            (index(0x25, 0x3C, 0x81), 0),
+            (index(0xA4, 0x3C, 0x81), 7),
+            (index(0xA5, 0xBC, 0x81), 8),
+            (index(0xA5, 0x3C, 0x80), 255),
+        ];
+        for (other, n) in others {
+            assert!(rt; n < 256);
+            assert!(rt; agree(&whole, &other, n), "{n} bits");
+            assert!(rt; !agree(&whole, &other, n + 1), "{n} bits and one more");
+        }
+        assert!(rt; agree(&whole, &whole, 256));
+        assert!(rt; !agree(&whole, &index(0xA5, 0x3C, 0x80), 256));
+    }
+}

@@ -9,9 +9,6 @@ pub struct FixedText<const ROOM: usize> {
     bytes: ArrayVec<u8, ROOM>,
 }
 
-/// The text of a commitment, a root or a promise.
-pub type Text = FixedText<2400>;
-
 impl<const ROOM: usize> Model for FixedText<ROOM> {
     ghost Value = { List ℕ };
 
@@ -19,6 +16,7 @@ impl<const ROOM: usize> Model for FixedText<ROOM> {
 }
 
 impl<const ROOM: usize> FixedText<ROOM> {
+    /// The text of no byte.
     pub fn new() -> Self
         ensures { result ≡ [] }
     {
@@ -52,5 +50,29 @@ impl<const ROOM: usize> FixedText<ROOM> {
     {
         let fits = self.bytes.try_extend_from_slice(bytes).is_ok();
         prove!(fits);
+    }
+}
+
+#[cfg(test)]
+mod tests {
+    use super::*;
+
+    #[test]
+    fn fills_its_room(rt: HostRuntime) {
+        let mut text = FixedText::<5>::new();
+        assert_eq!(rt; text.bytes(), [].as_slice());
+        text.push(1);
+        text.push_slice(&[2, 3, 4]);
+        text.push_slice(&[]);
+        assert_eq!(rt; text.bytes(), [1, 2, 3, 4].as_slice());
+        text.push(5);
+        assert_eq!(rt; text.bytes(), [1, 2, 3, 4, 5].as_slice());
+    }
+
+    #[test]
+    fn takes_its_room_at_once(rt: HostRuntime) {
+        let mut text = FixedText::<2400>::new();
+        text.push_slice(&[7; 2400]);
+        assert_eq!(rt; text.bytes(), [7; 2400].as_slice());
     }
 }

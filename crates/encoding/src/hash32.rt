@@ -21,6 +21,7 @@ impl Model for Hash32 {
 }
 
 impl Hash32 {
+    /// The hash of these bytes, which are taken as they are.
     pub const fn new(bytes: [u8; 32]) -> Self
         ensures { result ≡ bytes }
     {
@@ -33,5 +34,21 @@ impl Hash32 {
         ensures size { Is32Bytes self.now }
     {
         &self.bytes[..]
+    }
+}
+
+#[cfg(test)]
+mod tests {
+    use super::*;
+
+    #[test]
+    fn keeps_its_bytes(rt: HostRuntime) {
+        let mut bytes = [0; 32];
+        bytes[0] = 1;
+        bytes[31] = 2;
+        let hash = Hash32::new(bytes);
+        assert_eq!(rt; hash.bytes(), bytes.as_slice());
+        assert_eq!(rt; Hash32::default(), Hash32::new([0; 32]));
+        assert!(rt; Hash32::default() < hash);
     }
 }

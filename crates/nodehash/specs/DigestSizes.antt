@@ -1,5 +1,5 @@
 -- A digest has 32 bytes.
-use Rattle.std.proofs.Common.{ℕ, zero, suc, ◌%◌, ◌^◌, List, ◌++◌, sum, replicate, refl}
+use Rattle.std.proofs.Common.{ℕ, zero, suc, ◌%◌, ◌^◌, List, sum, replicate, refl}
 use Rattle.std.specs.Int.{w16, w32, to_be_bytes}
 use Rattle.std.specs.Prelude.{slice_index}
 use Rattle.sha2.specs.Sha256.{digest_bytes, final_hash, initial_hash_256, sha256}

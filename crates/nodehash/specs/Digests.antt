@@ -1,8 +1,6 @@
 -- Hash functions on byte strings, and their count.
-use Rattle.std.specs.Prelude.{◌≡◌, ℕ, ◌+◌, ◌-◌, ◌%◌, ◌^◌, List, ◌++◌, sum, replicate, min}
+use Rattle.std.specs.Prelude.{ℕ, ◌+◌, ◌-◌, ◌%◌, ◌^◌, List, ◌++◌, sum, replicate, min}
 use Rattle.std.specs.Int.{w16, to_be_bytes}
-use Rattle.encoding.specs.Bytes.{Is32Bytes}
-use Rattle.sha2.specs.Sha256.{sha256}
 
 -- thirty zero bytes, then the sum of the bytes modulo 65,536 in two
 abbrev pub byte_sum : List ℕ → List ℕ

@@ -44,3 +44,45 @@ impl NodeHash for Sha256Hash {
         self.count
     }
 }
+
+#[cfg(test)]
+pub(crate) mod tests {
+    use super::*;
+
+    // The hash that is written as these two halves.
+    pub(crate) fn hash(high: u128, low: u128) -> Hash32 {
+        let mut bytes = [0; 32];
+        bytes[..16].copy_from_slice(&high.to_be_bytes());
+        bytes[16..].copy_from_slice(&low.to_be_bytes());
+        Hash32::new(bytes)
+    }
+
+    #[test]
+    fn digests(rt: HostRuntime) {
+        // Of NIST's examples for SHA-256 the one block and the two blocks, and the empty text; all
+        // three as scripts/known_answers.py computes them too.
+        let abc = hash(
+            0xba7816bf8f01cfea414140de5dae2223,
+            0xb00361a396177a9cb410ff61f20015ad,
+        );
+        let two = hash(
+            0x248d6a61d20638b8e5c026930c3e6039,
+            0xa33ce45964ff2167f6ecedd419db06c1,
+        );
+        let none = hash(
+            0xe3b0c44298fc1c149afbf4c8996fb924,
+            0x27ae41e4649b934ca495991b7852b855,
+        );
+
+        let mut sha256 = Sha256Hash::new();
+        assert_eq!(rt; sha256.count(), 0);
+        assert_eq!(rt; sha256.digest(b"abc"), abc);
+        assert_eq!(rt; sha256.count(), 1);
+        let text = b"abcdbcdecdefdefgefghfghighijhijkijkljklmklmnlmnomnopnopq";
+        assert_eq!(rt; sha256.digest(text), two);
+        assert_eq!(rt; sha256.digest(&[]), none);
+        assert_eq!(rt; sha256.digest(b"abc"), abc);
+        assert_eq!(rt; sha256.count(), 4);
+        assert_eq!(rt; Sha256Hash::default().count(), 0);
+    }
+}
