@@ -1,0 +1,11 @@
+pub mod Built
+pub mod Contents
+pub mod Node
+pub mod Paths
+pub mod Placement
+pub mod Under
+pub mod WorkedRoots
+pub use Rattle.encoding.specs.Bits
+pub use Rattle.encoding.specs.Bytes
+pub use Rattle.nodehash.specs.Digests
+pub use Rattle.nodehash.specs.NodeTexts
