@@ -1,0 +1,41 @@
+-- What a fault says.
+use Rattle.std.specs.Prelude.{◌≡◌, ℕ, List, ◌++◌, Result, Err, IsOk, codes, decimal, ⊤}
+use Rattle.directoryd.specs.declared.fault.ProgramFault.{ProgramFault}
+use Rattle.directoryd.specs.declared.fault.ProgramFault.TheVariants.{BadHex, BadItem, IndexRepeated, CannotRead, CannotWrite, OutOfMemory}
+
+-- the line that tells a fault
+abbrev pub fault_text : ProgramFault → List ℕ
+fault_text BadHex = codes "bad hex\n"
+fault_text (BadItem line) = codes "line " ++ decimal line ++ codes ": bad item\n"
+fault_text (IndexRepeated line) = codes "line " ++ decimal line ++ codes ": index repeated\n"
+fault_text CannotRead = codes "cannot read\n"
+fault_text CannotWrite = codes "cannot write\n"
+fault_text OutOfMemory = codes "out of memory\n"
+
+-- The fault is what the input says, where it speaks of that. A write fails only where there is
+-- something to write, and a read and memory may fail at any time.
+abbrev pub IsTold : {T : Type 0} → ProgramFault → Result T ProgramFault → Type 0
+IsTold BadHex said = said ≡ Err BadHex
+IsTold (BadItem line) said = said ≡ Err (BadItem line)
+IsTold (IndexRepeated line) said = said ≡ Err (IndexRepeated line)
+IsTold CannotRead said = ⊤
+IsTold CannotWrite said = IsOk said
+IsTold OutOfMemory said = ⊤
+
+-- a read or memory failed
+abbrev pub IsDeviceFault : ProgramFault → Type 0
+IsDeviceFault CannotRead = ⊤
+IsDeviceFault OutOfMemory = ⊤
+IsDeviceFault _ = ⊥
+
+-- the fault came up while the input was read
+abbrev pub IsInputFault : ProgramFault → Type 0
+IsInputFault BadHex = ⊥
+IsInputFault CannotWrite = ⊥
+IsInputFault _ = ⊤
+
+-- the same of what is said by a relation
+abbrev pub IsSaid : ProgramFault → (Result (List ℕ) ProgramFault → Type 0) → Type 0
+IsSaid CannotRead Says = ⊤
+IsSaid OutOfMemory Says = ⊤
+IsSaid fault Says = Says (Err fault)

@@ -1,0 +1,11 @@
+pub mod CommandLine
+pub mod Orders
+pub mod Faults
+pub mod Output
+pub mod Lines
+pub mod Pieces
+pub mod Items
+pub mod Listing
+pub mod Root
+pub mod Prove
+pub mod Programs
