@@ -1,0 +1,84 @@
+#!/usr/bin/env bash
+# Refuses each allocation of the tests in turn, and looks for an answer that changes in place of
+# the error.
+#
+#   scripts/fail_alloc.sh [CRATE..]      without a name: each crate whose tests take memory
+#
+# Each test is a process of its own, so the Nth run refuses the Nth allocation of each test. A test
+# is then to pass, or to end with an `Err` that tells of memory (AllocError, AllocFailed or
+# OutOfMemory). Ended in any other way (a failed assertion, another error, a signal, no end), it is
+# bad: an answer changed in place of the error. A crate is done once every test has passed in two
+# runs on end, which is past the last allocation of each.
+#
+# The status is 0 where nothing was bad. A run takes about 15 seconds, since it builds the tests.
+set -uo pipefail
+cd "$(dirname "$0")/.."
+
+most_runs=500
+seconds_a_run=300
+
+# Says of each test that failed how it ended: TEST memory, or TEST bad and what it printed.
+ends() {
+    awk '
+        function tell() {
+            if (test != "") print test, (memory && ended && !killed ? "memory" : "bad" said)
+            test = ""
+        }
+        /^test .* \.\.\. / || /^test result:/ {
+            tell()
+            if (/ \.\.\. FAILED$/) { test = $2; said = ""; memory = ended = killed = 0 }
+            next
+        }
+        /^    / {
+            said = said " |" $0
+            if (/^    error: .*(AllocError|AllocFailed|OutOfMemory)/) memory = 1
+            if (/^    the test failed: its result gives status 1$/) ended = 1
+            if (/killed by signal/) killed = 1
+        }
+        END { tell() }'
+}
+
+# Refuses each allocation of the tests of the crate in the current folder.
+sweep() {
+    local crate=$1 number passed=0 bad=0 output status failed
+    for ((number = 1; number <= most_runs; number++)); do
+        output=$(timeout "$seconds_a_run" rt try --test --fail-alloc "$number" </dev/null 2>&1)
+        status=$?
+        # 101 is the status of tests of which some failed.
+        if { [ $status != 0 ] && [ $status != 101 ]; } || ! grep -q "^test result:" <<<"$output"; then
+            printf '%s\n' "$output"
+            echo "$crate: allocation $number: no answer (status $status)"
+            return 1
+        fi
+        failed=$(ends <<<"$output")
+        echo "$crate: allocation $number: $(grep -c " \.\.\. ok$" <<<"$output") passed," \
+            "$(grep -c " memory$" <<<"$failed") ended for want of memory"
+        if grep " bad" <<<"$failed"; then
+            bad=1
+        fi
+        if [ $status = 0 ]; then
+            passed=$((passed + 1))
+            [ $passed = 2 ] && return $bad
+        else
+            passed=0
+        fi
+    done
+    echo "$crate: not past the last allocation after $most_runs runs"
+    return 1
+}
+
+crates=("$@")
+if [ $# = 0 ]; then
+    for folder in crates/*/; do
+        grep -rq '#\[test\]' "$folder/src" && grep -rq 'rt\.alloc()' "$folder/src" && crates+=("$(basename "$folder")")
+    done
+fi
+
+wrong=0
+for crate in "${crates[@]}"; do
+    (cd "crates/$crate" && sweep "$crate") || wrong=1
+done
+if [ $wrong = 0 ]; then
+    echo "no answer changed in place of the error: ${crates[*]}"
+fi
+exit $wrong

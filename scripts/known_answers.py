@@ -1,0 +1,87 @@
+#!/usr/bin/env python3
+"""Prints the values that the tests expect, computed by Python's hashlib and sum."""
+
+import hashlib
+
+
+def run(first):
+    """The 32 bytes that rise by one from the given one."""
+    return bytes(range(first, first + 32))
+
+
+texts = [
+    ("empty text", b""),
+    ("abc", b"abc"),
+    ("448 bits", b"abcdbcdecdefdefgefghfghighijhijkijkljklmklmnlmnomnopnopq"),
+]
+
+# The prefix of 11 bits of 32 bytes ff is ff e0 and zeros.
+prefix = bytes([0xFF, 0xE0]) + bytes(30)
+node_texts = [
+    ("empty node", b"E" + run(0x00) + prefix + (11).to_bytes(4, "big")),
+    ("leaf", b"L" + run(0x00) + run(0x20) + (256).to_bytes(4, "big") + run(0x40)),
+    ("interior node", run(0x60) + run(0x80)),
+]
+
+for name, text in texts:
+    print(f"{name}: sha256 {hashlib.sha256(text).hexdigest()}")
+
+for name, text in node_texts:
+    digest = hashlib.sha256(text).hexdigest()
+    print(f"{name}: {len(text)} bytes, sha256 {digest}, sum {sum(text) % 65536:04x}")
+
+halves = hashlib.sha256(b"a").digest() + hashlib.sha256(b"b").digest()
+print(f"interior node over a and b: sha256 {hashlib.sha256(halves).hexdigest()}")
+
+
+def sha256(text):
+    return hashlib.sha256(text).digest()
+
+
+def byte_sum(text):
+    return bytes(30) + (sum(text) % 65536).to_bytes(2, "big")
+
+
+def bit(index, k):
+    return index[k // 8] >> (7 - k % 8) & 1
+
+
+def node(digest, nonce, items, prefix, level):
+    """The node of a prefix of this many bits, over the items whose indices it begins."""
+    place = level.to_bytes(4, "big")
+    if not items:
+        return digest(b"E" + nonce + prefix + place)
+    if len(items) == 1:
+        ((index, commitment),) = items
+        return digest(b"L" + nonce + index + place + commitment)
+    one_prefix = bytearray(prefix)
+    one_prefix[level // 8] |= 128 >> level % 8
+    zeros = [item for item in items if not bit(item[0], level)]
+    ones = [item for item in items if bit(item[0], level)]
+    return digest(
+        node(digest, nonce, zeros, prefix, level + 1)
+        + node(digest, nonce, ones, bytes(one_prefix), level + 1)
+    )
+
+
+zero = bytes(32)
+low, middle, high = (bytes([first]) + bytes(31) for first in (0x00, 0x40, 0x80))
+plain = [(index, zero) for index in (low, middle, high)]
+# Three items with commitments that differ from each other and from their indices.
+mixed = [(low, run(0x20)), (middle, run(0xA0)), (run(0xC0), run(0x40))]
+roots = [
+    ("no item", zero, []),
+    ("low", zero, plain[:1]),
+    ("low and high", zero, [plain[0], plain[2]]),
+    ("all three", zero, plain),
+    ("low and middle", zero, plain[:2]),
+    ("no item under a nonce", run(0xA0), []),
+    ("all three under a nonce", run(0xA0), plain),
+    ("mixed", zero, mixed),
+    ("mixed under a nonce", run(0xA0), mixed),
+]
+
+for name, nonce, items in roots:
+    for digest in (sha256, byte_sum):
+        root = node(digest, nonce, items, zero, 0)
+        print(f"root of {name}, {digest.__name__}: {root.hex()}")
