@@ -1,3 +1,5 @@
 pub mod BitLaws
 pub mod Bits
 pub mod Bytes
+pub mod Faults
+pub mod Limits

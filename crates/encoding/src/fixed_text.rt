@@ -9,6 +9,12 @@ pub struct FixedText<const ROOM: usize> {
     bytes: ArrayVec<u8, ROOM>,
 }
 
+/// A text that is signed, hashed or compared: at most 2,400 bytes.
+pub type Text = FixedText<2400>;
+
+/// The text of a proof: at most 10,700 bytes.
+pub type ProofText = FixedText<10700>;
+
 impl<const ROOM: usize> Model for FixedText<ROOM> {
     ghost Value = { List ℕ };
 

@@ -6,13 +6,17 @@
 #![tactic(auto)]
 
 mod bits;
+mod bounded;
+mod fault;
 mod fixed_text;
 mod hash32;
 mod index;
 mod laws;
 
 pub use bits::{agree, bit, cut, with_one};
-pub use fixed_text::FixedText;
+pub use bounded::{Bounded, KeyData, Name, Small};
+pub use fault::Fault;
+pub use fixed_text::{FixedText, ProofText, Text};
 pub use hash32::Hash32;
 pub use index::Index;
 pub use laws::{agreement_of_bits, bits_of_cut, bits_of_with_one};
