@@ -1,5 +1,6 @@
 -- Lists whose elements are bytes.
-use Rattle.std.proofs.Common.{ℕ, zero, suc, ◌<◌, List, [], ◌∷◌, ◌++◌, replicate, arith}
+use Rattle.std.proofs.Common.{ℕ, zero, suc, ◌<◌, List, [], ◌∷◌, ◌++◌, take, drop, replicate, arith}
+use Rattle.std.proofs.lemmas.List.{take-append-drop}
 use Rattle.std.specs.Int.{byte_at, bytes_high_first}
 use Rattle.encoding.specs.Bytes.{IsBytes}
 
@@ -26,3 +27,14 @@ byte_at-below (suc k) n = omega arith
 pub IsBytes-bytes_high_first : (count n : ℕ) → IsBytes (bytes_high_first count n)
 IsBytes-bytes_high_first zero n = IsBytes-none
 IsBytes-bytes_high_first (suc count) n = IsBytes-cons (byte_at count n) (bytes_high_first count n) (byte_at-below count n) (IsBytes-bytes_high_first count n)
+
+pub IsBytes-front : (xs ys : List ℕ) → IsBytes (xs ++ ys) → IsBytes xs
+IsBytes-front [] ys bytes = IsBytes-none
+IsBytes-front (x ∷ xs) ys bytes = IsBytes-cons x xs (bytes zero) (IsBytes-front xs ys (λ k. bytes (suc k)))
+
+pub IsBytes-back : (xs ys : List ℕ) → IsBytes (xs ++ ys) → IsBytes ys
+IsBytes-back [] ys bytes = bytes
+IsBytes-back (x ∷ xs) ys bytes = IsBytes-back xs ys (λ k. bytes (suc k))
+
+pub IsBytes-take : (count : ℕ) (xs : List ℕ) → IsBytes xs → IsBytes (take count xs)
+IsBytes-take count xs bytes = IsBytes-front (take count xs) (drop count xs) (rw (take-append-drop count xs) bytes)

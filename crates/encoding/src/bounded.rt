@@ -1,4 +1,4 @@
-ghost use Rattle.std.specs.Prelude.{◌≡◌, ◌↔◌, ℕ, ◌≤◌, List, length, IsOk, IfOk, IfErr};
+ghost use Rattle.std.specs.Prelude.{◌≡◌, ◌↔◌, ℕ, ◌≤◌, List, length, IsOk, IfOk, IsOkUnless};
 ghost use Rattle.encoding.specs.Limits.{IsBounded};
 
 use crate::Fault;
@@ -30,17 +30,6 @@ impl<const MOST: usize> Model for Bounded<MOST> {
     ghost inverse = { λ bytes. record { bytes = record { items = bytes } } };
 }
 
-// A copy of bytes that fit.
-fn array_of<const MOST: usize>(bytes: &[u8]) -> ArrayVec<u8, MOST>
-    requires { length bytes.now ≤ MOST }
-    ensures { result.items ≡ bytes.now }
-{
-    let mut array = ArrayVec::new();
-    let fits = array.try_extend_from_slice(bytes).is_ok();
-    prove!(fits);
-    array
-}
-
 impl<const MOST: usize> Bounded<MOST> {
     ghost use Rattle.encoding.specs.declared.fault.Fault.TheVariants.{OutOfRange};
 
@@ -48,14 +37,24 @@ impl<const MOST: usize> Bounded<MOST> {
     pub fn new(bytes: &[u8]) -> Result<Self, Fault>
         ensures limits { IsOk result ↔ IsBounded MOST bytes.now }
         ensures value { IfOk result (λ text. text ≡ bytes.now) }
-        ensures refusal { IfErr result (λ fault. fault ≡ OutOfRange) }
+        ensures refusal { IsOkUnless result OutOfRange }
     {
         if bytes.is_empty() || MOST < bytes.len() {
             return Err(Fault::OutOfRange);
         }
-        Ok(Bounded {
-            bytes: array_of(bytes),
-        })
+        Ok(Bounded::within_limits(bytes))
+    }
+
+    /// These bytes, of which there are 1 to `MOST`.
+    pub(crate) fn within_limits(bytes: &[u8]) -> Self
+        requires least { 1 ≤ length bytes.now }
+        requires most { length bytes.now ≤ MOST }
+        ensures { result ≡ bytes.now }
+    {
+        let mut own = ArrayVec::new();
+        let fits = own.try_extend_from_slice(bytes).is_ok();
+        prove!(fits);
+        Bounded { bytes: own }
     }
 
     /// The bytes.
@@ -70,9 +69,7 @@ impl<const MOST: usize> Bounded<MOST> {
     pub fn copied(&self) -> Self
         ensures { result ≡ self.now }
     {
-        Bounded {
-            bytes: array_of(self.bytes.as_slice()),
-        }
+        Bounded::within_limits(self.bytes.as_slice())
     }
 }
 

@@ -1,6 +1,9 @@
-ghost use Rattle.std.specs.Prelude.{◌≡◌, ℕ, ◌+◌, ◌<◌, ◌≤◌, List, [], ◌∷◌, ◌++◌, length};
+ghost use Rattle.std.specs.Prelude.{◌≡◌, ℕ, ◌+◌, ◌<◌, ◌≤◌, ◌^◌, List, [], ◌∷◌, ◌++◌, length};
+ghost use Rattle.byteorder.specs.Endian.{big_bytes};
+ghost use Rattle.encoding.specs.Forms.{counted_bytes};
 
 use arrayvec::ArrayVec;
+use byteorder::{BigEndian, ByteOrder};
 use std::marker::Model;
 
 /// A text of bytes with room for `ROOM` of them, which takes no memory.
@@ -57,6 +60,50 @@ impl<const ROOM: usize> FixedText<ROOM> {
         let fits = self.bytes.try_extend_from_slice(bytes).is_ok();
         prove!(fits);
     }
+
+    /// Appends a number in 2 bytes.
+    pub fn push_u16(&mut self, n: u16)
+        requires { length self.old + 2 ≤ ROOM }
+        ensures value { self.new ≡ self.old ++ big_bytes 2 n }
+        ensures len { length self.new ≡ length self.old + 2 }
+    {
+        let mut bytes = [0; 2];
+        BigEndian::write_u16(&mut bytes, n);
+        self.push_slice(&bytes);
+    }
+
+    /// Appends a number in 4 bytes.
+    pub fn push_u32(&mut self, n: u32)
+        requires { length self.old + 4 ≤ ROOM }
+        ensures value { self.new ≡ self.old ++ big_bytes 4 n }
+        ensures len { length self.new ≡ length self.old + 4 }
+    {
+        let mut bytes = [0; 4];
+        BigEndian::write_u32(&mut bytes, n);
+        self.push_slice(&bytes);
+    }
+
+    /// Appends a number in 8 bytes.
+    pub fn push_u64(&mut self, n: u64)
+        requires { length self.old + 8 ≤ ROOM }
+        ensures value { self.new ≡ self.old ++ big_bytes 8 n }
+        ensures len { length self.new ≡ length self.old + 8 }
+    {
+        let mut bytes = [0; 8];
+        BigEndian::write_u64(&mut bytes, n);
+        self.push_slice(&bytes);
+    }
+
+    /// Appends bytes behind their number, a `u16`.
+    pub fn push_counted(&mut self, bytes: &[u8])
+        requires few { length bytes.now < 2 ^ 16 }
+        requires room { length self.old + 2 + length bytes.now ≤ ROOM }
+        ensures value { self.new ≡ self.old ++ counted_bytes bytes.now }
+        ensures len { length self.new ≡ length self.old + 2 + length bytes.now }
+    {
+        self.push_u16(bytes.len() as u16);
+        self.push_slice(bytes);
+    }
 }
 
 #[cfg(test)]
@@ -73,6 +120,20 @@ mod tests {
         assert_eq!(rt; text.bytes(), [1, 2, 3, 4].as_slice());
         text.push(5);
         assert_eq!(rt; text.bytes(), [1, 2, 3, 4, 5].as_slice());
+    }
+
+    #[test]
+    fn writes_numbers(rt: HostRuntime) {
+        let mut text = FixedText::<20>::new();
+        text.push_u16(0x0102);
+        text.push_u32(0x03040506);
+        text.push_u64(0x0708090A0B0C0D0E);
+        text.push_counted(&[0x2A, 0x2B]);
+        text.push_counted(&[]);
+        let wanted = [
+            1, 2, 3, 4, 5, 6, 7, 8, 9, 10, 11, 12, 13, 14, 0, 2, 0x2A, 0x2B, 0, 0,
+        ];
+        assert_eq!(rt; text.bytes(), wanted.as_slice());
     }
 
     #[test]

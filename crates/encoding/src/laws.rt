@@ -1,4 +1,5 @@
 ghost use Rattle.encoding.specs.BitLaws.{BitsOfCut, BitsOfWithOne, AgreementOfBits};
+ghost use Rattle.encoding.specs.Fields.{BytesAreField, ByteIsField, NumbersAreFields, CountedAreFields};
 
 /// The first `n` bits of a prefix are the index's, the others zero.
 pub fn bits_of_cut()
@@ -13,4 +14,24 @@ pub fn bits_of_with_one()
 /// Two indices agree in `n` bits exactly where each of their first `n` bits is the same.
 pub fn agreement_of_bits()
     ensures { AgreementOfBits }
+{}
+
+/// So many bytes are read exactly as they stand, whatever follows.
+pub fn bytes_are_read()
+    ensures { BytesAreField }
+{}
+
+/// A byte is read exactly as it stands, whatever follows.
+pub fn byte_is_read()
+    ensures { ByteIsField }
+{}
+
+/// What is read as a number is its spelling, and its spelling is read, whatever follows.
+pub fn numbers_are_read()
+    ensures { NumbersAreFields }
+{}
+
+/// What is read as counted bytes is their spelling, and their spelling is read, whatever follows.
+pub fn counted_are_read()
+    ensures { CountedAreFields }
 {}

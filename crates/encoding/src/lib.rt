@@ -7,6 +7,7 @@
 
 mod bits;
 mod bounded;
+mod cursor;
 mod fault;
 mod fixed_text;
 mod hash32;
@@ -15,8 +16,12 @@ mod laws;
 
 pub use bits::{agree, bit, cut, with_one};
 pub use bounded::{Bounded, KeyData, Name, Small};
+pub use cursor::Cursor;
 pub use fault::Fault;
 pub use fixed_text::{FixedText, ProofText, Text};
 pub use hash32::Hash32;
 pub use index::Index;
-pub use laws::{agreement_of_bits, bits_of_cut, bits_of_with_one};
+pub use laws::{
+    agreement_of_bits, bits_of_cut, bits_of_with_one, byte_is_read, bytes_are_read,
+    counted_are_read, numbers_are_read,
+};

@@ -1,0 +1,182 @@
+-- Readers of forms: what is read is spelled so, and what is spelled so is read, whatever follows. One
+-- lemma for each reader, and one for each way to make a reader of others.
+use Rattle.std.proofs.Common.{◌≡◌, ℕ, zero, suc, ◌^◌, ◌<◌, ◌≤◌, Bool, true, false, ◌&&◌, cond, ltb, leb, IsTrue, List, [], ◌∷◌, ◌++◌, length, take, drop, flat_map, Result, Ok, Err, refl, sym, ap, subst, ◌∙◌, append_assoc, arith}
+use Rattle.std.specs.List.{AllByRecursion}
+use Rattle.std.proofs.lemmas.Bool.{ltb-false, le-ltb, leb-true, le-leb}
+use Rattle.std.proofs.lemmas.List.{take_at, drop_at, take-append-drop, length-append, length-take}
+use Rattle.byteorder.specs.Endian.{big_bytes, big_number}
+use Rattle.byteorder.specs.Numbers.{big_from-lt, length-bytes_high_first}
+use Rattle.encoding.specs.declared.fault.Fault.{Fault}
+use Rattle.encoding.specs.declared.fault.Fault.TheVariants.{Short, OutOfRange}
+use Rattle.encoding.specs.Bytes.{IsBytes}
+use Rattle.encoding.specs.Forms.{counted_bytes}
+use Rattle.encoding.specs.Reading.{Reading, ◌>>=◌, read_bytes, read_byte, read_number, read_counted, read_both, read_as, read_where, read_list}
+use Rattle.encoding.specs.Fields.{IsField, HasBytes, IsWithin, BytesAreField, ByteIsField, NumbersAreFields, CountedAreFields}
+use Rattle.encoding.proofs.ByteLists.{IsBytes-back, IsBytes-take, IsBytes-bytes_high_first}
+use Rattle.encoding.proofs.NumberBytes.{number-of_bytes, bytes-of_number}
+
+-- ---- what was read
+
+bind_ok : {A B : Type 0} (r : Result A Fault) (next : A → Result B Fault) (y : B) → (r >>= next) ≡ Ok y → (x : A) × (r ≡ Ok x) × (next x ≡ Ok y)
+bind_ok (Ok x) next y e = (x, refl, e)
+bind_ok (Err _) next y e = absurd cc
+
+short_ok : {A : Type 0} (short : Bool) (fault : Fault) (r : Result A Fault) (y : A) → cond short (Err fault) r ≡ Ok y → (short ≡ false) × (r ≡ Ok y)
+short_ok true fault r y e = absurd cc
+short_ok false fault r y e = (refl, e)
+
+passed_ok : {A : Type 0} (passed : Bool) (fault : Fault) (r : Result A Fault) (y : A) → cond passed r (Err fault) ≡ Ok y → (passed ≡ true) × (r ≡ Ok y)
+passed_ok true fault r y e = (refl, e)
+passed_ok false fault r y e = absurd cc
+
+abbrev done : {A : Type 0} → A → Result A Fault
+done x = Ok x
+
+-- two answers that are one have one value
+pub ok_is : {A : Type 0} (x y : A) → done x ≡ done y → x ≡ y
+ok_is x y e = cc
+
+-- two spellings, one after the other
+joined : (bytes x middle y rest : List ℕ) → bytes ≡ x ++ middle → middle ≡ y ++ rest → bytes ≡ (x ++ y) ++ rest
+joined bytes x middle y rest p q = p ∙ ap (λ (t : List ℕ). x ++ t) q ∙ sym (append_assoc x y rest)
+
+-- what is left of bytes are bytes
+left_small : (bytes x rest : List ℕ) → bytes ≡ x ++ rest → IsBytes bytes → IsBytes rest
+left_small bytes x rest e small = IsBytes-back x rest (subst IsBytes e small)
+
+-- ---- the readers
+
+pub bytes_field : BytesAreField
+bytes_field count =
+    record {
+      spelled = λ bytes z small e.
+          let g = short_ok (ltb (length bytes) count) Short (Ok (take count bytes, drop count bytes)) z e in
+          let long : count ≤ length bytes = ltb-false _ _ g.0 in
+          subst (λ (w : List ℕ × List ℕ). (bytes ≡ w.0 ++ w.1) × HasBytes count w.0) (ok_is (take count bytes, drop count bytes) z g.1)
+          (sym (take-append-drop count bytes), (omega (arith, length-take count bytes), IsBytes-take count bytes small));
+      again = λ x rest h.
+          let long : ltb (length (x ++ rest)) count ≡ false = le-ltb _ _ (omega (arith, length-append x rest, h.0)) in
+          rw (long, take_at x rest count h.0, drop_at x rest count h.0) refl;
+    }
+
+pub byte_field : ByteIsField
+byte_field = record { spelled = first; again = λ x rest h. refl }
+  where
+    first : (bytes : List ℕ) (z : ℕ × List ℕ) → IsBytes bytes → read_byte bytes ≡ Ok z → (bytes ≡ (z.0 ∷ []) ++ z.1) × (z.0 < 256)
+    first [] z small e = absurd cc
+    first (b ∷ rest) z small e = subst (λ (w : ℕ × List ℕ). (b ∷ rest ≡ (w.0 ∷ []) ++ w.1) × (w.0 < 256)) (ok_is (b, rest) z e) (refl, small zero)
+
+pub numbers_field : NumbersAreFields
+numbers_field count =
+    record {
+      spelled = λ bytes z small e.
+          let u = bind_ok (read_bytes count bytes) (λ x. Ok (big_number count x.0, x.1)) z e in
+          let t = (bytes_field count).spelled bytes u.0 small u.1 in
+          let spelling : big_bytes count (big_number count u.0.0) ≡ u.0.0 = bytes-of_number count u.0.0 t.1.0 t.1.1 in
+          subst (λ (w : ℕ × List ℕ). (bytes ≡ big_bytes count w.0 ++ w.1) × (w.0 < 256 ^ count)) (ok_is (big_number count u.0.0, u.0.1) z u.2)
+          (rw spelling t.0, big_from-lt 0 count u.0.0 t.1.1);
+      again = λ n rest h.
+          rw ((bytes_field count).again (big_bytes count n) rest (length-bytes_high_first count n, IsBytes-bytes_high_first count n), number-of_bytes count n h) refl;
+    }
+
+pub counted_field : CountedAreFields
+unfolding read_counted
+counted_field least most small =
+    record {
+      spelled = λ bytes z fits e.
+          let u = bind_ok (read_number 2 bytes) (λ n. cond (leb least n.0 && leb n.0 most) (read_bytes n.0 n.1) (Err OutOfRange)) z e in
+          let g = passed_ok (leb least u.0.0 && leb u.0.0 most) OutOfRange (read_bytes u.0.0 u.0.1) z u.2 in
+          let limits = and_true (leb least u.0.0) (leb u.0.0 most) g.0 in
+          let low : least ≤ u.0.0 = leb-true _ _ limits.0 in
+          let high : u.0.0 ≤ most = leb-true _ _ limits.1 in
+          let one = (numbers_field 2).spelled bytes u.0 fits u.1 in
+          let left : IsBytes u.0.1 = left_small bytes (big_bytes 2 u.0.0) u.0.1 one.0 fits in
+          let two = (bytes_field u.0.0).spelled u.0.1 z left g.1 in (
+            let R : ℕ → Type 0 = λ n. bytes ≡ (big_bytes 2 n ++ z.0) ++ z.1 in subst R (sym two.1.0) (joined bytes (big_bytes 2 u.0.0) u.0.1 z.0 z.1 one.0 two.0),
+            (omega (arith, two.1.0, low), omega (arith, two.1.0, high), two.1.1),
+          );
+      again = λ x rest h.
+          let fits : length x < 256 ^ 2 = omega (arith, h.1, small) in
+          ap (read_counted least most) (append_assoc (big_bytes 2 (length x)) x rest)
+          ∙ rw ((numbers_field 2).again (length x) (x ++ rest) fits, le-leb least (length x) h.0, le-leb (length x) most h.1, (bytes_field (length x)).again x rest (refl, h.2)) refl;
+    }
+  where
+    and_true : (a b : Bool) → (a && b) ≡ true → (a ≡ true) × (b ≡ true)
+    and_true true b e = (refl, e)
+    and_true false b e = absurd cc
+
+-- ---- readers made of readers
+
+pub both_field : {A B : Type 0} (f : List ℕ → Reading A) (g : List ℕ → Reading B) (s : A → List ℕ) (t : B → List ℕ) (P : A → Type 0) (Q : B → Type 0)
+    → IsField f s P → IsField g t Q → IsField (read_both f g) (λ x. s x.0 ++ t x.1) (λ x. P x.0 × Q x.1)
+both_field {A} {B} f g s t P Q first second =
+    record {
+      spelled = λ bytes z small e.
+          let u = bind_ok (f bytes) (λ x. g x.1 >>= λ y. Ok ((x.0, y.0), y.1)) z e in
+          let v = bind_ok (g u.0.1) (λ y. Ok ((u.0.0, y.0), y.1)) z u.2 in
+          let one = first.spelled bytes u.0 small u.1 in
+          let two = second.spelled u.0.1 v.0 (left_small bytes (s u.0.0) u.0.1 one.0 small) v.1 in
+          let made : (A × B) × List ℕ = ((u.0.0, v.0.0), v.0.1) in
+          subst (λ (w : (A × B) × List ℕ). (bytes ≡ (s w.0.0 ++ t w.0.1) ++ w.1) × (P w.0.0 × Q w.0.1)) (ok_is made z v.2)
+          (joined bytes (s u.0.0) u.0.1 (t v.0.0) v.0.1 one.0 two.0, (one.1, two.1));
+      again = λ z rest h.
+          ap (read_both f g) (append_assoc (s z.0) (t z.1) rest) ∙ rw (first.again z.0 (t z.1 ++ rest) h.0, second.again z.1 rest h.1) refl;
+    }
+
+pub renamed_field : {A B : Type 0} (to : A → B) (back : B → A) (f : List ℕ → Reading A) (s : A → List ℕ) (P : A → Type 0)
+    → ((x : A) → back (to x) ≡ x) → ((y : B) → to (back y) ≡ y) → IsField f s P → IsField (read_as to f) (λ y. s (back y)) (λ y. P (back y))
+renamed_field {A} {B} to back f s P there again field =
+    record {
+      spelled = λ bytes z small e.
+          let u = bind_ok (f bytes) (λ x. Ok (to x.0, x.1)) z e in
+          let one = field.spelled bytes u.0 small u.1 in
+          let made : B × List ℕ = (to u.0.0, u.0.1) in
+          subst (λ (w : B × List ℕ). (bytes ≡ s (back w.0) ++ w.1) × P (back w.0)) (ok_is made z u.2)
+          (let R : A → Type 0 = λ x. (bytes ≡ s x ++ u.0.1) × P x in subst R (sym (there u.0.0)) one);
+      again = λ y rest h. rw (field.again (back y) rest h) (ap (λ (w : B). done (w, rest)) (again y));
+    }
+
+pub tested_field : {A : Type 0} (test : A → Bool) (f : List ℕ → Reading A) (s : A → List ℕ) (P : A → Type 0)
+    → IsField f s P → IsField (read_where test f) s (λ x. P x × (test x ≡ true))
+tested_field {A} test f s P field =
+    record {
+      spelled = λ bytes z small e.
+          let u = bind_ok (f bytes) (λ x. cond (test x.0) (Ok x) (Err OutOfRange)) z e in
+          let g = passed_ok (test u.0.0) OutOfRange (Ok u.0) z u.2 in
+          let one = field.spelled bytes u.0 small u.1 in
+          subst (λ (w : A × List ℕ). (bytes ≡ s w.0 ++ w.1) × (P w.0 × (test w.0 ≡ true))) (ok_is u.0 z g.1) (one.0, (one.1, g.0));
+      again = λ x rest h. rw (field.again x rest h.0, h.1) refl;
+    }
+
+pub list_field : {A : Type 0} (f : List ℕ → Reading A) (s : A → List ℕ) (P : A → Type 0) (count : ℕ)
+    → IsField f s P → IsField (read_list f count) (flat_map s) (λ xs. (length xs ≡ count) × AllByRecursion P xs)
+list_field {A} f s P count field = record { spelled = spelled count; again = again count }
+  where
+    spelled : (n : ℕ) (bytes : List ℕ) (z : List A × List ℕ) → IsBytes bytes → read_list f n bytes ≡ Ok z → (bytes ≡ flat_map s z.0 ++ z.1) × ((length z.0 ≡ n) × AllByRecursion P z.0)
+    spelled zero bytes z small e =
+        let made : List A × List ℕ = ([], bytes) in
+        subst (λ (w : List A × List ℕ). (bytes ≡ flat_map s w.0 ++ w.1) × ((length w.0 ≡ 0) × AllByRecursion P w.0)) (ok_is made z e) (refl, (refl, tt))
+    spelled (suc n) bytes z small e =
+        let u = bind_ok (f bytes) (λ x. read_list f n x.1 >>= λ xs. Ok (x.0 ∷ xs.0, xs.1)) z e in
+        let v = bind_ok (read_list f n u.0.1) (λ xs. Ok (u.0.0 ∷ xs.0, xs.1)) z u.2 in
+        let one = field.spelled bytes u.0 small u.1 in
+        let two = spelled n u.0.1 v.0 (left_small bytes (s u.0.0) u.0.1 one.0 small) v.1 in
+        let made : List A × List ℕ = (u.0.0 ∷ v.0.0, v.0.1) in
+        subst (λ (w : List A × List ℕ). (bytes ≡ flat_map s w.0 ++ w.1) × ((length w.0 ≡ suc n) × AllByRecursion P w.0)) (ok_is made z v.2)
+        (joined bytes (s u.0.0) u.0.1 (flat_map s v.0.0) v.0.1 one.0 two.0, (omega (arith, two.1.0), (one.1, two.1.1)))
+
+    again : (n : ℕ) (xs : List A) (rest : List ℕ) → (length xs ≡ n) × AllByRecursion P xs → read_list f n (flat_map s xs ++ rest) ≡ Ok (xs, rest)
+    again zero [] rest h = refl
+    again zero (x ∷ xs) rest h = absurd (omega (arith, h.0))
+    again (suc n) [] rest h = absurd (omega (arith, h.0))
+    again (suc n) (x ∷ xs) rest h =
+        ap (read_list f (suc n)) (append_assoc (s x) (flat_map s xs) rest) ∙ rw (field.again x (flat_map s xs ++ rest) h.1.0, again n xs rest (omega (arith, h.0), h.1.1)) refl
+
+-- ---- one spelling
+
+-- each value has one spelling, and none begins another
+pub one_spelling : {A : Type 0} (f : List ℕ → Reading A) (s : A → List ℕ) (P : A → Type 0) → IsField f s P
+    → (x y : A) (a b : List ℕ) → P x → P y → s x ++ a ≡ s y ++ b → (x ≡ y) × (a ≡ b)
+one_spelling {A} f s P field x y a b p q e =
+    let same = ok_is (x, a) (y, b) (sym (field.again x a p) ∙ ap f e ∙ field.again y b q) in
+    (ap (λ (z : A × List ℕ). z.0) same, ap (λ (z : A × List ℕ). z.1) same)

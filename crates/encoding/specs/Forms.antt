@@ -1,0 +1,8 @@
+-- How values are spelled in bytes (the forms are the profile's). Numbers stand with their highest byte
+-- first.
+use Rattle.std.specs.Prelude.{ℕ, List, ◌++◌, length}
+use Rattle.byteorder.specs.Endian.{big_bytes}
+
+-- bytes behind their number, which has two bytes
+abbrev pub counted_bytes : List ℕ → List ℕ
+counted_bytes bytes = big_bytes 2 (length bytes) ++ bytes

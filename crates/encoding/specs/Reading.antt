@@ -1,0 +1,55 @@
+-- Reading from the front of bytes, up to the first fault. A reader answers a value with the bytes that
+-- are left, or the fault; readers of forms are made of these.
+use Rattle.std.specs.Prelude.{◌≡◌, ◌≢◌, ℕ, zero, suc, ◌&&◌, Bool, List, [], ◌∷◌, length, take, drop, Result, Ok, Err, nat_lt, nat_le, if◌then◌else◌}
+use Rattle.byteorder.specs.Endian.{big_number}
+use Rattle.encoding.specs.declared.fault.Fault.{Fault}
+use Rattle.encoding.specs.declared.fault.Fault.TheVariants.{Short, OutOfRange}
+
+-- a value and the bytes that are left, or the fault
+abbrev pub Reading : Type 0 → Type 0
+Reading A = Result (A × List ℕ) Fault
+
+infixl 10 ◌>>=◌
+-- and then, where there was no fault
+abbrev pub ◌>>=◌ : {A B : Type 0} → Result A Fault → (A → Result B Fault) → Result B Fault
+(Ok x) >>= next = next x
+(Err fault) >>= next = Err fault
+
+-- the first so many bytes
+abbrev pub read_bytes : ℕ → List ℕ → Reading (List ℕ)
+read_bytes count bytes = if nat_lt (length bytes) count then Err Short else Ok (take count bytes, drop count bytes)
+
+-- one byte
+abbrev pub read_byte : List ℕ → Reading ℕ
+read_byte [] = Err Short
+read_byte (byte ∷ rest) = Ok (byte, rest)
+
+-- a number in so many bytes
+abbrev pub read_number : ℕ → List ℕ → Reading ℕ
+read_number count bytes = read_bytes count bytes >>= λ x. Ok (big_number count x.0, x.1)
+
+-- bytes behind their number, where that is within these limits
+unfoldable pub read_counted : ℕ → ℕ → List ℕ → Reading (List ℕ)
+read_counted least most bytes = read_number 2 bytes >>= λ n. if nat_le least n.0 && nat_le n.0 most then read_bytes n.0 n.1 else Err OutOfRange
+
+-- one value, and then another
+abbrev pub read_both : {A B : Type 0} → (List ℕ → Reading A) → (List ℕ → Reading B) → List ℕ → Reading (A × B)
+read_both first second bytes = first bytes >>= λ x. second x.1 >>= λ y. Ok ((x.0, y.0), y.1)
+
+-- a value as another one
+abbrev pub read_as : {A B : Type 0} → (A → B) → (List ℕ → Reading A) → List ℕ → Reading B
+read_as f read bytes = read bytes >>= λ x. Ok (f x.0, x.1)
+
+-- a value that passes a test
+abbrev pub read_where : {A : Type 0} → (A → Bool) → (List ℕ → Reading A) → List ℕ → Reading A
+read_where test read bytes = read bytes >>= λ x. if test x.0 then Ok x else Err OutOfRange
+
+-- so many values
+abbrev pub read_list : {A : Type 0} → (List ℕ → Reading A) → ℕ → List ℕ → Reading (List A)
+read_list read zero bytes = Ok ([], bytes)
+read_list read (suc count) bytes = read bytes >>= λ x. read_list read count x.1 >>= λ xs. Ok (x.0 ∷ xs.0, xs.1)
+
+-- what a call returned, seen so, and what it left of the bytes are what the reader answers
+abbrev pub Gives : {X A : Type 0} → (X → A) → Result X Fault → List ℕ → Reading A → Type 0
+Gives seen (Ok x) rest reading = reading ≡ Ok (seen x, rest)
+Gives seen (Err fault) rest reading = reading ≡ Err fault
