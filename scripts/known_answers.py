@@ -64,7 +64,26 @@ def node(digest, nonce, items, prefix, level):
     )
 
 
+def counted(text):
+    """A text behind its length in two bytes."""
+    return len(text).to_bytes(2, "big") + text
+
+
 zero = bytes(32)
+long_name = bytes(k % 256 for k in range(255))
+long_key = bytes(k % 251 for k in range(2048))
+commitments = [
+    ("name a, key ab", zero, b"a", b"ab"),
+    ("name alice, key k1", run(0x20), b"alice", b"k1"),
+    ("name of 255 bytes, key of 2,048", run(0xA0), long_name, long_key),
+    ("name of 1 byte, key of 1", run(0x00), b"\0", b"\xff"),
+]
+
+for name, salt, user, key in commitments:
+    text = b"C\x01" + salt + counted(user) + counted(key)
+    print(f"commitment to {name}: {len(text)} bytes, sum {sum(text) % 65536:04x}")
+    print(f"commitment to {name}: sha256 {hashlib.sha256(text).hexdigest()}")
+
 low, middle, high = (bytes([first]) + bytes(31) for first in (0x00, 0x40, 0x80))
 plain = [(index, zero) for index in (low, middle, high)]
 # Three items with commitments that differ from each other and from their indices.

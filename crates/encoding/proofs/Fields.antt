@@ -1,6 +1,6 @@
 -- Readers of forms: what is read is spelled so, and what is spelled so is read, whatever follows. One
 -- lemma for each reader, and one for each way to make a reader of others.
-use Rattle.std.proofs.Common.{◌≡◌, ℕ, zero, suc, ◌^◌, ◌<◌, ◌≤◌, Bool, true, false, ◌&&◌, cond, ltb, leb, IsTrue, List, [], ◌∷◌, ◌++◌, length, take, drop, flat_map, Result, Ok, Err, refl, sym, ap, subst, ◌∙◌, append_assoc, arith}
+use Rattle.std.proofs.Common.{◌≡◌, ℕ, zero, suc, ◌^◌, ◌<◌, ◌≤◌, Bool, true, false, ◌&&◌, cond, ltb, leb, List, [], ◌∷◌, ◌++◌, length, take, drop, flat_map, Result, Ok, Err, refl, sym, ap, subst, ◌∙◌, append_assoc, arith}
 use Rattle.std.specs.List.{AllByRecursion}
 use Rattle.std.proofs.lemmas.Bool.{ltb-false, le-ltb, leb-true, le-leb}
 use Rattle.std.proofs.lemmas.List.{take_at, drop_at, take-append-drop, length-append, length-take}
@@ -8,10 +8,9 @@ use Rattle.byteorder.specs.Endian.{big_bytes, big_number}
 use Rattle.byteorder.specs.Numbers.{big_from-lt, length-bytes_high_first}
 use Rattle.encoding.specs.declared.fault.Fault.{Fault}
 use Rattle.encoding.specs.declared.fault.Fault.TheVariants.{Short, OutOfRange}
-use Rattle.encoding.specs.Bytes.{IsBytes}
-use Rattle.encoding.specs.Forms.{counted_bytes}
+use Rattle.encoding.specs.Bytes.{IsBytes, HasBytes}
 use Rattle.encoding.specs.Reading.{Reading, ◌>>=◌, read_bytes, read_byte, read_number, read_counted, read_both, read_as, read_where, read_list}
-use Rattle.encoding.specs.Fields.{IsField, HasBytes, IsWithin, BytesAreField, ByteIsField, NumbersAreFields, CountedAreFields}
+use Rattle.encoding.specs.Fields.{IsField, BytesAreField, ByteIsField, NumbersAreFields, CountedAreFields}
 use Rattle.encoding.proofs.ByteLists.{IsBytes-back, IsBytes-take, IsBytes-bytes_high_first}
 use Rattle.encoding.proofs.NumberBytes.{number-of_bytes, bytes-of_number}
 

@@ -1,4 +1,5 @@
 pub mod Agreement
+pub mod Beginnings
 pub mod BitLaws
 pub mod ByteLists
 pub mod Fields

@@ -1,19 +1,16 @@
 -- What it means that a reader reads exactly a form: what is read is spelled so, and what is spelled so
 -- is read, whatever follows. So each value has one spelling, and no spelling begins another.
-use Rattle.std.specs.Prelude.{◌≡◌, ℕ, ◌^◌, ◌<◌, ◌≤◌, List, [], ◌∷◌, ◌++◌, length, Ok}
+use Rattle.std.specs.Prelude.{◌≡◌, ℕ, ◌^◌, ◌<◌, List, [], ◌∷◌, ◌++◌, Ok}
 use Rattle.byteorder.specs.Endian.{big_bytes}
-use Rattle.encoding.specs.Bytes.{IsBytes}
+use Rattle.encoding.specs.Bytes.{IsBytes, HasBytes}
 use Rattle.encoding.specs.Forms.{counted_bytes}
+use Rattle.encoding.specs.Limits.{IsWithin}
 use Rattle.encoding.specs.Reading.{Reading, read_bytes, read_byte, read_number, read_counted}
 
 -- read reads exactly the values that are Allowed, spelled so
 pub record IsField {A : Type 0} (read : List ℕ → Reading A) (spelling : A → List ℕ) (Allowed : A → Type 0) : Type 0 where
   pub spelled : (bytes : List ℕ) (x : A × List ℕ) → IsBytes bytes → read bytes ≡ Ok x → (bytes ≡ spelling x.0 ++ x.1) × Allowed x.0
   pub again : (x : A) (rest : List ℕ) → Allowed x → read (spelling x ++ rest) ≡ Ok (x, rest)
-
--- so many bytes
-abbrev pub HasBytes : ℕ → List ℕ → Type 0
-HasBytes count bytes = (length bytes ≡ count) × IsBytes bytes
 
 abbrev pub BytesAreField : Type 0
 BytesAreField = (count : ℕ) → IsField (read_bytes count) (λ bytes. bytes) (HasBytes count)
@@ -23,10 +20,6 @@ ByteIsField = IsField read_byte (λ byte. byte ∷ []) (λ byte. byte < 256)
 
 abbrev pub NumbersAreFields : Type 0
 NumbersAreFields = (count : ℕ) → IsField (read_number count) (big_bytes count) (λ n. n < 256 ^ count)
-
--- as many bytes as these limits allow
-abbrev pub IsWithin : ℕ → ℕ → List ℕ → Type 0
-IsWithin least most bytes = (least ≤ length bytes) × (length bytes ≤ most) × IsBytes bytes
 
 abbrev pub CountedAreFields : Type 0
 CountedAreFields = (least most : ℕ) → most < 2 ^ 16 → IsField (read_counted least most) counted_bytes (IsWithin least most)

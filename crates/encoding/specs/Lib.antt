@@ -6,3 +6,4 @@ pub mod Fields
 pub mod Forms
 pub mod Limits
 pub mod Reading
+pub use Rattle.byteorder.specs.Endian

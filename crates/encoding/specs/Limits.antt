@@ -2,9 +2,13 @@
 use Rattle.std.specs.Prelude.{ℕ, ◌≤◌, List, length}
 use Rattle.encoding.specs.Bytes.{IsBytes}
 
+-- as many bytes as these limits allow
+abbrev pub IsWithin : ℕ → ℕ → List ℕ → Type 0
+IsWithin least most bytes = (least ≤ length bytes) × (length bytes ≤ most) × IsBytes bytes
+
 -- at least one byte, and at most this many
 abbrev pub IsBounded : ℕ → List ℕ → Type 0
-IsBounded most bytes = (1 ≤ length bytes) × (length bytes ≤ most) × IsBytes bytes
+IsBounded most = IsWithin 1 most
 
 -- the name of a user
 abbrev pub IsName : List ℕ → Type 0

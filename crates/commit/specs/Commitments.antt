@@ -1,0 +1,14 @@
+-- The text that a commitment is the digest of (CONIKS, section 3, commits to the user's key; the bytes
+-- are the profile's, and the name is among them, so that two names of one index cannot both be opened).
+use Rattle.std.specs.Prelude.{◌≡◌, ℕ, ◌^◌, ◌<◌, List, [], ◌∷◌, ◌++◌, length}
+use Rattle.encoding.specs.Forms.{counted_bytes}
+
+-- C, version 1, the salt, the name and the key, these two behind their lengths in two bytes
+abbrev pub commitment_bytes : List ℕ → List ℕ → List ℕ → List ℕ
+commitment_bytes salt name key = 0x43 ∷ 0x01 ∷ [] ++ salt ++ counted_bytes name ++ counted_bytes key
+
+-- equal texts have equal salt, name and key, where the salts have one length and the lengths of the
+-- names fit in their two bytes
+abbrev pub EqualTextsOpenAlike : Type 0
+EqualTextsOpenAlike = (salt other_salt name other_name key other_key : List ℕ) → length salt ≡ length other_salt → length name < 2 ^ 16 → length other_name < 2 ^ 16
+    → commitment_bytes salt name key ≡ commitment_bytes other_salt other_name other_key → (salt ≡ other_salt) × (name ≡ other_name) × (key ≡ other_key)
