@@ -9,7 +9,7 @@ use Rattle.byteorder.specs.Numbers.{big_from-lt, length-bytes_high_first}
 use Rattle.encoding.specs.declared.fault.Fault.{Fault}
 use Rattle.encoding.specs.declared.fault.Fault.TheVariants.{Short, OutOfRange}
 use Rattle.encoding.specs.Bytes.{IsBytes, HasBytes}
-use Rattle.encoding.specs.Reading.{Reading, ◌>>=◌, read_bytes, read_byte, read_number, read_counted, read_both, read_as, read_where, read_list}
+use Rattle.encoding.specs.Reading.{Reading, ◌>>=◌, read_bytes, read_byte, read_number, read_counted, read_both, read_as, read_nothing, read_then, read_where, read_list}
 use Rattle.encoding.specs.Fields.{IsField, BytesAreField, ByteIsField, NumbersAreFields, CountedAreFields}
 use Rattle.encoding.proofs.ByteLists.{IsBytes-back, IsBytes-take, IsBytes-bytes_high_first}
 use Rattle.encoding.proofs.NumberBytes.{number-of_bytes, bytes-of_number}
@@ -123,7 +123,7 @@ both_field {A} {B} f g s t P Q first second =
     }
 
 pub renamed_field : {A B : Type 0} (to : A → B) (back : B → A) (f : List ℕ → Reading A) (s : A → List ℕ) (P : A → Type 0)
-    → ((x : A) → back (to x) ≡ x) → ((y : B) → to (back y) ≡ y) → IsField f s P → IsField (read_as to f) (λ y. s (back y)) (λ y. P (back y))
+    → ((x : A) → P x → back (to x) ≡ x) → ((y : B) → to (back y) ≡ y) → IsField f s P → IsField (read_as to f) (λ y. s (back y)) (λ y. P (back y))
 renamed_field {A} {B} to back f s P there again field =
     record {
       spelled = λ bytes z small e.
@@ -131,8 +131,30 @@ renamed_field {A} {B} to back f s P there again field =
           let one = field.spelled bytes u.0 small u.1 in
           let made : B × List ℕ = (to u.0.0, u.0.1) in
           subst (λ (w : B × List ℕ). (bytes ≡ s (back w.0) ++ w.1) × P (back w.0)) (ok_is made z u.2)
-          (let R : A → Type 0 = λ x. (bytes ≡ s x ++ u.0.1) × P x in subst R (sym (there u.0.0)) one);
+          (let R : A → Type 0 = λ x. (bytes ≡ s x ++ u.0.1) × P x in subst R (sym (there u.0.0 one.1)) one);
       again = λ y rest h. rw (field.again (back y) rest h) (ap (λ (w : B). done (w, rest)) (again y));
+    }
+
+pub nothing_field : {A : Type 0} (x : A) → IsField (read_nothing x) (λ _. []) (λ y. x ≡ y)
+nothing_field {A} x =
+    record {
+      spelled = λ bytes z small e. subst (λ (w : A × List ℕ). (bytes ≡ [] ++ w.1) × (x ≡ w.0)) (ok_is (x, bytes) z e) (refl, refl);
+      again = λ y rest h. ap (λ (w : A). done (w, rest)) h
+    }
+
+-- what is read first is told by the whole value, as its kind or its length
+pub then_field : {K A : Type 0} (told : A → K) (f : List ℕ → Reading K) (g : K → List ℕ → Reading A) (s : K → List ℕ) (t : A → List ℕ) (P : K → Type 0) (Q : A → Type 0)
+    → IsField f s P → ((k : K) → P k → IsField (g k) t (λ x. Q x × (told x ≡ k))) → IsField (read_then f g) (λ x. s (told x) ++ t x) (λ x. P (told x) × Q x)
+then_field {K} {A} told f g s t P Q first second =
+    record {
+      spelled = λ bytes z small e.
+          let u = bind_ok (f bytes) (λ k. g k.0 k.1) z e in
+          let one = first.spelled bytes u.0 small u.1 in
+          let two = (second u.0.0 one.1).spelled u.0.1 z (left_small bytes (s u.0.0) u.0.1 one.0 small) u.2 in
+          let R : K → Type 0 = λ k. (bytes ≡ (s k ++ t z.0) ++ z.1) × (P k × Q z.0) in
+          subst R (sym two.1.1) (joined bytes (s u.0.0) u.0.1 (t z.0) z.1 one.0 two.0, (one.1, two.1.0));
+      again = λ x rest h.
+          ap (read_then f g) (append_assoc (s (told x)) (t x) rest) ∙ rw (first.again (told x) (t x ++ rest) h.0) ((second (told x) h.0).again x rest (h.1, refl))
     }
 
 pub tested_field : {A : Type 0} (test : A → Bool) (f : List ℕ → Reading A) (s : A → List ℕ) (P : A → Type 0)

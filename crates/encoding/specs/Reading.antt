@@ -40,6 +40,14 @@ read_both first second bytes = first bytes >>= λ x. second x.1 >>= λ y. Ok ((x
 abbrev pub read_as : {A B : Type 0} → (A → B) → (List ℕ → Reading A) → List ℕ → Reading B
 read_as f read bytes = read bytes >>= λ x. Ok (f x.0, x.1)
 
+-- no byte, for this value
+abbrev pub read_nothing : {A : Type 0} → A → List ℕ → Reading A
+read_nothing x bytes = Ok (x, bytes)
+
+-- a value, and then another one whose form it tells, as a kind or a number of bytes does
+abbrev pub read_then : {K A : Type 0} → (List ℕ → Reading K) → (K → List ℕ → Reading A) → List ℕ → Reading A
+read_then first second bytes = first bytes >>= λ k. second k.0 k.1
+
 -- a value that passes a test
 abbrev pub read_where : {A : Type 0} → (A → Bool) → (List ℕ → Reading A) → List ℕ → Reading A
 read_where test read bytes = read bytes >>= λ x. if test x.0 then Ok x else Err OutOfRange
