@@ -9,7 +9,9 @@ use Rattle.byteorder.specs.Numbers.{big_from-lt, length-bytes_high_first}
 use Rattle.encoding.specs.declared.fault.Fault.{Fault}
 use Rattle.encoding.specs.declared.fault.Fault.TheVariants.{Short, OutOfRange}
 use Rattle.encoding.specs.Bytes.{IsBytes, HasBytes}
-use Rattle.encoding.specs.Reading.{Reading, ◌>>=◌, read_bytes, read_byte, read_number, read_counted, read_both, read_as, read_nothing, read_then, read_where, read_list}
+use Rattle.encoding.specs.Reading.{Reading, ◌>>=◌, is_within, read_bytes, read_byte, read_number, read_counted, read_both, read_as, read_nothing, read_then, read_where, read_list}
+use Rattle.encoding.specs.Forms.{counted_bytes}
+use Rattle.encoding.specs.Limits.{IsWithin}
 use Rattle.encoding.specs.Fields.{IsField, BytesAreField, ByteIsField, NumbersAreFields, CountedAreFields}
 use Rattle.encoding.proofs.ByteLists.{IsBytes-back, IsBytes-take, IsBytes-bytes_high_first}
 use Rattle.encoding.proofs.NumberBytes.{number-of_bytes, bytes-of_number}
@@ -78,32 +80,6 @@ numbers_field count =
           rw ((bytes_field count).again (big_bytes count n) rest (length-bytes_high_first count n, IsBytes-bytes_high_first count n), number-of_bytes count n h) refl;
     }
 
-pub counted_field : CountedAreFields
-unfolding read_counted
-counted_field least most small =
-    record {
-      spelled = λ bytes z fits e.
-          let u = bind_ok (read_number 2 bytes) (λ n. cond (leb least n.0 && leb n.0 most) (read_bytes n.0 n.1) (Err OutOfRange)) z e in
-          let g = passed_ok (leb least u.0.0 && leb u.0.0 most) OutOfRange (read_bytes u.0.0 u.0.1) z u.2 in
-          let limits = and_true (leb least u.0.0) (leb u.0.0 most) g.0 in
-          let low : least ≤ u.0.0 = leb-true _ _ limits.0 in
-          let high : u.0.0 ≤ most = leb-true _ _ limits.1 in
-          let one = (numbers_field 2).spelled bytes u.0 fits u.1 in
-          let left : IsBytes u.0.1 = left_small bytes (big_bytes 2 u.0.0) u.0.1 one.0 fits in
-          let two = (bytes_field u.0.0).spelled u.0.1 z left g.1 in (
-            let R : ℕ → Type 0 = λ n. bytes ≡ (big_bytes 2 n ++ z.0) ++ z.1 in subst R (sym two.1.0) (joined bytes (big_bytes 2 u.0.0) u.0.1 z.0 z.1 one.0 two.0),
-            (omega (arith, two.1.0, low), omega (arith, two.1.0, high), two.1.1),
-          );
-      again = λ x rest h.
-          let fits : length x < 256 ^ 2 = omega (arith, h.1, small) in
-          ap (read_counted least most) (append_assoc (big_bytes 2 (length x)) x rest)
-          ∙ rw ((numbers_field 2).again (length x) (x ++ rest) fits, le-leb least (length x) h.0, le-leb (length x) most h.1, (bytes_field (length x)).again x rest (refl, h.2)) refl;
-    }
-  where
-    and_true : (a b : Bool) → (a && b) ≡ true → (a ≡ true) × (b ≡ true)
-    and_true true b e = (refl, e)
-    and_true false b e = absurd cc
-
 -- ---- readers made of readers
 
 pub both_field : {A B : Type 0} (f : List ℕ → Reading A) (g : List ℕ → Reading B) (s : A → List ℕ) (t : B → List ℕ) (P : A → Type 0) (Q : B → Type 0)
@@ -139,7 +115,7 @@ pub nothing_field : {A : Type 0} (x : A) → IsField (read_nothing x) (λ _. [])
 nothing_field {A} x =
     record {
       spelled = λ bytes z small e. subst (λ (w : A × List ℕ). (bytes ≡ [] ++ w.1) × (x ≡ w.0)) (ok_is (x, bytes) z e) (refl, refl);
-      again = λ y rest h. ap (λ (w : A). done (w, rest)) h
+      again = λ y rest h. ap (λ (w : A). done (w, rest)) h;
     }
 
 -- what is read first is told by the whole value, as its kind or its length
@@ -154,7 +130,7 @@ then_field {K} {A} told f g s t P Q first second =
           let R : K → Type 0 = λ k. (bytes ≡ (s k ++ t z.0) ++ z.1) × (P k × Q z.0) in
           subst R (sym two.1.1) (joined bytes (s u.0.0) u.0.1 (t z.0) z.1 one.0 two.0, (one.1, two.1.0));
       again = λ x rest h.
-          ap (read_then f g) (append_assoc (s (told x)) (t x) rest) ∙ rw (first.again (told x) (t x ++ rest) h.0) ((second (told x) h.0).again x rest (h.1, refl))
+          ap (read_then f g) (append_assoc (s (told x)) (t x) rest) ∙ rw (first.again (told x) (t x ++ rest) h.0) ((second (told x) h.0).again x rest (h.1, refl));
     }
 
 pub tested_field : {A : Type 0} (test : A → Bool) (f : List ℕ → Reading A) (s : A → List ℕ) (P : A → Type 0)
@@ -192,6 +168,30 @@ list_field {A} f s P count field = record { spelled = spelled count; again = aga
     again (suc n) [] rest h = absurd (omega (arith, h.0))
     again (suc n) (x ∷ xs) rest h =
         ap (read_list f (suc n)) (append_assoc (s x) (flat_map s xs) rest) ∙ rw (field.again x (flat_map s xs ++ rest) h.1.0, again n xs rest (omega (arith, h.0), h.1.1)) refl
+
+-- the same values, allowed in other words
+pub allowed_field : {A : Type 0} (f : List ℕ → Reading A) (s : A → List ℕ) (P Q : A → Type 0) → ((x : A) → P x → Q x) → ((x : A) → Q x → P x) → IsField f s P → IsField f s Q
+allowed_field f s P Q to back field =
+    record {
+      spelled = λ bytes z small e. let t = field.spelled bytes z small e in (t.0, to z.0 t.1);
+      again = λ x rest h. field.again x rest (back x h);
+    }
+
+-- ---- counted bytes
+
+pub counted_field : CountedAreFields
+unfolding read_counted
+counted_field least most fits =
+    allowed_field (read_counted least most) counted_bytes (λ x. ((length x < 256 ^ 2) × (is_within least most (length x) ≡ true)) × IsBytes x) (IsWithin least most)
+    (λ x h. let limits = and_true (leb least (length x)) (leb (length x) most) h.0.1 in (leb-true _ _ limits.0, leb-true _ _ limits.1, h.1))
+    (λ x h. ((omega (arith, h.1, fits), rw (le-leb least (length x) h.0, le-leb (length x) most h.1) refl), h.2))
+    (then_field length (read_where (is_within least most) (read_number 2)) read_bytes (big_bytes 2) (λ x. x) (λ n. (n < 256 ^ 2) × (is_within least most n ≡ true)) IsBytes
+    (tested_field (is_within least most) (read_number 2) (big_bytes 2) (λ n. n < 256 ^ 2) (numbers_field 2))
+    (λ k _. allowed_field (read_bytes k) (λ x. x) (HasBytes k) (λ x. IsBytes x × (length x ≡ k)) (λ x h. (h.1, h.0)) (λ x h. (h.1, h.0)) (bytes_field k)))
+  where
+    and_true : (a b : Bool) → (a && b) ≡ true → (a ≡ true) × (b ≡ true)
+    and_true true b e = (refl, e)
+    and_true false b e = absurd cc
 
 -- ---- one spelling
 

@@ -28,10 +28,6 @@ read_byte (byte ∷ rest) = Ok (byte, rest)
 abbrev pub read_number : ℕ → List ℕ → Reading ℕ
 read_number count bytes = read_bytes count bytes >>= λ x. Ok (big_number count x.0, x.1)
 
--- bytes behind their number, where that is within these limits
-unfoldable pub read_counted : ℕ → ℕ → List ℕ → Reading (List ℕ)
-read_counted least most bytes = read_number 2 bytes >>= λ n. if nat_le least n.0 && nat_le n.0 most then read_bytes n.0 n.1 else Err OutOfRange
-
 -- one value, and then another
 abbrev pub read_both : {A B : Type 0} → (List ℕ → Reading A) → (List ℕ → Reading B) → List ℕ → Reading (A × B)
 read_both first second bytes = first bytes >>= λ x. second x.1 >>= λ y. Ok ((x.0, y.0), y.1)
@@ -51,6 +47,14 @@ read_then first second bytes = first bytes >>= λ k. second k.0 k.1
 -- a value that passes a test
 abbrev pub read_where : {A : Type 0} → (A → Bool) → (List ℕ → Reading A) → List ℕ → Reading A
 read_where test read bytes = read bytes >>= λ x. if test x.0 then Ok x else Err OutOfRange
+
+-- a number within these limits
+abbrev pub is_within : ℕ → ℕ → ℕ → Bool
+is_within least most n = nat_le least n && nat_le n most
+
+-- bytes behind their number in two bytes, where that is within these limits
+unfoldable pub read_counted : ℕ → ℕ → List ℕ → Reading (List ℕ)
+read_counted least most bytes = read_then (read_where (is_within least most) (read_number 2)) read_bytes bytes
 
 -- so many values
 abbrev pub read_list : {A : Type 0} → (List ℕ → Reading A) → ℕ → List ℕ → Reading (List A)
