@@ -1,5 +1,5 @@
 -- What a fault says.
-use Rattle.std.specs.Prelude.{◌≡◌, ℕ, List, ◌++◌, Result, Err, IsOk, codes, decimal, ⊤}
+use Rattle.std.specs.Prelude.{ℕ, List, ◌++◌, Result, Err, codes, decimal, ⊤}
 use Rattle.directoryd.specs.declared.fault.ProgramFault.{ProgramFault}
 use Rattle.directoryd.specs.declared.fault.ProgramFault.TheVariants.{BadHex, BadItem, IndexRepeated, CannotRead, CannotWrite, OutOfMemory}
 
@@ -12,15 +12,12 @@ fault_text CannotRead = codes "cannot read\n"
 fault_text CannotWrite = codes "cannot write\n"
 fault_text OutOfMemory = codes "out of memory\n"
 
--- The fault is what the input says, where it speaks of that. A write fails only where there is
--- something to write, and a read and memory may fail at any time.
-abbrev pub IsTold : {T : Type 0} → ProgramFault → Result T ProgramFault → Type 0
-IsTold BadHex said = said ≡ Err BadHex
-IsTold (BadItem line) said = said ≡ Err (BadItem line)
-IsTold (IndexRepeated line) said = said ≡ Err (IndexRepeated line)
-IsTold CannotRead said = ⊤
-IsTold CannotWrite said = IsOk said
-IsTold OutOfMemory said = ⊤
+-- The fault is one that is said, where it speaks of what was read. A read and memory may fail at
+-- any time.
+abbrev pub IsTold : {T : Type 0} → ProgramFault → (Result T ProgramFault → Type 0) → Type 0
+IsTold CannotRead Says = ⊤
+IsTold OutOfMemory Says = ⊤
+IsTold fault Says = Says (Err fault)
 
 -- a read or memory failed
 abbrev pub IsDeviceFault : ProgramFault → Type 0
@@ -33,9 +30,3 @@ abbrev pub IsInputFault : ProgramFault → Type 0
 IsInputFault BadHex = ⊥
 IsInputFault CannotWrite = ⊥
 IsInputFault _ = ⊤
-
--- the same of what is said by a relation
-abbrev pub IsSaid : ProgramFault → (Result (List ℕ) ProgramFault → Type 0) → Type 0
-IsSaid CannotRead Says = ⊤
-IsSaid OutOfMemory Says = ⊤
-IsSaid fault Says = Says (Err fault)

@@ -101,7 +101,7 @@ fn repeat_fault(alloc: Global, items: &[Item]) -> Result<ProgramFault, AllocErro
 pub fn read_placement<R: BufRead>(alloc: Global, reader: &mut R) -> Result<Vec<Item>, ProgramFault>
     ensures placement { IfOk result (λ items. IsPlacement items.items) }
     ensures ok { IfOk result (λ items. IfSome (R.remaining reader.old) (λ input. placement_of input ≡ Ok items.items)) }
-    ensures err { IfErr result (λ fault. (IsInputFault fault) × IfSome (R.remaining reader.old) (λ input. IsTold fault (placement_of input))) }
+    ensures err { IfErr result (λ fault. (IsInputFault fault) × IfSome (R.remaining reader.old) (λ input. IsTold fault (λ said. placement_of input ≡ said))) }
 {
     let listing = list_items(alloc, reader)?;
     let Some(items) = placed(alloc, &listing.items)? else {

@@ -1,6 +1,6 @@
 ghost use Rattle.std.specs.Prelude.{◌≡◌, ◌≢◌, ◌↔◌, ◌⊎◌, ◌≤◌, ◌++◌, length, Err, IfOk, IfErr, IsTrue, MatchResult, None, Some};
 ghost use Rattle.directoryd.specs.Items.{hex32, placement_of};
-ghost use Rattle.directoryd.specs.Output.{EndsSo};
+ghost use Rattle.directoryd.specs.Output.{Ends};
 ghost use Rattle.prefixtree.specs.Paths.{end_bytes, folded, Way};
 ghost use Rattle.directoryd.specs.Prove.{end_line, level_line, path_lines, sibling_lines, PathTold, Proves};
 ghost use Rattle.directoryd.specs.Orders.{values_of};
@@ -123,7 +123,7 @@ fn prove_under<H: NodeHash, R: BufRead, W: Write>(
     reader: &mut R,
     writer: &mut W,
 ) -> Result<(), ProgramFault>
-    ensures ends { EndsSo (λ input. PathTold H.digest_of nonce.now index.now (placement_of input))
+    ensures ends { Ends (λ input. PathTold H.digest_of nonce.now index.now (placement_of input))
         (R.remaining reader.old) (W.contents writer.old) (W.contents writer.new) result }
     ensures good_hex { IfErr result (λ fault. fault ≢ ProgramFault.BadHex) }
 {
@@ -162,7 +162,7 @@ pub fn prove<R: BufRead, W: Write>(
     reader: &mut R,
     writer: &mut W,
 ) -> Result<(), ProgramFault>
-    ensures ends { EndsSo (Proves order.entry.root.hash (nonce_of (values_of order.entry.root).nonce) (hex32 order.entry.index.now))
+    ensures ends { Ends (Proves order.entry.root.hash (nonce_of (values_of order.entry.root).nonce) (hex32 order.entry.index.now))
         (R.remaining reader.old) (W.contents writer.old) (W.contents writer.new) result }
     ensures bad_hex { (result ≡ Err ProgramFault.BadHex)
         ↔ ((nonce_of (values_of order.entry.root).nonce ≡ None) ⊎ (hex32 order.entry.index.now ≡ None)) }

@@ -51,7 +51,7 @@ fn root_under<H: NodeHash, R: BufRead, W: Write>(
     reader: &mut R,
     writer: &mut W,
 ) -> Result<(), ProgramFault>
-    ensures ends { Ends (λ input. root_told H.digest_of nonce.now (placement_of input))
+    ensures ends { Ends (λ input said. root_told H.digest_of nonce.now (placement_of input) ≡ said)
         (R.remaining reader.old) (W.contents writer.old) (W.contents writer.new) result }
     ensures good_hex { IfErr result (λ fault. fault ≢ ProgramFault.BadHex) }
 {
@@ -72,7 +72,7 @@ pub fn root<R: BufRead, W: Write>(
     reader: &mut R,
     writer: &mut W,
 ) -> Result<(), ProgramFault>
-    ensures ends { Ends (root_answer (values_of order.entry)) (R.remaining reader.old) (W.contents writer.old) (W.contents writer.new) result }
+    ensures ends { Ends (λ input said. root_answer (values_of order.entry) input ≡ said) (R.remaining reader.old) (W.contents writer.old) (W.contents writer.new) result }
     ensures bad_hex { (result ≡ Err ProgramFault.BadHex) ↔ (nonce_of (values_of order.entry).nonce ≡ None) }
     ensures unread { result ≡ Err ProgramFault.BadHex → (reader.new ≡ reader.old) × (writer.new ≡ writer.old) }
 {

@@ -201,35 +201,38 @@ fn next_number(number: u32) -> u32 {
     number.wrapping_mul(1_664_525).wrapping_add(1_013_904_223)
 }
 
-/// An item of ten bits of this number, which stand in the first byte of its index, in the middle
-/// and in the last, so that many of the 1,024 indices have long beginnings in common.
+/// An item of seven bits of this number, which stand in three bytes of its index with others between
+/// them, so that many of the 128 indices have long beginnings in common.
 fn item_of(number: u32) -> Item {
     let [high, low, commitment, _] = number.to_be_bytes();
     let mut bytes = [0; 32];
     bytes[0] = high & 0xC1;
-    bytes[15] = low & 0x83;
-    bytes[31] = (high >> 1) & 0x0F;
+    bytes[2] = low & 0x81;
+    bytes[4] = (high >> 1) & 0x03;
     (Index::new(bytes), sum(u16::from(commitment)))
 }
 
 /// Whether the tree answers for this index as a search of the list does.
 fn finds_as_plain(tree: &Tree<SumHash>, items: &[Item], index: &Index) -> bool {
-    let found = items.iter().find(|item| item.0 == *index);
-    tree.get(index) == found.map(|item| item.1)
+    let commitment = match items.binary_search_by(|item| item.0.cmp(index)) {
+        Ok(place) => items.get(place).map(|item| item.1),
+        Err(_) => None,
+    };
+    tree.get(index) == commitment
 }
 
-/// Whether 500 operations leave the tree as they leave the plain list, and each tree of 100
+/// Whether 3,000 operations leave the tree as they leave the plain list, and each tree of 300
 /// operations ago as it was.
 fn is_as_plain(alloc: Global) -> Result<bool, AllocError> {
     let mut hash = SumHash::new();
     let mut tree = Tree::new(alloc, &mut hash, zero())?;
     let mut items = Vec::new(alloc);
     let mut number = 1;
-    for _ in 0..5 {
+    for _ in 0..10 {
         let old = tree.copy(alloc)?;
         let old_root = old.root();
         let old_items = Vec::from_slice(alloc, &items)?;
-        for _ in 0..100 {
+        for _ in 0..300 {
             let (index, commitment) = item_of(number);
             number = next_number(number);
             tree = tree.with(alloc, &mut hash, index, commitment)?;
