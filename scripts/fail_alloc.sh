@@ -2,7 +2,10 @@
 # Refuses each allocation of the tests in turn, and looks for an answer that changes in place of
 # the error.
 #
-#   scripts/fail_alloc.sh [CRATE..]      without a name: each crate whose tests take memory
+#   [FROM=N] [STEP=N] scripts/fail_alloc.sh [CRATE..]
+#
+# Without a name: each crate whose tests take memory. FROM is the first allocation that is refused,
+# and STEP how far each run goes on from the last, 1 if not given.
 #
 # Each test is a process of its own, so the Nth run refuses the Nth allocation of each test. A test
 # is then to pass, or to end with an `Err` that tells of memory (AllocError, AllocFailed or
@@ -14,7 +17,7 @@
 set -uo pipefail
 cd "$(dirname "$0")/.."
 
-most_runs=500
+most=500
 seconds_a_run=300
 
 # Says of each test that failed how it ended: TEST memory, or TEST bad and what it printed.
@@ -41,7 +44,7 @@ ends() {
 # Refuses each allocation of the tests of the crate in the current folder.
 sweep() {
     local crate=$1 number passed=0 bad=0 output status failed
-    for ((number = 1; number <= most_runs; number++)); do
+    for ((number = ${FROM:-1}; number <= most; number += ${STEP:-1})); do
         output=$(timeout "$seconds_a_run" rt try --test --fail-alloc "$number" </dev/null 2>&1)
         status=$?
         # 101 is the status of tests of which some failed.
@@ -63,7 +66,7 @@ sweep() {
             passed=0
         fi
     done
-    echo "$crate: not past the last allocation after $most_runs runs"
+    echo "$crate: not past the last allocation at $most"
     return 1
 }
 
