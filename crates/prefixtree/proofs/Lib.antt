@@ -16,7 +16,6 @@ pub mod Parts
 pub mod Placements
 pub mod Places
 pub mod Rows
-pub mod Shared
 pub mod Siblings
 pub mod Sorting
 pub mod Splits

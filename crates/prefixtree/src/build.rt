@@ -4,7 +4,7 @@ ghost use Rattle.prefixtree.specs.Under.{IsUnder};
 ghost use Rattle.prefixtree.specs.Built.{contents, IsBuilt};
 
 use crate::Item;
-use crate::node::{Node, empty, interior, leaf, shared};
+use crate::node::{Children, Node, empty, interior, leaf};
 use encoding::{Hash32, Index, bit, with_one};
 use nodehash::NodeHash;
 use std::alloc::{AllocError, Global};
@@ -29,16 +29,16 @@ pub(crate) fn build<H: NodeHash>(
     prefix: &Index,
     level: usize,
     items: &[Item],
-) -> Result<Rc<Node>, AllocError>
+) -> Result<Node, AllocError>
     requires level { level ≤ 256 }
     requires under { IsUnder prefix.now level items.now }
-    ensures built { IfOk result (λ node. IsBuilt H.digest_of nonce.now prefix.now level node.value) }
-    ensures items { IfOk result (λ node. contents node.value ≡ items.now) }
+    ensures built { IfOk result (λ node. IsBuilt H.digest_of nonce.now prefix.now level node) }
+    ensures items { IfOk result (λ node. contents node ≡ items.now) }
     ensures work { H.digests hash.new ≤ H.digests hash.old + node_count (256 - level) items.now }
 {
     match items {
-        [] => shared(alloc, empty(hash, nonce, prefix, level)),
-        [item] => shared(alloc, leaf(hash, nonce, level, item)),
+        [] => Ok(empty(hash, nonce, prefix, level)),
+        [item] => Ok(leaf(hash, nonce, level, Rc::new(alloc, *item)?)),
         _ => {
             let (zeros, ones) = halves(items, level);
             let zero_side = build(alloc, hash, nonce, prefix, level + 1, zeros)?;
@@ -50,7 +50,14 @@ pub(crate) fn build<H: NodeHash>(
                 level + 1,
                 ones,
             )?;
-            shared(alloc, interior(hash, zero_side, one_side))
+            let children = Rc::new(
+                alloc,
+                Children {
+                    zero_side,
+                    one_side,
+                },
+            )?;
+            Ok(interior(hash, children))
         }
     }
 }
