@@ -30,6 +30,24 @@ for name, text in node_texts:
     digest = hashlib.sha256(text).hexdigest()
     print(f"{name}: {len(text)} bytes, sha256 {digest}, sum {sum(text) % 65536:04x}")
 
+# The stand-ins: a kind byte, a key, and a name or a message.
+low_key, high_key = bytes([1]) * 32, bytes([2]) * 32
+stand_ins = [
+    ("keyed digest", b"K" + run(0x00) + b"abc"),
+    ("value of alice", b"V" + high_key + b"alice"),
+    ("value of alice under another key", b"V" + low_key + b"alice"),
+    ("value of a long name", b"V" + high_key + bytes([0xFF]) * 255),
+    ("signature of alice", b"S" + low_key + b"alice"),
+    ("signature of no byte", b"S" + low_key),
+    ("signature of a long message", b"S" + low_key + bytes([0xFF]) * 1000),
+]
+
+for name, text in stand_ins:
+    print(f"{name}: sha256 {hashlib.sha256(text).hexdigest()}")
+
+value = hashlib.sha256(b"V" + high_key + b"alice").digest()
+print(f"index of alice: sha256 {hashlib.sha256(value).hexdigest()}")
+
 halves = hashlib.sha256(b"a").digest() + hashlib.sha256(b"b").digest()
 print(f"interior node over a and b: sha256 {hashlib.sha256(halves).hexdigest()}")
 

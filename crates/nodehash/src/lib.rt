@@ -5,12 +5,14 @@
 //! and the node texts are exactly those of the definitions.
 #![tactic(auto)]
 
+mod keyed;
 mod laws;
 mod node_hash;
 mod node_text;
 mod sha256_hash;
 mod sum_hash;
 
+pub use keyed::keyed_digest;
 pub use laws::digest_size;
 pub use node_hash::NodeHash;
 pub use node_text::{NodeText, empty_text, interior_text, leaf_text};
