@@ -1,0 +1,60 @@
+ghost use Rattle.std.specs.Prelude.{◌≡◌, ℕ, List, refl};
+ghost use Rattle.std.proofs.Common.{◌∙◌, sym, lit≤};
+ghost use Rattle.std.proofs.Math.Nat.{le_trans};
+ghost use Rattle.vrfiface.specs.StandIns.{plain_key, plain_value};
+
+use crate::{UniqueVuf, Vuf, VufCheck};
+use encoding::{Hash32, Name, Small};
+
+/// A stand-in that gives no security, for tests that are followed by hand: the value of a name is
+/// the name, under any key.
+#[derive(Debug, Drop)]
+pub struct PlainVuf;
+
+impl VufCheck for PlainVuf {
+    ghost accepted = { λ key name value. value ≡ plain_value key name };
+
+    fn accepts(&self, _key: &Hash32, name: &Name, value: &[u8]) -> bool {
+        value == name.bytes()
+    }
+}
+
+impl Vuf for PlainVuf {
+    ghost public_key = { λ _. plain_key };
+
+    ghost value_of = { plain_value };
+
+    ghost value_is_accepted = { λ vuf name. refl };
+
+    ghost value_size = { λ key name named. (named.0, le_trans named.1 (lit≤ tt), named.2) };
+
+    fn public(&self) -> Hash32 {
+        Hash32::default()
+    }
+
+    fn value(&self, name: &Name) -> Small {
+        let Ok(value) = Small::new(name.bytes()) else {
+            unreachable!()
+        };
+        value
+    }
+}
+
+impl UniqueVuf for PlainVuf {
+    ghost one_value = { λ key name first second is also. is ∙ sym also };
+}
+
+#[cfg(test)]
+mod tests {
+    use super::*;
+
+    #[test]
+    fn value_is_the_name(rt: HostRuntime) {
+        let name = Name::new(&[7; 255]).expect(&rt, "within the limits");
+        assert_eq!(rt; PlainVuf.value(&name).bytes(), name.bytes());
+        assert_eq!(rt; PlainVuf.public(), Hash32::new([0; 32]));
+        let key = Hash32::new([9; 32]);
+        assert!(rt; PlainVuf.accepts(&key, &name, &[7; 255]));
+        assert!(rt; !PlainVuf.accepts(&key, &name, &[7; 254]));
+    }
+}
