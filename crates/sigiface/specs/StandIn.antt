@@ -1,0 +1,9 @@
+-- A stand-in for digital signatures, with which CONIKS, section 3, signs roots and promises. The
+-- bytes are this directory's own, and they give no security: whoever can check a signature can make
+-- it.
+use Rattle.std.specs.Prelude.{ℕ, List, [], ◌∷◌, ◌++◌}
+use Rattle.nodehash.specs.Sha256.{sha256}
+
+-- the signature of a message under a key: SHA-256 of the letter S, the key and the message
+abbrev pub keyed_signature : List ℕ → List ℕ → List ℕ
+keyed_signature key message = sha256 (0x53 ∷ [] ++ key ++ message)

@@ -1,0 +1,91 @@
+ghost use Rattle.std.specs.Prelude.{◌≡◌, ◌↔◌, ℕ, List, IsTrue};
+ghost use Rattle.encoding.specs.Limits.{IsSmall};
+
+use encoding::{Hash32, Small};
+
+/// A checker of signatures, which knows no secret (CONIKS, section 3).
+pub trait Verifier {
+    // The public key, the message and the signature of what verifies: one relation for the type.
+    ghost verified: { List ℕ → List ℕ → List ℕ → Type 0 };
+
+    /// Whether the signature of the message verifies under this public key.
+    fn verify(&self, key: &Hash32, message: &[u8], signature: &[u8]) -> bool
+        ensures { IsTrue result ↔ verified key.now message.now signature.now };
+}
+
+/// A signer with its secret key.
+pub trait Signer: Verifier {
+    ghost public_key: { Self → List ℕ };
+
+    // The signature under a public key of a message: one function for the type.
+    ghost signature_of: { List ℕ → List ℕ → List ℕ };
+
+    /// The public key.
+    fn public(&self) -> Hash32
+        ensures { result ≡ public_key self.now };
+
+    /// The signature of a message of any length.
+    fn sign(&self, message: &[u8]) -> Small
+        ensures { result ≡ signature_of (public_key self.now) message.now };
+
+    ghost signature_verifies: { (signer : Self) (message : List ℕ) →
+        Self.verified (public_key signer) message (signature_of (public_key signer) message) };
+
+    ghost signature_size: { (key message : List ℕ) → IsSmall (signature_of key message) };
+}
+
+#[cfg(test)]
+mod tests {
+    use super::*;
+    use crate::KeyedSign;
+
+    // What verifies does not depend on who checks.
+    fn verify_alike<S: Verifier>(
+        first: &S,
+        second: &S,
+        key: &Hash32,
+        message: &[u8],
+        signature: &[u8],
+    ) -> bool
+        ensures { IsTrue result }
+    {
+        first.verify(key, message, signature) == second.verify(key, message, signature)
+    }
+
+    // A signature depends on the public key and the message alone.
+    fn have_one_signature<S: Signer>(first: &S, second: &S, message: &[u8]) -> bool
+        requires { S.public_key first.now ≡ S.public_key second.now }
+        ensures { IsTrue result }
+    {
+        first.sign(message) == second.sign(message)
+    }
+
+    fn verifies_own_signature<S: Signer>(signer: &S, message: &[u8]) -> bool
+        ensures { IsTrue result }
+    {
+        signer.verify(&signer.public(), message, signer.sign(message).bytes())
+    }
+
+    fn signatures_are_small<S: Signer>()
+        ensures { (key message : List ℕ) → IsSmall (S.signature_of key message) }
+    {}
+
+    fn keeps_the_laws<S: Signer>(first: &S, second: &S, message: &[u8]) -> bool
+        requires { S.public_key first.now ≡ S.public_key second.now }
+        ensures { IsTrue result }
+    {
+        signatures_are_small::<S>();
+        verify_alike(first, second, &first.public(), message, b"b")
+            && have_one_signature(first, second, message)
+            && verifies_own_signature(first, message)
+    }
+
+    #[test]
+    fn laws_by_the_bound_alone(rt: HostRuntime) {
+        let key = Hash32::new([1; 32]);
+        let signer = KeyedSign::new(key);
+        for message in [b"alice".as_slice(), &[]] {
+            assert!(rt; keeps_the_laws(&signer, &KeyedSign::new(key), message));
+        }
+    }
+}
