@@ -1,7 +1,8 @@
 -- What it means that a reader reads exactly a form: what is read is spelled so, and what is spelled so
 -- is read, whatever follows. So each value has one spelling, and no spelling begins another.
-use Rattle.std.specs.Prelude.{◌≡◌, ℕ, ◌^◌, ◌<◌, List, [], ◌∷◌, ◌++◌, Ok}
+use Rattle.std.specs.Prelude.{◌≡◌, ℕ, ◌^◌, ◌<◌, List, [], ◌∷◌, ◌++◌, Result, Ok, Err}
 use Rattle.byteorder.specs.Endian.{big_bytes}
+use Rattle.encoding.specs.declared.fault.Fault.{Fault}
 use Rattle.encoding.specs.Bytes.{IsBytes, HasBytes}
 use Rattle.encoding.specs.Forms.{counted_bytes}
 use Rattle.encoding.specs.Limits.{IsWithin}
@@ -11,6 +12,16 @@ use Rattle.encoding.specs.Reading.{Reading, read_bytes, read_byte, read_number, 
 pub record IsField {A : Type 0} (read : List ℕ → Reading A) (spelling : A → List ℕ) (Allowed : A → Type 0) : Type 0 where
   pub spelled : (bytes : List ℕ) (x : A × List ℕ) → IsBytes bytes → read bytes ≡ Ok x → (bytes ≡ spelling x.0 ++ x.1) × Allowed x.0
   pub again : (x : A) (rest : List ℕ) → Allowed x → read (spelling x ++ rest) ≡ Ok (x, rest)
+
+-- some allowed value is spelled at the front of the bytes
+abbrev pub Begins : {A : Type 0} → (A → List ℕ) → (A → Type 0) → List ℕ → Type 0
+Begins {A} spelling Allowed bytes = (x : A) × (rest : List ℕ) × (bytes ≡ spelling x ++ rest) × Allowed x
+
+-- What a call read, seen so, is an allowed value that was spelled at the front of the bytes, of which
+-- the rest is left; and it is refused only where none is.
+abbrev pub Reads : {X A : Type 0} → (X → A) → (A → List ℕ) → (A → Type 0) → List ℕ → Result X Fault → List ℕ → Type 0
+Reads seen spelling Allowed old (Ok x) new = (old ≡ spelling (seen x) ++ new) × Allowed (seen x)
+Reads seen spelling Allowed old (Err fault) new = ¬ Begins spelling Allowed old
 
 abbrev pub BytesAreField : Type 0
 BytesAreField = (count : ℕ) → IsField (read_bytes count) (λ bytes. bytes) (HasBytes count)

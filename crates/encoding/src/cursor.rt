@@ -1,4 +1,9 @@
-ghost use Rattle.std.specs.Prelude.{◌≡◌, ◌↔◌, ℕ, ◌≤◌, List, [], length, IsOk, IfOk, OnErr, IsOkUnless};
+ghost use Rattle.std.specs.Prelude.{◌≡◌, ◌↔◌, ℕ, ◌<◌, ◌≤◌, ◌^◌, List, [], ◌∷◌, length, IsOk, IfOk, OnErr, IsOkUnless};
+ghost use Rattle.byteorder.specs.Endian.{big_bytes};
+ghost use Rattle.encoding.specs.Bytes.{HasBytes};
+ghost use Rattle.encoding.specs.Forms.{counted_bytes};
+ghost use Rattle.encoding.specs.Limits.{IsBounded, IsWithin};
+ghost use Rattle.encoding.specs.Fields.{Reads};
 ghost use Rattle.encoding.specs.Reading.{Gives, read_bytes, read_byte, read_number, read_counted};
 
 use crate::{Bounded, Fault};
@@ -12,9 +17,14 @@ pub struct Cursor<'a> {
 }
 
 impl<'a> Model for Cursor<'a> {
+    ghost use Rattle.std.specs.Prelude.{List, ℕ};
+    ghost use Rattle.encoding.specs.Bytes.{IsBytes};
+
     ghost Value = { List ℕ };
 
     ghost view = { λ cursor. cursor.bytes.now };
+
+    ghost invariant = { λ cursor. IsBytes cursor.bytes.now };
 }
 
 impl<'a> Cursor<'a> {
@@ -30,6 +40,7 @@ impl<'a> Cursor<'a> {
     /// The next `count` bytes, or `Short`.
     pub fn take(&mut self, count: usize) -> Result<&'a [u8], Fault>
         ensures read { Gives (λ bytes. bytes.now) result self.new (read_bytes count self.old) }
+        ensures form { Reads (λ bytes. bytes.now) (λ bytes. bytes) (HasBytes count) self.old result self.new }
         ensures size { IfOk result (λ bytes. length bytes.now ≡ count) }
         ensures stays { OnErr result (self.new ≡ self.old) }
     {
@@ -45,6 +56,7 @@ impl<'a> Cursor<'a> {
     /// The next byte, or `Short`.
     pub fn u8(&mut self) -> Result<u8, Fault>
         ensures read { Gives (λ byte. byte) result self.new (read_byte self.old) }
+        ensures form { Reads (λ byte. byte) (λ byte. byte ∷ []) (λ byte. byte < 256) self.old result self.new }
         ensures stays { OnErr result (self.new ≡ self.old) }
     {
         match self.bytes {
@@ -59,6 +71,7 @@ impl<'a> Cursor<'a> {
     /// The number in the next 2 bytes, or `Short`.
     pub fn u16(&mut self) -> Result<u16, Fault>
         ensures read { Gives (λ n. n) result self.new (read_number 2 self.old) }
+        ensures form { Reads (λ n. n) (big_bytes 2) (λ n. n < 256 ^ 2) self.old result self.new }
         ensures stays { OnErr result (self.new ≡ self.old) }
     {
         Ok(BigEndian::read_u16(self.take(2)?))
@@ -67,6 +80,7 @@ impl<'a> Cursor<'a> {
     /// The number in the next 4 bytes, or `Short`.
     pub fn u32(&mut self) -> Result<u32, Fault>
         ensures read { Gives (λ n. n) result self.new (read_number 4 self.old) }
+        ensures form { Reads (λ n. n) (big_bytes 4) (λ n. n < 256 ^ 4) self.old result self.new }
         ensures stays { OnErr result (self.new ≡ self.old) }
     {
         Ok(BigEndian::read_u32(self.take(4)?))
@@ -75,6 +89,7 @@ impl<'a> Cursor<'a> {
     /// The number in the next 8 bytes, or `Short`.
     pub fn u64(&mut self) -> Result<u64, Fault>
         ensures read { Gives (λ n. n) result self.new (read_number 8 self.old) }
+        ensures form { Reads (λ n. n) (big_bytes 8) (λ n. n < 256 ^ 8) self.old result self.new }
         ensures stays { OnErr result (self.new ≡ self.old) }
     {
         Ok(BigEndian::read_u64(self.take(8)?))
@@ -85,6 +100,7 @@ impl<'a> Cursor<'a> {
     #[tactic(auto, unfolding(crate::specs::Reading::read_counted))]
     pub fn counted(&mut self, least: usize, most: usize) -> Result<&'a [u8], Fault>
         ensures read { Gives (λ bytes. bytes.now) result self.new (read_counted least most self.old) }
+        ensures form { most < 2 ^ 16 → Reads (λ bytes. bytes.now) counted_bytes (IsWithin least most) self.old result self.new }
         ensures least { IfOk result (λ bytes. least ≤ length bytes.now) }
         ensures most { IfOk result (λ bytes. length bytes.now ≤ most) }
         ensures stays { OnErr result (self.new ≡ self.old) }
@@ -102,6 +118,7 @@ impl<'a> Cursor<'a> {
     /// A name, a key or another value of 1 to `MOST` bytes, behind their number.
     pub fn bounded<const MOST: usize>(&mut self) -> Result<Bounded<MOST>, Fault>
         ensures read { Gives (λ text. text) result self.new (read_counted 1 MOST self.old) }
+        ensures form { MOST < 2 ^ 16 → Reads (λ text. text) counted_bytes (IsBounded MOST) self.old result self.new }
         ensures stays { OnErr result (self.new ≡ self.old) }
     {
         Ok(Bounded::within_limits(self.counted(1, MOST)?))
