@@ -3,7 +3,7 @@ ghost use Rattle.encoding.specs.Limits.{IsSmall};
 
 use encoding::{Hash32, Small};
 
-/// A checker of signatures, which knows no secret (CONIKS, section 3).
+/// A checker of signatures, which needs no secret (CONIKS, section 3).
 pub trait Verifier {
     // The public key, the message and the signature of what verifies: one relation for the type.
     ghost verified: { List ℕ → List ℕ → List ℕ → Type 0 };
@@ -13,7 +13,7 @@ pub trait Verifier {
         ensures { IsTrue result ↔ verified key.now message.now signature.now };
 }
 
-/// A signer with its secret key.
+/// A signer with its secret key. No law says that its signatures cannot be forged.
 pub trait Signer: Verifier {
     ghost public_key: { Self → List ℕ };
 

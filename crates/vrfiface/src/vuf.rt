@@ -3,7 +3,7 @@ ghost use Rattle.encoding.specs.Limits.{IsName, IsSmall};
 
 use encoding::{Hash32, Name, Small};
 
-/// A checker of values, which knows no secret (CONIKS, sections 3 and 4).
+/// A checker of values, which needs no secret (CONIKS, sections 3 and 4).
 pub trait VufCheck {
     // The public key, the name and the value of what is accepted: one relation for the type.
     ghost accepted: { List ℕ → List ℕ → List ℕ → Type 0 };
@@ -13,7 +13,8 @@ pub trait VufCheck {
         ensures { IsTrue result ↔ accepted key.now name.now value.now };
 }
 
-/// A verifiable unpredictable function with its secret key.
+/// A verifiable unpredictable function with its secret key. No law says that its values cannot be
+/// predicted.
 pub trait Vuf: VufCheck {
     ghost public_key: { Self → List ℕ };
 
