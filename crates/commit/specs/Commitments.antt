@@ -1,5 +1,5 @@
--- The text that a commitment is the digest of (CONIKS, section 3, commits to the user's key; the bytes
--- are the profile's, and the name is among them, so that two names of one index cannot both be opened).
+-- The text that a commitment is the digest of (after CONIKS, section 3; the bytes are the profile's). The
+-- name is in it beside the key, so that no text opens to two names.
 use Rattle.std.specs.Prelude.{◌≡◌, ℕ, ◌^◌, ◌<◌, List, [], ◌∷◌, ◌++◌, length}
 use Rattle.encoding.specs.Forms.{counted_bytes}
 
