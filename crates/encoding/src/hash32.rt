@@ -35,6 +35,13 @@ impl Hash32 {
     {
         &self.bytes[..]
     }
+
+    /// The 32 bytes by value.
+    pub const fn to_bytes(self) -> [u8; 32]
+        ensures { result ≡ self }
+    {
+        self.bytes
+    }
 }
 
 #[cfg(test)]
@@ -48,6 +55,7 @@ mod tests {
         bytes[31] = 2;
         let hash = Hash32::new(bytes);
         assert_eq!(rt; hash.bytes(), bytes.as_slice());
+        assert_eq!(rt; hash.to_bytes(), bytes);
         assert_eq!(rt; Hash32::default(), Hash32::new([0; 32]));
         assert!(rt; Hash32::default() < hash);
     }

@@ -9,9 +9,7 @@ pub fn index_of<H: NodeHash>(hash: &mut H, value: &[u8]) -> Index
     ensures value { result ≡ H.digest_of value.now }
     ensures count { H.digests hash.new ≡ one_more (H.digests hash.old) }
 {
-    let mut bytes = [0; 32];
-    bytes.copy_from_slice(hash.digest(value).bytes());
-    Index::new(bytes)
+    Index::new(hash.digest(value).to_bytes())
 }
 
 #[cfg(test)]
