@@ -2,22 +2,24 @@
 # Refuses each allocation of the tests in turn, and looks for an answer that changes in place of
 # the error.
 #
-#   [FROM=N] [STEP=N] scripts/fail_alloc.sh [CRATE..]
+#   [FROM=N] [STEP=N] [MOST=N] scripts/fail_alloc.sh [CRATE..]
 #
 # Without a name: each crate whose tests take memory. FROM is the first allocation that is refused,
-# and STEP how far each run goes on from the last, 1 if not given.
+# and STEP how far each run goes on from the last, 1 if not given. With MOST, it goes on to that
+# allocation whatever passes.
 #
 # Each test is a process of its own, so the Nth run refuses the Nth allocation of each test. A test
 # is then to pass, or to end with an `Err` that tells of memory (AllocError, AllocFailed or
 # OutOfMemory). Ended in any other way (a failed assertion, another error, a signal, no end), it is
 # bad: an answer changed in place of the error. A crate is done once every test has passed in two
-# runs on end, which is past the last allocation of each.
+# runs on end, which is past the last allocation of each test but those that try once more: they
+# take hundreds, and MOST goes on through them.
 #
 # The status is 0 where nothing was bad. A run takes about 15 seconds, since it builds the tests.
 set -uo pipefail
 cd "$(dirname "$0")/.."
 
-most=500
+most=${MOST:-500}
 seconds_a_run=300
 
 # Says of each test that failed how it ended: TEST memory, or TEST bad and what it printed.
@@ -61,11 +63,12 @@ sweep() {
         fi
         if [ $status = 0 ]; then
             passed=$((passed + 1))
-            [ $passed = 2 ] && return $bad
+            [ $passed = 2 ] && [ -z "${MOST:-}" ] && return $bad
         else
             passed=0
         fi
     done
+    [ -n "${MOST:-}" ] && return $bad
     echo "$crate: not past the last allocation at $most"
     return 1
 }

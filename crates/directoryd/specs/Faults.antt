@@ -12,8 +12,8 @@ fault_text CannotRead = codes "cannot read\n"
 fault_text CannotWrite = codes "cannot write\n"
 fault_text OutOfMemory = codes "out of memory\n"
 
--- The fault is one that is said, where it speaks of what was read. A read and memory may fail at
--- any time.
+-- A fault that speaks of the input is one that is said of it. A failed read and want of memory speak
+-- of no input.
 abbrev pub IsTold : {T : Type 0} → ProgramFault → (Result T ProgramFault → Type 0) → Type 0
 IsTold CannotRead Says = ⊤
 IsTold OutOfMemory Says = ⊤

@@ -98,17 +98,20 @@ both_field {A} {B} f g s t P Q first second =
           ap (read_both f g) (append_assoc (s z.0) (t z.1) rest) ∙ rw (first.again z.0 (t z.1 ++ rest) h.0, second.again z.1 rest h.1) refl;
     }
 
+-- each allowed value comes back from the other, and a value of the other kind that has no way back,
+-- as a case of an enum that is not read here, is not allowed
 pub renamed_field : {A B : Type 0} (to : A → B) (back : B → A) (f : List ℕ → Reading A) (s : A → List ℕ) (P : A → Type 0)
-    → ((x : A) → P x → back (to x) ≡ x) → ((y : B) → to (back y) ≡ y) → IsField f s P → IsField (read_as to f) (λ y. s (back y)) (λ y. P (back y))
-renamed_field {A} {B} to back f s P there again field =
+    → ((x : A) → P x → back (to x) ≡ x) → IsField f s P → IsField (read_as to f) (λ y. s (back y)) (λ y. P (back y) × (to (back y) ≡ y))
+renamed_field {A} {B} to back f s P there field =
     record {
       spelled = λ bytes z small e.
           let u = bind_ok (f bytes) (λ x. Ok (to x.0, x.1)) z e in
           let one = field.spelled bytes u.0 small u.1 in
           let made : B × List ℕ = (to u.0.0, u.0.1) in
-          subst (λ (w : B × List ℕ). (bytes ≡ s (back w.0) ++ w.1) × P (back w.0)) (ok_is made z u.2)
-          (let R : A → Type 0 = λ x. (bytes ≡ s x ++ u.0.1) × P x in subst R (sym (there u.0.0 one.1)) one);
-      again = λ y rest h. rw (field.again (back y) rest h) (ap (λ (w : B). done (w, rest)) (again y));
+          let same : back (to u.0.0) ≡ u.0.0 = there u.0.0 one.1 in
+          subst (λ (w : B × List ℕ). (bytes ≡ s (back w.0) ++ w.1) × (P (back w.0) × (to (back w.0) ≡ w.0))) (ok_is made z u.2)
+          (let R : A → Type 0 = λ x. (bytes ≡ s x ++ u.0.1) × (P x × (to x ≡ to u.0.0)) in subst R (sym same) (one.0, (one.1, refl)));
+      again = λ y rest h. rw (field.again (back y) rest h.0) (ap (λ (w : B). done (w, rest)) h.1);
     }
 
 pub nothing_field : {A : Type 0} (x : A) → IsField (read_nothing x) (λ _. []) (λ y. x ≡ y)

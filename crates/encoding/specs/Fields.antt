@@ -17,8 +17,8 @@ pub record IsField {A : Type 0} (read : List ℕ → Reading A) (spelling : A �
 abbrev pub Begins : {A : Type 0} → (A → List ℕ) → (A → Type 0) → List ℕ → Type 0
 Begins {A} spelling Allowed bytes = (x : A) × (rest : List ℕ) × (bytes ≡ spelling x ++ rest) × Allowed x
 
--- What a call read, seen so, is an allowed value that was spelled at the front of the bytes, of which
--- the rest is left; and it is refused only where none is.
+-- What a call returned, whose value is seen of it, is an allowed value that was spelled at the front of
+-- the bytes, of which the rest is left; and the call is refused only where none is.
 abbrev pub Reads : {X A : Type 0} → (X → A) → (A → List ℕ) → (A → Type 0) → List ℕ → Result X Fault → List ℕ → Type 0
 Reads seen spelling Allowed old (Ok x) new = (old ≡ spelling (seen x) ++ new) × Allowed (seen x)
 Reads seen spelling Allowed old (Err fault) new = ¬ Begins spelling Allowed old

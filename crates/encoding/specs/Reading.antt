@@ -61,7 +61,7 @@ abbrev pub read_list : {A : Type 0} → (List ℕ → Reading A) → ℕ → Lis
 read_list read zero bytes = Ok ([], bytes)
 read_list read (suc count) bytes = read bytes >>= λ x. read_list read count x.1 >>= λ xs. Ok (x.0 ∷ xs.0, xs.1)
 
--- what a call returned, seen so, and what it left of the bytes are what the reader answers
+-- what a call returned, whose value is seen of it, and what it left of the bytes are what the reader answers
 abbrev pub Gives : {X A : Type 0} → (X → A) → Result X Fault → List ℕ → Reading A → Type 0
 Gives seen (Ok x) rest reading = reading ≡ Ok (seen x, rest)
 Gives seen (Err fault) rest reading = reading ≡ Err fault

@@ -95,8 +95,8 @@ impl<'a> Cursor<'a> {
         Ok(BigEndian::read_u64(self.take(8)?))
     }
 
-    /// Bytes behind their number, a `u16`. `OutOfRange` where the number is below `least` or above
-    /// `most`, else `Short` where there are fewer bytes.
+    /// Bytes behind their number, a `u16`. `Short` where the number is not whole, `OutOfRange` where
+    /// it is below `least` or above `most`, else `Short` where fewer bytes follow.
     #[tactic(auto, unfolding(crate::specs::Reading::read_counted))]
     pub fn counted(&mut self, least: usize, most: usize) -> Result<&'a [u8], Fault>
         ensures read { Gives (λ bytes. bytes.now) result self.new (read_counted least most self.old) }
@@ -115,7 +115,8 @@ impl<'a> Cursor<'a> {
         Ok(bytes)
     }
 
-    /// A name, a key or another value of 1 to `MOST` bytes, behind their number.
+    /// A name, a key or another value of 1 to `MOST` bytes, behind their number. The refusals are
+    /// those of `counted`.
     pub fn bounded<const MOST: usize>(&mut self) -> Result<Bounded<MOST>, Fault>
         ensures read { Gives (λ text. text) result self.new (read_counted 1 MOST self.old) }
         ensures form { MOST < 2 ^ 16 → Reads (λ text. text) counted_bytes (IsBounded MOST) self.old result self.new }

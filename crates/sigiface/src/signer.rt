@@ -15,6 +15,7 @@ pub trait Verifier {
 
 /// A signer with its secret key. No law says that its signatures cannot be forged.
 pub trait Signer: Verifier {
+    // The public key of a signer.
     ghost public_key: { Self → List ℕ };
 
     // The signature under a public key of a message: one function for the type.
@@ -28,9 +29,11 @@ pub trait Signer: Verifier {
     fn sign(&self, message: &[u8]) -> Small
         ensures { result ≡ signature_of (public_key self.now) message.now };
 
+    // A signature that was made verifies under the public key.
     ghost signature_verifies: { (signer : Self) (message : List ℕ) →
         Self.verified (public_key signer) message (signature_of (public_key signer) message) };
 
+    // A signature is a small value.
     ghost signature_size: { (key message : List ℕ) → IsSmall (signature_of key message) };
 }
 

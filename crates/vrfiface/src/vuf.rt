@@ -16,6 +16,7 @@ pub trait VufCheck {
 /// A verifiable unpredictable function with its secret key. No law says that its values cannot be
 /// predicted.
 pub trait Vuf: VufCheck {
+    // The public key of a function.
     ghost public_key: { Self → List ℕ };
 
     // The value under a public key of a name: one function for the type.
@@ -29,14 +30,17 @@ pub trait Vuf: VufCheck {
     fn value(&self, name: &Name) -> Small
         ensures { result ≡ value_of (public_key self.now) name.now };
 
+    // The value of a name is accepted under the public key.
     ghost value_is_accepted: { (vuf : Self) (name : List ℕ) →
         Self.accepted (public_key vuf) name (value_of (public_key vuf) name) };
 
+    // The value of a name is a small value.
     ghost value_size: { (key name : List ℕ) → IsName name → IsSmall (value_of key name) };
 }
 
 /// A verifiable unpredictable function that accepts at most one value for a key and a name.
 pub trait UniqueVuf: VufCheck {
+    // Two values that are accepted for one key and name are equal.
     ghost one_value: { (key name first second : List ℕ) →
         Self.accepted key name first → Self.accepted key name second → first ≡ second };
 }
@@ -115,5 +119,6 @@ mod tests {
         let key = Hash32::new([2; 32]);
         assert!(rt; keeps_the_laws(&KeyedVuf::new(key), &KeyedVuf::new(key), &name));
         assert!(rt; keeps_the_laws(&PlainVuf, &PlainVuf, &name));
+        assert!(rt; accepts_both(&PlainVuf, &key, &name, b"alice", b"alice"));
     }
 }
