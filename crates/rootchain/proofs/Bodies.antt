@@ -32,7 +32,7 @@ body_field =
     let parts = both_field (read_number 8) _ (big_bytes 8) _ IsNumber _ number (both_field (read_number 8) _ (big_bytes 8) _ IsNumber _ number hashes) in
     let body = renamed_field body_of parts_of _ _ _ (λ _ _. refl) parts in
     behind_field body_head _ _ IsBody head_small
-    (allowed_field _ _ _ IsBody 
+    (allowed_field _ _ _ IsBody
     (λ b h. let p = h.0.0 in (h.1, p.0, p.1.0, p.1.1.0, p.1.1.1.0, p.1.1.1.1.0, p.1.1.1.1.1))
     (λ b h. (((h.1, (h.2, (h.3, (h.4, (h.5, h.6))))), refl), h.0))
     (tested_field is_after _ _ _ body))

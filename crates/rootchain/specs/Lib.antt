@@ -1,3 +1,5 @@
 pub mod Bodies
+pub mod Promises
+pub mod SignedRoots
 pub use Rattle.encoding.specs.Forms
 pub use Rattle.encoding.specs.Reading

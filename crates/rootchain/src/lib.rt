@@ -1,10 +1,17 @@
 //! Signed tree roots and signed promises: their forms. After CONIKS, sections 3 and 4.
 //!
-//! To the layers above: reading accepts exactly the forms, and writing gives them back.
+//! To the layers above: reading accepts exactly the forms, with one spelling a value, and writing
+//! gives them back. Nothing here takes memory.
 #![tactic(auto)]
 
 mod body;
+mod promise;
 mod refusal;
+mod signed_promise;
+mod signed_root;
 
 pub use body::Body;
+pub use promise::Promise;
 pub use refusal::Refusal;
+pub use signed_promise::SignedPromise;
+pub use signed_root::SignedRoot;

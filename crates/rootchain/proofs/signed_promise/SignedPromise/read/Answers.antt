@@ -1,0 +1,18 @@
+use Rattle.std.proofs.Common.{rules, arith, ap, sym, ◌∙◌}
+use Rattle.encoding.proofs.Fields.{whole-left, whole-read, whole-refused}
+use Rattle.rootchain.specs.Promises.{signed_promise_bytes, read_signed_promise, IsSignedPromise}
+use Rattle.rootchain.proofs.Promises.{signed_promise_field}
+use Rattle.rootchain.proofs.signed_promise.SignedPromise.read.Goals as goal
+
+pub returns-in_default-clause-exact : goal.returns-in_default-clause-exact
+returns-in_default-clause-exact c =
+    whole-refused read_signed_promise signed_promise_bytes IsSignedPromise signed_promise_field c.args.bytes.now _ (ap read_signed_promise (sym c.new-cursor.ensures) ∙ c.in_default.ensures)
+
+pub returns-then-is_err-clause-exact : goal.returns-then-is_err-clause-exact
+returns-then-is_err-clause-exact c =
+    whole-left read_signed_promise signed_promise_bytes IsSignedPromise signed_promise_field c.args.bytes.now _ _ (ap read_signed_promise (sym c.new-cursor.ensures) ∙ c.in-Ok.ensures)
+    (λ empty. search rules)
+
+pub returns-clause-exact : goal.returns-clause-exact
+returns-clause-exact c =
+    whole-read read_signed_promise signed_promise_bytes IsSignedPromise signed_promise_field c.args.bytes.now _ (λ k. omega (arith, c.type_inv.bytes k)) (ap read_signed_promise (sym c.new-cursor.ensures) ∙ rw (← c.end.ensures.over.0 (search rules)) c.in-Ok.ensures)
