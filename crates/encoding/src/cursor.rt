@@ -188,6 +188,14 @@ mod tests {
     }
 
     #[test]
+    fn reads_a_hash(rt: HostRuntime) {
+        let mut cursor = Cursor::new(&[9; 40]);
+        assert_eq!(rt; cursor.hash32(), Ok(Hash32::new([9; 32])));
+        assert_eq!(rt; cursor.hash32(), Err(Fault::Short));
+        assert_eq!(rt; cursor.u64(), Ok(0x0909_0909_0909_0909));
+    }
+
+    #[test]
     fn keeps_the_limits_of_a_name(rt: HostRuntime) {
         for (len, fault) in [
             (0, Some(Fault::OutOfRange)),

@@ -43,7 +43,7 @@ impl Body {
         Ok(body)
     }
 
-    /// Appends the 146 bytes of the body.
+    /// The 146 bytes of the body.
     pub fn write(&self) -> Text
         ensures value { result ≡ body_bytes self.now }
         ensures len { length result ≡ 146 }

@@ -15,3 +15,6 @@ pub use promise::Promise;
 pub use refusal::Refusal;
 pub use signed_promise::SignedPromise;
 pub use signed_root::SignedRoot;
+
+#[cfg(test)]
+mod tests;
