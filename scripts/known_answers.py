@@ -102,32 +102,6 @@ for name, salt, user, key in commitments:
     print(f"commitment to {name}: {len(text)} bytes, sum {sum(text) % 65536:04x}")
     print(f"commitment to {name}: sha256 {hashlib.sha256(text).hexdigest()}")
 
-# The body of a root at epoch 7 after epoch 3, a promise at epoch 7, and both signed.
-body = (
-    b"R\x01"
-    + (7).to_bytes(8, "big")
-    + (3).to_bytes(8, "big")
-    + run(0x20)
-    + run(0x40)
-    + run(0x60)
-    + run(0x80)
-)
-first_body = b"R\x01" + (1).to_bytes(8, "big") + bytes(8) + run(0x20) + zero + zero + run(0x80)
-behind_epoch = b"P\x01" + (7).to_bytes(8, "big") + run(0x20) + run(0x40)
-promise = behind_epoch + counted(b"alice") + counted(b"k1")
-longest = behind_epoch + counted(long_name) + counted(long_key)
-forms = [
-    ("body", body),
-    ("body of the first root", first_body),
-    ("signed root", body + counted(b"signed")),
-    ("promise", promise),
-    ("signed promise", promise + counted(b"signed")),
-    ("longest signed promise", longest + counted(bytes([0xAB]) * 256)),
-]
-
-for name, text in forms:
-    print(f"{name}: {len(text)} bytes, sha256 {hashlib.sha256(text).hexdigest()}")
-
 low, middle, high = (bytes([first]) + bytes(31) for first in (0x00, 0x40, 0x80))
 plain = [(index, zero) for index in (low, middle, high)]
 # Three items with commitments that differ from each other and from their indices.

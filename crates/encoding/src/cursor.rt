@@ -1,12 +1,12 @@
 ghost use Rattle.std.specs.Prelude.{◌≡◌, ◌↔◌, ℕ, ◌<◌, ◌≤◌, ◌^◌, List, [], ◌∷◌, length, IsOk, IfOk, OnErr, IsOkUnless};
 ghost use Rattle.byteorder.specs.Endian.{big_bytes};
-ghost use Rattle.encoding.specs.Bytes.{HasBytes, Is32Bytes};
+ghost use Rattle.encoding.specs.Bytes.{HasBytes};
 ghost use Rattle.encoding.specs.Forms.{counted_bytes};
 ghost use Rattle.encoding.specs.Limits.{IsBounded, IsWithin};
 ghost use Rattle.encoding.specs.Fields.{Reads};
 ghost use Rattle.encoding.specs.Reading.{Gives, read_bytes, read_byte, read_number, read_counted};
 
-use crate::{Bounded, Fault, Hash32};
+use crate::{Bounded, Fault};
 use byteorder::{BigEndian, ByteOrder};
 use std::marker::Model;
 
@@ -51,17 +51,6 @@ impl<'a> Cursor<'a> {
         let (front, rest) = bytes.split_at(count);
         self.bytes = rest;
         Ok(front)
-    }
-
-    /// The next 32 bytes, as a hash or another value of that size, or `Short`.
-    pub fn hash32(&mut self) -> Result<Hash32, Fault>
-        ensures read { Gives (λ hash. hash) result self.new (read_bytes 32 self.old) }
-        ensures form { Reads (λ hash. hash) (λ bytes. bytes) Is32Bytes self.old result self.new }
-        ensures stays { OnErr result (self.new ≡ self.old) }
-    {
-        let mut bytes = [0; 32];
-        bytes.copy_from_slice(self.take(32)?);
-        Ok(Hash32::new(bytes))
     }
 
     /// The next byte, or `Short`.
@@ -185,14 +174,6 @@ mod tests {
         assert_eq!(rt; cursor.u8(), Ok(7));
         assert_eq!(rt; cursor.u8(), Err(Fault::Short));
         assert_eq!(rt; cursor.take(0), Ok([].as_slice()));
-    }
-
-    #[test]
-    fn reads_a_hash(rt: HostRuntime) {
-        let mut cursor = Cursor::new(&[9; 40]);
-        assert_eq!(rt; cursor.hash32(), Ok(Hash32::new([9; 32])));
-        assert_eq!(rt; cursor.hash32(), Err(Fault::Short));
-        assert_eq!(rt; cursor.u64(), Ok(0x0909_0909_0909_0909));
     }
 
     #[test]

@@ -1,6 +1,0 @@
-pub mod Bodies
-pub mod Promises
-pub mod Refusals
-pub mod SignedRoots
-pub use Rattle.encoding.specs.Forms
-pub use Rattle.encoding.specs.Reading
