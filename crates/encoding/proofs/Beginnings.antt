@@ -1,21 +1,17 @@
 -- Texts that are one begin alike: two beginnings of one length, two numbers in as many bytes, and two
 -- times counted bytes.
-use Rattle.std.proofs.Common.{◌≡◌, ℕ, ◌^◌, ◌<◌, List, [], ◌∷◌, ◌++◌, length, refl, sym, ap, ◌∙◌, append_assoc, arith}
+use Rattle.std.proofs.Common.{◌≡◌, ℕ, ◌^◌, ◌<◌, List, ◌++◌, length, take, drop, sym, ap, ap₂, ◌∙◌, append_assoc, arith}
+use Rattle.std.proofs.Math.Seq.{take-append_seam, drop-append_seam}
 use Rattle.byteorder.specs.Endian.{big_bytes, big_number}
 use Rattle.byteorder.specs.Numbers.{length-bytes_high_first}
 use Rattle.encoding.specs.Forms.{counted_bytes}
 use Rattle.encoding.proofs.NumberBytes.{number-of_bytes}
 
 pub same_beginning : (xs ys us vs : List ℕ) → length xs ≡ length ys → xs ++ us ≡ ys ++ vs → (xs ≡ ys) × (us ≡ vs)
-same_beginning [] [] us vs len e = (refl, e)
-same_beginning [] (y ∷ ys) us vs len e = absurd (omega arith)
-same_beginning (x ∷ xs) [] us vs len e = absurd (omega arith)
-same_beginning (x ∷ xs) (y ∷ ys) us vs len e =
-    let head : x ≡ y = cc in
-    let rest : xs ++ us ≡ ys ++ vs = cc in
-    let tail = same_beginning xs ys us vs (omega arith) rest in
-    let xs_same : xs ≡ ys = tail.0 in
-    (cc, tail.1)
+same_beginning xs ys us vs len e = (
+  sym (take-append_seam xs us) ∙ ap₂ take len e ∙ take-append_seam ys vs,
+  sym (drop-append_seam xs us) ∙ ap₂ drop len e ∙ drop-append_seam ys vs,
+)
 
 pub same_number_bytes : (count m n : ℕ) (us vs : List ℕ) → big_bytes count m ++ us ≡ big_bytes count n ++ vs → (big_bytes count m ≡ big_bytes count n) × (us ≡ vs)
 same_number_bytes count m n us vs e =

@@ -1,18 +1,21 @@
 -- Readers of forms: what is read is spelled so, and what is spelled so is read, whatever follows. One
 -- lemma for each reader, and one for each way to make a reader of others.
-use Rattle.std.proofs.Common.{◌≡◌, ℕ, zero, suc, ◌^◌, ◌<◌, ◌≤◌, Bool, true, false, ◌&&◌, cond, ltb, leb, List, [], ◌∷◌, ◌++◌, length, take, drop, flat_map, Result, Ok, Err, refl, sym, ap, subst, ◌∙◌, append_assoc, arith}
+use Rattle.std.proofs.Common.{◌≡◌, ◌≢◌, ℕ, zero, suc, ◌^◌, ◌<◌, ◌≤◌, Bool, true, false, ◌&&◌, cond, ltb, leb, List, [], ◌∷◌, ◌++◌, length, take, drop, flat_map, Result, Ok, Err, refl, sym, ap, subst, ◌∙◌, append_assoc, arith}
 use Rattle.std.specs.List.{AllByRecursion}
 use Rattle.std.proofs.lemmas.Bool.{ltb-false, le-ltb, leb-true, le-leb}
-use Rattle.std.proofs.lemmas.List.{take_at, drop_at, take-append-drop, length-append, length-take}
+use Rattle.std.proofs.lemmas.List.{append-nil, take_at, drop_at, take-append-drop, length-append, length-take}
+use Rattle.std.specs.Str.{bytes_eq}
+use Rattle.std.proofs.lemmas.Cmp.{nat_list_eq_equiv}
+use Rattle.std.proofs.lemmas.Slice.Eq.{bytes_eq-Decides}
 use Rattle.byteorder.specs.Endian.{big_bytes, big_number}
 use Rattle.byteorder.specs.Numbers.{big_from-lt, length-bytes_high_first}
 use Rattle.encoding.specs.declared.fault.Fault.{Fault}
 use Rattle.encoding.specs.declared.fault.Fault.TheVariants.{Short, OutOfRange}
 use Rattle.encoding.specs.Bytes.{IsBytes, HasBytes}
-use Rattle.encoding.specs.Reading.{Reading, ◌>>=◌, is_within, read_bytes, read_byte, read_number, read_counted, read_both, read_as, read_nothing, read_then, read_where, read_list}
+use Rattle.encoding.specs.Reading.{Gives, Reading, ◌>>=◌, is_within, read_bytes, read_byte, read_number, read_counted, read_both, read_as, read_nothing, read_then, read_where, read_behind, read_list}
 use Rattle.encoding.specs.Forms.{counted_bytes}
 use Rattle.encoding.specs.Limits.{IsWithin}
-use Rattle.encoding.specs.Fields.{IsField, BytesAreField, ByteIsField, NumbersAreFields, CountedAreFields}
+use Rattle.encoding.specs.Fields.{Reads, IsField, Spells, BytesAreField, ByteIsField, NumbersAreFields, CountedAreFields}
 use Rattle.encoding.proofs.ByteLists.{IsBytes-back, IsBytes-take, IsBytes-bytes_high_first}
 use Rattle.encoding.proofs.NumberBytes.{number-of_bytes, bytes-of_number}
 
@@ -36,6 +39,9 @@ done x = Ok x
 -- two answers that are one have one value
 pub ok_is : {A : Type 0} (x y : A) → done x ≡ done y → x ≡ y
 ok_is x y e = cc
+
+refused_read : {A : Type 0} (fault : Fault) (y : A) → Err fault ≡ done y → ⊥
+refused_read fault y e = absurd cc
 
 -- two spellings, one after the other
 joined : (bytes x middle y rest : List ℕ) → bytes ≡ x ++ middle → middle ≡ y ++ rest → bytes ≡ (x ++ y) ++ rest
@@ -180,6 +186,23 @@ allowed_field f s P Q to back field =
       again = λ x rest h. field.again x rest (back x h);
     }
 
+-- the same values, which in other words have the same spelling
+pub respelled_field : {A : Type 0} (f : List ℕ → Reading A) (s t : A → List ℕ) (P : A → Type 0) → ((x : A) → P x → s x ≡ t x) → IsField f s P → IsField f t P
+respelled_field f s t P same field =
+    record {
+      spelled = λ bytes z small e. let g = field.spelled bytes z small e in (g.0 ∙ ap (λ (w : List ℕ). w ++ z.1) (same z.0 g.1), g.1);
+      again = λ x rest h. ap (λ (w : List ℕ). f (w ++ rest)) (sym (same x h)) ∙ field.again x rest h;
+    }
+
+pub behind_field : {A : Type 0} (head : List ℕ) (f : List ℕ → Reading A) (s : A → List ℕ) (P : A → Type 0)
+    → IsBytes head → IsField f s P → IsField (read_behind head f) (λ x. head ++ s x) P
+behind_field {A} head f s P small field =
+    let Heads : List ℕ → Type 0 = λ k. HasBytes (length head) k × (bytes_eq head k ≡ true) in
+    allowed_field (read_behind head f) (λ x. head ++ s x) (λ x. Heads head × P x) P (λ x h. h.1) (λ x h. (((refl, small), nat_list_eq_equiv.refl head), h))
+    (then_field (λ _. head) (read_where (bytes_eq head) (read_bytes (length head))) (λ _. f) (λ k. k) s Heads P
+    (tested_field (bytes_eq head) (read_bytes (length head)) (λ k. k) (HasBytes (length head)) (bytes_field (length head)))
+    (λ k h. allowed_field f s P (λ x. P x × (head ≡ k)) (λ x p. (p, (bytes_eq-Decides head k).0 h.1)) (λ x p. p.0) field))
+
 -- ---- counted bytes
 
 pub counted_field : CountedAreFields
@@ -195,6 +218,37 @@ counted_field least most fits =
     and_true : (a b : Bool) → (a && b) ≡ true → (a ≡ true) × (b ≡ true)
     and_true true b e = (refl, e)
     and_true false b e = absurd cc
+
+-- ---- whole bytes
+
+-- what is read with nothing left is spelled by the whole
+pub whole-read : {A : Type 0} (f : List ℕ → Reading A) (s : A → List ℕ) (P : A → Type 0) → IsField f s P
+    → (bytes : List ℕ) (x : A) → IsBytes bytes → f bytes ≡ Ok (x, []) → Spells s P bytes x
+whole-read f s P field bytes x small e =
+    let t = field.spelled bytes (x, []) small e in (t.0 ∙ append-nil (s x), t.1)
+
+-- what is spelled by the whole is read, with nothing left
+pub whole-spelled : {A : Type 0} (f : List ℕ → Reading A) (s : A → List ℕ) (P : A → Type 0) → IsField f s P
+    → (bytes : List ℕ) (x : A) → Spells s P bytes x → f bytes ≡ Ok (x, [])
+whole-spelled f s P field bytes x spelled = ap f (spelled.0 ∙ sym (append-nil (s x))) ∙ field.again x [] spelled.1
+
+-- bytes at which the reader refuses, or leaves some, spell nothing
+pub whole-refused : {A : Type 0} (f : List ℕ → Reading A) (s : A → List ℕ) (P : A → Type 0) → IsField f s P
+    → (bytes : List ℕ) (fault : Fault) → f bytes ≡ Err fault → (x : A) → ¬ Spells s P bytes x
+whole-refused f s P field bytes fault e x = λ spelled. refused_read fault (x, []) (sym e ∙ whole-spelled f s P field bytes x spelled)
+
+pub whole-left : {A : Type 0} (f : List ℕ → Reading A) (s : A → List ℕ) (P : A → Type 0) → IsField f s P
+    → (bytes : List ℕ) (y : A) (rest : List ℕ) → f bytes ≡ Ok (y, rest) → rest ≢ [] → (x : A) → ¬ Spells s P bytes x
+whole-left f s P field bytes y rest e some x = λ spelled.
+    some (ap (λ (z : _ × List ℕ). z.1) (ok_is (y, rest) (x, []) (sym e ∙ whole-spelled f s P field bytes x spelled)))
+
+-- ---- the front of bytes
+
+-- what a call gives by the reader is what it reads
+pub gives-reads : {X A : Type 0} (seen : X → A) (f : List ℕ → Reading A) (s : A → List ℕ) (P : A → Type 0) → IsField f s P
+    → (bytes : List ℕ) (result : Result X Fault) (rest : List ℕ) → IsBytes bytes → Gives seen result rest (f bytes) → Reads seen s P bytes result rest
+gives-reads seen f s P field bytes (Ok x) rest small e = field.spelled bytes (seen x, rest) small e
+gives-reads seen f s P field bytes (Err fault) rest small e = λ b. refused_read fault (b.0, b.1) (sym e ∙ ap f b.2 ∙ field.again b.0 b.1 b.3)
 
 -- ---- one spelling
 

@@ -23,6 +23,16 @@ abbrev pub Reads : {X A : Type 0} → (X → A) → (A → List ℕ) → (A → 
 Reads seen spelling Allowed old (Ok x) new = (old ≡ spelling (seen x) ++ new) × Allowed (seen x)
 Reads seen spelling Allowed old (Err fault) new = ¬ Begins spelling Allowed old
 
+-- the bytes spell this value, which is allowed
+abbrev pub Spells : {A : Type 0} → (A → List ℕ) → (A → Type 0) → List ℕ → A → Type 0
+Spells spelling Allowed bytes x = (bytes ≡ spelling x) × Allowed x
+
+-- What a call answers to whole bytes, whose value is seen of it, is the allowed value that they spell,
+-- and it refuses only bytes that spell none.
+abbrev pub ReadsWhole : {X A F : Type 0} → (X → A) → (A → List ℕ) → (A → Type 0) → List ℕ → Result X F → Type 0
+ReadsWhole seen spelling Allowed bytes (Ok x) = Spells spelling Allowed bytes (seen x)
+ReadsWhole {A = A} seen spelling Allowed bytes (Err fault) = (x : A) → ¬ Spells spelling Allowed bytes x
+
 abbrev pub BytesAreField : Type 0
 BytesAreField = (count : ℕ) → IsField (read_bytes count) (λ bytes. bytes) (HasBytes count)
 

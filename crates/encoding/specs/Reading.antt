@@ -1,6 +1,7 @@
 -- Reading from the front of bytes, up to the first fault. A reader answers a value with the bytes that
 -- are left, or the fault; readers of forms are made of these.
 use Rattle.std.specs.Prelude.{◌≡◌, ℕ, zero, suc, ◌&&◌, Bool, List, [], ◌∷◌, length, take, drop, Result, Ok, Err, nat_lt, nat_le, if◌then◌else◌}
+use Rattle.std.specs.Str.{bytes_eq}
 use Rattle.byteorder.specs.Endian.{big_number}
 use Rattle.encoding.specs.declared.fault.Fault.{Fault}
 use Rattle.encoding.specs.declared.fault.Fault.TheVariants.{Short, OutOfRange}
@@ -47,6 +48,10 @@ read_then first second bytes = first bytes >>= λ k. second k.0 k.1
 -- a value that passes a test
 abbrev pub read_where : {A : Type 0} → (A → Bool) → (List ℕ → Reading A) → List ℕ → Reading A
 read_where test read bytes = read bytes >>= λ x. if test x.0 then Ok x else Err OutOfRange
+
+-- a value behind these very bytes, as a kind and a version
+abbrev pub read_behind : {A : Type 0} → List ℕ → (List ℕ → Reading A) → List ℕ → Reading A
+read_behind head read bytes = read_then (read_where (bytes_eq head) (read_bytes (length head))) (λ _. read) bytes
 
 -- a number within these limits
 abbrev pub is_within : ℕ → ℕ → ℕ → Bool

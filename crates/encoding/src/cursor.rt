@@ -1,12 +1,12 @@
 ghost use Rattle.std.specs.Prelude.{◌≡◌, ◌↔◌, ℕ, ◌<◌, ◌≤◌, ◌^◌, List, [], ◌∷◌, length, IsOk, IfOk, OnErr, IsOkUnless};
 ghost use Rattle.byteorder.specs.Endian.{big_bytes};
-ghost use Rattle.encoding.specs.Bytes.{HasBytes};
+ghost use Rattle.encoding.specs.Bytes.{HasBytes, IsBytes, Is32Bytes};
 ghost use Rattle.encoding.specs.Forms.{counted_bytes};
 ghost use Rattle.encoding.specs.Limits.{IsBounded, IsWithin};
 ghost use Rattle.encoding.specs.Fields.{Reads};
 ghost use Rattle.encoding.specs.Reading.{Gives, read_bytes, read_byte, read_number, read_counted};
 
-use crate::{Bounded, Fault};
+use crate::{Bounded, Fault, Hash32};
 use byteorder::{BigEndian, ByteOrder};
 use std::marker::Model;
 
@@ -37,6 +37,14 @@ impl<'a> Cursor<'a> {
         Cursor { bytes }
     }
 
+    /// The same place once more, to read ahead from.
+    pub fn copied(&self) -> Self
+        ensures value { result ≡ self.now }
+        ensures bytes { IsBytes self.now }
+    {
+        Cursor { bytes: self.bytes }
+    }
+
     /// The next `count` bytes, or `Short`.
     pub fn take(&mut self, count: usize) -> Result<&'a [u8], Fault>
         ensures read { Gives (λ bytes. bytes.now) result self.new (read_bytes count self.old) }
@@ -51,6 +59,28 @@ impl<'a> Cursor<'a> {
         let (front, rest) = bytes.split_at(count);
         self.bytes = rest;
         Ok(front)
+    }
+
+    /// The next `N` bytes as an array, or `Short`.
+    pub fn array<const N: usize>(&mut self) -> Result<&'a [u8; N], Fault>
+        ensures read { Gives (λ bytes. bytes.now) result self.new (read_bytes N self.old) }
+        ensures form { Reads (λ bytes. bytes.now) (λ bytes. bytes) (HasBytes N) self.old result self.new }
+        ensures stays { OnErr result (self.new ≡ self.old) }
+    {
+        let Some((front, rest)) = self.bytes.split_first_chunk() else {
+            return Err(Fault::Short);
+        };
+        self.bytes = rest;
+        Ok(front)
+    }
+
+    /// The next 32 bytes, as a hash or another value of that size, or `Short`.
+    pub fn hash32(&mut self) -> Result<Hash32, Fault>
+        ensures read { Gives (λ hash. hash) result self.new (read_bytes 32 self.old) }
+        ensures form { Reads (λ hash. hash) (λ bytes. bytes) Is32Bytes self.old result self.new }
+        ensures stays { OnErr result (self.new ≡ self.old) }
+    {
+        Ok(Hash32::new(*self.array()?))
     }
 
     /// The next byte, or `Short`.
@@ -105,7 +135,7 @@ impl<'a> Cursor<'a> {
         ensures most { IfOk result (λ bytes. length bytes.now ≤ most) }
         ensures stays { OnErr result (self.new ≡ self.old) }
     {
-        let mut ahead = Cursor { bytes: self.bytes };
+        let mut ahead = self.copied();
         let len = usize::from(ahead.u16()?);
         if len < least || most < len {
             return Err(Fault::OutOfRange);
@@ -174,6 +204,33 @@ mod tests {
         assert_eq!(rt; cursor.u8(), Ok(7));
         assert_eq!(rt; cursor.u8(), Err(Fault::Short));
         assert_eq!(rt; cursor.take(0), Ok([].as_slice()));
+    }
+
+    #[test]
+    fn reads_ahead(rt: HostRuntime) {
+        let mut cursor = Cursor::new(&[1, 2, 3]);
+        assert_eq!(rt; cursor.u8(), Ok(1));
+        let mut ahead = cursor.copied();
+        assert_eq!(rt; ahead.u16(), Ok(0x0203));
+        assert_eq!(rt; ahead.end(), Ok(()));
+        assert_eq!(rt; cursor.u8(), Ok(2));
+    }
+
+    #[test]
+    fn reads_an_array(rt: HostRuntime) {
+        let mut cursor = Cursor::new(&[1, 2, 3, 4, 5]);
+        assert_eq!(rt; cursor.array(), Ok(&[1, 2, 3]));
+        assert_eq!(rt; cursor.array::<3>(), Err(Fault::Short));
+        assert_eq!(rt; cursor.array::<0>(), Ok(&[]));
+        assert_eq!(rt; cursor.array(), Ok(&[4, 5]));
+    }
+
+    #[test]
+    fn reads_a_hash(rt: HostRuntime) {
+        let mut cursor = Cursor::new(&[9; 40]);
+        assert_eq!(rt; cursor.hash32(), Ok(Hash32::new([9; 32])));
+        assert_eq!(rt; cursor.hash32(), Err(Fault::Short));
+        assert_eq!(rt; cursor.u64(), Ok(0x0909_0909_0909_0909));
     }
 
     #[test]
