@@ -1,0 +1,4 @@
+pub mod Bodies
+pub mod Promises
+pub mod SignedRoots
+pub mod WholeBytes

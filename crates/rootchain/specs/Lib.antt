@@ -1,0 +1,7 @@
+pub mod Bodies
+pub mod Promises
+pub mod Refusals
+pub mod SignedRoots
+pub mod WholeBytes
+pub use Rattle.encoding.specs.Forms
+pub use Rattle.encoding.specs.Reading

@@ -1,0 +1,105 @@
+ghost use Rattle.std.specs.Prelude.{◌≡◌, true, length, IsOkUnless, OnErr};
+ghost use Rattle.encoding.specs.Fields.{Reads, ReadsWhole};
+ghost use Rattle.encoding.specs.Reading.{Gives};
+ghost use Rattle.rootchain.specs.declared.refusal.Refusal.TheVariants.{Malformed};
+ghost use Rattle.rootchain.specs.Bodies.{body_bytes, is_well_formed, read_body, IsBody};
+
+use crate::Refusal;
+use crate::whole::whole;
+use encoding::{Cursor, Fault, Hash32, Text};
+
+/// The kind byte of a body, the letter R, and the version of its form.
+const HEAD: [u8; 2] = [0x52, 1];
+
+/// The body of a signed tree root (CONIKS, section 3).
+#[derive(Clone, Copy, Debug, PartialEq, Eq)]
+pub struct Body {
+    /// The number of the epoch, from 1 on.
+    pub epoch: u64,
+    /// The number of the epoch before, or 0 where there is none.
+    pub previous_epoch: u64,
+    /// The root of the prefix tree.
+    pub root: Hash32,
+    /// The hash of the body before, or zeros where there is none.
+    pub previous_hash: Hash32,
+    /// The nonce of the tree.
+    pub nonce: Hash32,
+    /// The public key of the verifiable function.
+    pub vuf_key: Hash32,
+}
+
+impl Body {
+    /// The body that these bytes spell. The only refusal is `Malformed`.
+    #[tactic(auto, using(crate::proofs::Bodies::body_exact))]
+    pub fn read(bytes: &[u8]) -> Result<Body, Refusal>
+        ensures exact { ReadsWhole (λ body. body) body_bytes IsBody bytes.now result }
+        ensures refusal { IsOkUnless result Malformed }
+    {
+        let mut cursor = Cursor::new(bytes);
+        let read = Body::read_from(&mut cursor);
+        whole(read, &cursor)
+    }
+
+    /// The 146 bytes of the body.
+    pub fn write(&self) -> Text
+        ensures value { result ≡ body_bytes self.now }
+        ensures len { length result ≡ 146 }
+        ensures form { is_well_formed self.now ≡ true → IsBody self.now }
+    {
+        let mut text = Text::new();
+        text.push_slice(&HEAD);
+        text.push_u64(self.epoch);
+        text.push_u64(self.previous_epoch);
+        text.push_slice(self.root.bytes());
+        text.push_slice(self.previous_hash.bytes());
+        text.push_slice(self.nonce.bytes());
+        text.push_slice(self.vuf_key.bytes());
+        text
+    }
+
+    /// Whether the epoch comes after the one before, whose hash is zero where there is none.
+    fn is_well_formed(&self) -> bool
+        ensures { result ≡ is_well_formed self.now }
+    {
+        self.previous_epoch < self.epoch
+            && (self.previous_epoch != 0 || self.previous_hash == Hash32::new([0; 32]))
+    }
+
+    /// The body at the front of the bytes, or the refusal of its first part that is refused.
+    pub fn read_from(cursor: &mut Cursor<'_>) -> Result<Body, Fault>
+        ensures read { Gives (λ body. body) result cursor.new (read_body cursor.old) }
+        ensures form { Reads (λ body. body) body_bytes IsBody cursor.old result cursor.new }
+        ensures stays { OnErr result (cursor.new ≡ cursor.old) }
+    {
+        let mut ahead = cursor.copied();
+        match Body::read_parts(&mut ahead) {
+            Ok(body) => {
+                *cursor = ahead;
+                Ok(body)
+            }
+            Err(fault) => Err(fault),
+        }
+    }
+
+    /// The body at the front of the bytes, of which some may have been read where it is refused.
+    #[tactic(auto, unfolding(crate::specs::Bodies::read_body))]
+    fn read_parts(cursor: &mut Cursor<'_>) -> Result<Body, Fault>
+        ensures { Gives (λ body. body) result cursor.new (read_body cursor.old) }
+    {
+        if cursor.take(2)? != HEAD.as_slice() {
+            return Err(Fault::OutOfRange);
+        }
+        let body = Body {
+            epoch: cursor.u64()?,
+            previous_epoch: cursor.u64()?,
+            root: cursor.hash32()?,
+            previous_hash: cursor.hash32()?,
+            nonce: cursor.hash32()?,
+            vuf_key: cursor.hash32()?,
+        };
+        if !body.is_well_formed() {
+            return Err(Fault::OutOfRange);
+        }
+        Ok(body)
+    }
+}

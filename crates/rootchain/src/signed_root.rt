@@ -1,0 +1,53 @@
+ghost use Rattle.std.specs.Prelude.{◌≡◌, ◌+◌, true, length, IsOkUnless};
+ghost use Rattle.encoding.specs.Fields.{ReadsWhole};
+ghost use Rattle.encoding.specs.Reading.{Gives};
+ghost use Rattle.rootchain.specs.declared.refusal.Refusal.TheVariants.{Malformed};
+ghost use Rattle.rootchain.specs.Bodies.{is_well_formed};
+ghost use Rattle.rootchain.specs.SignedRoots.{read_signed_root, signed_root_bytes, IsSignedRoot};
+
+use crate::whole::whole;
+use crate::{Body, Refusal};
+use encoding::{Cursor, Fault, Small, Text};
+
+/// A signed tree root (CONIKS, section 3).
+#[derive(Debug, Drop, PartialEq, Eq)]
+pub struct SignedRoot {
+    pub body: Body,
+    /// The provider's signature of the body's bytes.
+    pub signature: Small,
+}
+
+impl SignedRoot {
+    /// The signed root that these bytes spell. The only refusal is `Malformed`.
+    #[tactic(auto, using(crate::proofs::SignedRoots::signed_root_exact))]
+    pub fn read(bytes: &[u8]) -> Result<SignedRoot, Refusal>
+        ensures exact { ReadsWhole (λ signed. signed) signed_root_bytes IsSignedRoot bytes.now result }
+        ensures refusal { IsOkUnless result Malformed }
+    {
+        let mut cursor = Cursor::new(bytes);
+        let read = SignedRoot::read_from(&mut cursor);
+        whole(read, &cursor)
+    }
+
+    /// The bytes: the body's 146, and the signature behind its length.
+    pub fn write(&self) -> Text
+        ensures value { result ≡ signed_root_bytes self.now }
+        ensures len { length result ≡ 148 + length self.now.signature }
+        ensures form { is_well_formed self.now.body ≡ true → IsSignedRoot self.now }
+    {
+        let mut text = self.body.write();
+        text.push_counted(self.signature.bytes());
+        text
+    }
+
+    /// The signed root at the front of the bytes.
+    #[tactic(auto, unfolding(crate::specs::SignedRoots::read_signed_root))]
+    pub(crate) fn read_from(cursor: &mut Cursor<'_>) -> Result<SignedRoot, Fault>
+        ensures { Gives (λ signed. signed) result cursor.new (read_signed_root cursor.old) }
+    {
+        Ok(SignedRoot {
+            body: Body::read_from(cursor)?,
+            signature: cursor.bounded()?,
+        })
+    }
+}
