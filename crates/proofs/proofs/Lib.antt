@@ -1,0 +1,9 @@
+pub mod Chunks
+pub mod Climbs
+pub mod Colliding
+pub mod Differing
+pub mod Honest
+pub mod Opposed
+pub mod Passing
+pub mod Replies
+pub mod Sound

@@ -1,0 +1,220 @@
+-- A reply is read exactly where one is spelled.
+use Rattle.std.proofs.Common.{◌≡◌, ◌≢◌, ℕ, zero, suc, ◌*◌, ◌<◌, ◌≤◌, ◌^◌, List, [], ◌∷◌, ◌++◌, length, Bool, true, false, leb, ◌&&◌, Ok, Err, refl, sym, ap, subst, ◌∙◌, arith, lit≤}
+use Rattle.std.specs.List.{AllByRecursion}
+use Rattle.std.specs.Simd.{first_chunks}
+use Rattle.std.proofs.lemmas.Bool.{leb-true, le-leb, ne_eqb}
+use Rattle.encoding.specs.declared.fault.Fault.{Fault}
+use Rattle.encoding.specs.declared.fault.Fault.TheVariants.{OutOfRange}
+use Rattle.encoding.specs.Bytes.{HasBytes, IsBytes, Is32Bytes}
+use Rattle.encoding.specs.Endian.{big_bytes}
+use Rattle.encoding.specs.Fields.{IsField}
+use Rattle.encoding.specs.Forms.{counted_bytes}
+use Rattle.encoding.specs.Limits.{IsKeyData, IsSmall}
+use Rattle.encoding.specs.Reading.{is_within, read_as, read_byte, read_bytes, read_counted, read_number, read_where}
+use Rattle.encoding.proofs.Fields.{whole-read, whole-refused, allowed_field, both_field, byte_field, bytes_field, counted_field, nothing_field, numbers_field, renamed_field, respelled_field, tested_field, then_field}
+use Rattle.rootchain.specs.declared.body.Body.{Body}
+use Rattle.rootchain.specs.Bodies.{body_bytes, read_body, IsBody}
+use Rattle.rootchain.proofs.Bodies.{body_field}
+use Rattle.proofs.specs.Replies.{End, Present, Empty, Other, Reply, end_bytes, end_kind, end_parts, reply_bytes, sibling_bytes, AreSiblings, IsEnd, IsReply, Spells}
+use Rattle.proofs.specs.Refusals.{BeginsWithReply}
+use Rattle.proofs.specs.Reading.{read_end, read_end_of, read_other, read_present, read_reply, read_siblings, reply_of}
+use Rattle.proofs.proofs.Chunks.{joined, chunks-hashes, chunks-joined, joined-chunks, joined-hashes, length-chunks}
+
+abbrev itself : List ℕ → List ℕ
+itself bytes = bytes
+
+-- ---- ends
+
+-- the end of this kind
+abbrev IsOfKind : ℕ → End → Type 0
+IsOfKind kind end = IsEnd end × (end_kind end ≡ kind)
+
+abbrev opening : End → List ℕ × List ℕ
+opening (Present salt key) = (salt, key)
+opening Empty = ([], [])
+opening (Other index commitment) = ([], [])
+
+abbrev leaf : End → List ℕ × List ℕ
+leaf (Present salt key) = ([], [])
+leaf Empty = ([], [])
+leaf (Other index commitment) = (index, commitment)
+
+abbrev Opened : End → Type 0
+Opened end = (Is32Bytes (opening end).0 × IsKeyData (opening end).1) × (Present (opening end).0 (opening end).1 ≡ end)
+
+present_field : IsField read_present end_parts (IsOfKind 1)
+present_field =
+    allowed_field read_present end_parts Opened (IsOfKind 1) to back
+    (respelled_field read_present (λ end. (opening end).0 ++ counted_bytes (opening end).1) end_parts Opened same
+    (renamed_field (λ parts. Present parts.0 parts.1) opening _ _ _ (λ _ _. refl)
+    (both_field (read_bytes 32) (read_counted 1 2048) itself counted_bytes (HasBytes 32) IsKeyData (bytes_field 32) (counted_field 1 2048 (lit≤ tt)))))
+  where
+    same : (end : End) → Opened end → (opening end).0 ++ counted_bytes (opening end).1 ≡ end_parts end
+    same (Present salt key) h = refl
+    same Empty h = absurd cc
+    same (Other index commitment) h = absurd cc
+
+    to : (end : End) → Opened end → IsOfKind 1 end
+    to (Present salt key) h = (h.0, refl)
+    to Empty h = absurd cc
+    to (Other index commitment) h = absurd cc
+
+    back : (end : End) → IsOfKind 1 end → Opened end
+    back (Present salt key) h = (h.0, refl)
+    back Empty h = absurd (omega (arith, h.1))
+    back (Other index commitment) h = absurd (omega (arith, h.1))
+
+abbrev Told : End → Type 0
+Told end = (Is32Bytes (leaf end).0 × Is32Bytes (leaf end).1) × (Other (leaf end).0 (leaf end).1 ≡ end)
+
+other_field : IsField read_other end_parts (IsOfKind 3)
+other_field =
+    allowed_field read_other end_parts Told (IsOfKind 3) to back
+    (respelled_field read_other (λ end. (leaf end).0 ++ (leaf end).1) end_parts Told same
+    (renamed_field (λ parts. Other parts.0 parts.1) leaf _ _ _ (λ _ _. refl)
+    (both_field (read_bytes 32) (read_bytes 32) itself itself (HasBytes 32) (HasBytes 32) (bytes_field 32) (bytes_field 32))))
+  where
+    same : (end : End) → Told end → (leaf end).0 ++ (leaf end).1 ≡ end_parts end
+    same (Present salt key) h = absurd cc
+    same Empty h = absurd cc
+    same (Other index commitment) h = refl
+
+    to : (end : End) → Told end → IsOfKind 3 end
+    to (Present salt key) h = absurd cc
+    to Empty h = absurd cc
+    to (Other index commitment) h = (h.0, refl)
+
+    back : (end : End) → IsOfKind 3 end → Told end
+    back (Present salt key) h = absurd (omega (arith, h.1))
+    back Empty h = absurd (omega (arith, h.1))
+    back (Other index commitment) h = (h.0, refl)
+
+empty_field : IsField (read_end_of 2) end_parts (IsOfKind 2)
+empty_field =
+    allowed_field (read_end_of 2) end_parts (λ end. Empty ≡ end) (IsOfKind 2) to back
+    (respelled_field (read_end_of 2) (λ _. []) end_parts (λ end. Empty ≡ end) same (nothing_field Empty))
+  where
+    same : (end : End) → Empty ≡ end → [] ≡ end_parts end
+    same (Present salt key) h = absurd cc
+    same Empty h = refl
+    same (Other index commitment) h = absurd cc
+
+    to : (end : End) → Empty ≡ end → IsOfKind 2 end
+    to (Present salt key) h = absurd cc
+    to Empty h = (tt, refl)
+    to (Other index commitment) h = absurd cc
+
+    back : (end : End) → IsOfKind 2 end → Empty ≡ end
+    back (Present salt key) h = absurd (omega (arith, h.1))
+    back Empty h = refl
+    back (Other index commitment) h = absurd (omega (arith, h.1))
+
+-- the parts of an end of each kind; no end is of another kind
+kinds : (kind : ℕ) → IsField (read_end_of kind) end_parts (IsOfKind kind)
+kinds zero = record { spelled = λ bytes z small e. absurd cc; again = none }
+  where
+    none : (end : End) (rest : List ℕ) → IsOfKind zero end → read_end_of zero (end_parts end ++ rest) ≡ Ok (end, rest)
+    none (Present salt key) rest h = absurd (omega (arith, h.1))
+    none Empty rest h = absurd (omega (arith, h.1))
+    none (Other index commitment) rest h = absurd (omega (arith, h.1))
+kinds (suc zero) = present_field
+kinds (suc (suc zero)) = empty_field
+kinds (suc (suc (suc zero))) = other_field
+kinds (suc (suc (suc (suc kind)))) = record { spelled = λ bytes z small e. absurd (refused OutOfRange z (sym (unknown bytes) ∙ e)); again = none }
+  where
+    unknown : (bytes : List ℕ) → read_end_of (suc (suc (suc (suc kind)))) bytes ≡ Err OutOfRange
+    unknown bytes = rw (ne_eqb (suc (suc (suc (suc kind)))) 1 (λ e. omega (arith, e)), ne_eqb (suc (suc (suc (suc kind)))) 2 (λ e. omega (arith, e)), ne_eqb (suc (suc (suc (suc kind)))) 3 (λ e. omega (arith, e))) refl
+
+    refused : (fault : Fault) (z : End × List ℕ) → Err fault ≡ Ok z → ⊥
+    refused fault z e = absurd cc
+
+    none : (end : End) (rest : List ℕ) → IsOfKind (suc (suc (suc (suc kind)))) end → read_end_of (suc (suc (suc (suc kind)))) (end_parts end ++ rest) ≡ Ok (end, rest)
+    none (Present salt key) rest h = absurd (omega (arith, h.1))
+    none Empty rest h = absurd (omega (arith, h.1))
+    none (Other index commitment) rest h = absurd (omega (arith, h.1))
+
+kind_small : (end : End) → end_kind end < 256
+kind_small (Present salt key) = lit≤ tt
+kind_small Empty = lit≤ tt
+kind_small (Other index commitment) = lit≤ tt
+
+pub end_field : IsField read_end end_bytes IsEnd
+unfolding read_end
+end_field =
+    allowed_field _ end_bytes (λ end. (end_kind end < 256) × IsEnd end) IsEnd (λ _ h. h.1) (λ end h. (kind_small end, h))
+    (then_field end_kind read_byte read_end_of (λ kind. kind ∷ []) end_parts (λ kind. kind < 256) IsEnd byte_field (λ kind _. kinds kind))
+
+-- ---- siblings
+
+abbrev AreJoined : ℕ → List (List ℕ) → Type 0
+AreJoined count hashes = HasBytes (32 * count) (joined hashes) × (first_chunks 32 count (joined hashes) ≡ hashes)
+
+-- so many hashes
+abbrev AreCounted : ℕ → List (List ℕ) → Type 0
+AreCounted count hashes = AllByRecursion Is32Bytes hashes × (length hashes ≡ count)
+
+hashes_field : (count : ℕ) → IsField (read_as (first_chunks 32 count) (read_bytes (32 * count))) joined (AreCounted count)
+hashes_field count =
+    allowed_field _ joined (AreJoined count) (AreCounted count) to back
+    (renamed_field (first_chunks 32 count) joined (read_bytes (32 * count)) itself (HasBytes (32 * count)) (λ bytes h. joined-chunks count bytes h.0) (bytes_field (32 * count)))
+  where
+    to : (hashes : List (List ℕ)) → AreJoined count hashes → AreCounted count hashes
+    to hashes h = subst (AreCounted count) h.1 (chunks-hashes count (joined hashes) h.0, length-chunks count (joined hashes))
+
+    back : (hashes : List (List ℕ)) → AreCounted count hashes → AreJoined count hashes
+    back hashes h = subst (λ (n : ℕ). AreJoined n hashes) h.1 (joined-hashes hashes h.0, chunks-joined hashes h.0)
+
+abbrev IsCount : ℕ → Type 0
+IsCount n = (n < 256 ^ 2) × (is_within 0 256 n ≡ true)
+
+pub siblings_field : IsField read_siblings sibling_bytes AreSiblings
+unfolding read_siblings
+siblings_field =
+    allowed_field _ sibling_bytes (λ siblings. IsCount (length siblings) × AllByRecursion Is32Bytes siblings) AreSiblings
+    (λ siblings h. (few (length siblings) h.0.1, h.1))
+    (λ siblings h. ((omega (arith, h.0), rw (le-leb 0 (length siblings) (omega arith), le-leb (length siblings) 256 h.0) refl), h.1))
+    (then_field length (read_where (is_within 0 256) (read_number 2)) _ (big_bytes 2) joined IsCount (AllByRecursion Is32Bytes)
+    (tested_field (is_within 0 256) (read_number 2) (big_bytes 2) (λ n. n < 256 ^ 2) (numbers_field 2))
+    (λ count _. hashes_field count))
+  where
+    both_true : (a b : Bool) → (a && b) ≡ true → b ≡ true
+    both_true true b e = e
+    both_true false b e = absurd cc
+
+    few : (count : ℕ) → is_within 0 256 count ≡ true → count ≤ 256
+    few count e = leb-true count 256 (both_true (leb 0 count) (leb count 256) e)
+
+-- ---- replies
+
+abbrev parts_of : Reply → Body × (List ℕ × (End × List (List ℕ)))
+parts_of reply = (reply.body, (reply.value, (reply.end, reply.siblings)))
+
+pub reply_field : IsField read_reply reply_bytes IsReply
+unfolding read_reply
+reply_field =
+    let last = both_field _ _ end_bytes sibling_bytes IsEnd AreSiblings end_field siblings_field in
+    let valued = both_field (read_counted 1 256) _ counted_bytes _ IsSmall _ (counted_field 1 256 (lit≤ tt)) last in
+    let parts = both_field read_body _ body_bytes _ IsBody _ body_field valued in
+    allowed_field _ _ _ IsReply (λ _ h. (h.0.0, h.0.1.0, h.0.1.1.0, h.0.1.1.1)) (λ _ h. ((h.0, (h.1, (h.2, h.3))), refl))
+    (renamed_field reply_of parts_of _ _ _ (λ _ _. refl) parts)
+
+-- ---- whole bytes
+
+-- bytes at which the reader refuses spell no reply, and none of their beginnings does
+pub is_malformed : (bytes : List ℕ) (fault : Fault) → read_reply bytes ≡ Err fault → ((reply : Reply) → ¬ Spells bytes reply) × ¬ BeginsWithReply bytes
+is_malformed bytes fault e = (
+  whole-refused read_reply reply_bytes IsReply reply_field bytes fault e,
+  λ begins. refused fault (begins.0, begins.2) (sym e ∙ ap read_reply (begins.3 ∙ ap (λ (front : List ℕ). front ++ begins.2) begins.5.0) ∙ reply_field.again begins.0 begins.2 begins.5.1),
+)
+  where
+    refused : (fault : Fault) (z : Reply × List ℕ) → Err fault ≡ Ok z → ⊥
+    refused fault z e = absurd cc
+
+-- what is left behind a reply makes the bytes begin with one
+pub is_trailing : (bytes : List ℕ) (reply : Reply) (rest : List ℕ) → IsBytes bytes → read_reply bytes ≡ Ok (reply, rest) → rest ≢ [] → BeginsWithReply bytes
+is_trailing bytes reply rest small e some =
+    let t = reply_field.spelled bytes (reply, rest) small e in
+    (reply, reply_bytes reply, rest, t.0, some, (refl, t.1))
+
+pub is_spelled : (bytes : List ℕ) (reply : Reply) → IsBytes bytes → read_reply bytes ≡ Ok (reply, []) → Spells bytes reply
+is_spelled = whole-read read_reply reply_bytes IsReply reply_field

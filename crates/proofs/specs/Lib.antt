@@ -1,0 +1,13 @@
+pub mod Accepts
+pub mod Comparisons
+pub mod Honest
+pub mod Reading
+pub mod Refusals
+pub mod Replies
+pub mod Views
+pub mod WayTexts
+pub use Rattle.commit.specs.Commitments
+pub use Rattle.encoding.specs.Fields
+pub use Rattle.encoding.specs.Forms
+pub use Rattle.prefixtree.specs.Paths
+pub use Rattle.rootchain.specs.Bodies

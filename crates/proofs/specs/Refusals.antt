@@ -1,0 +1,76 @@
+-- Why a reply is refused, and which refusal comes first.
+use Rattle.std.specs.Prelude.{◌≡◌, ◌≢◌, ℕ, ◌<◌, List, [], ◌++◌, length, Result, Ok, Err, ⊤}
+use Rattle.encoding.specs.Bits.{Agree}
+use Rattle.nodehash.specs.NodeTexts.{empty_bytes, leaf_bytes}
+use Rattle.commit.specs.Commitments.{commitment_bytes}
+use Rattle.prefixtree.specs.Paths.{Way}
+use Rattle.rootchain.specs.declared.body.Body.{Body}
+use Rattle.proofs.specs.declared.refusal.Refusal.{Refusal}
+use Rattle.proofs.specs.declared.refusal.Refusal.TheVariants.{Malformed, Trailing, OtherRoot, BadVuf, SameIndex, OtherPrefix, PathMismatch}
+use Rattle.proofs.specs.Replies.{End, Present, Empty, Other, Reply, Spells}
+
+-- the number that tells a refusal
+abbrev pub refusal_number : Refusal → ℕ
+refusal_number Malformed = 1
+refusal_number Trailing = 2
+refusal_number OtherRoot = 3
+refusal_number BadVuf = 4
+refusal_number SameIndex = 5
+refusal_number OtherPrefix = 6
+refusal_number PathMismatch = 7
+
+-- ---- reading
+
+-- a proper beginning of the bytes spells a reply
+abbrev pub BeginsWithReply : List ℕ → Type 0
+BeginsWithReply bytes = (reply : Reply) × (front : List ℕ) × (rest : List ℕ) × (bytes ≡ front ++ rest) × (rest ≢ []) × Spells front reply
+
+-- what reading all of the bytes answers
+abbrev pub ReadsReply : List ℕ → Result Reply Refusal → Type 0
+ReadsReply bytes (Ok reply) = Spells bytes reply
+ReadsReply bytes (Err Malformed) = ((reply : Reply) → ¬ Spells bytes reply) × ¬ BeginsWithReply bytes
+ReadsReply bytes (Err Trailing) = BeginsWithReply bytes
+ReadsReply bytes (Err OtherRoot) = ⊥
+ReadsReply bytes (Err BadVuf) = ⊥
+ReadsReply bytes (Err SameIndex) = ⊥
+ReadsReply bytes (Err OtherPrefix) = ⊥
+ReadsReply bytes (Err PathMismatch) = ⊥
+
+-- ---- checking
+
+-- a leaf that shows absence is that of another index
+abbrev pub AbsenceIsByAnother : List ℕ → End → Type 0
+AbsenceIsByAnother index (Present salt key) = ⊤
+AbsenceIsByAnother index Empty = ⊤
+AbsenceIsByAnother index (Other other commitment) = other ≢ index
+
+-- and it agrees with this one in n bits
+abbrev pub AbsenceIsOnWay : List ℕ → ℕ → End → Type 0
+AbsenceIsOnWay index n (Present salt key) = ⊤
+AbsenceIsOnWay index n Empty = ⊤
+AbsenceIsOnWay index n (Other other commitment) = Agree index other n
+
+module _ (hash : List ℕ → List ℕ) where
+  -- the text of the node at an end, at level n on the way of an index
+  abbrev pub end_text : List ℕ → List ℕ → List ℕ → ℕ → End → List ℕ
+  end_text nonce name index n (Present salt key) = leaf_bytes nonce index n (hash (commitment_bytes salt name key))
+  end_text nonce name index n Empty = empty_bytes nonce index n
+  end_text nonce name index n (Other other commitment) = leaf_bytes nonce other n commitment
+
+module _ (hash : List ℕ → List ℕ) (accepted : List ℕ → List ℕ → List ℕ → Type 0) where
+  -- what a reply for a name has to pass under a body, by the refusal where it does not; one that was
+  -- read has passed the first two
+  abbrev pub Passes : Body → List ℕ → Reply → Refusal → Type 0
+  Passes body name reply Malformed = ⊤
+  Passes body name reply Trailing = ⊤
+  Passes body name reply OtherRoot = reply.body ≡ body
+  Passes body name reply BadVuf = accepted body.vuf_key name reply.value
+  Passes body name reply SameIndex = AbsenceIsByAnother (hash reply.value) reply.end
+  Passes body name reply OtherPrefix = AbsenceIsOnWay (hash reply.value) (length reply.siblings) reply.end
+  Passes body name reply PathMismatch =
+      Way hash body.root (hash reply.value) reply.siblings (end_text hash body.nonce name (hash reply.value) (length reply.siblings) reply.end)
+
+-- this one is not passed, and each that comes before it is
+pub record IsFirst (Passed : Refusal → Type 0) (refusal : Refusal) : Type 0 where
+  pub fails : ¬ Passed refusal
+  pub before : (other : Refusal) → refusal_number other < refusal_number refusal → Passed other

@@ -1,0 +1,142 @@
+ghost use Rattle.std.specs.Prelude.{◌≡◌, ◌≢◌, ◌↔◌, ◌+◌, ◌≤◌, ℕ, List, Option, length, IfErr, IfOk, IsOkAnd, IsTrue};
+ghost use Rattle.prefixtree.specs.Paths.{Way};
+ghost use Rattle.proofs.specs.Accepts.{stated, Accepts};
+ghost use Rattle.proofs.specs.Refusals.{end_text, IsFirst, AbsenceIsByAnother, AbsenceIsOnWay, Passes};
+ghost use Rattle.proofs.specs.Replies.{IsEnd, Spells};
+ghost use Rattle.proofs.specs.Views.{end_seen};
+
+use crate::view::EndView;
+use crate::way::climb;
+use crate::{Accepted, Refusal, ReplyView};
+use commit::commit;
+use encoding::{Hash32, Index, KeyData, Name, agree};
+use nodehash::{NodeHash, NodeText, empty_text, leaf_text};
+use prefixtree::way_is_fold;
+use rootchain::Body;
+use vrfiface::{VufCheck, index_of};
+
+/// Whether a leaf that shows absence is that of another index.
+fn absence_is_by_another(index: &Index, end: EndView<'_>) -> bool
+    ensures { IsTrue result ↔ AbsenceIsByAnother index.now (end_seen end.entry) }
+{
+    match end {
+        EndView::Other { index: other, .. } => Index::new(*other) != *index,
+        EndView::Present { .. } | EndView::Empty => true,
+    }
+}
+
+/// Whether a leaf that shows absence agrees with the index in `level` bits.
+fn absence_is_on_way(index: &Index, level: usize, end: EndView<'_>) -> bool
+    ensures { IsTrue result ↔ AbsenceIsOnWay index.now level (end_seen end.entry) }
+{
+    match end {
+        EndView::Other { index: other, .. } => agree(index, &Index::new(*other), level),
+        EndView::Present { .. } | EndView::Empty => true,
+    }
+}
+
+/// The text of the node at an end.
+pub(crate) fn end_text<H: NodeHash>(
+    hash: &mut H,
+    nonce: &Hash32,
+    name: &Name,
+    index: &Index,
+    level: usize,
+    end: EndView<'_>,
+) -> NodeText
+    requires level { level ≤ 256 }
+    requires end { IsEnd (end_seen end) }
+    ensures value { result ≡ end_text H.digest_of nonce.now name.now index.now level (end_seen end.entry) }
+    ensures no_interior { length result ≢ 64 }
+    ensures counted { H.digests hash.new ≤ H.digests hash.old + 1 }
+{
+    let level = level as u32;
+    match end {
+        EndView::Present { salt, key } => {
+            let Ok(key) = KeyData::new(key) else {
+                unreachable!()
+            };
+            let commitment = commit(hash, &Hash32::new(*salt), name, &key);
+            leaf_text(nonce, index, level, &commitment)
+        }
+        EndView::Empty => empty_text(nonce, index, level),
+        EndView::Other { index, commitment } => {
+            let commitment = Hash32::new(*commitment);
+            leaf_text(nonce, &Index::new(*index), level, &commitment)
+        }
+    }
+}
+
+/// Whether there is a way from the root to the text.
+fn leads<H: NodeHash>(
+    hash: &mut H,
+    root: &Hash32,
+    index: &Index,
+    siblings: &[[u8; 32]],
+    end: NodeText,
+) -> bool
+    requires { length siblings.now ≤ 256 }
+    ensures way { IsTrue result ↔ Way H.digest_of root.now index.now siblings.now end }
+    ensures counted { H.digests hash.new ≤ H.digests hash.old + length siblings.now + 1 }
+{
+    way_is_fold();
+    let top = climb(hash, index, siblings, end, 0);
+    hash.digest(top.bytes()) == *root
+}
+
+/// The index of the name, where the reply passes each test, else the first that it does not.
+fn tested<H: NodeHash, V: VufCheck>(
+    hash: &mut H,
+    vuf: &V,
+    body: &Body,
+    name: &Name,
+    view: &ReplyView<'_>,
+) -> Result<Index, Refusal>
+    ensures ok { IfOk result (λ _. (refusal : _) → Passes H.digest_of V.accepted body.now name.now view.now refusal) }
+    ensures index { IfOk result (λ index. index ≡ H.digest_of view.now.value) }
+    ensures first { IfErr result (IsFirst (Passes H.digest_of V.accepted body.now name.now view.now)) }
+    ensures counted { H.digests hash.new ≤ H.digests hash.old + length view.now.siblings + 3 }
+{
+    if view.body() != body {
+        return Err(Refusal::OtherRoot);
+    }
+    if !vuf.accepts(&body.vuf_key, name, view.value()) {
+        return Err(Refusal::BadVuf);
+    }
+    let index = index_of(hash, view.value());
+    if !absence_is_by_another(&index, view.end()) {
+        return Err(Refusal::SameIndex);
+    }
+    let level = view.hashes().len();
+    if !absence_is_on_way(&index, level, view.end()) {
+        return Err(Refusal::OtherPrefix);
+    }
+    let end = end_text(hash, &body.nonce, name, &index, level, view.end());
+    if !leads(hash, &body.root, &index, view.hashes(), end) {
+        return Err(Refusal::PathMismatch);
+    }
+    Ok(index)
+}
+
+/// The reply, where it is accepted for the name under this body of a signed root, by at most three
+/// digests beside one for each sibling.
+///
+/// # Errors
+///
+/// The first of the refusals from `OtherRoot` on that applies.
+pub fn check<'a, H: NodeHash, V: VufCheck>(
+    hash: &mut H,
+    vuf: &V,
+    body: &Body,
+    name: &Name,
+    view: &ReplyView<'a>,
+) -> Result<Accepted<'a, H, V>, Refusal>
+    ensures exact { (bytes : List ℕ) → Spells bytes view.now → (statement : Option (List ℕ))
+        → IsOkAnd result (λ accepted. stated accepted.reply.end ≡ statement) ↔ Accepts H.digest_of V.accepted body.now name.now bytes statement }
+    ensures kept { IfOk result (λ accepted. accepted ≡ record { name = name.now; reply = view.now }) }
+    ensures first { IfErr result (IsFirst (Passes H.digest_of V.accepted body.now name.now view.now)) }
+    ensures counted { H.digests hash.new ≤ H.digests hash.old + length view.now.siblings + 3 }
+{
+    let index = tested(hash, vuf, body, name, view)?;
+    Ok(Accepted::new(name.copied(), view.copied(), index))
+}

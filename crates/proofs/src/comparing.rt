@@ -1,0 +1,216 @@
+ghost use Rattle.std.specs.Prelude.{◌≡◌, ◌≢◌, ◌⊎◌, ◌↔◌, ◌≤◌, ℕ, List, Option, length, IfErr, IfOk, IsOkAnd, IsSomeAnd, IsTrue, MatchOption};
+ghost use Rattle.proofs.specs.Accepts.{Accepts};
+ghost use Rattle.encoding.specs.Limits.{IsName};
+ghost use Rattle.proofs.specs.Comparisons.{Answers, AreComparable, Compares, HasIndex, HaveOneIndex, IsAcceptedReply, IsOneBindingOr, Refuses, StateTheSame};
+ghost use Rattle.proofs.specs.Replies.{AreSiblings};
+ghost use Rattle.proofs.specs.Views.{key_stated};
+ghost use Rattle.proofs.specs.WayTexts.{way_texts, AreFirstToDiffer};
+
+use crate::way::{climb, joined_text};
+use crate::{Accepted, Refusal, ReplyView, Statement, check};
+use encoding::{FixedText, Hash32, Index, Name, Text};
+use nodehash::{NodeHash, NodeText};
+use rootchain::Body;
+use vrfiface::VufCheck;
+
+/// What two accepted replies come to.
+#[derive(Debug, Drop)]
+pub enum SameOr {
+    /// They are for two names, or under two bodies.
+    NotComparable,
+    /// They state the same.
+    Same,
+    /// They state two things and have two indices, so two values of the name were accepted.
+    TwoValues,
+    /// They state two things, by two byte strings with one digest: the first is from the first reply,
+    /// the second from the second. They are the first two node texts on the ways from the root down
+    /// that differ, or where none differ, the texts of the two commitments.
+    Collision(Text, Text),
+}
+
+/// Which of two replies is refused, and why.
+#[derive(Clone, Copy, Debug, PartialEq, Eq)]
+pub enum RefusedReply {
+    /// The first is refused.
+    First(Refusal),
+    /// The first is accepted, and the second is refused.
+    Second(Refusal),
+}
+
+/// Two texts of nodes, from the first reply and from the second.
+type Pair = (NodeText, NodeText);
+
+/// The same bytes in another room.
+fn copied<const FROM: usize, const TO: usize>(text: &FixedText<FROM>) -> FixedText<TO>
+    requires { length text.now ≤ TO }
+    ensures { result ≡ text.now }
+{
+    let mut copy = FixedText::new();
+    copy.push_slice(text.bytes());
+    copy
+}
+
+/// The two texts where they differ, else what was found below.
+fn first_of(first: &NodeText, second: &NodeText, below: Option<Pair>) -> Option<Pair>
+    ensures { ((first.now ≡ second.now) × (result ≡ below)) ⊎ ((first.now ≢ second.now) × IsSomeAnd result (λ pair. (pair.0 ≡ first.now) × (pair.1 ≡ second.now))) }
+{
+    if first.bytes() == second.bytes() {
+        below
+    } else {
+        Some((copied(first), copied(second)))
+    }
+}
+
+/// Whether two statements are the same.
+fn are_same(first: Statement<'_>, second: Statement<'_>) -> bool
+    ensures { IsTrue result ↔ (key_stated first.entry ≡ key_stated second.entry) }
+{
+    match first {
+        Statement::Present(key) => match second {
+            Statement::Present(other) => key == other,
+            Statement::Absent => false,
+        },
+        Statement::Absent => matches!(second, Statement::Absent),
+    }
+}
+
+/// The first two texts, from the root down, at which two ways of one index differ.
+fn first_to_differ<H: NodeHash>(
+    hash: &mut H,
+    index: &Index,
+    first_siblings: &[[u8; 32]],
+    first_end: NodeText,
+    second_siblings: &[[u8; 32]],
+    second_end: NodeText,
+) -> Option<Pair>
+    requires first_siblings { AreSiblings first_siblings.now }
+    requires second_siblings { AreSiblings second_siblings.now }
+    requires first_end { length first_end ≢ 64 }
+    requires second_end { length second_end ≢ 64 }
+    ensures { MatchOption result
+        (way_texts H.digest_of index.now 0 first_siblings.now first_end ≡ way_texts H.digest_of index.now 0 second_siblings.now second_end)
+        (λ pair. AreFirstToDiffer (way_texts H.digest_of index.now 0 first_siblings.now first_end) (way_texts H.digest_of index.now 0 second_siblings.now second_end) pair.0 pair.1) }
+{
+    let mut k = first_siblings.len().min(second_siblings.len());
+    let mut first = climb(hash, index, first_siblings, first_end, k);
+    let mut second = climb(hash, index, second_siblings, second_end, k);
+    let mut found = first_of(&first, &second, None);
+    while k > 0 {
+        k -= 1;
+        let below = hash.digest(first.bytes());
+        first = joined_text(index, k, &below, &Hash32::new(first_siblings[k]));
+        let below = hash.digest(second.bytes());
+        second = joined_text(index, k, &below, &Hash32::new(second_siblings[k]));
+        found = first_of(&first, &second, found);
+    }
+    found
+}
+
+/// The collision of two replies that state two things with one index.
+fn collision<H: NodeHash, V: VufCheck>(
+    hash: &mut H,
+    first: &Accepted<'_, H, V>,
+    second: &Accepted<'_, H, V>,
+) -> SameOr
+    requires comparable { AreComparable first.now second.now }
+    requires named { IsName first.now.name }
+    requires differ { ¬ StateTheSame first.now second.now }
+    requires index { HaveOneIndex H.digest_of first.now second.now }
+    ensures { Answers H.digest_of V.accepted first.now second.now result }
+{
+    let index = first.index();
+    let first_end = first.end_text(hash);
+    let second_end = second.end_text(hash);
+    let found = first_to_differ(
+        hash,
+        &index,
+        first.hashes(),
+        first_end,
+        second.hashes(),
+        second_end,
+    );
+    if let Some((x, y)) = found {
+        return SameOr::Collision(copied(&x), copied(&y));
+    }
+    let Some(x) = first.opened_text() else {
+        unreachable!()
+    };
+    let Some(y) = second.opened_text() else {
+        unreachable!()
+    };
+    SameOr::Collision(x, y)
+}
+
+/// Whether two accepted replies state the same; where they do not with one index, two byte strings
+/// with one digest.
+pub fn same_or_collision<H: NodeHash, V: VufCheck>(
+    hash: &mut H,
+    first: &Accepted<'_, H, V>,
+    second: &Accepted<'_, H, V>,
+) -> SameOr
+    ensures { Answers H.digest_of V.accepted first.now second.now result }
+{
+    if first.body() != second.body() {
+        return SameOr::NotComparable;
+    }
+    if first.name().bytes() != second.name().bytes() {
+        return SameOr::NotComparable;
+    }
+    if are_same(first.end().statement(), second.end().statement()) {
+        return SameOr::Same;
+    }
+    if first.index() != second.index() {
+        return SameOr::TwoValues;
+    }
+    collision(hash, first, second)
+}
+
+/// A reply that is read and checked.
+fn accept<'a, H: NodeHash, V: VufCheck>(
+    hash: &mut H,
+    vuf: &V,
+    body: &Body,
+    name: &Name,
+    bytes: &'a [u8],
+) -> Result<Accepted<'a, H, V>, Refusal>
+    ensures refused { IfErr result (Refuses H.digest_of V.accepted body.now name.now bytes.entry.now) }
+    ensures kept { IfOk result (λ accepted. accepted ≡ record { name = name.now; reply = accepted.reply }) }
+    ensures accepted { IfOk result (λ accepted. IsAcceptedReply H.digest_of V.accepted body.now name.now bytes.entry.now accepted.reply) }
+{
+    match ReplyView::read(bytes) {
+        Ok(view) => check(hash, vuf, body, name, &view),
+        Err(refusal) => Err(refusal),
+    }
+}
+
+/// What two replies for one name under one body of a signed root come to, whoever made them.
+///
+/// # Errors
+///
+/// The refusal of the first reply that is refused, as `ReplyView::read` and `check` tell it.
+pub fn compare_replies<H: NodeHash, V: VufCheck>(
+    hash: &mut H,
+    vuf: &V,
+    body: &Body,
+    name: &Name,
+    first: &[u8],
+    second: &[u8],
+) -> Result<SameOr, RefusedReply>
+    ensures exact { Compares H.digest_of V.accepted body.now name.now first.now second.now result }
+    // Two replies that are accepted under one body with one index state the same binding, or two
+    // different byte strings with one digest are told.
+    ensures sound { (statement other : Option (List ℕ)) (index : List ℕ)
+        → Accepts H.digest_of V.accepted body.now name.now first.now statement → Accepts H.digest_of V.accepted body.now name.now second.now other
+        → HasIndex H.digest_of first.now index → HasIndex H.digest_of second.now index
+        → IsOkAnd result (IsOneBindingOr H.digest_of statement other) }
+{
+    let first = match accept(hash, vuf, body, name, first) {
+        Ok(first) => first,
+        Err(refusal) => return Err(RefusedReply::First(refusal)),
+    };
+    let second = match accept(hash, vuf, body, name, second) {
+        Ok(second) => second,
+        Err(refusal) => return Err(RefusedReply::Second(refusal)),
+    };
+    Ok(same_or_collision(hash, &first, &second))
+}

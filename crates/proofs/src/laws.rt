@@ -1,0 +1,36 @@
+ghost use Rattle.std.specs.Prelude.{◌≡◌, ℕ, List, [], ◌++◌};
+ghost use Rattle.prefixtree.specs.Placement.{Items};
+ghost use Rattle.proofs.specs.Accepts.{stated, Accepts, NamedReply};
+ghost use Rattle.proofs.specs.Comparisons.{Answers};
+ghost use Rattle.proofs.specs.Honest.{IsHonest};
+ghost use Rattle.proofs.specs.declared.comparing.SameOr.TheVariants.{TwoValues};
+ghost use Rattle.proofs.specs.Replies.{reply_bytes, Reply, Spells};
+
+use nodehash::NodeHash;
+use vrfiface::{UniqueVuf, VufCheck};
+
+/// Bytes spell at most one reply.
+pub fn bytes_spell_one_reply()
+    ensures { (bytes : List ℕ) (first second : Reply) → Spells bytes first → Spells bytes second → first ≡ second }
+{}
+
+/// A reply has one spelling.
+pub fn reply_has_one_spelling()
+    ensures { (first second : List ℕ) (reply : Reply) → Spells first reply → Spells second reply → first ≡ second }
+{}
+
+/// No spelling of a reply begins another.
+pub fn no_spelling_begins_another()
+    ensures { (front rest : List ℕ) (first second : Reply) → Spells front first → Spells (front ++ rest) second → rest ≡ [] }
+{}
+
+/// What `make` writes of a tree's own path is accepted, with the statement of its end.
+pub fn honest_replies_are_accepted<H: NodeHash, V: VufCheck>()
+    ensures { (name : List ℕ) (items : Items) (reply : Reply) → IsHonest H.digest_of V.accepted name items reply
+        → Accepts H.digest_of V.accepted reply.body name (reply_bytes reply) (stated reply.end) }
+{}
+
+/// Under a function that accepts one value for a key and a name, no two values are ever told.
+pub fn unique_values_never_differ<H: NodeHash, V: UniqueVuf>()
+    ensures { (first second : NamedReply) → ¬ Answers H.digest_of V.accepted first second TwoValues }
+{}

@@ -1,0 +1,67 @@
+ghost use Rattle.std.specs.Prelude.{◌≡◌, ◌+◌, ◌*◌, ◌≤◌, ◌++◌, true, length};
+ghost use Rattle.rootchain.specs.Bodies.{is_well_formed};
+ghost use Rattle.proofs.specs.Replies.{end_bytes, reply_bytes, sibling_bytes, AreSiblings, IsEnd, IsReply};
+ghost use Rattle.proofs.specs.Views.{end_given};
+
+use crate::End;
+use encoding::{Hash32, ProofText, Small};
+use prefixtree::Path;
+use rootchain::Body;
+
+/// The kind byte of an opened leaf.
+const PRESENT: u8 = 1;
+
+/// The kind byte of an empty node.
+const EMPTY: u8 = 2;
+
+/// The kind byte of the leaf of another index.
+const OTHER: u8 = 3;
+
+/// The bytes of the reply with this body, this value of the name, this end and the siblings of the
+/// path, at most 10,681. They are read again where the body is well formed.
+pub fn make(body: &Body, value: &Small, end: &End<'_>, path: &Path) -> ProofText
+    ensures value { result ≡ reply_bytes (record { body = body.now; value = value.now; end = end_given end.now; siblings = path.now.siblings.items }) }
+    ensures form { is_well_formed body.now ≡ true → IsReply (record { body = body.now; value = value.now; end = end_given end.now; siblings = path.now.siblings.items }) }
+{
+    let mut text = ProofText::new();
+    text.push_slice(body.write().bytes());
+    text.push_counted(value.bytes());
+    push_end(&mut text, end);
+    push_siblings(&mut text, path.siblings.as_slice());
+    text
+}
+
+/// Appends an end.
+fn push_end(text: &mut ProofText, end: &End<'_>)
+    requires { length text.old + 2083 ≤ 10700 }
+    ensures value { text.new ≡ text.old ++ end_bytes (end_given end.now) }
+    ensures len { length text.new ≤ length text.old + 2083 }
+    ensures form { IsEnd (end_given end.now) }
+{
+    match end {
+        End::Present { salt, key } => {
+            text.push(PRESENT);
+            text.push_slice(salt.bytes());
+            text.push_counted(key.bytes());
+        }
+        End::Empty => text.push(EMPTY),
+        End::Other { index, commitment } => {
+            text.push(OTHER);
+            text.push_slice(index.bytes());
+            text.push_slice(commitment.bytes());
+        }
+    }
+}
+
+/// Appends the siblings behind their number.
+fn push_siblings(text: &mut ProofText, siblings: &[Hash32])
+    requires few { length siblings.now ≤ 256 }
+    requires room { length text.old + 2 + 32 * length siblings.now ≤ 10700 }
+    ensures value { text.new ≡ text.old ++ sibling_bytes siblings.now }
+    ensures form { AreSiblings siblings.now }
+{
+    text.push_u16(siblings.len() as u16);
+    for sibling in siblings {
+        text.push_slice(sibling.bytes());
+    }
+}

@@ -1,0 +1,184 @@
+ghost use Rattle.std.specs.Prelude.{◌≡◌};
+ghost use Rattle.std.specs.List.{flat_map};
+ghost use Rattle.encoding.specs.Reading.{Gives};
+ghost use Rattle.proofs.specs.Accepts.{stated};
+ghost use Rattle.proofs.specs.Reading.{read_end, read_reply, read_siblings};
+ghost use Rattle.proofs.specs.Refusals.{ReadsReply};
+ghost use Rattle.proofs.specs.Replies.{IsEnd, IsReply};
+ghost use Rattle.proofs.specs.Views.{end_seen, key_stated, reply_seen};
+
+use crate::{Refusal, Statement};
+use encoding::{Cursor, Fault};
+use rootchain::Body;
+use std::marker::Model;
+
+/// What stands at the end of a reply's way, where it lies in the reply's bytes.
+#[derive(Clone, Copy)]
+pub(crate) enum EndView<'a> {
+    Present {
+        salt: &'a [u8; 32],
+        key: &'a [u8],
+    },
+    Empty,
+    Other {
+        index: &'a [u8; 32],
+        commitment: &'a [u8; 32],
+    },
+}
+
+impl<'a> EndView<'a> {
+    /// What it states of the name.
+    pub(crate) fn statement(self) -> Statement<'a>
+        ensures { key_stated result ≡ stated (end_seen self.entry) }
+    {
+        match self {
+            EndView::Present { key, .. } => Statement::Present(key),
+            EndView::Empty | EndView::Other { .. } => Statement::Absent,
+        }
+    }
+}
+
+/// The parts of a reply, which lie in its bytes.
+#[derive(Clone, Copy)]
+pub(crate) struct Parts<'a> {
+    body: Body,
+    value: &'a [u8],
+    end: EndView<'a>,
+    siblings: &'a [[u8; 32]],
+}
+
+/// A reply to a look-up that was read, whose parts are borrowed from its bytes.
+#[derive(Drop)]
+pub struct ReplyView<'a> {
+    parts: Parts<'a>,
+}
+
+impl<'a> Model for ReplyView<'a> {
+    ghost use Rattle.proofs.specs.Replies.{Reply};
+
+    ghost Value = { Reply };
+
+    ghost use Rattle.proofs.specs.Replies.{IsReply};
+    ghost use Rattle.proofs.specs.Views.{reply_seen};
+
+    ghost view = { λ view. reply_seen view.parts };
+
+    ghost invariant = { λ view. IsReply (reply_seen view.parts) };
+}
+
+impl<'a> ReplyView<'a> {
+    /// The reply that these bytes spell.
+    ///
+    /// # Errors
+    ///
+    /// `Trailing` where a proper beginning of the bytes spells one, else `Malformed`.
+    pub fn read(bytes: &'a [u8]) -> Result<ReplyView<'a>, Refusal>
+        ensures exact { ReadsReply bytes.entry.now result }
+    {
+        let mut cursor = Cursor::new(bytes);
+        let Ok(parts) = read_parts(&mut cursor) else {
+            return Err(Refusal::Malformed);
+        };
+        if cursor.end().is_err() {
+            return Err(Refusal::Trailing);
+        }
+        Ok(ReplyView { parts })
+    }
+
+    /// The siblings from the root down, 32 bytes each, joined.
+    pub fn siblings(&self) -> &'a [u8]
+        ensures { result.now ≡ flat_map (λ sibling. sibling) self.now.siblings }
+    {
+        self.parts.siblings.as_flattened()
+    }
+
+    /// The body of the signed root that the reply is of.
+    pub(crate) fn body(&self) -> &Body
+        ensures { result.now ≡ self.now.body }
+    {
+        &self.parts.body
+    }
+
+    /// The value of the name.
+    pub(crate) fn value(&self) -> &'a [u8]
+        ensures { result.now ≡ self.now.value }
+    {
+        self.parts.value
+    }
+
+    /// What stands at the end of the way.
+    pub(crate) fn end(&self) -> EndView<'a>
+        ensures value { end_seen result ≡ self.now.end }
+        ensures form { IsEnd self.now.end }
+        ensures reply { IsReply self.now }
+    {
+        self.parts.end
+    }
+
+    /// The siblings from the root down.
+    pub(crate) fn hashes(&self) -> &'a [[u8; 32]]
+        ensures value { result.now ≡ self.now.siblings }
+        ensures form { IsReply self.now }
+    {
+        self.parts.siblings
+    }
+
+    /// The same reply once more.
+    pub(crate) fn copied(&self) -> ReplyView<'a>
+        ensures { result ≡ self.now }
+    {
+        ReplyView {
+            parts: Parts {
+                body: self.parts.body,
+                value: self.parts.value,
+                end: self.parts.end,
+                siblings: self.parts.siblings,
+            },
+        }
+    }
+}
+
+/// The end at the front of the bytes.
+#[tactic(auto, unfolding(crate::specs::Reading::read_end))]
+fn read_end<'a>(cursor: &mut Cursor<'a>) -> Result<EndView<'a>, Fault>
+    ensures { Gives end_seen result cursor.new (read_end cursor.old) }
+{
+    match cursor.u8()? {
+        1 => Ok(EndView::Present {
+            salt: cursor.array()?,
+            key: cursor.counted(1, 2048)?,
+        }),
+        2 => Ok(EndView::Empty),
+        3 => Ok(EndView::Other {
+            index: cursor.array()?,
+            commitment: cursor.array()?,
+        }),
+        _ => Err(Fault::OutOfRange),
+    }
+}
+
+/// The siblings at the front of the bytes, behind their number.
+#[tactic(auto, unfolding(crate::specs::Reading::read_siblings))]
+fn read_siblings<'a>(cursor: &mut Cursor<'a>) -> Result<&'a [[u8; 32]], Fault>
+    ensures { Gives (λ siblings. siblings.now) result cursor.new (read_siblings cursor.old) }
+{
+    let count = usize::from(cursor.u16()?);
+    if 256 < count {
+        return Err(Fault::OutOfRange);
+    }
+    let (siblings, _) = cursor.take(32 * count)?.as_chunks::<32>();
+    Ok(siblings)
+}
+
+/// The reply at the front of the bytes.
+#[tactic(auto, unfolding(crate::specs::Reading::read_reply))]
+fn read_parts<'a>(cursor: &mut Cursor<'a>) -> Result<Parts<'a>, Fault>
+    ensures { Gives reply_seen result cursor.new (read_reply cursor.old) }
+{
+    Ok(Parts {
+        body: Body::read_from(cursor)?,
+        value: cursor.counted(1, 256)?,
+        end: read_end(cursor)?,
+        siblings: read_siblings(cursor)?,
+    })
+}
