@@ -50,14 +50,13 @@ class Step:
         self.memory = self.after[3] - before[3]
 
 
-def steps(program, size):
-    """The steps of one run: digests, the growing, more inserts, paths, and digests again."""
-    words = [program, str(size), str(MORE), str(DIGESTS)]
+def steps(words, count):
+    """The number that the program tells first, and so many steps of one run."""
     process = subprocess.Popen(words, bufsize=0, stdin=subprocess.PIPE, stdout=subprocess.PIPE)
     before = look(process)
     at_start = before[0]
     them = []
-    for _ in range(5):
+    for _ in range(count):
         step = Step(process, before)
         them.append(step)
         before = step.after
@@ -83,7 +82,9 @@ class Size:
     """What was measured at one size. Pairs are by the clock and of the processor."""
 
     def __init__(self, program, size):
-        runs = [steps(program, size) for _ in range(RUNS[size])]
+        # The steps: digests, the growing, more inserts, paths, and digests again.
+        words = [program, str(size), str(MORE), str(DIGESTS)]
+        runs = [steps(words, 5) for _ in range(RUNS[size])]
         at_start, (_, grown, more, paths, _) = runs[0]
         times = [[step.times for step in them] for _, them in runs]
         self.size = size
@@ -164,4 +165,5 @@ def main(program, directoryd, folder):
     )
 
 
-main(*sys.argv[1:])
+if __name__ == "__main__":
+    main(*sys.argv[1:])

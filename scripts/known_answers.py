@@ -64,6 +64,15 @@ def bit(index, k):
     return index[k // 8] >> (7 - k % 8) & 1
 
 
+def halves(items, prefix, level):
+    """The items and the prefix of each side, bit 0 first, of a prefix of this many bits."""
+    one_prefix = bytearray(prefix)
+    one_prefix[level // 8] |= 128 >> level % 8
+    zeros = [item for item in items if not bit(item[0], level)]
+    ones = [item for item in items if bit(item[0], level)]
+    return (zeros, prefix), (ones, bytes(one_prefix))
+
+
 def node(digest, nonce, items, prefix, level):
     """The node of a prefix of this many bits, over the items whose indices it begins."""
     place = level.to_bytes(4, "big")
@@ -72,14 +81,21 @@ def node(digest, nonce, items, prefix, level):
     if len(items) == 1:
         ((index, commitment),) = items
         return digest(b"L" + nonce + index + place + commitment)
-    one_prefix = bytearray(prefix)
-    one_prefix[level // 8] |= 128 >> level % 8
-    zeros = [item for item in items if not bit(item[0], level)]
-    ones = [item for item in items if bit(item[0], level)]
+    zeros, ones = halves(items, prefix, level)
     return digest(
-        node(digest, nonce, zeros, prefix, level + 1)
-        + node(digest, nonce, ones, bytes(one_prefix), level + 1)
+        node(digest, nonce, *zeros, level + 1) + node(digest, nonce, *ones, level + 1)
     )
+
+
+def way(digest, nonce, items, index):
+    """The hashes beside the way of an index, from the root down, and the items at its end."""
+    siblings, prefix = [], bytes(32)
+    while len(items) > 1:
+        sides = halves(items, prefix, len(siblings))
+        side = bit(index, len(siblings))
+        items, prefix = sides[side]
+        siblings.append(node(digest, nonce, *sides[1 - side], len(siblings) + 1))
+    return siblings, items
 
 
 def counted(text):
@@ -97,10 +113,39 @@ commitments = [
     ("name of 1 byte, key of 1", run(0x00), b"\0", b"\xff"),
 ]
 
+
+def commitment_text(salt, user, key):
+    return b"C\x01" + salt + counted(user) + counted(key)
+
+
 for name, salt, user, key in commitments:
-    text = b"C\x01" + salt + counted(user) + counted(key)
+    text = commitment_text(salt, user, key)
     print(f"commitment to {name}: {len(text)} bytes, sum {sum(text) % 65536:04x}")
     print(f"commitment to {name}: sha256 {hashlib.sha256(text).hexdigest()}")
+
+
+def root_body(epoch, previous, root, previous_hash, nonce, vuf_key):
+    epochs = epoch.to_bytes(8, "big") + previous.to_bytes(8, "big")
+    return b"R\x01" + epochs + root + previous_hash + nonce + vuf_key
+
+
+# The body of a root at epoch 7 after epoch 3, a promise at epoch 7, and both signed.
+body = root_body(7, 3, run(0x20), run(0x40), run(0x60), run(0x80))
+first_body = root_body(1, 0, run(0x20), zero, zero, run(0x80))
+behind_epoch = b"P\x01" + (7).to_bytes(8, "big") + run(0x20) + run(0x40)
+promise = behind_epoch + counted(b"alice") + counted(b"k1")
+longest = behind_epoch + counted(long_name) + counted(long_key)
+forms = [
+    ("body", body),
+    ("body of the first root", first_body),
+    ("signed root", body + counted(b"signed")),
+    ("promise", promise),
+    ("signed promise", promise + counted(b"signed")),
+    ("longest signed promise", longest + counted(bytes([0xAB]) * 256)),
+]
+
+for name, text in forms:
+    print(f"{name}: {len(text)} bytes, sha256 {hashlib.sha256(text).hexdigest()}")
 
 low, middle, high = (bytes([first]) + bytes(31) for first in (0x00, 0x40, 0x80))
 plain = [(index, zero) for index in (low, middle, high)]
@@ -122,3 +167,56 @@ for name, nonce, items in roots:
     for digest in (sha256, byte_sum):
         root = node(digest, nonce, items, zero, 0)
         print(f"root of {name}, {digest.__name__}: {root.hex()}")
+
+
+def reply(digest, body, nonce, items, value, opening):
+    """The reply to the name of this value, with the salt and the counted key of its leaf."""
+    index = digest(value)
+    siblings, rest = way(digest, nonce, items, index)
+    end = b"\x02"
+    if rest:
+        ((other, commitment),) = rest
+        end = b"\x01" + opening if other == index else b"\x03" + other + commitment
+    count = len(siblings).to_bytes(2, "big")
+    return body + counted(value) + end + count + b"".join(siblings)
+
+
+def item(digest, value, salt, user, key):
+    return digest(value), digest(commitment_text(salt, user, key))
+
+
+# Replies by the byte sum in the first tree of these names, each of which is its own value.
+one = [(b"a", b"ab")]
+last_bit = [(b"b", b"k1"), (b"c", b"k2")]
+replies = []
+for name, bindings in [("a alone", one), ("b beside c", last_bit)]:
+    items = [item(byte_sum, user, zero, user, key) for user, key in bindings]
+    root = node(byte_sum, zero, items, zero, 0)
+    print(f"root of {name}, byte_sum: {root.hex()}")
+    body = root_body(1, 0, root, zero, zero, zero)
+    user, key = bindings[0]
+    replies.append((name, reply(byte_sum, body, zero, items, user, zero + counted(key))))
+
+
+def value_of(user):
+    return sha256(b"V" + high_key + user)
+
+
+# Replies by SHA-256 at epoch 7 after epoch 3. Of the names that are asked, one is bound.
+bindings = [
+    (run(0x20), b"alice", b"k1"),
+    (run(0x40), b"bob", b"k2"),
+    (run(0x60), b"trent", b"k3"),
+]
+nonce = run(0xA0)
+items = [item(sha256, value_of(user), salt, user, key) for salt, user, key in bindings]
+root = node(sha256, nonce, items, zero, 0)
+print(f"root of alice, bob and trent, sha256: {root.hex()}")
+body = root_body(7, 3, root, run(0x40), nonce, high_key)
+opening = run(0x20) + counted(b"k1")
+for user in [b"alice", b"dave", b"heidi"]:
+    text = reply(sha256, body, nonce, items, value_of(user), opening)
+    replies.append((f"{user.decode()}, of alice, bob and trent", text))
+
+for name, text in replies:
+    print(f"reply to {name}: {len(text)} bytes, sha256 {hashlib.sha256(text).hexdigest()}")
