@@ -22,3 +22,41 @@ build_library() {
         exit 1
     fi
 }
+
+# Prints the module that the measured programs share, for digests of so many bytes: steps BYTES
+steps() {
+    cat <<MODULE
+//! What each measured program does beside its work.
+
+use sha2::{Digest, Sha256};
+use std::env;
+use std::io;
+
+/// Tells a number, and waits for a line or the end of the input.
+pub(crate) fn pause(rt: &HostRuntime, number: u64) -> io::Result<()> {
+    println!(rt; "{number}")?;
+    let mut line = String::new(rt.alloc());
+    rt.read_line(&mut line)?;
+    Ok(())
+}
+
+/// Digests texts of $1 bytes, each of the digest before it, so that none can be left out.
+pub(crate) fn digest(rt: &HostRuntime, rounds: usize) -> io::Result<()> {
+    let mut text = [0; $1];
+    for _ in 0..rounds {
+        text[0] = Sha256::digest(&text[..])[0];
+    }
+    pause(rt, u64::from(text[0]))
+}
+
+/// The number that is the argument at this place, and 0 where there is none.
+pub(crate) fn argument(rt: &HostRuntime, place: usize) -> usize {
+    if let Ok(mut words) = env::args(rt) {
+        if let Some(word) = words.nth(place) {
+            return word.parse::<usize>().unwrap_or(0);
+        }
+    }
+    0
+}
+MODULE
+}

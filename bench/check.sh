@@ -34,11 +34,14 @@ cp HANDLES "$folder"
     grep -E "^(${libraries// /|}):" crates.txt
     echo "checktime: $libraries arrayvec sha2"
 } >"$folder/crates.txt"
+steps 64 >"$folder/crates/checktime/src/steps.rt"
 cat >"$folder/crates/checktime/src/main.rt" <<'PROGRAM'
 //! Makes, reads and checks a reply of as many siblings as its first argument says: the checks are as
 //! many as its second says, all else as many as its third. Before and after, it takes as many
 //! digests as its fourth says. Before and after each step it tells a number and waits for a line.
 #![tactic(auto)]
+
+mod steps;
 
 use arrayvec::ArrayVec;
 use commit::commit;
@@ -48,35 +51,9 @@ use prefixtree::Path;
 use proofs::{End, ReplyView, check, make};
 use rootchain::Body;
 use sha2::{Digest, Sha256};
-use std::env;
 use std::io;
+use steps::{argument, digest, pause};
 use vrfiface::{KeyedVuf, Vuf, VufCheck, index_of};
-
-/// Tells a number, and waits for a line or the end of the input.
-fn pause(rt: &HostRuntime, number: u64) -> io::Result<()> {
-    println!(rt; "{number}")?;
-    let mut line = String::new(rt.alloc());
-    rt.read_line(&mut line)?;
-    Ok(())
-}
-
-/// Digests texts of 64 bytes, each of the digest before it, so that none can be left out.
-fn digest(rt: &HostRuntime, rounds: usize) -> io::Result<()> {
-    let mut text = [0; 64];
-    for _ in 0..rounds {
-        text[0] = Sha256::digest(&text[..])[0];
-    }
-    pause(rt, u64::from(text[0]))
-}
-
-fn argument(rt: &HostRuntime, place: usize) -> usize {
-    if let Ok(mut words) = env::args(rt) {
-        if let Some(word) = words.nth(place) {
-            return word.parse::<usize>().unwrap_or(0);
-        }
-    }
-    0
-}
 
 /// A path of so many siblings.
 fn path_of(count: usize) -> Path {

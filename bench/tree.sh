@@ -30,44 +30,21 @@ cp HANDLES "$folder"
     grep -E "^(encoding|nodehash|prefixtree):" crates.txt
     echo "treetime: encoding nodehash prefixtree sha2"
 } >"$folder/crates.txt"
+steps 101 >"$folder/crates/treetime/src/steps.rt"
 cat >"$folder/crates/treetime/src/main.rt" <<'PROGRAM'
 //! Takes as many digests as its third argument says, grows a tree to as many items as its first
 //! says, tries as many inserts and paths more as its second says, and takes the digests again.
 //! Before and after each step it tells a number and waits for a line.
 #![tactic(auto)]
 
+mod steps;
+
 use encoding::{Hash32, Index};
 use nodehash::{NodeHash, Sha256Hash};
 use prefixtree::Tree;
 use sha2::{Digest, Sha256};
-use std::env;
 use std::io;
-
-/// Tells a number, and waits for a line or the end of the input.
-fn pause(rt: &HostRuntime, number: u64) -> io::Result<()> {
-    println!(rt; "{number}")?;
-    let mut line = String::new(rt.alloc());
-    rt.read_line(&mut line)?;
-    Ok(())
-}
-
-/// Digests texts of 101 bytes, each of the digest before it, so that none can be left out.
-fn digest(rt: &HostRuntime, rounds: usize) -> io::Result<()> {
-    let mut text = [0; 101];
-    for _ in 0..rounds {
-        text[0] = Sha256::digest(&text[..])[0];
-    }
-    pause(rt, u64::from(text[0]))
-}
-
-fn argument(rt: &HostRuntime, place: usize) -> usize {
-    if let Ok(mut words) = env::args(rt) {
-        if let Some(word) = words.nth(place) {
-            return word.parse::<usize>().unwrap_or(0);
-        }
-    }
-    0
-}
+use steps::{argument, digest, pause};
 
 fn main(rt: HostRuntime) -> io::Result<()> {
     let grown = argument(&rt, 1);
