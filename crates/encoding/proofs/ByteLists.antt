@@ -11,6 +11,9 @@ pub IsBytes-cons : (x : ℕ) (xs : List ℕ) → x < 256 → IsBytes xs → IsBy
 IsBytes-cons x xs h bytes zero = h
 IsBytes-cons x xs h bytes (suc k) = bytes k
 
+pub IsBytes-two : (x y : ℕ) → x < 256 → y < 256 → IsBytes (x ∷ y ∷ [])
+IsBytes-two x y first second = IsBytes-cons x (y ∷ []) first (IsBytes-cons y [] second IsBytes-none)
+
 pub IsBytes-zeros : (count : ℕ) → IsBytes (replicate count 0)
 IsBytes-zeros zero = IsBytes-none
 IsBytes-zeros (suc count) = IsBytes-cons 0 (replicate count 0) (omega arith) (IsBytes-zeros count)

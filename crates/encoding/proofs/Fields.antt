@@ -33,6 +33,11 @@ passed_ok : {A : Type 0} (passed : Bool) (fault : Fault) (r : Result A Fault) (y
 passed_ok true fault r y e = (refl, e)
 passed_ok false fault r y e = absurd cc
 
+-- both of two tests
+pub both_are_true : (a b : Bool) → (a && b) ≡ true → (a ≡ true) × (b ≡ true)
+both_are_true true b e = (refl, e)
+both_are_true false b e = absurd cc
+
 abbrev done : {A : Type 0} → A → Result A Fault
 done x = Ok x
 
@@ -40,8 +45,17 @@ done x = Ok x
 pub ok_is : {A : Type 0} (x y : A) → done x ≡ done y → x ≡ y
 ok_is x y e = cc
 
-refused_read : {A : Type 0} (fault : Fault) (y : A) → Err fault ≡ done y → ⊥
+-- what is refused is not read
+pub refused_read : {A : Type 0} (fault : Fault) (y : A) → Err fault ≡ done y → ⊥
 refused_read fault y e = absurd cc
+
+-- bytes are spelled as they are
+abbrev pub itself : List ℕ → List ℕ
+itself bytes = bytes
+
+-- a number of eight bytes
+abbrev pub IsEightBytes : ℕ → Type 0
+IsEightBytes n = n < 256 ^ 8
 
 -- two spellings, one after the other
 joined : (bytes x middle y rest : List ℕ) → bytes ≡ x ++ middle → middle ≡ y ++ rest → bytes ≡ (x ++ y) ++ rest
@@ -209,15 +223,11 @@ pub counted_field : CountedAreFields
 unfolding read_counted
 counted_field least most fits =
     allowed_field (read_counted least most) counted_bytes (λ x. ((length x < 256 ^ 2) × (is_within least most (length x) ≡ true)) × IsBytes x) (IsWithin least most)
-    (λ x h. let limits = and_true (leb least (length x)) (leb (length x) most) h.0.1 in (leb-true _ _ limits.0, leb-true _ _ limits.1, h.1))
+    (λ x h. let limits = both_are_true (leb least (length x)) (leb (length x) most) h.0.1 in (leb-true _ _ limits.0, leb-true _ _ limits.1, h.1))
     (λ x h. ((omega (arith, h.1, fits), rw (le-leb least (length x) h.0, le-leb (length x) most h.1) refl), h.2))
     (then_field length (read_where (is_within least most) (read_number 2)) read_bytes (big_bytes 2) (λ x. x) (λ n. (n < 256 ^ 2) × (is_within least most n ≡ true)) IsBytes
     (tested_field (is_within least most) (read_number 2) (big_bytes 2) (λ n. n < 256 ^ 2) (numbers_field 2))
     (λ k _. allowed_field (read_bytes k) (λ x. x) (HasBytes k) (λ x. IsBytes x × (length x ≡ k)) (λ x h. (h.1, h.0)) (λ x h. (h.1, h.0)) (bytes_field k)))
-  where
-    and_true : (a b : Bool) → (a && b) ≡ true → (a ≡ true) × (b ≡ true)
-    and_true true b e = (refl, e)
-    and_true false b e = absurd cc
 
 -- ---- whole bytes
 

@@ -42,6 +42,16 @@ impl<const ROOM: usize> FixedText<ROOM> {
         self.bytes.as_slice()
     }
 
+    /// The same bytes in another room.
+    pub fn copied<const TO: usize>(&self) -> FixedText<TO>
+        requires { length self.now ≤ TO }
+        ensures { result ≡ self.now }
+    {
+        let mut copy = FixedText::new();
+        copy.push_slice(self.bytes());
+        copy
+    }
+
     /// Appends one byte.
     pub fn push(&mut self, byte: u8)
         requires { length self.old < ROOM }
@@ -120,6 +130,16 @@ mod tests {
         assert_eq!(rt; text.bytes(), [1, 2, 3, 4].as_slice());
         text.push(5);
         assert_eq!(rt; text.bytes(), [1, 2, 3, 4, 5].as_slice());
+    }
+
+    #[test]
+    fn is_copied_to_another_room(rt: HostRuntime) {
+        let mut text = FixedText::<5>::new();
+        text.push_slice(&[1, 2, 3]);
+        let narrow: FixedText<3> = text.copied();
+        assert_eq!(rt; narrow.bytes(), [1, 2, 3].as_slice());
+        let wide: Text = text.copied();
+        assert_eq!(rt; wide.bytes(), [1, 2, 3].as_slice());
     }
 
     #[test]

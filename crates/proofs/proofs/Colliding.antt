@@ -11,14 +11,13 @@ use Rattle.nodehash.specs.Collisions.{IsCollision}
 use Rattle.nodehash.specs.NodeTexts.{leaf_bytes}
 use Rattle.commit.specs.Commitments.{commitment_bytes}
 use Rattle.commit.proofs.Openings.{equal_texts_open_alike}
-use Rattle.prefixtree.specs.Paths.{folded, joined}
+use Rattle.prefixtree.specs.Paths.{joined}
 use Rattle.proofs.specs.Accepts.{stated}
 use Rattle.proofs.specs.Comparisons.{opened}
 use Rattle.proofs.specs.Refusals.{end_text, AbsenceIsByAnother}
 use Rattle.proofs.specs.Replies.{End, Present, Empty, Other, IsEnd}
 use Rattle.proofs.specs.WayTexts.{node_text, way_texts, AreFirstToDiffer}
-use Rattle.proofs.proofs.Climbs.{top_hash}
-use Rattle.proofs.proofs.Differing.{length-folded, AreHashes}
+use Rattle.proofs.proofs.Differing.{AreHashes}
 
 abbrev first_byte : List ℕ → ℕ
 first_byte [] = 0
@@ -64,9 +63,9 @@ module _ (hash : List ℕ → List ℕ) (size : (text : List ℕ) → Is32Bytes 
   collide index k (s ∷ ss) (u ∷ us) end other_end x y p q (inl (differ, x_is, y_is)) e =
       at_once (node_text hash index k (s ∷ ss) end) (node_text hash index k (u ∷ us) other_end) x y differ x_is y_is e
   collide index k (s ∷ ss) (u ∷ us) end other_end x y p q (inr (same, more)) e =
-      let below = child_is index k (folded hash index (k + 1) ss end) s (folded hash index (k + 1) us other_end) u
-      (length-folded hash size index (k + 1) ss end) p.0.0 (length-folded hash size index (k + 1) us other_end) q.0.0 same in
-      collide index (k + 1) ss us end other_end x y p.1 q.1 more (top_hash hash index (k + 1) ss end ∙ below ∙ sym (top_hash hash index (k + 1) us other_end))
+      let text = node_text hash index (k + 1) ss end in
+      let other = node_text hash index (k + 1) us other_end in
+      collide index (k + 1) ss us end other_end x y p.1 q.1 more (child_is index k (hash text) s (hash other) u (size text).0 p.0.0 (size other).0 q.0.0 same)
 
   not_none : (index : List ℕ) (k : ℕ) (siblings : List (List ℕ)) (end : List ℕ) → way_texts hash index k siblings end ≡ [] → ⊥
   not_none index k [] end e = cc

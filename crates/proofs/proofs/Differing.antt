@@ -6,9 +6,9 @@ use Rattle.std.proofs.lemmas.Bool.{cases_lt}
 use Rattle.std.proofs.lemmas.List.{drop_more, length-append}
 use Rattle.encoding.specs.Bits.{bit}
 use Rattle.encoding.specs.Bytes.{Is32Bytes}
-use Rattle.prefixtree.specs.Paths.{folded, joined}
+use Rattle.prefixtree.specs.Paths.{joined}
 use Rattle.proofs.specs.WayTexts.{node_text, way_texts, AreFirstToDiffer}
-use Rattle.proofs.proofs.Climbs.{below_hash, climbed}
+use Rattle.proofs.proofs.Climbs.{climbed, text_below}
 
 abbrev pub Pair : Type 0
 Pair = List ℕ × List ℕ
@@ -55,11 +55,6 @@ length-joined index k below beside p q = by (bit index k == 0)
     by false = omega (arith, length-append beside below, p, q)
 
 module _ (hash : List ℕ → List ℕ) (size : (text : List ℕ) → Is32Bytes (hash text)) (index : List ℕ) where
-  -- a folded way is a hash
-  pub length-folded : (k : ℕ) (siblings : List (List ℕ)) (text : List ℕ) → length (folded hash index k siblings text) ≡ 32
-  length-folded k [] text = (size text).0
-  length-folded k (beside ∷ siblings) text = (size (joined index k (folded hash index (k + 1) siblings text) beside)).0
-
   -- the texts below the topmost
   abbrev below : ℕ → List (List ℕ) → List ℕ → List (List ℕ)
   below k [] text = []
@@ -74,9 +69,9 @@ module _ (hash : List ℕ → List ℕ) (size : (text : List ℕ) → Is32Bytes 
       → length text ≢ 64 → length other ≢ 64 → node_text hash index k siblings text ≡ node_text hash index k others other → way_texts hash index k siblings text ≡ way_texts hash index k others other
   end_alike k [] [] text other ended p q no_text no_other e = ap (λ (t : List ℕ). t ∷ []) e
   end_alike k [] (u ∷ us) text other ended p q no_text no_other e =
-      absurd (no_text (ap length e ∙ length-joined index k (folded hash index (k + 1) us other) u (length-folded (k + 1) us other) q.0.0))
+      absurd (no_text (ap length e ∙ length-joined index k (hash (node_text hash index (k + 1) us other)) u (size (node_text hash index (k + 1) us other)).0 q.0.0))
   end_alike k (s ∷ ss) [] text other ended p q no_text no_other e =
-      absurd (no_other (ap length (sym e) ∙ length-joined index k (folded hash index (k + 1) ss text) s (length-folded (k + 1) ss text) p.0.0))
+      absurd (no_other (ap length (sym e) ∙ length-joined index k (hash (node_text hash index (k + 1) ss text)) s (size (node_text hash index (k + 1) ss text)).0 p.0.0))
   end_alike k (s ∷ ss) (u ∷ us) text other (inl ended) p q no_text no_other e = absurd cc
   end_alike k (s ∷ ss) (u ∷ us) text other (inr ended) p q no_text no_other e = absurd cc
 
@@ -92,8 +87,8 @@ module _ (hash : List ℕ → List ℕ) (size : (text : List ℕ) → Is32Bytes 
       → above ≡ joined index j (hash text) (get_or siblings j [])
       → way_texts hash index j (drop j siblings) end ≡ above ∷ way_texts hash index (j + 1) (drop (j + 1) siblings) end
   text_up siblings end text above j k next inside is now =
-      let made : above ≡ joined index j (folded hash index (j + 1) (drop (j + 1) siblings) end) (get_or siblings j []) =
-      now ∙ ap (λ (h : List ℕ). joined index j h (get_or siblings j [])) (below_hash hash index siblings end text j k next is) in
+      let made : above ≡ joined index j (hash (node_text hash index (j + 1) (drop (j + 1) siblings) end)) (get_or siblings j []) =
+      now ∙ ap (λ (t : List ℕ). joined index j (hash t) (get_or siblings j [])) (text_below hash index siblings end text j k next is) in
       ap (λ (s : List (List ℕ)). way_texts hash index j s end) (drop_more siblings j [] inside)
       ∙ ap (λ (t : List ℕ). t ∷ way_texts hash index (j + 1) (drop (j + 1) siblings) end) (sym made)
 

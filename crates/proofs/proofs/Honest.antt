@@ -5,15 +5,15 @@ use Rattle.std.proofs.lemmas.Slice.Eq.{bytes_eq-Decides}
 use Rattle.std.proofs.lemmas.Cmp.{nat_list_eq_equiv}
 use Rattle.encoding.specs.Bits.{cut, Agree}
 use Rattle.encoding.specs.Bytes.{Is32Bytes}
-use Rattle.prefixtree.specs.Paths.{agreeing, end_bytes, end_of, Way}
+use Rattle.prefixtree.specs.Paths.{agreeing, end_of, Way}
 use Rattle.prefixtree.specs.Placement.{Item, Items}
 use Rattle.prefixtree.specs.declared.path.End.TheVariants as path
 use Rattle.prefixtree.proofs.Leads.{path-leads}
 use Rattle.proofs.specs.declared.refusal.Refusal.{Refusal}
 use Rattle.proofs.specs.declared.refusal.Refusal.TheVariants.{Malformed, Trailing, OtherRoot, BadVuf, SameIndex, OtherPrefix, PathMismatch}
 use Rattle.proofs.specs.Accepts.{stated, Accepts}
-use Rattle.proofs.specs.Honest.{end_of_path, IsHonest}
-use Rattle.proofs.specs.Refusals.{end_text, AbsenceIsByAnother, AbsenceIsOnWay, Passes}
+use Rattle.proofs.specs.Honest.{IsHonest}
+use Rattle.proofs.specs.Refusals.{end_of_path, end_text, AbsenceIsByAnother, AbsenceIsOnWay, Passes}
 use Rattle.proofs.specs.Replies.{End, Present, Empty, Other, Reply, reply_bytes}
 use Rattle.proofs.proofs.Passing.{passed-accepts}
 
@@ -61,11 +61,6 @@ module _ (hash : List ℕ → List ℕ) (accepted : List ℕ → List ℕ → Li
   on_way Empty index n items e = tt
   on_way (Other other commitment) index n items e = (other_of index n items other commitment e).1
 
-  text_of : (nonce index : List ℕ) (n : ℕ) (end : End) → end_bytes nonce index n (end_of_path hash name end) ≡ end_text hash nonce name index n end
-  text_of nonce index n (Present salt key) = refl
-  text_of nonce index n Empty = refl
-  text_of nonce index n (Other other commitment) = refl
-
   pub honest-accepted : (items : Items) (reply : Reply) → Is32Bytes (hash reply.value) → IsHonest hash accepted name items reply
       → Accepts hash accepted reply.body name (reply_bytes reply) (stated reply.end)
   honest-accepted items reply size honest =
@@ -73,9 +68,8 @@ module _ (hash : List ℕ → List ℕ) (accepted : List ℕ → List ℕ → Li
     where
       leads : Way hash reply.body.root (hash reply.value) reply.siblings (end_text hash reply.body.nonce name (hash reply.value) (length reply.siblings) reply.end)
       leads =
-          subst (Way hash reply.body.root (hash reply.value) reply.siblings) (text_of reply.body.nonce (hash reply.value) (length reply.siblings) reply.end)
-          (subst (λ (root : List ℕ). Way hash root (hash reply.value) reply.siblings (end_bytes reply.body.nonce (hash reply.value) (length reply.siblings) (end_of_path hash name reply.end))) (sym honest.root)
-          (path-leads hash reply.body.nonce items (hash reply.value) honest.placement size reply.siblings (end_of_path hash name reply.end) honest.path))
+          subst (λ (root : List ℕ). Way hash root (hash reply.value) reply.siblings (end_text hash reply.body.nonce name (hash reply.value) (length reply.siblings) reply.end)) (sym honest.root)
+          (path-leads hash reply.body.nonce items (hash reply.value) honest.placement size reply.siblings (end_of_path hash name reply.end) honest.path)
 
       passed : (refusal : Refusal) → Passes hash accepted reply.body name reply refusal
       passed Malformed = tt

@@ -1,19 +1,18 @@
 -- Two accepted replies of one name under one body with one index, which state two things.
-use Rattle.std.proofs.Common.{◌≡◌, ◌≢◌, ℕ, List, length, Some, None, refl, sym, ap, subst, ◌∙◌, inl, inr}
+use Rattle.std.proofs.Common.{◌≡◌, ◌≢◌, ℕ, List, length, Option, Some, None, refl, sym, ap, subst, ◌∙◌, inl, inr}
 use Rattle.encoding.specs.Bytes.{Is32Bytes}
-use Rattle.encoding.specs.Limits.{IsName}
 use Rattle.nodehash.specs.Collisions.{IsCollision}
 use Rattle.prefixtree.proofs.Ways.{folded-Way}
 use Rattle.rootchain.specs.declared.body.Body.{Body}
 use Rattle.proofs.specs.declared.refusal.Refusal.TheVariants.{SameIndex, PathMismatch}
 use Rattle.proofs.specs.Accepts.{stated, IsAccepted, NamedReply}
 use Rattle.proofs.specs.declared.comparing.SameOr.TheVariants.{Collision}
-use Rattle.proofs.specs.Comparisons.{opened, texts_of, Answers, AreComparable, AreTwoValues, HaveOneIndex, StandFirst, StateTheSame}
+use Rattle.proofs.specs.Comparisons.{opened, texts_of, Answers, AreComparable, AreOpposed, AreTwoValues, HaveOneIndex, StandFirst}
 use Rattle.proofs.specs.Refusals.{end_text, AbsenceIsByAnother}
-use Rattle.proofs.specs.Replies.{IsReply}
 use Rattle.proofs.specs.WayTexts.{node_text, way_texts, AreFirstToDiffer}
 use Rattle.proofs.proofs.Climbs.{top_hash}
 use Rattle.proofs.proofs.Colliding.{both_open, collide, nothing_is_some, same_ends, some_is, BothOpen}
+use Rattle.proofs.proofs.Differing.{Found, Pair}
 use Rattle.proofs.proofs.Passing.{states-passed}
 
 module _ (hash : List ℕ → List ℕ) (accepted : List ℕ → List ℕ → List ℕ → Type 0) where
@@ -43,18 +42,18 @@ module _ (hash : List ℕ → List ℕ) (accepted : List ℕ → List ℕ → Li
         differ = λ same. differ (ap hash same);
       }
 
-  -- what is known of two replies that are to collide
-  pub record AreOpposed (first second : NamedReply) : Type 0 where
-    pub comparable : AreComparable first second
-    pub differ : StateTheSame first second → ⊥
-    pub one : HaveOneIndex hash first second
-    pub is_first : IsAccepted hash accepted first
-    pub is_second : IsAccepted hash accepted second
-    pub first_form : IsReply first.reply
-    pub second_form : IsReply second.reply
-    pub named : IsName first.name
+  -- what is found on the ways of two replies of one index, by what was computed of each
+  pub found_on : (first second : NamedReply) → HaveOneIndex hash first second → (index : List ℕ) (siblings others : List (List ℕ)) (end other_end : List ℕ) (found : Option Pair)
+      → index ≡ hash first.reply.value → siblings ≡ first.reply.siblings → others ≡ second.reply.siblings → end ≡ end_of first → other_end ≡ end_of second
+      → Found (way_texts hash index 0 siblings end) (way_texts hash index 0 others other_end) found → Found (texts_of hash first) (texts_of hash second) found
+  found_on first second one index siblings others end other_end found index_is siblings_are others_are end_is other_end_is is =
+      let first_are : way_texts hash index 0 siblings end ≡ texts_of hash first = rw (index_is, siblings_are, end_is) refl in
+      let second_are : way_texts hash index 0 others other_end ≡ texts_of hash second =
+      rw (index_is, others_are, other_end_is) (ap (λ (i : List ℕ). way_texts hash i 0 second.reply.siblings (end_of second)) one) in
+      subst (λ (texts : List (List ℕ)). Found texts (texts_of hash second) found) first_are
+      (subst (λ (texts : List (List ℕ)). Found (way_texts hash index 0 siblings end) texts found) second_are is)
 
-  module _ (size : (text : List ℕ) → Is32Bytes (hash text)) (first second : NamedReply) (opposed : AreOpposed first second) where
+  module _ (size : (text : List ℕ) → Is32Bytes (hash text)) (first second : NamedReply) (opposed : AreOpposed hash accepted first second) where
     -- the texts on the second way, with the index of the first
     abbrev pub second_texts : List (List ℕ)
     second_texts = way_texts hash (hash first.reply.value) 0 second.reply.siblings (end_of second)
@@ -95,41 +94,24 @@ module _ (hash : List ℕ → List ℕ) (accepted : List ℕ → List ℕ → Li
         let y_same : both.y ≡ y = some_is both.y y (sym both.y_is ∙ ap (λ (name : List ℕ). opened name second.reply.end) opposed.comparable.1 ∙ y_is) in
         (subst (λ (z : List ℕ). IsCollision hash z y) x_same (subst (λ (z : List ℕ). IsCollision hash both.x z) y_same both.collision), inr (same ∙ second_texts_are, x_is, y_is))
 
-    -- what was computed of both: the index of the first, and siblings and ends of their own
-    pub record Computed (index : List ℕ) (siblings others : List (List ℕ)) (end other_end : List ℕ) : Type 0 where
-      pub index_is : index ≡ hash first.reply.value
-      pub siblings_are : siblings ≡ first.reply.siblings
-      pub others_are : others ≡ second.reply.siblings
-      pub end_is : end ≡ end_of first
-      pub other_end_is : other_end ≡ end_of second
+    pub nodes_answer : (x y : List ℕ) → AreFirstToDiffer (texts_of hash first) (texts_of hash second) x y → Answers hash accepted first second (Collision x y)
+    nodes_answer x y differing =
+        let r = nodes_collide x y (subst (λ (texts : List (List ℕ)). AreFirstToDiffer (texts_of hash first) texts x y) (sym second_texts_are) differing) in
+        (opposed.comparable, opposed.differ, opposed.one, r.0, r.1)
 
-    module _ (index : List ℕ) (siblings others : List (List ℕ)) (end other_end : List ℕ) (computed : Computed index siblings others end other_end) where
-      first_are : way_texts hash index 0 siblings end ≡ texts_of hash first
-      first_are = rw (computed.index_is, computed.siblings_are, computed.end_is) refl
+    -- where no texts differ, both ends open a commitment
+    pub first_opens : texts_of hash first ≡ texts_of hash second → opened first.name first.reply.end ≢ None
+    first_opens same none =
+        let both = ends_open (same ∙ sym second_texts_are) in
+        nothing_is_some both.x (sym none ∙ both.x_is)
 
-      others_are : way_texts hash index 0 others other_end ≡ second_texts
-      others_are = rw (computed.index_is, computed.others_are, computed.other_end_is) refl
+    pub second_opens : texts_of hash first ≡ texts_of hash second → opened second.name second.reply.end ≢ None
+    second_opens same none =
+        let both = ends_open (same ∙ sym second_texts_are) in
+        nothing_is_some both.y (sym none ∙ ap (λ (name : List ℕ). opened name second.reply.end) (sym opposed.comparable.1) ∙ both.y_is)
 
-      pub nodes_answer : (x y : List ℕ) → AreFirstToDiffer (way_texts hash index 0 siblings end) (way_texts hash index 0 others other_end) x y
-          → Answers hash accepted first second (Collision x y)
-      nodes_answer x y differing =
-          let r = nodes_collide x y (subst (λ (texts : List (List ℕ)). AreFirstToDiffer texts second_texts x y) first_are
-          (subst (λ (texts : List (List ℕ)). AreFirstToDiffer (way_texts hash index 0 siblings end) texts x y) others_are differing)) in
-          (opposed.comparable, opposed.differ, opposed.one, r.0, r.1)
-
-      -- where no texts differ, both ends open a commitment
-      pub first_opens : way_texts hash index 0 siblings end ≡ way_texts hash index 0 others other_end → opened first.name first.reply.end ≢ None
-      first_opens same none =
-          let both = ends_open (sym first_are ∙ same ∙ others_are) in
-          nothing_is_some both.x (sym none ∙ both.x_is)
-
-      pub second_opens : way_texts hash index 0 siblings end ≡ way_texts hash index 0 others other_end → opened second.name second.reply.end ≢ None
-      second_opens same none =
-          let both = ends_open (sym first_are ∙ same ∙ others_are) in
-          nothing_is_some both.y (sym none ∙ ap (λ (name : List ℕ). opened name second.reply.end) (sym opposed.comparable.1) ∙ both.y_is)
-
-      pub commitments_answer : (x y : List ℕ) → way_texts hash index 0 siblings end ≡ way_texts hash index 0 others other_end
-          → opened first.name first.reply.end ≡ Some x → opened second.name second.reply.end ≡ Some y → Answers hash accepted first second (Collision x y)
-      commitments_answer x y same x_is y_is =
-          let r = commitments_collide x y (sym first_are ∙ same ∙ others_are) x_is y_is in
-          (opposed.comparable, opposed.differ, opposed.one, r.0, r.1)
+    pub commitments_answer : (x y : List ℕ) → texts_of hash first ≡ texts_of hash second → opened first.name first.reply.end ≡ Some x → opened second.name second.reply.end ≡ Some y
+        → Answers hash accepted first second (Collision x y)
+    commitments_answer x y same x_is y_is =
+        let r = commitments_collide x y (same ∙ sym second_texts_are) x_is y_is in
+        (opposed.comparable, opposed.differ, opposed.one, r.0, r.1)

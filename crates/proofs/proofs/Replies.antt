@@ -1,5 +1,5 @@
 -- A reply is read exactly where one is spelled.
-use Rattle.std.proofs.Common.{◌≡◌, ◌≢◌, ℕ, zero, suc, ◌*◌, ◌<◌, ◌≤◌, ◌^◌, List, [], ◌∷◌, ◌++◌, length, Bool, true, false, leb, ◌&&◌, Ok, Err, refl, sym, ap, subst, ◌∙◌, arith, lit≤}
+use Rattle.std.proofs.Common.{◌≡◌, ◌≢◌, ℕ, zero, suc, ◌*◌, ◌<◌, ◌≤◌, ◌^◌, List, [], ◌∷◌, ◌++◌, length, true, leb, Ok, Err, refl, sym, ap, subst, ◌∙◌, arith, lit≤}
 use Rattle.std.specs.List.{AllByRecursion}
 use Rattle.std.specs.Simd.{first_chunks}
 use Rattle.std.proofs.lemmas.Bool.{leb-true, le-leb, ne_eqb}
@@ -11,17 +11,14 @@ use Rattle.encoding.specs.Fields.{IsField}
 use Rattle.encoding.specs.Forms.{counted_bytes}
 use Rattle.encoding.specs.Limits.{IsKeyData, IsSmall}
 use Rattle.encoding.specs.Reading.{is_within, read_as, read_byte, read_bytes, read_counted, read_number, read_where}
-use Rattle.encoding.proofs.Fields.{whole-read, whole-refused, allowed_field, both_field, byte_field, bytes_field, counted_field, nothing_field, numbers_field, renamed_field, respelled_field, tested_field, then_field}
+use Rattle.encoding.proofs.Fields.{whole-read, whole-refused, allowed_field, both_are_true, both_field, byte_field, bytes_field, counted_field, itself, nothing_field, numbers_field, refused_read, renamed_field, respelled_field, tested_field, then_field}
 use Rattle.rootchain.specs.declared.body.Body.{Body}
 use Rattle.rootchain.specs.Bodies.{body_bytes, read_body, IsBody}
 use Rattle.rootchain.proofs.Bodies.{body_field}
-use Rattle.proofs.specs.Replies.{End, Present, Empty, Other, Reply, end_bytes, end_kind, end_parts, reply_bytes, sibling_bytes, AreSiblings, IsEnd, IsReply, Spells}
+use Rattle.proofs.specs.Replies.{End, Present, Empty, Other, Reply, end_bytes, end_kind, end_parts, joined_bytes, reply_bytes, sibling_bytes, AreSiblings, IsEnd, IsReply, Spells}
 use Rattle.proofs.specs.Refusals.{BeginsWithReply}
 use Rattle.proofs.specs.Reading.{read_end, read_end_of, read_other, read_present, read_reply, read_siblings, reply_of}
-use Rattle.proofs.proofs.Chunks.{joined, chunks-hashes, chunks-joined, joined-chunks, joined-hashes, length-chunks}
-
-abbrev itself : List ℕ → List ℕ
-itself bytes = bytes
+use Rattle.proofs.proofs.Chunks.{chunks-hashes, chunks-joined, joined-chunks, joined-hashes, length-chunks}
 
 -- ---- ends
 
@@ -120,13 +117,10 @@ kinds zero = record { spelled = λ bytes z small e. absurd cc; again = none }
 kinds (suc zero) = present_field
 kinds (suc (suc zero)) = empty_field
 kinds (suc (suc (suc zero))) = other_field
-kinds (suc (suc (suc (suc kind)))) = record { spelled = λ bytes z small e. absurd (refused OutOfRange z (sym (unknown bytes) ∙ e)); again = none }
+kinds (suc (suc (suc (suc kind)))) = record { spelled = λ bytes z small e. absurd (refused_read OutOfRange z (sym (unknown bytes) ∙ e)); again = none }
   where
     unknown : (bytes : List ℕ) → read_end_of (suc (suc (suc (suc kind)))) bytes ≡ Err OutOfRange
     unknown bytes = rw (ne_eqb (suc (suc (suc (suc kind)))) 1 (λ e. omega (arith, e)), ne_eqb (suc (suc (suc (suc kind)))) 2 (λ e. omega (arith, e)), ne_eqb (suc (suc (suc (suc kind)))) 3 (λ e. omega (arith, e))) refl
-
-    refused : (fault : Fault) (z : End × List ℕ) → Err fault ≡ Ok z → ⊥
-    refused fault z e = absurd cc
 
     none : (end : End) (rest : List ℕ) → IsOfKind (suc (suc (suc (suc kind)))) end → read_end_of (suc (suc (suc (suc kind)))) (end_parts end ++ rest) ≡ Ok (end, rest)
     none (Present salt key) rest h = absurd (omega (arith, h.1))
@@ -147,19 +141,19 @@ end_field =
 -- ---- siblings
 
 abbrev AreJoined : ℕ → List (List ℕ) → Type 0
-AreJoined count hashes = HasBytes (32 * count) (joined hashes) × (first_chunks 32 count (joined hashes) ≡ hashes)
+AreJoined count hashes = HasBytes (32 * count) (joined_bytes hashes) × (first_chunks 32 count (joined_bytes hashes) ≡ hashes)
 
 -- so many hashes
 abbrev AreCounted : ℕ → List (List ℕ) → Type 0
 AreCounted count hashes = AllByRecursion Is32Bytes hashes × (length hashes ≡ count)
 
-hashes_field : (count : ℕ) → IsField (read_as (first_chunks 32 count) (read_bytes (32 * count))) joined (AreCounted count)
+hashes_field : (count : ℕ) → IsField (read_as (first_chunks 32 count) (read_bytes (32 * count))) joined_bytes (AreCounted count)
 hashes_field count =
-    allowed_field _ joined (AreJoined count) (AreCounted count) to back
-    (renamed_field (first_chunks 32 count) joined (read_bytes (32 * count)) itself (HasBytes (32 * count)) (λ bytes h. joined-chunks count bytes h.0) (bytes_field (32 * count)))
+    allowed_field _ joined_bytes (AreJoined count) (AreCounted count) to back
+    (renamed_field (first_chunks 32 count) joined_bytes (read_bytes (32 * count)) itself (HasBytes (32 * count)) (λ bytes h. joined-chunks count bytes h.0) (bytes_field (32 * count)))
   where
     to : (hashes : List (List ℕ)) → AreJoined count hashes → AreCounted count hashes
-    to hashes h = subst (AreCounted count) h.1 (chunks-hashes count (joined hashes) h.0, length-chunks count (joined hashes))
+    to hashes h = subst (AreCounted count) h.1 (chunks-hashes count (joined_bytes hashes) h.0, length-chunks count (joined_bytes hashes))
 
     back : (hashes : List (List ℕ)) → AreCounted count hashes → AreJoined count hashes
     back hashes h = subst (λ (n : ℕ). AreJoined n hashes) h.1 (joined-hashes hashes h.0, chunks-joined hashes h.0)
@@ -173,16 +167,12 @@ siblings_field =
     allowed_field _ sibling_bytes (λ siblings. IsCount (length siblings) × AllByRecursion Is32Bytes siblings) AreSiblings
     (λ siblings h. (few (length siblings) h.0.1, h.1))
     (λ siblings h. ((omega (arith, h.0), rw (le-leb 0 (length siblings) (omega arith), le-leb (length siblings) 256 h.0) refl), h.1))
-    (then_field length (read_where (is_within 0 256) (read_number 2)) _ (big_bytes 2) joined IsCount (AllByRecursion Is32Bytes)
+    (then_field length (read_where (is_within 0 256) (read_number 2)) _ (big_bytes 2) joined_bytes IsCount (AllByRecursion Is32Bytes)
     (tested_field (is_within 0 256) (read_number 2) (big_bytes 2) (λ n. n < 256 ^ 2) (numbers_field 2))
     (λ count _. hashes_field count))
   where
-    both_true : (a b : Bool) → (a && b) ≡ true → b ≡ true
-    both_true true b e = e
-    both_true false b e = absurd cc
-
     few : (count : ℕ) → is_within 0 256 count ≡ true → count ≤ 256
-    few count e = leb-true count 256 (both_true (leb 0 count) (leb count 256) e)
+    few count e = leb-true count 256 (both_are_true (leb 0 count) (leb count 256) e).1
 
 -- ---- replies
 
@@ -204,11 +194,8 @@ reply_field =
 pub is_malformed : (bytes : List ℕ) (fault : Fault) → read_reply bytes ≡ Err fault → ((reply : Reply) → ¬ Spells bytes reply) × ¬ BeginsWithReply bytes
 is_malformed bytes fault e = (
   whole-refused read_reply reply_bytes IsReply reply_field bytes fault e,
-  λ begins. refused fault (begins.0, begins.2) (sym e ∙ ap read_reply (begins.3 ∙ ap (λ (front : List ℕ). front ++ begins.2) begins.5.0) ∙ reply_field.again begins.0 begins.2 begins.5.1),
+  λ begins. refused_read fault (begins.0, begins.2) (sym e ∙ ap read_reply (begins.3 ∙ ap (λ (front : List ℕ). front ++ begins.2) begins.5.0) ∙ reply_field.again begins.0 begins.2 begins.5.1),
 )
-  where
-    refused : (fault : Fault) (z : Reply × List ℕ) → Err fault ≡ Ok z → ⊥
-    refused fault z e = absurd cc
 
 -- what is left behind a reply makes the bytes begin with one
 pub is_trailing : (bytes : List ℕ) (reply : Reply) (rest : List ℕ) → IsBytes bytes → read_reply bytes ≡ Ok (reply, rest) → rest ≢ [] → BeginsWithReply bytes

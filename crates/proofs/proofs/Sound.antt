@@ -1,13 +1,13 @@
 -- Two byte strings that are accepted state one binding, or there is a collision.
-use Rattle.std.proofs.Common.{◌≡◌, ◌↔◌, ℕ, List, Option, Result, Ok, Err, IfOk, IsOkAnd, inl, inr, refl, sym, ap, subst, ◌∙◌}
+use Rattle.std.proofs.Common.{◌≡◌, ◌↔◌, ℕ, List, Option, Result, Ok, Err, IfErr, IfOk, IsOkAnd, inl, inr, refl, sym, ap, subst, ◌∙◌}
 use Rattle.rootchain.specs.declared.body.Body.{Body}
 use Rattle.proofs.specs.declared.comparing.SameOr.{SameOr}
 use Rattle.proofs.specs.declared.comparing.SameOr.TheVariants.{NotComparable, Same, TwoValues, Collision}
 use Rattle.proofs.specs.declared.refusal.Refusal.{Refusal}
 use Rattle.proofs.specs.declared.refusal.Refusal.TheVariants.{Malformed, Trailing, OtherRoot, BadVuf, SameIndex, OtherPrefix, PathMismatch}
-use Rattle.proofs.specs.Accepts.{stated, Accepts, NamedReply}
-use Rattle.proofs.specs.Comparisons.{Answers, HasIndex, IsAcceptedReply, IsOneBindingOr, Refuses}
-use Rattle.proofs.specs.Refusals.{ReadsReply}
+use Rattle.proofs.specs.Accepts.{stated, Accepts, HasIndex, NamedReply}
+use Rattle.proofs.specs.Comparisons.{Answers, IsAcceptedReply, IsOneBindingOr, Refuses}
+use Rattle.proofs.specs.Refusals.{IsFirst, Passes, ReadsReply}
 use Rattle.proofs.specs.Replies.{Reply, Spells}
 use Rattle.proofs.proofs.Passing.{accepts-passed, nothing_left, one_reply, passed-accepted}
 
@@ -28,6 +28,12 @@ module _ (hash : List ℕ → List ℕ) (accepted : List ℕ → List ℕ → Li
   pub refused_not : (bytes : List ℕ) (refusal : Refusal) → Refuses hash accepted body name bytes refusal → (statement : Option (List ℕ)) → ¬ Accepts hash accepted body name bytes statement
   refused_not bytes refusal (inl reads) statement = λ accepts. not_spelled bytes refusal reads accepts.0 accepts.1
   refused_not bytes refusal (inr (reply, spelled, first)) statement = λ accepts. first.fails ((accepts-passed hash accepted body name bytes reply spelled statement accepts).1 refusal)
+
+  -- what checking refuses is refused of the bytes
+  pub refuses_checked : {X : Type 0} (bytes : List ℕ) (reply : Reply) → Spells bytes reply → (result : Result X Refusal)
+      → IfErr result (IsFirst (Passes hash accepted body name reply)) → IfErr result (Refuses hash accepted body name bytes)
+  refuses_checked bytes reply spelled (Ok kept) first = tt
+  refuses_checked bytes reply spelled (Err refusal) first = inr (reply, spelled, first)
 
   -- what is answered to the reply that the bytes spell keeps a reply that is accepted
   pub keeps_accepted : (bytes : List ℕ) (reply : Reply) → Spells bytes reply → (result : Result NamedReply Refusal)

@@ -38,6 +38,10 @@ module _ (hash : List ℕ → List ℕ) (accepted : List ℕ → List ℕ → Li
   abbrev pub Accepts : Body → List ℕ → List ℕ → Option (List ℕ) → Type 0
   Accepts body name bytes statement = (reply : Reply) × Spells bytes reply × States body name reply statement
 
+-- the index of the reply that the bytes spell
+abbrev pub HasIndex : (List ℕ → List ℕ) → List ℕ → List ℕ → Type 0
+HasIndex hash bytes index = (reply : Reply) × Spells bytes reply × (hash reply.value ≡ index)
+
 -- a reply, and the name that it was asked for
 pub record NamedReply : Type 0 where
   pub name : List ℕ

@@ -1,12 +1,13 @@
 -- Two accepted replies: that they state the same, or what shows that they should not both be there (the
 -- soundness of look-ups, CONIKS, section 4).
 use Rattle.std.specs.Prelude.{◌≡◌, ◌≢◌, ℕ, ◌⊎◌, List, length, Option, Some, None, Result, Ok, Err}
+use Rattle.encoding.specs.Limits.{IsName}
 use Rattle.nodehash.specs.Collisions.{IsCollision}
 use Rattle.commit.specs.Commitments.{commitment_bytes}
 use Rattle.rootchain.specs.declared.body.Body.{Body}
 use Rattle.proofs.specs.Accepts.{stated, IsAccepted, NamedReply}
 use Rattle.proofs.specs.Refusals.{end_text, IsFirst, Passes, ReadsReply}
-use Rattle.proofs.specs.Replies.{End, Present, Empty, Other, Reply, Spells}
+use Rattle.proofs.specs.Replies.{End, Present, Empty, Other, Reply, IsReply, Spells}
 use Rattle.proofs.specs.WayTexts.{way_texts, AreFirstToDiffer}
 use Rattle.proofs.specs.declared.refusal.Refusal.{Refusal}
 use Rattle.proofs.specs.declared.comparing.RefusedReply.{RefusedReply}
@@ -59,6 +60,17 @@ Answers hash accepted first second TwoValues =
 Answers hash accepted first second (Collision x y) =
     AreComparable first second × ¬ StateTheSame first second × HaveOneIndex hash first second × IsCollision hash x y × StandFirst hash first second x y
 
+-- two accepted replies of one name under one body with one index, which state two things
+pub record AreOpposed (hash : List ℕ → List ℕ) (accepted : List ℕ → List ℕ → List ℕ → Type 0) (first second : NamedReply) : Type 0 where
+  pub comparable : AreComparable first second
+  pub differ : ¬ StateTheSame first second
+  pub one : HaveOneIndex hash first second
+  pub is_first : IsAccepted hash accepted first
+  pub is_second : IsAccepted hash accepted second
+  pub first_form : IsReply first.reply
+  pub second_form : IsReply second.reply
+  pub named : IsName first.name
+
 -- ---- two byte strings
 
 module _ (hash : List ℕ → List ℕ) (accepted : List ℕ → List ℕ → List ℕ → Type 0) (body : Body) (name : List ℕ) where
@@ -76,10 +88,6 @@ module _ (hash : List ℕ → List ℕ) (accepted : List ℕ → List ℕ → Li
   Compares first second (Err (Second refusal)) = ((reply : Reply) × IsAcceptedReply first reply) × Refuses second refusal
   Compares first second (Ok answer) = (one : Reply) × (two : Reply) × IsAcceptedReply first one × IsAcceptedReply second two
       × Answers hash accepted (record { name = name; reply = one }) (record { name = name; reply = two }) answer
-
--- the index of the reply that the bytes spell
-abbrev pub HasIndex : (List ℕ → List ℕ) → List ℕ → List ℕ → Type 0
-HasIndex hash bytes index = (reply : Reply) × Spells bytes reply × (hash reply.value ≡ index)
 
 -- two statements are one binding, or two different byte strings with one digest are told
 abbrev pub IsOneBindingOr : (List ℕ → List ℕ) → Option (List ℕ) → Option (List ℕ) → SameOr → Type 0

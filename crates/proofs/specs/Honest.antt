@@ -1,19 +1,10 @@
 -- What an honest provider's reply is made of (CONIKS, sections 3 and 4).
 use Rattle.std.specs.Prelude.{◌≡◌, ℕ, List}
-use Rattle.commit.specs.Commitments.{commitment_bytes}
 use Rattle.prefixtree.specs.Node.{root_of}
 use Rattle.prefixtree.specs.Paths.{IsPath}
 use Rattle.prefixtree.specs.Placement.{Items, IsPlacement}
-use Rattle.prefixtree.specs.declared.path.End.{End as PathEnd}
-use Rattle.prefixtree.specs.declared.path.End.TheVariants as path
-use Rattle.proofs.specs.Replies.{End, Present, Empty, Other, Reply, IsReply}
-
--- the end of a tree's path that an end tells: a leaf that is opened has the commitment to its salt, the
--- name and its key
-abbrev pub end_of_path : (List ℕ → List ℕ) → List ℕ → End → PathEnd
-end_of_path hash name (Present salt key) = path.Present (hash (commitment_bytes salt name key))
-end_of_path hash name Empty = path.Empty
-end_of_path hash name (Other index commitment) = path.Other index commitment
+use Rattle.proofs.specs.Refusals.{end_of_path}
+use Rattle.proofs.specs.Replies.{Reply, IsReply}
 
 module _ (hash : List ℕ → List ℕ) (accepted : List ℕ → List ℕ → List ℕ → Type 0) where
   -- the body's root and nonce are those of a tree with these items, the value is accepted for the name

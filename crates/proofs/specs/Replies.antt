@@ -39,9 +39,13 @@ end_parts (Other index commitment) = index ++ commitment
 abbrev pub end_bytes : End → List ℕ
 end_bytes end = (end_kind end ∷ []) ++ end_parts end
 
+-- the bytes of all of them, one after the other
+abbrev pub joined_bytes : List (List ℕ) → List ℕ
+joined_bytes = flat_map (λ bytes. bytes)
+
 -- their number in two bytes, then their bytes
 abbrev pub sibling_bytes : List (List ℕ) → List ℕ
-sibling_bytes siblings = big_bytes 2 (length siblings) ++ flat_map (λ sibling. sibling) siblings
+sibling_bytes siblings = big_bytes 2 (length siblings) ++ joined_bytes siblings
 
 -- the body, the value behind its length, the end, and the siblings
 abbrev pub reply_bytes : Reply → List ℕ

@@ -6,10 +6,10 @@ ghost use Rattle.proofs.specs.Replies.{reply_bytes, IsReply};
 ghost use Rattle.proofs.specs.Views.{end_seen, key_stated};
 
 use crate::checking::end_text;
-use crate::view::EndView;
+use crate::view::{EndView, key_data};
 use crate::{ReplyView, Statement};
 use commit::commit_text;
-use encoding::{Hash32, Index, KeyData, Name, Text};
+use encoding::{Hash32, Index, Name, Text};
 use nodehash::{NodeHash, NodeText};
 use rootchain::Body;
 use std::marker::{Model, PhantomData};
@@ -90,6 +90,7 @@ impl<'a, H: NodeHash, V: VufCheck> Accepted<'a, H, V> {
     /// What stands at the end of the reply's way.
     pub(crate) fn end(&self) -> EndView<'a>
         ensures value { end_seen result ≡ self.now.reply.end }
+        ensures form { IsReply self.now.reply }
         ensures accepted { IsAccepted H.digest_of V.accepted self.now }
     {
         self.view.end()
@@ -121,9 +122,6 @@ impl<'a, H: NodeHash, V: VufCheck> Accepted<'a, H, V> {
         let EndView::Present { salt, key } = self.view.end() else {
             return None;
         };
-        let Ok(key) = KeyData::new(key) else {
-            unreachable!()
-        };
-        Some(commit_text(&Hash32::new(*salt), &self.name, &key))
+        Some(commit_text(&Hash32::new(*salt), &self.name, &key_data(key)))
     }
 }

@@ -5,11 +5,11 @@ ghost use Rattle.proofs.specs.Refusals.{end_text, IsFirst, AbsenceIsByAnother, A
 ghost use Rattle.proofs.specs.Replies.{IsEnd, Spells};
 ghost use Rattle.proofs.specs.Views.{end_seen};
 
-use crate::view::EndView;
+use crate::view::{EndView, key_data};
 use crate::way::climb;
 use crate::{Accepted, Refusal, ReplyView};
 use commit::commit;
-use encoding::{Hash32, Index, KeyData, Name, agree};
+use encoding::{Hash32, Index, Name, agree};
 use nodehash::{NodeHash, NodeText, empty_text, leaf_text};
 use prefixtree::way_is_fold;
 use rootchain::Body;
@@ -53,10 +53,7 @@ pub(crate) fn end_text<H: NodeHash>(
     let level = level as u32;
     match end {
         EndView::Present { salt, key } => {
-            let Ok(key) = KeyData::new(key) else {
-                unreachable!()
-            };
-            let commitment = commit(hash, &Hash32::new(*salt), name, &key);
+            let commitment = commit(hash, &Hash32::new(*salt), name, &key_data(key));
             leaf_text(nonce, index, level, &commitment)
         }
         EndView::Empty => empty_text(nonce, index, level),
@@ -85,7 +82,7 @@ fn leads<H: NodeHash>(
 }
 
 /// The index of the name, where the reply passes each test, else the first that it does not.
-fn tested<H: NodeHash, V: VufCheck>(
+fn test_reply<H: NodeHash, V: VufCheck>(
     hash: &mut H,
     vuf: &V,
     body: &Body,
@@ -137,6 +134,6 @@ pub fn check<'a, H: NodeHash, V: VufCheck>(
     ensures first { IfErr result (IsFirst (Passes H.digest_of V.accepted body.now name.now view.now)) }
     ensures counted { H.digests hash.new ≤ H.digests hash.old + length view.now.siblings + 3 }
 {
-    let index = tested(hash, vuf, body, name, view)?;
+    let index = test_reply(hash, vuf, body, name, view)?;
     Ok(Accepted::new(name.copied(), view.copied(), index))
 }

@@ -1,14 +1,13 @@
 ghost use Rattle.std.specs.Prelude.{◌≡◌, ◌≢◌, ◌⊎◌, ◌↔◌, ◌≤◌, ℕ, List, Option, length, IfErr, IfOk, IsOkAnd, IsSomeAnd, IsTrue, MatchOption};
-ghost use Rattle.proofs.specs.Accepts.{Accepts};
-ghost use Rattle.encoding.specs.Limits.{IsName};
-ghost use Rattle.proofs.specs.Comparisons.{Answers, AreComparable, Compares, HasIndex, HaveOneIndex, IsAcceptedReply, IsOneBindingOr, Refuses, StateTheSame};
+ghost use Rattle.proofs.specs.Accepts.{Accepts, HasIndex};
+ghost use Rattle.proofs.specs.Comparisons.{texts_of, Answers, AreOpposed, Compares, HaveOneIndex, IsAcceptedReply, IsOneBindingOr, Refuses};
 ghost use Rattle.proofs.specs.Replies.{AreSiblings};
 ghost use Rattle.proofs.specs.Views.{key_stated};
 ghost use Rattle.proofs.specs.WayTexts.{way_texts, AreFirstToDiffer};
 
 use crate::way::{climb, joined_text};
 use crate::{Accepted, Refusal, ReplyView, Statement, check};
-use encoding::{FixedText, Hash32, Index, Name, Text};
+use encoding::{Hash32, Index, Name, Text};
 use nodehash::{NodeHash, NodeText};
 use rootchain::Body;
 use vrfiface::VufCheck;
@@ -40,16 +39,6 @@ pub enum RefusedReply {
 /// Two texts of nodes, from the first reply and from the second.
 type Pair = (NodeText, NodeText);
 
-/// The same bytes in another room.
-fn copied<const FROM: usize, const TO: usize>(text: &FixedText<FROM>) -> FixedText<TO>
-    requires { length text.now ≤ TO }
-    ensures { result ≡ text.now }
-{
-    let mut copy = FixedText::new();
-    copy.push_slice(text.bytes());
-    copy
-}
-
 /// The two texts where they differ, else what was found below.
 fn first_of(first: &NodeText, second: &NodeText, below: Option<Pair>) -> Option<Pair>
     ensures { ((first.now ≡ second.now) × (result ≡ below)) ⊎ ((first.now ≢ second.now) × IsSomeAnd result (λ pair. (pair.0 ≡ first.now) × (pair.1 ≡ second.now))) }
@@ -57,7 +46,7 @@ fn first_of(first: &NodeText, second: &NodeText, below: Option<Pair>) -> Option<
     if first.bytes() == second.bytes() {
         below
     } else {
-        Some((copied(first), copied(second)))
+        Some((first.copied(), second.copied()))
     }
 }
 
@@ -106,31 +95,40 @@ fn first_to_differ<H: NodeHash>(
     found
 }
 
+/// The first two node texts, from the root down, at which the ways of two replies differ.
+fn first_nodes<H: NodeHash, V: VufCheck>(
+    hash: &mut H,
+    first: &Accepted<'_, H, V>,
+    second: &Accepted<'_, H, V>,
+) -> Option<Pair>
+    requires { HaveOneIndex H.digest_of first.now second.now }
+    ensures { MatchOption result
+        (texts_of H.digest_of first.now ≡ texts_of H.digest_of second.now)
+        (λ pair. AreFirstToDiffer (texts_of H.digest_of first.now) (texts_of H.digest_of second.now) pair.0 pair.1) }
+{
+    let first_end = first.end_text(hash);
+    let second_end = second.end_text(hash);
+    first_to_differ(
+        hash,
+        &first.index(),
+        first.hashes(),
+        first_end,
+        second.hashes(),
+        second_end,
+    )
+}
+
 /// The collision of two replies that state two things with one index.
 fn collision<H: NodeHash, V: VufCheck>(
     hash: &mut H,
     first: &Accepted<'_, H, V>,
     second: &Accepted<'_, H, V>,
 ) -> SameOr
-    requires comparable { AreComparable first.now second.now }
-    requires named { IsName first.now.name }
-    requires differ { ¬ StateTheSame first.now second.now }
-    requires index { HaveOneIndex H.digest_of first.now second.now }
+    requires { AreOpposed H.digest_of V.accepted first.now second.now }
     ensures { Answers H.digest_of V.accepted first.now second.now result }
 {
-    let index = first.index();
-    let first_end = first.end_text(hash);
-    let second_end = second.end_text(hash);
-    let found = first_to_differ(
-        hash,
-        &index,
-        first.hashes(),
-        first_end,
-        second.hashes(),
-        second_end,
-    );
-    if let Some((x, y)) = found {
-        return SameOr::Collision(copied(&x), copied(&y));
+    if let Some((x, y)) = first_nodes(hash, first, second) {
+        return SameOr::Collision(x.copied(), y.copied());
     }
     let Some(x) = first.opened_text() else {
         unreachable!()

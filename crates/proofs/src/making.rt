@@ -1,27 +1,19 @@
-ghost use Rattle.std.specs.Prelude.{◌≡◌, ◌+◌, ◌*◌, ◌≤◌, ◌++◌, true, length};
-ghost use Rattle.rootchain.specs.Bodies.{is_well_formed};
+ghost use Rattle.std.specs.Prelude.{◌≡◌, ◌+◌, ◌*◌, ◌≤◌, ◌++◌, length};
+ghost use Rattle.rootchain.specs.Bodies.{IsWellFormed};
 ghost use Rattle.proofs.specs.Replies.{end_bytes, reply_bytes, sibling_bytes, AreSiblings, IsEnd, IsReply};
 ghost use Rattle.proofs.specs.Views.{end_given};
 
 use crate::End;
+use crate::end::{EMPTY, OTHER, PRESENT};
 use encoding::{Hash32, ProofText, Small};
 use prefixtree::Path;
 use rootchain::Body;
-
-/// The kind byte of an opened leaf.
-const PRESENT: u8 = 1;
-
-/// The kind byte of an empty node.
-const EMPTY: u8 = 2;
-
-/// The kind byte of the leaf of another index.
-const OTHER: u8 = 3;
 
 /// The bytes of the reply with this body, this value of the name, this end and the siblings of the
 /// path, at most 10,681. They are read again where the body is well formed.
 pub fn make(body: &Body, value: &Small, end: &End<'_>, path: &Path) -> ProofText
     ensures value { result ≡ reply_bytes (record { body = body.now; value = value.now; end = end_given end.now; siblings = path.now.siblings.items }) }
-    ensures form { is_well_formed body.now ≡ true → IsReply (record { body = body.now; value = value.now; end = end_given end.now; siblings = path.now.siblings.items }) }
+    ensures form { IsWellFormed body.now → IsReply (record { body = body.now; value = value.now; end = end_given end.now; siblings = path.now.siblings.items }) }
 {
     let mut text = ProofText::new();
     text.push_slice(body.write().bytes());

@@ -1,14 +1,15 @@
 ghost use Rattle.std.specs.Prelude.{◌≡◌};
-ghost use Rattle.std.specs.List.{flat_map};
+ghost use Rattle.encoding.specs.Limits.{IsKeyData};
 ghost use Rattle.encoding.specs.Reading.{Gives};
 ghost use Rattle.proofs.specs.Accepts.{stated};
 ghost use Rattle.proofs.specs.Reading.{read_end, read_reply, read_siblings};
 ghost use Rattle.proofs.specs.Refusals.{ReadsReply};
-ghost use Rattle.proofs.specs.Replies.{IsEnd, IsReply};
+ghost use Rattle.proofs.specs.Replies.{joined_bytes, IsEnd, IsReply};
 ghost use Rattle.proofs.specs.Views.{end_seen, key_stated, reply_seen};
 
+use crate::end::{EMPTY, OTHER, PRESENT};
 use crate::{Refusal, Statement};
-use encoding::{Cursor, Fault};
+use encoding::{Cursor, Fault, KeyData};
 use rootchain::Body;
 use std::marker::Model;
 
@@ -36,6 +37,17 @@ impl<'a> EndView<'a> {
             EndView::Empty | EndView::Other { .. } => Statement::Absent,
         }
     }
+}
+
+/// The key of an opened leaf.
+pub(crate) fn key_data(bytes: &[u8]) -> KeyData
+    requires { IsKeyData bytes.now }
+    ensures { result ≡ bytes.now }
+{
+    let Ok(key) = KeyData::new(bytes) else {
+        unreachable!()
+    };
+    key
 }
 
 /// The parts of a reply, which lie in its bytes.
@@ -87,7 +99,7 @@ impl<'a> ReplyView<'a> {
 
     /// The siblings from the root down, 32 bytes each, joined.
     pub fn siblings(&self) -> &'a [u8]
-        ensures { result.now ≡ flat_map (λ sibling. sibling) self.now.siblings }
+        ensures { result.now ≡ joined_bytes self.now.siblings }
     {
         self.parts.siblings.as_flattened()
     }
@@ -144,12 +156,12 @@ fn read_end<'a>(cursor: &mut Cursor<'a>) -> Result<EndView<'a>, Fault>
     ensures { Gives end_seen result cursor.new (read_end cursor.old) }
 {
     match cursor.u8()? {
-        1 => Ok(EndView::Present {
+        PRESENT => Ok(EndView::Present {
             salt: cursor.array()?,
             key: cursor.counted(1, 2048)?,
         }),
-        2 => Ok(EndView::Empty),
-        3 => Ok(EndView::Other {
+        EMPTY => Ok(EndView::Empty),
+        OTHER => Ok(EndView::Other {
             index: cursor.array()?,
             commitment: cursor.array()?,
         }),

@@ -16,14 +16,20 @@ abbrev pub body_bytes : Body → List ℕ
 body_bytes body = body_head ++ (big_bytes 8 body.epoch ++ (big_bytes 8 body.previous_epoch
     ++ (body.root ++ (body.previous_hash ++ (body.nonce ++ body.vuf_key)))))
 
--- the epoch comes after the one before, and where none came before, as 0 tells, its hash is zero
-abbrev pub is_well_formed : Body → Bool
-is_well_formed body = nat_lt body.previous_epoch body.epoch && (if body.previous_epoch == 0 then bytes_eq body.previous_hash (replicate 32 0) else true)
+-- the epoch comes after the one before; where none came before, as 0 tells, its hash is zero
+abbrev pub IsWellFormed : Body → Type 0
+IsWellFormed body = (body.previous_epoch < body.epoch) × (body.previous_epoch ≡ 0 → body.previous_hash ≡ replicate 32 0)
 
 -- what a body may hold
 abbrev pub IsBody : Body → Type 0
-IsBody body = (is_well_formed body ≡ true) × (body.epoch < 2 ^ 64) × (body.previous_epoch < 2 ^ 64)
+IsBody body = IsWellFormed body × (body.epoch < 2 ^ 64) × (body.previous_epoch < 2 ^ 64)
     × Is32Bytes body.root × Is32Bytes body.previous_hash × Is32Bytes body.nonce × Is32Bytes body.vuf_key
+
+-- ---- reading
+
+-- the test of what is well formed
+abbrev pub is_well_formed : Body → Bool
+is_well_formed body = nat_lt body.previous_epoch body.epoch && (if body.previous_epoch == 0 then bytes_eq body.previous_hash (replicate 32 0) else true)
 
 -- a body's parts in their order
 abbrev pub body_of : ℕ × (ℕ × (List ℕ × (List ℕ × (List ℕ × List ℕ)))) → Body

@@ -1,6 +1,6 @@
 -- A provider's promise to bind a key to a name in the next epoch, and the signed promise (CONIKS,
 -- section 4, temporary bindings; the bytes are the profile's).
-use Rattle.std.specs.Prelude.{◌≡◌, ℕ, ◌<◌, ◌^◌, Bool, true, nat_lt, List, [], ◌∷◌, ◌++◌}
+use Rattle.std.specs.Prelude.{ℕ, ◌<◌, ◌^◌, Bool, nat_lt, List, [], ◌∷◌, ◌++◌}
 use Rattle.encoding.specs.Bytes.{Is32Bytes}
 use Rattle.encoding.specs.Endian.{big_bytes}
 use Rattle.encoding.specs.Forms.{counted_bytes}
@@ -19,13 +19,14 @@ abbrev pub promise_bytes : Promise → List ℕ
 promise_bytes promise = promise_head ++ (big_bytes 8 promise.epoch ++ (promise.root_hash ++ (promise.index
     ++ (counted_bytes promise.name ++ counted_bytes promise.key))))
 
+-- what a promise may hold
+abbrev pub IsPromise : Promise → Type 0
+IsPromise promise = (0 < promise.epoch) × (promise.epoch < 2 ^ 64) × Is32Bytes promise.root_hash × Is32Bytes promise.index
+    × IsName promise.name × IsKeyData promise.key
+
 -- an epoch there is
 abbrev pub is_at_epoch : Promise → Bool
 is_at_epoch promise = nat_lt 0 promise.epoch
-
-abbrev pub IsPromise : Promise → Type 0
-IsPromise promise = (is_at_epoch promise ≡ true) × (promise.epoch < 2 ^ 64) × Is32Bytes promise.root_hash × Is32Bytes promise.index
-    × IsName promise.name × IsKeyData promise.key
 
 abbrev pub promise_of : ℕ × (List ℕ × (List ℕ × (List ℕ × List ℕ))) → Promise
 promise_of parts = record {

@@ -1,8 +1,8 @@
-ghost use Rattle.std.specs.Prelude.{◌≡◌, true, length, IsOkUnless, OnErr};
+ghost use Rattle.std.specs.Prelude.{◌≡◌, length, IsOkUnless, OnErr};
 ghost use Rattle.encoding.specs.Fields.{Reads, ReadsWhole};
 ghost use Rattle.encoding.specs.Reading.{Gives};
 ghost use Rattle.rootchain.specs.declared.refusal.Refusal.TheVariants.{Malformed};
-ghost use Rattle.rootchain.specs.Bodies.{body_bytes, is_well_formed, read_body, IsBody};
+ghost use Rattle.rootchain.specs.Bodies.{body_bytes, is_well_formed, read_body, IsBody, IsWellFormed};
 
 use crate::Refusal;
 use crate::whole::whole;
@@ -44,7 +44,7 @@ impl Body {
     pub fn write(&self) -> Text
         ensures value { result ≡ body_bytes self.now }
         ensures len { length result ≡ 146 }
-        ensures form { is_well_formed self.now ≡ true → IsBody self.now }
+        ensures form { IsWellFormed self.now → IsBody self.now }
     {
         let mut text = Text::new();
         text.push_slice(&HEAD);

@@ -1,8 +1,8 @@
-ghost use Rattle.std.specs.Prelude.{◌≡◌, ◌+◌, true, length, IsOkUnless};
+ghost use Rattle.std.specs.Prelude.{◌≡◌, ◌+◌, length, IsOkUnless};
 ghost use Rattle.encoding.specs.Fields.{ReadsWhole};
 ghost use Rattle.encoding.specs.Reading.{Gives};
 ghost use Rattle.rootchain.specs.declared.refusal.Refusal.TheVariants.{Malformed};
-ghost use Rattle.rootchain.specs.Bodies.{is_well_formed};
+ghost use Rattle.rootchain.specs.Bodies.{IsWellFormed};
 ghost use Rattle.rootchain.specs.SignedRoots.{read_signed_root, signed_root_bytes, IsSignedRoot};
 
 use crate::whole::whole;
@@ -33,7 +33,7 @@ impl SignedRoot {
     pub fn write(&self) -> Text
         ensures value { result ≡ signed_root_bytes self.now }
         ensures len { length result ≡ 148 + length self.now.signature }
-        ensures form { is_well_formed self.now.body ≡ true → IsSignedRoot self.now }
+        ensures form { IsWellFormed self.now.body → IsSignedRoot self.now }
     {
         let mut text = self.body.write();
         text.push_counted(self.signature.bytes());

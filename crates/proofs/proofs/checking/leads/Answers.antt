@@ -12,7 +12,7 @@ returns-clause-way g c =
     let root = c.args.root.now in
     let index = c.args.index.now in
     let siblings = c.args.siblings.now in
-    let text : c.bytes.result.now ≡ node_text hash index 0 siblings c.args.end = c.bytes.ensures.value ∙ c.climb-top.ensures.value in
+    let text : c.bytes.result.now ≡ node_text hash index 0 siblings c.args.end = ◌∙◌ {c = node_text hash index 0 siblings c.args.end} c.bytes.ensures.value c.climb-top.ensures.value in
     let top = top_digest hash index siblings c.args.end c.digest.result c.bytes.result.now c.digest.ensures.value text in
     let fold = c.way_is_fold.ensures hash root index c.args.end siblings in
     let test = bytes_eq-Decides c.digest.result root in (
