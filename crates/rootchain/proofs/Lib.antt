@@ -1,4 +1,5 @@
 pub mod Bodies
+pub mod Chains
 pub mod Promises
 pub mod SignedRoots
 pub mod WholeBytes

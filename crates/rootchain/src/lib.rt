@@ -1,10 +1,13 @@
-//! Signed tree roots and signed promises: their forms. After CONIKS, sections 3 and 4.
+//! Signed tree roots and signed promises: their forms, and the chain of a provider's signed roots.
+//! After CONIKS, sections 3 and 4.
 //!
 //! To the layers above: reading accepts exactly the forms, with one spelling a value, and writing
-//! gives them back. Nothing here takes memory.
+//! gives them back. The roots of a chain verify under one key, each two neighbours are linked, and
+//! a root that may not follow is refused. Only chains take memory.
 #![tactic(auto)]
 
 mod body;
+mod chain;
 mod laws;
 mod promise;
 mod refusal;
@@ -13,7 +16,10 @@ mod signed_root;
 mod whole;
 
 pub use body::Body;
-pub use laws::{body_is_read, promise_is_read, signed_promise_is_read, signed_root_is_read};
+pub use chain::Chain;
+pub use laws::{
+    body_is_read, epochs_ascend, promise_is_read, signed_promise_is_read, signed_root_is_read,
+};
 pub use promise::Promise;
 pub use refusal::Refusal;
 pub use signed_promise::SignedPromise;

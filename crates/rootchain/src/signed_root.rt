@@ -1,13 +1,16 @@
-ghost use Rattle.std.specs.Prelude.{◌≡◌, ◌+◌, length, IsOkUnless};
+ghost use Rattle.std.specs.Prelude.{◌≡◌, ◌≤◌, ◌↔◌, ◌+◌, length, IsOkUnless, IsTrue};
 ghost use Rattle.encoding.specs.Fields.{ReadsWhole};
 ghost use Rattle.encoding.specs.Reading.{Gives};
 ghost use Rattle.rootchain.specs.declared.refusal.Refusal.TheVariants.{Malformed};
 ghost use Rattle.rootchain.specs.Bodies.{IsWellFormed};
+ghost use Rattle.rootchain.specs.Chains.{Names, Verifies};
 ghost use Rattle.rootchain.specs.SignedRoots.{read_signed_root, signed_root_bytes, IsSignedRoot};
 
 use crate::whole::whole;
 use crate::{Body, Refusal};
-use encoding::{Cursor, Fault, Small, Text};
+use encoding::{Cursor, Fault, Hash32, Small, Text};
+use nodehash::NodeHash;
+use sigiface::Verifier;
 
 /// A signed tree root (CONIKS, section 3).
 #[derive(Debug, Drop, PartialEq, Eq)]
@@ -49,5 +52,22 @@ impl SignedRoot {
             body: Body::read_from(cursor)?,
             signature: cursor.bounded()?,
         })
+    }
+
+    /// Whether the signature verifies under the public key.
+    pub(crate) fn verifies<S: Verifier>(&self, verifier: &S, key: &Hash32) -> bool
+        ensures { IsTrue result ↔ Verifies S.verified key.now self.now }
+    {
+        verifier.verify(key, self.body.write().bytes(), self.signature.bytes())
+    }
+
+    /// Whether it names the earlier root as the one before it.
+    #[tactic(auto, unfolding(crate::specs::Chains::Names))]
+    pub(crate) fn names<H: NodeHash>(&self, hash: &mut H, earlier: &SignedRoot) -> bool
+        ensures value { IsTrue result ↔ Names H.digest_of earlier.now self.now }
+        ensures counted { H.digests hash.new ≤ H.digests hash.old + 1 }
+    {
+        self.body.previous_epoch == earlier.body.epoch
+            && self.body.previous_hash == hash.digest(earlier.body.write().bytes())
     }
 }
