@@ -2,7 +2,7 @@
 -- lemma for each reader, and one for each way to make a reader of others.
 use Rattle.std.proofs.Common.{◌≡◌, ◌≢◌, ℕ, zero, suc, ◌^◌, ◌<◌, ◌≤◌, Bool, true, false, ◌&&◌, cond, ltb, leb, List, [], ◌∷◌, ◌++◌, length, take, drop, flat_map, Result, Ok, Err, refl, sym, ap, subst, ◌∙◌, append_assoc, arith}
 use Rattle.std.specs.List.{AllByRecursion}
-use Rattle.std.proofs.lemmas.Bool.{ltb-false, le-ltb, leb-true, le-leb}
+use Rattle.std.proofs.lemmas.Bool.{and_parts, ltb-false, le-ltb, leb-true, le-leb}
 use Rattle.std.proofs.lemmas.List.{append-nil, take_at, drop_at, take-append-drop, length-append, length-take}
 use Rattle.std.specs.Str.{bytes_eq}
 use Rattle.std.proofs.lemmas.Cmp.{nat_list_eq_equiv}
@@ -32,11 +32,6 @@ short_ok false fault r y e = (refl, e)
 passed_ok : {A : Type 0} (passed : Bool) (fault : Fault) (r : Result A Fault) (y : A) → cond passed r (Err fault) ≡ Ok y → (passed ≡ true) × (r ≡ Ok y)
 passed_ok true fault r y e = (refl, e)
 passed_ok false fault r y e = absurd cc
-
--- both of two tests
-pub both_are_true : (a b : Bool) → (a && b) ≡ true → (a ≡ true) × (b ≡ true)
-both_are_true true b e = (refl, e)
-both_are_true false b e = absurd cc
 
 abbrev done : {A : Type 0} → A → Result A Fault
 done x = Ok x
@@ -223,7 +218,7 @@ pub counted_field : CountedAreFields
 unfolding read_counted
 counted_field least most fits =
     allowed_field (read_counted least most) counted_bytes (λ x. ((length x < 256 ^ 2) × (is_within least most (length x) ≡ true)) × IsBytes x) (IsWithin least most)
-    (λ x h. let limits = both_are_true (leb least (length x)) (leb (length x) most) h.0.1 in (leb-true _ _ limits.0, leb-true _ _ limits.1, h.1))
+    (λ x h. let limits = and_parts (leb least (length x)) (leb (length x) most) h.0.1 in (leb-true _ _ limits.0, leb-true _ _ limits.1, h.1))
     (λ x h. ((omega (arith, h.1, fits), rw (le-leb least (length x) h.0, le-leb (length x) most h.1) refl), h.2))
     (then_field length (read_where (is_within least most) (read_number 2)) read_bytes (big_bytes 2) (λ x. x) (λ n. (n < 256 ^ 2) × (is_within least most n ≡ true)) IsBytes
     (tested_field (is_within least most) (read_number 2) (big_bytes 2) (λ n. n < 256 ^ 2) (numbers_field 2))

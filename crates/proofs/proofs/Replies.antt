@@ -2,7 +2,7 @@
 use Rattle.std.proofs.Common.{◌≡◌, ◌≢◌, ℕ, zero, suc, ◌*◌, ◌<◌, ◌≤◌, ◌^◌, List, [], ◌∷◌, ◌++◌, length, true, leb, Ok, Err, refl, sym, ap, subst, ◌∙◌, arith, lit≤}
 use Rattle.std.specs.List.{AllByRecursion}
 use Rattle.std.specs.Simd.{first_chunks}
-use Rattle.std.proofs.lemmas.Bool.{leb-true, le-leb, ne_eqb}
+use Rattle.std.proofs.lemmas.Bool.{and_parts, leb-true, le-leb, ne_eqb}
 use Rattle.encoding.specs.declared.fault.Fault.{Fault}
 use Rattle.encoding.specs.declared.fault.Fault.TheVariants.{OutOfRange}
 use Rattle.encoding.specs.Bytes.{HasBytes, IsBytes, Is32Bytes}
@@ -11,7 +11,7 @@ use Rattle.encoding.specs.Fields.{IsField}
 use Rattle.encoding.specs.Forms.{counted_bytes}
 use Rattle.encoding.specs.Limits.{IsKeyData, IsSmall}
 use Rattle.encoding.specs.Reading.{is_within, read_as, read_byte, read_bytes, read_counted, read_number, read_where}
-use Rattle.encoding.proofs.Fields.{whole-read, whole-refused, allowed_field, both_are_true, both_field, byte_field, bytes_field, counted_field, itself, nothing_field, numbers_field, refused_read, renamed_field, respelled_field, tested_field, then_field}
+use Rattle.encoding.proofs.Fields.{whole-read, whole-refused, allowed_field, both_field, byte_field, bytes_field, counted_field, itself, nothing_field, numbers_field, refused_read, renamed_field, respelled_field, tested_field, then_field}
 use Rattle.rootchain.specs.declared.body.Body.{Body}
 use Rattle.rootchain.specs.Bodies.{body_bytes, read_body, IsBody}
 use Rattle.rootchain.proofs.Bodies.{body_field}
@@ -172,7 +172,7 @@ siblings_field =
     (λ count _. hashes_field count))
   where
     few : (count : ℕ) → is_within 0 256 count ≡ true → count ≤ 256
-    few count e = leb-true count 256 (both_are_true (leb 0 count) (leb count 256) e).1
+    few count e = leb-true count 256 (and_parts (leb 0 count) (leb count 256) e).1
 
 -- ---- replies
 

@@ -3,7 +3,7 @@ use Rattle.std.proofs.Common.{◌≡◌, ℕ, List, Bool, true, false, cond, ref
 use Rattle.std.specs.Prelude.{◌==◌, replicate}
 use Rattle.std.specs.Str.{bytes_eq}
 use Rattle.std.specs.Cmp.Derive.{both_true}
-use Rattle.std.proofs.lemmas.Bool.{eqb-true, lt-ltb, ltb-true}
+use Rattle.std.proofs.lemmas.Bool.{and_parts, eqb-true, lt-ltb, ltb-true}
 use Rattle.std.proofs.lemmas.Cmp.{nat_list_eq_equiv}
 use Rattle.std.proofs.lemmas.Slice.Eq.{bytes_eq-Decides}
 use Rattle.encoding.specs.Reading.{read_bytes, read_number}
@@ -11,7 +11,7 @@ use Rattle.encoding.specs.Fields.{IsField}
 use Rattle.encoding.specs.Bytes.{HasBytes}
 use Rattle.encoding.specs.Endian.{big_bytes}
 use Rattle.encoding.proofs.ByteLists.{IsBytes-two}
-use Rattle.encoding.proofs.Fields.{allowed_field, behind_field, both_field, bytes_field, numbers_field, renamed_field, tested_field, both_are_true, itself, IsEightBytes}
+use Rattle.encoding.proofs.Fields.{allowed_field, behind_field, both_field, bytes_field, numbers_field, renamed_field, tested_field, itself, IsEightBytes}
 use Rattle.rootchain.specs.declared.body.Body.{Body}
 use Rattle.rootchain.specs.Bodies.{body_bytes, body_head, body_of, is_well_formed, read_body, IsBody, IsWellFormed}
 use Rattle.rootchain.proofs.WholeBytes.{whole_exact, IsExact}
@@ -22,7 +22,7 @@ parts_of body = (body.epoch, (body.previous_epoch, (body.root, (body.previous_ha
 -- the test says what is well formed
 tested_well : (body : Body) → is_well_formed body ≡ true → IsWellFormed body
 tested_well body e =
-    let both = both_are_true _ _ e in (
+    let both = and_parts _ _ e in (
       ltb-true body.previous_epoch body.epoch both.0,
       λ none. (bytes_eq-Decides body.previous_hash (replicate 32 0)).0 (subst (λ (n : ℕ). cond (n == 0) (bytes_eq body.previous_hash (replicate 32 0)) true ≡ true) none both.1),
     )

@@ -32,11 +32,11 @@ Verifies verified key root = verified key (body_bytes root.body) root.signature
 unfoldable pub Names : (List ℕ → List ℕ) → SignedRoot → SignedRoot → Type 0
 Names hash earlier later = (later.body.previous_epoch ≡ earlier.body.epoch) × (later.body.previous_hash ≡ hash (body_bytes earlier.body))
 
--- and is of a later epoch
+-- the later root names the earlier one, and is of a later epoch
 abbrev pub Links : (List ℕ → List ℕ) → SignedRoot → SignedRoot → Type 0
 Links hash earlier later = Names hash earlier later × (earlier.body.epoch < later.body.epoch)
 
--- when each refusal of a root to start a chain with is due
+-- when each refusal is due of a root that is to start a chain
 abbrev pub IsStartRefusal : (List ℕ → List ℕ → List ℕ → Type 0) → List ℕ → SignedRoot → Refusal → Type 0
 IsStartRefusal verified key root Malformed = ⊥
 IsStartRefusal verified key root BadSignature = ¬ Verifies verified key root
@@ -51,7 +51,7 @@ module _ (hash : List ℕ → List ℕ) (verified : List ℕ → List ℕ → Li
     pub signed : All (Verifies verified chain.key) chain.roots
     pub linked : AllAdjacentBelow (Links hash) chain.roots (length chain.roots)
 
-  -- when each refusal of a root to follow a head is due: where the tests before it are passed
+  -- when each refusal is due of a root that is to follow a head: where the tests before it are passed
   abbrev pub IsExtendRefusal : List ℕ → SignedRoot → SignedRoot → Refusal → Type 0
   IsExtendRefusal key head root Malformed = ⊥
   IsExtendRefusal key head root BadSignature = ¬ Verifies verified key root

@@ -9,7 +9,8 @@ use std::alloc::Global;
 use std::marker::{Model, PhantomData};
 
 /// A chain of signed roots of one provider (CONIKS, section 3), under the functions of `H` and `S`:
-/// each verifies under the provider's key, and names the root before it.
+/// each verifies under the provider's key, and each but the first names the one before it and is of a
+/// later epoch.
 #[derive(Drop)]
 pub struct Chain<H: NodeHash, S: Verifier> {
     key: Hash32,
@@ -55,7 +56,8 @@ impl<H: NodeHash, S: Verifier> Chain<H, S> {
         })
     }
 
-    /// Puts the root behind the head, where it verifies and names the head as the root before it.
+    /// Appends the root, where it verifies, is of a later epoch than the head, and names the head as the
+    /// root before it.
     ///
     /// # Errors
     ///
@@ -64,8 +66,10 @@ impl<H: NodeHash, S: Verifier> Chain<H, S> {
     #[tactic(auto, using(crate::proofs::Chains::chain_push))]
     pub fn extend(&mut self, hash: &mut H, verifier: &S, root: SignedRoot) -> Result<(), Refusal>
         ensures extended { IfOk result (λ _. self.new ≡ record self.old { roots = self.old.roots ++ root ∷ [] }) }
-        ensures linked { (head : SignedRoot) → IsHead self.old head → IfOk result (λ _. Verifies S.verified self.old.key root × Links H.digest_of head root) }
-        ensures refused { (head : SignedRoot) → IsHead self.old head → IfErr result (IsExtendRefusal H.digest_of S.verified self.old.key head root) }
+        ensures linked { (head : SignedRoot) → IsHead self.old head
+            → IfOk result (λ _. Verifies S.verified self.old.key root × Links H.digest_of head root) }
+        ensures refused { (head : SignedRoot) → IsHead self.old head
+            → IfErr result (IsExtendRefusal H.digest_of S.verified self.old.key head root) }
         ensures stays { OnErr result (self.new ≡ self.old) }
         ensures counted { H.digests hash.new ≤ H.digests hash.old + 1 }
     {
@@ -85,7 +89,7 @@ impl<H: NodeHash, S: Verifier> Chain<H, S> {
 
     /// The root of an epoch, if the chain has one.
     pub fn at(&self, epoch: u64) -> Option<&SignedRoot>
-        ensures { (root : SignedRoot) → option_copied result ≡ Some root ↔ IsAt self.now epoch root }
+        ensures { (root : SignedRoot) → (option_copied result ≡ Some root) ↔ IsAt self.now epoch root }
     {
         match self
             .roots
