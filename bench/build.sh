@@ -23,6 +23,17 @@ build_library() {
     fi
 }
 
+# Prints a crate of this repository, and before it those that it stands on: libraries NAME
+libraries() {
+    local name
+    for name in $(sed -n "s/^$1://p" crates.txt); do
+        if grep -q "^$name:" crates.txt; then
+            libraries "$name"
+        fi
+    done
+    echo "$1"
+}
+
 # Prints the module that the measured programs share, for digests of so many bytes: steps BYTES
 steps() {
     cat <<MODULE

@@ -17,7 +17,7 @@ set -euo pipefail
 cd "$(dirname "$0")/.."
 . bench/build.sh
 
-libraries="encoding nodehash commit vrfiface sigiface rootchain prefixtree proofs"
+libraries=$(libraries proofs | sort -u | paste -sd " ")
 build_library crates/proofs
 
 mkdir -p "$folder/crates/checktime/src"

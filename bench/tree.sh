@@ -16,19 +16,20 @@ set -euo pipefail
 cd "$(dirname "$0")/.."
 . bench/build.sh
 
+libraries=$(libraries prefixtree | sort -u | paste -sd " ")
 build crates/directoryd directoryd
 
 mkdir -p "$folder/crates/treetime/src"
 # With what directoryd was built over, the libraries need no second proof.
-for crate in encoding nodehash prefixtree; do
+for crate in $libraries; do
     mkdir -p "$folder/crates/$crate/out"
     cp -r "crates/$crate/"{src,specs,proofs} "$folder/crates/$crate"
     cp -r "crates/$crate/out/rlib" "$folder/crates/$crate/out"
 done
 cp HANDLES "$folder"
 {
-    grep -E "^(encoding|nodehash|prefixtree):" crates.txt
-    echo "treetime: encoding nodehash prefixtree sha2"
+    grep -E "^(${libraries// /|}):" crates.txt
+    echo "treetime: $libraries sha2"
 } >"$folder/crates.txt"
 steps 101 >"$folder/crates/treetime/src/steps.rt"
 cat >"$folder/crates/treetime/src/main.rt" <<'PROGRAM'
