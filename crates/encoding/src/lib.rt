@@ -10,6 +10,7 @@ mod bounded;
 mod cursor;
 mod fault;
 mod fixed_text;
+mod form;
 mod hash32;
 mod index;
 mod laws;
@@ -21,6 +22,7 @@ pub use bounded::{
 pub use cursor::Cursor;
 pub use fault::Fault;
 pub use fixed_text::{FixedText, ProofText, Text};
+pub use form::Form;
 pub use hash32::Hash32;
 pub use index::Index;
 pub use laws::{
