@@ -5,6 +5,8 @@ use Rattle.std.specs.Cmp.{nat_cmp_is}
 use Rattle.std.specs.Cmp.Lexicographic.{slice_cmp}
 use Rattle.std.specs.declared.cmp.Ordering.TheVariants.{Less, Equal}
 use Rattle.std.proofs.lemmas.Nat.{shr-shr, shl-shr}
+use Rattle.std.proofs.lemmas.Nat.Bits.{bit_at-zero, bit_at_cat_low}
+use Rattle.std.specs.Int.{bit_at}
 use Rattle.std.proofs.lemmas.Bool.{cases_lt, cases_eq}
 use Rattle.std.proofs.Math.Pow.{shr_mono}
 use Rattle.encoding.specs.Bits.{bit, top_bits, cut, with_one}
@@ -74,6 +76,23 @@ agree_in_next i j k p q e b =
 -- a bit of the first n
 pub bit-cut : (i : List ℕ) (n k : ℕ) → k < n → bit (cut i n) k ≡ bit i k
 bit-cut i n k h = agree_in_bit (cut i n) i k (cut-cut i (k + 1) n (omega arith))
+
+low_bits_cleared : (x m i : ℕ) → i < m → bit_at (x / 2 ^ m * 2 ^ m) i ≡ 0
+low_bits_cleared x m i h =
+    let none : x / 2 ^ m * 2 ^ m ≡ x / 2 ^ m * 2 ^ m + 0 = omega arith in
+    ap (λ z. bit_at z i) none ∙ bit_at_cat_low (x / 2 ^ m) m 0 i h ∙ bit_at-zero i
+
+-- the others are zero
+pub bit-past_cut : (i : List ℕ) (n k : ℕ) → n ≤ k → bit (cut i n) k ≡ 0
+bit-past_cut [] n k h = bit_at-zero (7 - k % 8)
+bit-past_cut (b ∷ bs) n k h = elim (cases_lt k 8) [
+  | inl s ↦
+      let f = first_byte k s in
+      rw (f.0, f.1) (low_bits_cleared b (8 - n) (7 - k) (omega arith))
+  | inr s ↦
+      let l = later_byte k s in
+      rw (l.0, l.1) (bit-past_cut bs (n - 8) (k - 8) (omega arith))
+]
 
 nat_cmp-less : (x y : ℕ) → x < y → nat_cmp x y ≡ Less
 nat_cmp-less x y h = sym (nat_cmp_is x y Less h)

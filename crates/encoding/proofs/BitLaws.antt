@@ -9,47 +9,14 @@ use Rattle.encoding.specs.Bits.{bit, top_bits, cut, with_one, Agree}
 use Rattle.encoding.specs.BitLaws.{BitsOfCut, BitsOfWithOne, SameBits, AgreementOfBits}
 use Rattle.encoding.specs.Bytes.{IsBytes, Is32Bytes}
 use Rattle.encoding.proofs.ByteLists.{IsBytes-cons}
+use Rattle.encoding.proofs.Agreement.{bit-cut, bit-past_cut, length-cut}
 use Rattle.encoding.proofs.Prefixes.{first_byte, later_byte}
-
--- to clear the low m bits keeps the others
-high_bits_kept : (x m i : ℕ) → m ≤ i → bit_at (x / 2 ^ m * 2 ^ m) i ≡ bit_at x i
-high_bits_kept x m i h =
-    let none : x / 2 ^ m * 2 ^ m ≡ x / 2 ^ m * 2 ^ m + 0 = omega arith in
-    let low : x % 2 ^ m < 2 ^ m = omega (arith, pow_pos m) in
-    ap (λ z. bit_at z i) none ∙ bit_at_cat_high (x / 2 ^ m) m 0 i (pow_pos m) h
-    ∙ sym (bit_at_cat_high (x / 2 ^ m) m (x % 2 ^ m) i low h) ∙ ap (λ z. bit_at z i) (shr_split x m)
-
-low_bits_cleared : (x m i : ℕ) → i < m → bit_at (x / 2 ^ m * 2 ^ m) i ≡ 0
-low_bits_cleared x m i h =
-    let none : x / 2 ^ m * 2 ^ m ≡ x / 2 ^ m * 2 ^ m + 0 = omega arith in
-    ap (λ z. bit_at z i) none ∙ bit_at_cat_low (x / 2 ^ m) m 0 i h ∙ bit_at-zero i
-
-cut_keeps : (index : List ℕ) (n k : ℕ) → k < n → bit (cut index n) k ≡ bit index k
-cut_keeps [] n k h = refl
-cut_keeps (b ∷ bs) n k h = elim (cases_lt k 8) [
-  | inl s ↦
-      let f = first_byte k s in
-      rw (f.0, f.1) (high_bits_kept b (8 - n) (7 - k) (omega arith))
-  | inr s ↦
-      let l = later_byte k s in
-      rw (l.0, l.1) (cut_keeps bs (n - 8) (k - 8) (omega arith))
-]
-
-cut_clears : (index : List ℕ) (n k : ℕ) → n ≤ k → bit (cut index n) k ≡ 0
-cut_clears [] n k h = bit_at-zero (7 - k % 8)
-cut_clears (b ∷ bs) n k h = elim (cases_lt k 8) [
-  | inl s ↦
-      let f = first_byte k s in
-      rw (f.0, f.1) (low_bits_cleared b (8 - n) (7 - k) (omega arith))
-  | inr s ↦
-      let l = later_byte k s in
-      rw (l.0, l.1) (cut_clears bs (n - 8) (k - 8) (omega arith))
-]
+use Rattle.encoding.proofs.Sides.{bit-with_one}
 
 pub bits_of_cut : BitsOfCut
 bits_of_cut index n k = elim (cases_lt k n) [
-  | inl h ↦ cut_keeps index n k h ∙ cond_below k n (bit index k) 0 h
-  | inr h ↦ cond_above k n (bit index k) 0 (bit (cut index n) k) h (cut_clears index n k h)
+  | inl h ↦ bit-cut index n k h ∙ cond_below k n (bit index k) 0 h
+  | inr h ↦ cond_above k n (bit index k) 0 (bit (cut index n) k) h (bit-past_cut index n k h)
 ]
 
 -- in the byte that is written
@@ -57,13 +24,6 @@ with_one_in_byte : (prefix : List ℕ) (k j : ℕ) → k < 8 * length prefix →
 with_one_in_byte prefix k j h e =
     let within : k / 8 < length prefix = omega arith in
     ap (λ z. bit_at z (7 - j % 8)) (get_or-set_at prefix (k / 8) (j / 8) (bit_or (get_or prefix (k / 8) 0) (2 ^ (7 - k % 8))) 0 e within)
-
-with_one_sets : (prefix : List ℕ) (k j : ℕ) → k < 8 * length prefix → j ≡ k → bit (with_one prefix k) j ≡ 1
-with_one_sets prefix k j h e =
-    let byte = get_or prefix (k / 8) 0 in
-    let place : 7 - j % 8 ≡ 7 - k % 8 = omega arith in
-    let set : bit_at (bit_or byte (2 ^ (7 - k % 8))) (7 - k % 8) ≡ 1 = omega (arith, bit_at_or byte (2 ^ (7 - k % 8)) (7 - k % 8), bit_at-pow_same (7 - k % 8), bit_at-lt byte (7 - k % 8)) in
-    with_one_in_byte prefix k j h (omega arith) ∙ ap (bit_at (bit_or byte (2 ^ (7 - k % 8)))) place ∙ set
 
 with_one_keeps : (prefix : List ℕ) (k j : ℕ) → k < 8 * length prefix → j ≢ k → bit (with_one prefix k) j ≡ bit prefix j
 with_one_keeps prefix k j h apart = elim (cases_eq (j / 8) (k / 8)) [
@@ -77,7 +37,7 @@ with_one_keeps prefix k j h apart = elim (cases_eq (j / 8) (k / 8)) [
 
 pub bits_of_with_one : BitsOfWithOne
 bits_of_with_one prefix k j h = cond_both (eqb j k) 1 (bit prefix j) (λ z. bit (with_one prefix k) j ≡ z)
-    (λ e. with_one_sets prefix k j h (eqb-true j k e))
+    (λ e. ap (bit (with_one prefix k)) (eqb-true j k e) ∙ bit-with_one prefix k h)
     (λ e. with_one_keeps prefix k j h (eqb-false j k e))
 
 -- a byte's bits, from the greatest on
@@ -102,10 +62,6 @@ same_bytes_from_bits (x ∷ xs) (y ∷ ys) len small_a small_b same =
         let back : k + 8 - 8 ≡ k = omega arith in
         rw (l.0, l.1, back) at e
 
-length-cut : (index : List ℕ) (n : ℕ) → length (cut index n) ≡ length index
-length-cut [] n = refl
-length-cut (b ∷ bs) n = ap suc (length-cut bs (n - 8))
-
 top_bits_le : (byte n : ℕ) → top_bits byte n ≤ byte
 top_bits_le byte n = omega (arith, shr_split byte (8 - n))
 
@@ -114,7 +70,7 @@ IsBytes-cut [] n small = small
 IsBytes-cut (b ∷ bs) n small = IsBytes-cons (top_bits b n) (cut bs (n - 8)) (omega (arith, top_bits_le b n, small zero)) (IsBytes-cut bs (n - 8) (λ k. small (suc k)))
 
 same_bits_from_agree : (a b : List ℕ) (n : ℕ) → Agree a b n → SameBits a b n
-same_bits_from_agree a b n agree k h whole = sym (cut_keeps a n k h) ∙ ap (λ z. bit z k) agree ∙ cut_keeps b n k h
+same_bits_from_agree a b n agree k h whole = sym (bit-cut a n k h) ∙ ap (λ z. bit z k) agree ∙ bit-cut b n k h
 
 agree_from_same_bits : (a b : List ℕ) (n : ℕ) → Is32Bytes a → Is32Bytes b → SameBits a b n → Agree a b n
 agree_from_same_bits a b n bytes_a bytes_b same =
@@ -125,8 +81,8 @@ agree_from_same_bits a b n bytes_a bytes_b same =
     each k h = elim (cases_lt k n) [
       | inl before ↦
           let within : k < 256 = omega (arith, length-cut a n, bytes_a.0) in
-          cut_keeps a n k before ∙ same k before within ∙ sym (cut_keeps b n k before)
-      | inr past ↦ cut_clears a n k past ∙ sym (cut_clears b n k past)
+          bit-cut a n k before ∙ same k before within ∙ sym (bit-cut b n k before)
+      | inr past ↦ bit-past_cut a n k past ∙ sym (bit-past_cut b n k past)
     ]
 
 pub agreement_of_bits : AgreementOfBits

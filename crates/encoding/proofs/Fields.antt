@@ -44,14 +44,6 @@ ok_is x y e = cc
 pub refused_read : {A : Type 0} (fault : Fault) (y : A) → Err fault ≡ done y → ⊥
 refused_read fault y e = absurd cc
 
--- bytes are spelled as they are
-abbrev pub itself : List ℕ → List ℕ
-itself bytes = bytes
-
--- a number of eight bytes
-abbrev pub IsEightBytes : ℕ → Type 0
-IsEightBytes n = n < 256 ^ 8
-
 -- two spellings, one after the other
 joined : (bytes x middle y rest : List ℕ) → bytes ≡ x ++ middle → middle ≡ y ++ rest → bytes ≡ (x ++ y) ++ rest
 joined bytes x middle y rest p q = p ∙ ap (λ (t : List ℕ). x ++ t) q ∙ sym (append_assoc x y rest)

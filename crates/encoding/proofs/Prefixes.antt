@@ -16,7 +16,7 @@ mul-halves q p =
     omega (arith, h)
 
 -- the bits of a byte from m on are those from m + 1 on, and bit m
-pub bits_from : (b m : ℕ) → b / 2 ^ m * 2 ^ m ≡ b / 2 ^ (m + 1) * 2 ^ (m + 1) + b / 2 ^ m % 2 * 2 ^ m
+bits_from : (b m : ℕ) → b / 2 ^ m * 2 ^ m ≡ b / 2 ^ (m + 1) * 2 ^ (m + 1) + b / 2 ^ m % 2 * 2 ^ m
 bits_from b m = rw (← shr-shr b m 1, pow-double m) (mul-halves (b / 2 ^ m) (2 ^ m))
 
 top_bits-zero : (b k : ℕ) → k < 8 → bit_at b (7 - k) ≡ 0 → top_bits b (k + 1) ≡ top_bits b k

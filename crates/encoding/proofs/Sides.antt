@@ -1,14 +1,14 @@
 -- The two prefixes of one bit more: the prefix itself, for bit 0, and with that bit set, for bit 1.
-use Rattle.std.proofs.Common.{◌≡◌, ℕ, ◌+◌, ◌-◌, ◌*◌, ◌/◌, ◌%◌, ◌^◌, ◌<◌, List, [], ◌∷◌, length, slice_index, bit_or, refl, ap, ◌∙◌, arith, inl, inr}
+use Rattle.std.proofs.Common.{◌≡◌, ℕ, ◌+◌, ◌-◌, ◌*◌, ◌/◌, ◌%◌, ◌^◌, ◌<◌, List, [], ◌∷◌, length, slice_index, bit_or, refl, sym, ap, ◌∙◌, arith, inl, inr}
 use Rattle.std.specs.Int.{bit_at}
 use Rattle.std.specs.Int.Bits.{or_zero_r}
 use Rattle.std.proofs.lemmas.Nat.{or_shr, pow_below, pow_pos, div_below}
 use Rattle.std.proofs.lemmas.Nat.Bits.{bit_at_or, bit_at-pow_same, bit_at-lt}
 use Rattle.std.proofs.lemmas.List.{get_or-set_same, length-set}
-use Rattle.std.proofs.lemmas.Bool.{cases_lt, cases_eq}
-use Rattle.std.proofs.Math.Nat.{div-mul-le_self}
+use Rattle.std.proofs.lemmas.Bool.{cases_lt}
 use Rattle.encoding.specs.Bits.{bit, top_bits, cut, with_one}
-use Rattle.encoding.proofs.Prefixes.{bits_from, cut_zero, cut_one, first_byte, later_byte}
+use Rattle.encoding.proofs.Agreement.{bit-past_cut}
+use Rattle.encoding.proofs.Prefixes.{cut_zero, cut_one, first_byte, later_byte}
 
 pub length-with_one : (p : List ℕ) (k : ℕ) → length (with_one p k) ≡ length p
 length-with_one p k = length-set p (k / 8) (bit_or (slice_index p (k / 8)) (2 ^ (7 - k % 8)))
@@ -38,29 +38,9 @@ cut-with_one (b ∷ bs) k =
       | inr s ↦ let l = later_byte k s in rw (l.0, l.1) (ap (λ z. top_bits b k ∷ z) (cut-with_one bs (k - 8)))
     ]
 
-zero_bit : (b m : ℕ) → b / 2 ^ (m + 1) * 2 ^ (m + 1) ≡ b → b / 2 ^ m % 2 ≡ 0
-zero_bit b m e =
-    elim (cases_eq (b / 2 ^ m % 2) 0) [
-      | inl z ↦ z
-      | inr n ↦
-          let one : b / 2 ^ m % 2 ≡ 1 = omega arith in
-          let more : b / 2 ^ m * 2 ^ m ≡ b / 2 ^ (m + 1) * 2 ^ (m + 1) + 1 * 2 ^ m = rw one at (bits_from b m) in
-          absurd (omega (arith, e, more, div-mul-le_self b (2 ^ m), pow_pos m))
-    ]
-
 -- the bits of a prefix from its length on are zero
 pub bit-past_prefix : (p : List ℕ) (k : ℕ) → k < 8 * length p → cut p k ≡ p → bit p k ≡ 0
-bit-past_prefix [] k h e = absurd (omega arith)
-bit-past_prefix (b ∷ bs) k h e =
-    let head : top_bits b k ≡ b = cc in
-    let tail : cut bs (k - 8) ≡ bs = cc in
-    elim (cases_lt k 8) [
-      | inl s ↦
-          let f = first_byte k s in
-          let high : 8 - k ≡ (7 - k) + 1 = omega arith in
-          rw (f.0, f.1) (zero_bit b (7 - k) (rw high at head))
-      | inr s ↦ let l = later_byte k s in rw (l.0, l.1) (bit-past_prefix bs (k - 8) (omega arith) tail)
-    ]
+bit-past_prefix p k h e = ap (λ x. bit x k) (sym e) ∙ bit-past_cut p k k (omega arith)
 
 pub cut-zero_side : (p : List ℕ) (k : ℕ) → k < 8 * length p → cut p k ≡ p → cut p (k + 1) ≡ p
 cut-zero_side p k h e = cut_zero p k (bit-past_prefix p k h e) ∙ e

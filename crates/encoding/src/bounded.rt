@@ -1,6 +1,6 @@
 ghost use Rattle.std.specs.Prelude.{◌≡◌, ◌↔◌, ℕ, ◌≤◌, List, length, IsOk, IfOk, IsOkUnless};
 ghost use Rattle.encoding.specs.declared.fault.Fault.TheVariants.{OutOfRange};
-ghost use Rattle.encoding.specs.Limits.{IsBounded, IsKeyData, IsName, IsSmall};
+ghost use Rattle.encoding.specs.Limits.{IsBounded};
 
 use crate::Fault;
 use arrayvec::ArrayVec;
@@ -9,29 +9,14 @@ use std::marker::Model;
 /// The fewest bytes of a name, a key or a small value.
 pub const MIN_LEN: usize = 1;
 
-/// The most bytes of a name.
-pub const MAX_NAME_LEN: usize = 255;
-
-/// The most bytes of a key.
-pub const MAX_KEY_DATA_LEN: usize = 2048;
-
-/// The most bytes of a small value.
-pub const MAX_SMALL_LEN: usize = 256;
-
 /// Between 1 and `MOST` bytes, which compare as byte strings do and take no memory.
+///
+/// `new` and `bytes` stand with each of `Name`, `KeyData` and `Small`, so that their clauses give the
+/// limits of that type and not those of whatever number its alias has.
 #[derive(Debug, Drop, PartialEq, Eq, PartialOrd, Ord)]
 pub struct Bounded<const MOST: usize> {
     bytes: ArrayVec<u8, MOST>,
 }
-
-/// The name of a user: 1 to 255 bytes of any kind.
-pub type Name = Bounded<MAX_NAME_LEN>;
-
-/// The key that is bound to a name: 1 to 2,048 bytes of any kind.
-pub type KeyData = Bounded<MAX_KEY_DATA_LEN>;
-
-/// A signature or the value of a verifiable function: 1 to 256 bytes.
-pub type Small = Bounded<MAX_SMALL_LEN>;
 
 impl<const MOST: usize> Model for Bounded<MOST> {
     ghost Value = { List ℕ };
@@ -51,7 +36,7 @@ impl<const MOST: usize> Bounded<MOST> {
         Bounded::within_limits(self.bytes.as_slice())
     }
 
-    fn checked(bytes: &[u8]) -> Result<Self, Fault>
+    pub(crate) fn checked(bytes: &[u8]) -> Result<Self, Fault>
         ensures limits { IsOk result ↔ IsBounded MOST bytes.now }
         ensures value { IfOk result (λ text. text ≡ bytes.now) }
         ensures refusal { IsOkUnless result OutOfRange }
@@ -72,63 +57,10 @@ impl<const MOST: usize> Bounded<MOST> {
         prove!(fits);
         Bounded { bytes: own }
     }
-}
 
-// `new` and `bytes` stand once for each of the three types, so that their clauses name the limits of
-// that type and not those of whatever number the alias has.
-
-impl Name {
-    /// The name of these bytes, or `OutOfRange` unless there are 1 to 255.
-    pub fn new(bytes: &[u8]) -> Result<Name, Fault>
-        ensures limits { IsOk result ↔ IsName bytes.now }
-        ensures value { IfOk result (λ name. name ≡ bytes.now) }
-        ensures refusal { IsOkUnless result OutOfRange }
-    {
-        Bounded::checked(bytes)
-    }
-
-    /// The bytes.
-    pub fn bytes(&self) -> &[u8]
+    pub(crate) fn as_slice(&self) -> &[u8]
         ensures value { result.now ≡ self.now }
-        ensures limits { IsName self.now }
-    {
-        self.bytes.as_slice()
-    }
-}
-
-impl KeyData {
-    /// The key of these bytes, or `OutOfRange` unless there are 1 to 2,048.
-    pub fn new(bytes: &[u8]) -> Result<KeyData, Fault>
-        ensures limits { IsOk result ↔ IsKeyData bytes.now }
-        ensures value { IfOk result (λ key. key ≡ bytes.now) }
-        ensures refusal { IsOkUnless result OutOfRange }
-    {
-        Bounded::checked(bytes)
-    }
-
-    /// The bytes.
-    pub fn bytes(&self) -> &[u8]
-        ensures value { result.now ≡ self.now }
-        ensures limits { IsKeyData self.now }
-    {
-        self.bytes.as_slice()
-    }
-}
-
-impl Small {
-    /// The small value of these bytes, or `OutOfRange` unless there are 1 to 256.
-    pub fn new(bytes: &[u8]) -> Result<Small, Fault>
-        ensures limits { IsOk result ↔ IsSmall bytes.now }
-        ensures value { IfOk result (λ small. small ≡ bytes.now) }
-        ensures refusal { IsOkUnless result OutOfRange }
-    {
-        Bounded::checked(bytes)
-    }
-
-    /// The bytes.
-    pub fn bytes(&self) -> &[u8]
-        ensures value { result.now ≡ self.now }
-        ensures limits { IsSmall self.now }
+        ensures limits { IsBounded MOST self.now }
     {
         self.bytes.as_slice()
     }
@@ -137,6 +69,7 @@ impl Small {
 #[cfg(test)]
 mod tests {
     use super::*;
+    use crate::{KeyData, Name, Small};
 
     #[test]
     fn takes_the_longest(rt: HostRuntime) {

@@ -13,19 +13,23 @@ mod fixed_text;
 mod form;
 mod hash32;
 mod index;
+mod key_data;
 mod laws;
+mod name;
+mod small;
 
 pub use bits::{agree, bit, cut, with_one};
-pub use bounded::{
-    Bounded, KeyData, MAX_KEY_DATA_LEN, MAX_NAME_LEN, MAX_SMALL_LEN, MIN_LEN, Name, Small,
-};
+pub use bounded::{Bounded, MIN_LEN};
 pub use cursor::Cursor;
 pub use fault::Fault;
 pub use fixed_text::{FixedText, ProofText, Text};
 pub use form::Form;
 pub use hash32::Hash32;
 pub use index::Index;
+pub use key_data::{KeyData, MAX_KEY_DATA_LEN};
 pub use laws::{
     agreement_of_bits, bits_of_cut, bits_of_with_one, byte_is_read, bytes_are_read,
     counted_are_read, numbers_are_read,
 };
+pub use name::{MAX_NAME_LEN, Name};
+pub use small::{MAX_SMALL_LEN, Small};

@@ -1,14 +1,13 @@
 -- Two ways from one root come to one text at their ends, or to a collision.
 use Rattle.std.proofs.Common.{◌≡◌, ◌≢◌, ℕ, ◌+◌, inl, inr, Bool, true, false, cond, List, [], ◌∷◌, ◌++◌, length, Option, Some, None, refl, sym, ap, ◌∙◌, arith}
 use Rattle.std.specs.Prelude.{◌==◌}
-use Rattle.std.specs.Int.{w32, to_be_bytes}
 use Rattle.std.proofs.lemmas.List.{length-append}
 use Rattle.encoding.specs.Bits.{bit}
 use Rattle.encoding.specs.Bytes.{Is32Bytes}
 use Rattle.encoding.specs.Limits.{IsName}
 use Rattle.encoding.proofs.Beginnings.{same_beginning}
 use Rattle.nodehash.specs.Collisions.{IsCollision}
-use Rattle.nodehash.specs.NodeTexts.{leaf_bytes}
+use Rattle.nodehash.specs.NodeTexts.{leaf_bytes, level_bytes}
 use Rattle.commit.specs.Commitments.{commitment_bytes}
 use Rattle.commit.proofs.Openings.{equal_texts_open_alike}
 use Rattle.prefixtree.specs.Paths.{joined}
@@ -83,12 +82,12 @@ module _ (hash : List ℕ → List ℕ) (size : (text : List ℕ) → Is32Bytes 
 leaf_parts : (nonce index other commitment other_commitment : List ℕ) (n m : ℕ) → length index ≡ length other
     → leaf_bytes nonce index n commitment ≡ leaf_bytes nonce other m other_commitment → (index ≡ other) × (commitment ≡ other_commitment)
 leaf_parts nonce index other commitment other_commitment n m sizes e =
-    let inside : nonce ++ index ++ to_be_bytes w32 n ++ commitment ≡ nonce ++ other ++ to_be_bytes w32 m ++ other_commitment = cc in
+    let inside : nonce ++ index ++ level_bytes n ++ commitment ≡ nonce ++ other ++ level_bytes m ++ other_commitment = cc in
     let fronts : length (nonce ++ index) ≡ length (nonce ++ other) = length-append nonce index ∙ ap (λ (x : ℕ). length nonce + x) sizes ∙ sym (length-append nonce other) in
-    let levels : length (nonce ++ index ++ to_be_bytes w32 n) ≡ length (nonce ++ other ++ to_be_bytes w32 m) =
-    length-append (nonce ++ index) (to_be_bytes w32 n) ∙ ap (λ (x : ℕ). x + 4) fronts ∙ sym (length-append (nonce ++ other) (to_be_bytes w32 m)) in
-    let outer = same_beginning (nonce ++ index ++ to_be_bytes w32 n) (nonce ++ other ++ to_be_bytes w32 m) commitment other_commitment levels inside in
-    let inner = same_beginning (nonce ++ index) (nonce ++ other) (to_be_bytes w32 n) (to_be_bytes w32 m) fronts outer.0 in
+    let levels : length (nonce ++ index ++ level_bytes n) ≡ length (nonce ++ other ++ level_bytes m) =
+    length-append (nonce ++ index) (level_bytes n) ∙ ap (λ (x : ℕ). x + 4) fronts ∙ sym (length-append (nonce ++ other) (level_bytes m)) in
+    let outer = same_beginning (nonce ++ index ++ level_bytes n) (nonce ++ other ++ level_bytes m) commitment other_commitment levels inside in
+    let inner = same_beginning (nonce ++ index) (nonce ++ other) (level_bytes n) (level_bytes m) fronts outer.0 in
     ((same_beginning nonce nonce index other refl inner.0).1, outer.1)
 
 -- both ends open a commitment, and the two texts collide

@@ -11,10 +11,11 @@ use Rattle.encoding.specs.Fields.{IsField}
 use Rattle.encoding.specs.Forms.{counted_bytes}
 use Rattle.encoding.specs.Limits.{IsKeyData, IsSmall}
 use Rattle.encoding.specs.Reading.{is_within, read_as, read_byte, read_bytes, read_counted, read_number, read_where}
-use Rattle.encoding.proofs.Fields.{whole-read, whole-refused, allowed_field, both_field, byte_field, bytes_field, counted_field, itself, nothing_field, numbers_field, refused_read, renamed_field, respelled_field, tested_field, then_field}
+use Rattle.encoding.proofs.Fields.{whole-read, whole-refused, allowed_field, byte_field, bytes_field, counted_field, nothing_field, numbers_field, refused_read, renamed_field, respelled_field, tested_field, then_field}
+use Rattle.encoding.proofs.FieldsOf.{both}
 use Rattle.rootchain.specs.declared.body.Body.{Body}
 use Rattle.rootchain.specs.Bodies.{body_bytes, read_body, IsBody}
-use Rattle.rootchain.proofs.Bodies.{body_field}
+use Rattle.rootchain.specs.Readable.{body_field}
 use Rattle.proofs.specs.Replies.{End, Present, Empty, Other, Reply, end_bytes, end_kind, end_parts, joined_bytes, reply_bytes, sibling_bytes, AreSiblings, IsEnd, IsReply, Spells}
 use Rattle.proofs.specs.Refusals.{BeginsWithReply}
 use Rattle.proofs.specs.Reading.{read_end, read_end_of, read_other, read_present, read_reply, read_siblings, reply_of}
@@ -44,7 +45,7 @@ present_field =
     allowed_field read_present end_parts Opened (IsOfKind 1) to back
     (respelled_field read_present (λ end. (opening end).0 ++ counted_bytes (opening end).1) end_parts Opened same
     (renamed_field (λ parts. Present parts.0 parts.1) opening _ _ _ (λ _ _. refl)
-    (both_field (read_bytes 32) (read_counted 1 2048) itself counted_bytes (HasBytes 32) IsKeyData (bytes_field 32) (counted_field 1 2048 (lit≤ tt)))))
+    (both (bytes_field 32) (counted_field 1 2048 (lit≤ tt)))))
   where
     same : (end : End) → Opened end → (opening end).0 ++ counted_bytes (opening end).1 ≡ end_parts end
     same (Present salt key) h = refl
@@ -69,7 +70,7 @@ other_field =
     allowed_field read_other end_parts Told (IsOfKind 3) to back
     (respelled_field read_other (λ end. (leaf end).0 ++ (leaf end).1) end_parts Told same
     (renamed_field (λ parts. Other parts.0 parts.1) leaf _ _ _ (λ _ _. refl)
-    (both_field (read_bytes 32) (read_bytes 32) itself itself (HasBytes 32) (HasBytes 32) (bytes_field 32) (bytes_field 32))))
+    (both (bytes_field 32) (bytes_field 32))))
   where
     same : (end : End) → Told end → (leaf end).0 ++ (leaf end).1 ≡ end_parts end
     same (Present salt key) h = absurd cc
@@ -150,7 +151,7 @@ AreCounted count hashes = AllByRecursion Is32Bytes hashes × (length hashes ≡ 
 hashes_field : (count : ℕ) → IsField (read_as (first_chunks 32 count) (read_bytes (32 * count))) joined_bytes (AreCounted count)
 hashes_field count =
     allowed_field _ joined_bytes (AreJoined count) (AreCounted count) to back
-    (renamed_field (first_chunks 32 count) joined_bytes (read_bytes (32 * count)) itself (HasBytes (32 * count)) (λ bytes h. joined-chunks count bytes h.0) (bytes_field (32 * count)))
+    (renamed_field (first_chunks 32 count) joined_bytes (read_bytes (32 * count)) (λ bytes. bytes) (HasBytes (32 * count)) (λ bytes h. joined-chunks count bytes h.0) (bytes_field (32 * count)))
   where
     to : (hashes : List (List ℕ)) → AreJoined count hashes → AreCounted count hashes
     to hashes h = subst (AreCounted count) h.1 (chunks-hashes count (joined_bytes hashes) h.0, length-chunks count (joined_bytes hashes))
@@ -182,9 +183,7 @@ parts_of reply = (reply.body, (reply.value, (reply.end, reply.siblings)))
 pub reply_field : IsField read_reply reply_bytes IsReply
 unfolding read_reply
 reply_field =
-    let last = both_field _ _ end_bytes sibling_bytes IsEnd AreSiblings end_field siblings_field in
-    let valued = both_field (read_counted 1 256) _ counted_bytes _ IsSmall _ (counted_field 1 256 (lit≤ tt)) last in
-    let parts = both_field read_body _ body_bytes _ IsBody _ body_field valued in
+    let parts = both body_field (both (counted_field 1 256 (lit≤ tt)) (both end_field siblings_field)) in
     allowed_field _ _ _ IsReply (λ _ h. (h.0.0, h.0.1.0, h.0.1.1.0, h.0.1.1.1)) (λ _ h. ((h.0, (h.1, (h.2, h.3))), refl))
     (renamed_field reply_of parts_of _ _ _ (λ _ _. refl) parts)
 
