@@ -1,5 +1,5 @@
--- The text that a commitment is the digest of (after CONIKS, section 3; the bytes are the profile's). The
--- name is in it beside the key, so that no text opens to two names.
+-- The text that a commitment is the digest of (after CONIKS, section 3; the bytes are this directory's own). The
+-- text has the name beside the key, so that no text opens to two names.
 use Rattle.std.specs.Prelude.{◌≡◌, ℕ, ◌^◌, ◌<◌, List, [], ◌∷◌, ◌++◌, length}
 use Rattle.encoding.specs.Forms.{counted_bytes}
 
@@ -7,8 +7,8 @@ use Rattle.encoding.specs.Forms.{counted_bytes}
 abbrev pub commitment_bytes : List ℕ → List ℕ → List ℕ → List ℕ
 commitment_bytes salt name key = 0x43 ∷ 0x01 ∷ [] ++ salt ++ counted_bytes name ++ counted_bytes key
 
--- equal texts have equal salt, name and key, where the salts have one length and the lengths of the
--- names fit in their two bytes
+-- equal texts have equal salt, name and key, if the salts have one length and the lengths of the names
+-- fit in their two bytes
 abbrev pub EqualTextsOpenAlike : Type 0
 EqualTextsOpenAlike = (salt other_salt name other_name key other_key : List ℕ) → length salt ≡ length other_salt → length name < 2 ^ 16 → length other_name < 2 ^ 16
     → commitment_bytes salt name key ≡ commitment_bytes other_salt other_name other_key → (salt ≡ other_salt) × (name ≡ other_name) × (key ≡ other_key)

@@ -40,6 +40,26 @@ mod tests {
     use encoding::Fault;
     use nodehash::{Sha256Hash, SumHash};
 
+    // What is known of a commitment: its text's length, the last two bytes of the text's sum, and the
+    // commitment under SHA-256.
+    #[derive(Clone, Copy, Debug, PartialEq, Eq)]
+    struct Known {
+        len: usize,
+        sum: [u8; 2],
+        digest: Hash32,
+    }
+
+    fn known_of(salt: &Hash32, name: &[u8], key: &[u8]) -> Result<Known, Fault> {
+        let name = Name::new(name)?;
+        let key = KeyData::new(key)?;
+        let sum = commit(&mut SumHash::new(), salt, &name, &key);
+        Ok(Known {
+            len: commit_text(salt, &name, &key).bytes().len(),
+            sum: [sum.bytes()[30], sum.bytes()[31]],
+            digest: commit(&mut Sha256Hash::new(), salt, &name, &key),
+        })
+    }
+
     // The 32 bytes that rise by one from this one.
     fn rising(first: u8) -> Hash32 {
         let mut bytes = [0; 32];
@@ -51,7 +71,7 @@ mod tests {
         Hash32::new(bytes)
     }
 
-    // The hash that is written as these two halves.
+    // The hash whose hexadecimal digits are these two halves.
     fn hash(high: u128, low: u128) -> Hash32 {
         let mut bytes = [0; 32];
         bytes[..16].copy_from_slice(&high.to_be_bytes());
@@ -59,62 +79,41 @@ mod tests {
         Hash32::new(bytes)
     }
 
-    // The commitment, its text's length and the last two bytes of its sum are those.
-    fn is_commitment(
-        salt: &Hash32,
-        name: &[u8],
-        key: &[u8],
-        wanted: (usize, [u8; 2], Hash32),
-    ) -> Result<bool, Fault> {
-        let name = Name::new(name)?;
-        let key = KeyData::new(key)?;
-        let (len, sum, digest) = wanted;
-
-        let mut sha256 = Sha256Hash::new();
-        let mut summing = SumHash::new();
-        let summed = commit(&mut summing, salt, &name, &key);
-        Ok(
-            commit_text(salt, &name, &key).bytes().len() == len
-                && commit(&mut sha256, salt, &name, &key) == digest
-                && summed.bytes()[30..] == sum[..]
-                && sha256.count() == 1
-                && summing.count() == 1,
-        )
-    }
-
+    // The expected values are from scripts/known_answers.py.
     #[test]
     fn commits(rt: HostRuntime) {
-        // From scripts/known_answers.py.
-        let wanted = hash(
-            0x55d35fa32652f6fb24b575762765dc3e,
-            0xe448b14d336780d9130039eeea267b87,
-        );
-        let short = (41, [0x01, 0x6B], wanted);
-        assert_eq!(rt;
-            is_commitment(&Hash32::default(), b"a", b"ab", short),
-            Ok(true)
-        );
+        let short = Known {
+            len: 41,
+            sum: [0x01, 0x6B],
+            digest: hash(
+                0x55d35fa32652f6fb24b575762765dc3e,
+                0xe448b14d336780d9130039eeea267b87,
+            ),
+        };
+        assert_eq!(rt; known_of(&Hash32::default(), b"a", b"ab"), Ok(short));
 
-        let wanted = hash(
-            0x5861639bd43906fa8ce44a8a6dc5e367,
-            0xb3a80589a7d4c594c85ef9c50c48488d,
-        );
-        let alice = (45, [0x08, 0xD5], wanted);
-        assert_eq!(rt;
-            is_commitment(&rising(0x20), b"alice", b"k1", alice),
-            Ok(true)
-        );
+        let alice = Known {
+            len: 45,
+            sum: [0x08, 0xD5],
+            digest: hash(
+                0x5861639bd43906fa8ce44a8a6dc5e367,
+                0xb3a80589a7d4c594c85ef9c50c48488d,
+            ),
+        };
+        assert_eq!(rt; known_of(&rising(0x20), b"alice", b"k1"), Ok(alice));
     }
 
     #[test]
     fn commits_at_the_limits(rt: HostRuntime) {
-        // From scripts/known_answers.py.
-        let wanted = hash(
-            0xf7578cdab01e3e7588740f930414e698,
-            0x119d9ed9c87c48d8d79cf73840298e98,
-        );
-        let least = (40, [0x03, 0x35], wanted);
-        assert_eq!(rt; is_commitment(&rising(0), &[0], &[0xFF], least), Ok(true));
+        let least = Known {
+            len: 40,
+            sum: [0x03, 0x35],
+            digest: hash(
+                0xf7578cdab01e3e7588740f930414e698,
+                0x119d9ed9c87c48d8d79cf73840298e98,
+            ),
+        };
+        assert_eq!(rt; known_of(&rising(0), &[0], &[0xFF]), Ok(least));
 
         let mut name = [0; 255];
         for k in 0..255 {
@@ -124,11 +123,14 @@ mod tests {
         for k in 0..2048 {
             key[k] = (k % 251) as u8;
         }
-        let wanted = hash(
-            0x9e96ca1434b316e4944940b18e237239,
-            0x3fa67d7cfad4ce38503c563083987a66,
-        );
-        let most = (2341, [0x6D, 0x40], wanted);
-        assert_eq!(rt; is_commitment(&rising(0xA0), &name, &key, most), Ok(true));
+        let most = Known {
+            len: 2341,
+            sum: [0x6D, 0x40],
+            digest: hash(
+                0x9e96ca1434b316e4944940b18e237239,
+                0x3fa67d7cfad4ce38503c563083987a66,
+            ),
+        };
+        assert_eq!(rt; known_of(&rising(0xA0), &name, &key), Ok(most));
     }
 }

@@ -1,5 +1,5 @@
--- The bits of an index, counted from the greatest bit of its first byte, and its prefixes (those of
--- CONIKS, section 3, which leaves the order of the bits open).
+-- The bits of an index, counted from the most significant bit of its first byte, and its prefixes
+-- (CONIKS, section 3, which leaves the order of the bits open).
 use Rattle.std.specs.Prelude.{◌≡◌, ℕ, ◌-◌, ◌*◌, ◌/◌, ◌%◌, ◌^◌, List, [], ◌∷◌, slice_index, slice_set, bit_or}
 use Rattle.std.specs.Int.{bit_at}
 

@@ -1,5 +1,5 @@
--- What it means that a reader reads exactly a form: what is read is spelled so, and what is spelled so
--- is read, whatever follows. So each value has one spelling, and no spelling begins another.
+-- What it means that a reader reads exactly a form: it reads only spellings, and it reads each of
+-- them, whatever follows. So each value has one spelling, and no spelling begins another.
 use Rattle.std.specs.Prelude.{◌≡◌, ℕ, ◌^◌, ◌<◌, List, [], ◌∷◌, ◌++◌, Result, Ok, Err}
 use Rattle.byteorder.specs.Endian.{big_bytes}
 use Rattle.encoding.specs.declared.fault.Fault.{Fault}
@@ -17,8 +17,8 @@ pub record IsField {A : Type 0} (read : List ℕ → Reading A) (spelling : A �
 abbrev pub Begins : {A : Type 0} → (A → List ℕ) → (A → Type 0) → List ℕ → Type 0
 Begins {A} spelling Allowed bytes = (x : A) × (rest : List ℕ) × (bytes ≡ spelling x ++ rest) × Allowed x
 
--- What a call returned, whose value is seen of it, is an allowed value that was spelled at the front of
--- the bytes, of which the rest is left; and the call is refused only where none is.
+-- A call that returned a value read an allowed one at the front of the bytes and left the rest; a
+-- call that was refused found none there. The first argument gives the value from what was returned.
 abbrev pub Reads : {X A : Type 0} → (X → A) → (A → List ℕ) → (A → Type 0) → List ℕ → Result X Fault → List ℕ → Type 0
 Reads seen spelling Allowed old (Ok x) new = (old ≡ spelling (seen x) ++ new) × Allowed (seen x)
 Reads seen spelling Allowed old (Err fault) new = ¬ Begins spelling Allowed old
@@ -27,8 +27,8 @@ Reads seen spelling Allowed old (Err fault) new = ¬ Begins spelling Allowed old
 abbrev pub Spells : {A : Type 0} → (A → List ℕ) → (A → Type 0) → List ℕ → A → Type 0
 Spells spelling Allowed bytes x = (bytes ≡ spelling x) × Allowed x
 
--- What a call answers to whole bytes, whose value is seen of it, is the allowed value that they spell,
--- and it refuses only bytes that spell none.
+-- A call that returned a value for whole bytes returned the allowed one that they spell; it refuses
+-- only bytes that spell none. The first argument gives the value from what was returned.
 abbrev pub ReadsWhole : {X A F : Type 0} → (X → A) → (A → List ℕ) → (A → Type 0) → List ℕ → Result X F → Type 0
 ReadsWhole seen spelling Allowed bytes (Ok x) = Spells spelling Allowed bytes (seen x)
 ReadsWhole {A = A} seen spelling Allowed bytes (Err fault) = (x : A) → ¬ Spells spelling Allowed bytes x

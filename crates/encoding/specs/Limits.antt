@@ -1,8 +1,8 @@
--- How many bytes a name, a key and a small value have (the limits are the profile's).
+-- How many bytes a name, a key and a small value have (the limits are this directory's own).
 use Rattle.std.specs.Prelude.{ℕ, ◌≤◌, List, length}
 use Rattle.encoding.specs.Bytes.{IsBytes}
 
--- as many bytes as these limits allow
+-- a number of bytes within these limits
 abbrev pub IsWithin : ℕ → ℕ → List ℕ → Type 0
 IsWithin least most bytes = (least ≤ length bytes) × (length bytes ≤ most) × IsBytes bytes
 

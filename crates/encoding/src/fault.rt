@@ -18,7 +18,7 @@ pub enum Fault {
 impl Fault {
     ghost use Rattle.encoding.specs.Faults.{fault_number};
 
-    /// The number that tells this refusal.
+    /// The number of this refusal.
     pub fn number(self) -> u8
         ensures { result ≡ fault_number self }
     {
@@ -33,11 +33,21 @@ impl Fault {
 #[cfg(test)]
 mod tests {
     use super::*;
+    use std::test::Fail;
 
     #[test]
-    fn tells_its_number(rt: HostRuntime) {
-        assert_eq!(rt; Fault::Short.number(), 1);
-        assert_eq!(rt; Fault::Trailing.number(), 2);
-        assert_eq!(rt; Fault::OutOfRange.number(), 3);
+    fn has_a_message(rt: HostRuntime) -> Result<(), Fail> {
+        for (fault, message) in [
+            (Fault::Short, "the bytes end before the value does"),
+            (Fault::Trailing, "bytes are left after the value"),
+            (
+                Fault::OutOfRange,
+                "a length or a number is outside of its limits",
+            ),
+        ] {
+            let text = format!(in rt.alloc(); "{fault}")?;
+            assert_eq!(rt; text.as_str(), message);
+        }
+        Ok(())
     }
 }

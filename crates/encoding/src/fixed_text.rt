@@ -6,7 +6,7 @@ use arrayvec::ArrayVec;
 use byteorder::{BigEndian, ByteOrder};
 use std::marker::Model;
 
-/// A text of bytes with room for `ROOM` of them, which takes no memory.
+/// A text of at most `ROOM` bytes, which is not on the heap.
 #[derive(Debug, Drop)]
 pub struct FixedText<const ROOM: usize> {
     bytes: ArrayVec<u8, ROOM>,
@@ -110,7 +110,7 @@ impl<const ROOM: usize> FixedText<ROOM> {
         self.push_slice(&bytes);
     }
 
-    /// Appends bytes behind their number, a `u16`.
+    /// Appends bytes behind their count, a `u16`.
     pub fn push_counted(&mut self, bytes: &[u8])
         requires few { length bytes.now < 2 ^ 16 }
         requires room { length self.old + 2 + length bytes.now ≤ ROOM }

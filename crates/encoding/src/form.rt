@@ -4,10 +4,10 @@ ghost use Rattle.encoding.specs.Reading.{Gives, Reading};
 
 use crate::{Cursor, Fault};
 
-/// A type whose values are spelled by bytes, each in one way.
+/// A type whose values are written as bytes, each in one way.
 ///
-/// An implementation writes `read_parts` and proves that its reader reads exactly the form. Callers
-/// take `read_from`, where other bytes follow, and `read_whole`.
+/// An implementation writes `read_parts`, and proves that its reader reads exactly the spellings of
+/// the allowed values. Callers use `read_from` where other bytes may follow, else `read_whole`.
 pub trait Form: Drop {
     // The bytes of a value.
     ghost spelling: { Self → List ℕ };
@@ -18,7 +18,7 @@ pub trait Form: Drop {
     // How a value is read from the front of bytes.
     ghost reader: { List ℕ → Reading Self };
 
-    /// The value at the front of the bytes. A refused call may have read some of them.
+    /// The value at the front of the bytes. Where it is refused, the cursor may stand anywhere.
     fn read_parts(cursor: &mut Cursor<'_>) -> Result<Self, Fault>
         ensures { Gives (λ value. value) result cursor.new (reader cursor.old) };
 
@@ -31,6 +31,7 @@ pub trait Form: Drop {
         ensures form { Reads (λ value. value) spelling Allowed cursor.old result cursor.new }
         ensures stays { OnErr result (cursor.new ≡ cursor.old) }
     {
+        // Reads ahead, so that a refusal half way leaves the cursor where it was.
         let mut ahead = cursor.copied();
         let value = Self::read_parts(&mut ahead)?;
         *cursor = ahead;

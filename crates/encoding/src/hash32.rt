@@ -3,8 +3,8 @@ ghost use Rattle.encoding.specs.Bytes.{Is32Bytes};
 
 use std::marker::Model;
 
-/// What a hash function answers, or other bytes of that size, such as a nonce: 32 bytes, which
-/// compare as byte strings do.
+/// A digest, or another value of that size, such as a nonce: 32 bytes, which compare as byte strings
+/// do.
 #[derive(Clone, Copy, Debug, Default, PartialEq, Eq, PartialOrd, Ord, Hash)]
 pub struct Hash32 {
     bytes: [u8; 32],
@@ -21,7 +21,7 @@ impl Model for Hash32 {
 }
 
 impl Hash32 {
-    /// The hash of these bytes, which are taken as they are.
+    /// The hash that has these bytes.
     pub const fn new(bytes: [u8; 32]) -> Self
         ensures { result ≡ bytes }
     {

@@ -6,7 +6,7 @@ use std::marker::Model;
 /// The place of a name in the prefix tree (CONIKS, section 3): 32 bytes, which compare as byte
 /// strings do.
 ///
-/// Its 256 bits are counted from the greatest bit of the first byte.
+/// Bit 0 is the most significant bit of the first byte.
 #[derive(Clone, Copy, Debug, PartialEq, Eq, PartialOrd, Ord, Hash)]
 pub struct Index {
     bytes: [u8; 32],
@@ -23,7 +23,7 @@ impl Model for Index {
 }
 
 impl Index {
-    /// The index of these bytes.
+    /// The index that has these bytes.
     pub const fn new(bytes: [u8; 32]) -> Self
         ensures { result ≡ bytes }
     {

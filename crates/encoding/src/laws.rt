@@ -11,27 +11,27 @@ pub fn bits_of_with_one()
     ensures { BitsOfWithOne }
 {}
 
-/// Two indices agree in `n` bits exactly where each of their first `n` bits is the same.
+/// Two indices agree in `n` bits exactly where their first `n` bits are the same, one by one.
 pub fn agreement_of_bits()
     ensures { AgreementOfBits }
 {}
 
-/// So many bytes are read exactly as they stand, whatever follows.
+/// A reader of `count` bytes reads exactly those bytes, whatever follows.
 pub fn bytes_are_read()
     ensures { BytesAreField }
 {}
 
-/// A byte is read exactly as it stands, whatever follows.
+/// A reader of one byte reads exactly that byte, whatever follows.
 pub fn byte_is_read()
     ensures { ByteIsField }
 {}
 
-/// What is read as a number is its spelling, and its spelling is read, whatever follows.
+/// A number is read exactly where the bytes begin with its spelling, whatever follows.
 pub fn numbers_are_read()
     ensures { NumbersAreFields }
 {}
 
-/// What is read as counted bytes is their spelling, and their spelling is read, whatever follows.
+/// Counted bytes are read exactly where the bytes begin with their spelling, whatever follows.
 pub fn counted_are_read()
     ensures { CountedAreFields }
 {}

@@ -1,8 +1,17 @@
-//! The values that every other crate speaks of: an index and its bits, a hash, and byte texts of
-//! fixed capacity. After the prefixes of CONIKS, section 3.
+//! The values that every other crate uses: an index and its bits, a hash, names, keys and small
+//! values, byte texts of fixed room, and the cursor that reads bytes. After the prefixes of CONIKS,
+//! section 3.
 //!
-//! To the layers above: an index and a hash are 32 bytes, a text is a list of bytes that never
-//! outgrows its room, and nothing here takes memory.
+//! Callers can rely on this: an index and a hash have 32 bytes, a name, a key and a small value keep
+//! their limits, a refused read leaves the cursor where it was, and nothing here allocates.
+//!
+//! ```
+//! let mut text = Text::new();
+//! text.push_counted(Name::new(b"alice")?.bytes());
+//! let mut cursor = Cursor::new(text.bytes());
+//! let name: Name = cursor.bounded()?;
+//! cursor.end()?;
+//! ```
 #![tactic(auto)]
 
 mod bits;

@@ -6,6 +6,6 @@ use Rattle.std.specs.Int.{w16, to_be_bytes}
 abbrev pub byte_sum : List ℕ → List ℕ
 byte_sum text = replicate 30 0 ++ to_be_bytes w16 (sum text % 2 ^ 16)
 
--- one digest more, up to the greatest number that the count holds
+-- one digest more, up to the greatest number that a count can hold
 abbrev pub one_more : ℕ → ℕ
 one_more count = min (count + 1) (2 ^ 64 - 1)

@@ -4,9 +4,9 @@ ghost use Rattle.nodehash.specs.Digests.{one_more};
 
 use encoding::Hash32;
 
-/// A hash function, and how many digests were taken with it.
+/// A hash function that counts how many digests it has computed.
 pub trait NodeHash {
-    // The digest of each byte string: one function for the type, whatever was digested before.
+    // The digest of each byte string: one function for the type, whatever it has digested before.
     ghost digest_of: { List ℕ → List ℕ };
 
     ghost digests: { Self → ℕ };
@@ -16,7 +16,7 @@ pub trait NodeHash {
         ensures value { result ≡ digest_of text.now }
         ensures count { digests self.new ≡ one_more (digests self.old) };
 
-    /// How many digests were taken. The count stays at `u64::MAX` once it is there.
+    /// How many digests it has computed. The count stays at `u64::MAX` once it is there.
     fn count(&self) -> u64
         ensures { result ≡ digests self.now };
 

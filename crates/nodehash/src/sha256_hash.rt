@@ -20,7 +20,7 @@ impl Model for Sha256Hash {
 }
 
 impl Sha256Hash {
-    /// The hash function with no digest taken.
+    /// The hash function, with no digest computed yet.
     pub fn new() -> Self
         ensures { result ≡ 0 }
     {
@@ -59,8 +59,8 @@ pub(crate) mod tests {
 
     #[test]
     fn digests(rt: HostRuntime) {
-        // Of NIST's examples for SHA-256 the one block and the two blocks, and the empty text; all
-        // three as scripts/known_answers.py computes them too.
+        // NIST's examples for SHA-256 of one block and of two, and the empty text.
+        // scripts/known_answers.py computes the same digests.
         let abc = hash(
             0xba7816bf8f01cfea414140de5dae2223,
             0xb00361a396177a9cb410ff61f20015ad,

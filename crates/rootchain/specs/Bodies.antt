@@ -1,4 +1,4 @@
--- The body of a signed tree root (CONIKS, section 3; the bytes are the profile's).
+-- The body of a signed tree root (CONIKS, section 3; the bytes are this directory's own).
 use Rattle.std.specs.Prelude.{◌≡◌, ℕ, ◌<◌, ◌^◌, ◌==◌, ◌&&◌, Bool, true, if◌then◌else◌, nat_lt, List, [], ◌∷◌, ◌++◌, replicate}
 use Rattle.std.specs.Str.{bytes_eq}
 use Rattle.encoding.specs.Endian.{big_bytes}

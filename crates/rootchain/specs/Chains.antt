@@ -20,7 +20,7 @@ IsHead chain root = slice_get chain.roots (length chain.roots - 1) ≡ Some root
 abbrev pub IsAt : KeyedRoots → ℕ → SignedRoot → Type 0
 IsAt chain epoch root = Contains chain.roots root × (root.body.epoch ≡ epoch)
 
--- each root is of an epoch below those of the roots after it
+-- each root has an epoch below those of the roots after it
 abbrev pub Ascend : List SignedRoot → Type 0
 Ascend = AllPairs (λ earlier later. earlier.body.epoch < later.body.epoch)
 
@@ -32,11 +32,11 @@ Verifies verified key root = verified key (body_bytes root.body) root.signature
 unfoldable pub Names : (List ℕ → List ℕ) → SignedRoot → SignedRoot → Type 0
 Names hash earlier later = (later.body.previous_epoch ≡ earlier.body.epoch) × (later.body.previous_hash ≡ hash (body_bytes earlier.body))
 
--- the later root names the earlier one, and is of a later epoch
+-- the later root names the earlier one, and has a later epoch
 abbrev pub Links : (List ℕ → List ℕ) → SignedRoot → SignedRoot → Type 0
 Links hash earlier later = Names hash earlier later × (earlier.body.epoch < later.body.epoch)
 
--- when each refusal is due of a root that is to start a chain
+-- when a root that is to start a chain is refused so
 abbrev pub IsStartRefusal : (List ℕ → List ℕ → List ℕ → Type 0) → List ℕ → SignedRoot → Refusal → Type 0
 IsStartRefusal verified key root Malformed = ⊥
 IsStartRefusal verified key root BadSignature = ¬ Verifies verified key root
@@ -51,7 +51,7 @@ module _ (hash : List ℕ → List ℕ) (verified : List ℕ → List ℕ → Li
     pub signed : All (Verifies verified chain.key) chain.roots
     pub linked : AllAdjacentBelow (Links hash) chain.roots (length chain.roots)
 
-  -- when each refusal is due of a root that is to follow a head: where the tests before it are passed
+  -- when a root that is to follow a head is refused so: it passes the tests before
   abbrev pub IsExtendRefusal : List ℕ → SignedRoot → SignedRoot → Refusal → Type 0
   IsExtendRefusal key head root Malformed = ⊥
   IsExtendRefusal key head root BadSignature = ¬ Verifies verified key root

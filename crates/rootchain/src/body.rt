@@ -37,7 +37,7 @@ impl Body {
         whole(bytes)
     }
 
-    /// The 146 bytes of the body.
+    /// The 146 bytes of the body, which `read` accepts where the body is well formed.
     pub fn write(&self) -> Text
         ensures value { result ≡ body_bytes self.now }
         ensures len { length result ≡ 146 }
@@ -54,7 +54,7 @@ impl Body {
         text
     }
 
-    /// Whether the epoch comes after the one before, whose hash is zero where there is none.
+    /// Whether the epoch is above the previous one, and the previous hash is zero where there is none.
     fn is_well_formed(&self) -> bool
         ensures { result ≡ is_well_formed self.now }
     {

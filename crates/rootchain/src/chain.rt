@@ -8,9 +8,9 @@ use sigiface::Verifier;
 use std::alloc::Global;
 use std::marker::{Model, PhantomData};
 
-/// A chain of signed roots of one provider (CONIKS, section 3), under the functions of `H` and `S`:
-/// each verifies under the provider's key, and each but the first names the one before it and is of a
-/// later epoch.
+/// The signed roots of one provider, in order (CONIKS, section 3), under the functions of `H` and
+/// `S`: each verifies under the provider's key, and each but the first names the one before it and
+/// has a later epoch.
 #[derive(Drop)]
 pub struct Chain<H: NodeHash, S: Verifier> {
     key: Hash32,
@@ -29,11 +29,11 @@ impl<H: NodeHash, S: Verifier> Model for Chain<H, S> {
 }
 
 impl<H: NodeHash, S: Verifier> Chain<H, S> {
-    /// The chain of this root alone, where it verifies under the provider's public key.
+    /// The chain of this root alone, if it verifies under the provider's public key.
     ///
     /// # Errors
     ///
-    /// `BadSignature` where it does not verify, else `Memory` where memory is wanting.
+    /// `BadSignature` if it does not verify, else `Memory` if memory runs out.
     pub fn start(
         alloc: Global,
         verifier: &S,
@@ -56,12 +56,12 @@ impl<H: NodeHash, S: Verifier> Chain<H, S> {
         })
     }
 
-    /// Appends the root, where it verifies, is of a later epoch than the head, and names the head as the
-    /// root before it.
+    /// Appends the root if it verifies, has a later epoch than the head, and names the head as the root
+    /// before it.
     ///
     /// # Errors
     ///
-    /// `BadSignature`, `NotLater`, `BadLink`, `Memory`: the first that applies. The chain is then
+    /// `BadSignature`, `NotLater`, `BadLink`, `Memory`: the first that applies. The chain then stays
     /// as it was.
     #[tactic(auto, using(crate::proofs::Chains::chain_push))]
     pub fn extend(&mut self, hash: &mut H, verifier: &S, root: SignedRoot) -> Result<(), Refusal>
@@ -91,6 +91,7 @@ impl<H: NodeHash, S: Verifier> Chain<H, S> {
     pub fn at(&self, epoch: u64) -> Option<&SignedRoot>
         ensures { (root : SignedRoot) → (option_copied result ≡ Some root) ↔ IsAt self.now epoch root }
     {
+        // Epochs ascend along a chain, so a binary search finds the one root of an epoch.
         match self
             .roots
             .binary_search_by_key(&epoch, |root| root.body.epoch)

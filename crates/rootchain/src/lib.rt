@@ -1,9 +1,17 @@
 //! Signed tree roots and signed promises: their forms, and the chain of a provider's signed roots.
 //! After CONIKS, sections 3 and 4.
 //!
-//! To the layers above: reading accepts exactly the forms, with one spelling a value, and writing
-//! gives them back. The roots of a chain verify under one key, each two neighbours are linked, and
-//! a root that may not follow is refused. Only chains take memory.
+//! Callers can rely on this: `read` accepts exactly the bytes of a form, each value has one spelling,
+//! and `write` produces it. The roots of a chain verify under one key, each root names the one before
+//! it, and a root that may not follow is refused. Only chains allocate.
+//!
+//! ```
+//! let first = SignedRoot::read(first_bytes)?;
+//! let next = SignedRoot::read(next_bytes)?;
+//! let mut chain = Chain::start(alloc, &verifier, provider_key, first)?;
+//! chain.extend(&mut hash, &verifier, next)?;
+//! let root = chain.at(7);
+//! ```
 #![tactic(auto)]
 
 mod body;

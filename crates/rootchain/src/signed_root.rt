@@ -29,7 +29,7 @@ impl SignedRoot {
         whole(bytes)
     }
 
-    /// The bytes: the body's 146, and the signature behind its length.
+    /// The bytes: the 146 of the body, then the signature behind its length.
     pub fn write(&self) -> Text
         ensures value { result ≡ signed_root_bytes self.now }
         ensures len { length result ≡ 148 + length self.now.signature }

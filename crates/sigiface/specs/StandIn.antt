@@ -1,6 +1,5 @@
--- A stand-in for digital signatures, with which CONIKS, section 3, signs roots and promises. The
--- bytes are this directory's own, and they give no security: whoever can check a signature can make
--- it.
+-- A stand-in for the digital signatures of roots and promises (CONIKS, section 3). The bytes are this
+-- directory's own. They give no security: whoever can check a signature can make it.
 use Rattle.std.specs.Prelude.{ℕ, List, [], ◌∷◌, ◌++◌}
 use Rattle.nodehash.specs.Sha256.{sha256}
 

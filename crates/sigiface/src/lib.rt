@@ -1,9 +1,15 @@
 //! Digital signatures, with which a provider signs its roots and promises. After CONIKS, section 3.
-//! The one that stands here is a stand-in: it meets the laws and gives no security.
+//! The one here is a stand-in: it meets the laws and gives no security.
 //!
-//! To the layers above: for each type, what verifies depends on the key, the message and the
-//! signature alone, and a signature on the public key and the message; a signature that was made
+//! Callers can rely on this, for each type: whether a signature verifies depends on the key, the
+//! message and the signature alone; a signature depends on the public key and the message alone, and
 //! verifies under the public key of its signer.
+//!
+//! ```
+//! let signer = KeyedSign::new(secret);
+//! let signature = signer.sign(message);
+//! assert!(signer.verify(&signer.public(), message, signature.bytes()));
+//! ```
 #![tactic(auto)]
 
 mod keyed;

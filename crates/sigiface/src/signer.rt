@@ -29,7 +29,7 @@ pub trait Signer: Verifier {
     fn sign(&self, message: &[u8]) -> Small
         ensures { result ≡ signature_of (public_key self.now) message.now };
 
-    // A signature that was made verifies under the public key.
+    // A signature verifies under the public key of its signer.
     ghost signature_verifies: { (signer : Self) (message : List ℕ) →
         Self.verified (public_key signer) message (signature_of (public_key signer) message) };
 

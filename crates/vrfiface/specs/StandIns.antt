@@ -1,6 +1,6 @@
--- Stand-ins for a verifiable unpredictable function, of which CONIKS, sections 3 and 4, makes the
--- private index of a name. The bytes are this directory's own, and they give no security: whoever
--- can check a value can compute it.
+-- Stand-ins for a verifiable unpredictable function, from which CONIKS, sections 3 and 4, computes
+-- the private index of a name. The bytes are this directory's own. They give no security: whoever can
+-- check a value can compute it.
 use Rattle.std.specs.Prelude.{ℕ, List, [], ◌∷◌, ◌++◌, replicate}
 use Rattle.nodehash.specs.Sha256.{sha256}
 
@@ -8,7 +8,7 @@ use Rattle.nodehash.specs.Sha256.{sha256}
 abbrev pub keyed_value : List ℕ → List ℕ → List ℕ
 keyed_value key name = sha256 (0x56 ∷ [] ++ key ++ name)
 
--- the value of a name under any key, for tests that are followed by hand: the name itself
+-- the value of a name under any key, for tests that a reader can follow by hand: the name itself
 abbrev pub plain_value : List ℕ → List ℕ → List ℕ
 plain_value _ name = name
 

@@ -6,8 +6,8 @@ ghost use Rattle.vrfiface.specs.StandIns.{plain_key, plain_value};
 use crate::{UniqueVuf, Vuf, VufCheck};
 use encoding::{Hash32, Name, Small};
 
-/// A stand-in that gives no security, for tests that are followed by hand: the value of a name is
-/// the name, under any key.
+/// A stand-in that gives no security, for tests that a reader can follow by hand: the value of a name
+/// is the name, under any key.
 #[derive(Debug, Drop)]
 pub struct PlainVuf;
 
@@ -33,6 +33,7 @@ impl Vuf for PlainVuf {
     }
 
     fn value(&self, name: &Name) -> Small {
+        // A name has at most 255 bytes, so it is a small value; `unreachable!` is proved.
         let Ok(value) = Small::new(name.bytes()) else {
             unreachable!()
         };
