@@ -15,7 +15,7 @@ use rootchain::Body;
 use std::marker::{Model, PhantomData};
 use vrfiface::VufCheck;
 
-/// A reply that was accepted for a name, under the functions of `H` and `V`.
+/// A reply accepted for a name, under the hash function of `H` and the value function of `V`.
 #[derive(Drop)]
 pub struct Accepted<'a, H: NodeHash, V: VufCheck> {
     name: Name,
@@ -37,7 +37,7 @@ impl<'a, H: NodeHash, V: VufCheck> Model for Accepted<'a, H, V> {
 }
 
 impl<'a, H: NodeHash, V: VufCheck> Accepted<'a, H, V> {
-    /// A reply that is accepted.
+    /// Holds an accepted reply.
     pub(crate) fn new(name: Name, view: ReplyView<'a>, index: Index) -> Self
         requires accepted { IsAccepted H.digest_of V.accepted (record { name = name; reply = view }) }
         requires index { index ≡ H.digest_of view.value }
@@ -51,7 +51,7 @@ impl<'a, H: NodeHash, V: VufCheck> Accepted<'a, H, V> {
         }
     }
 
-    /// What the reply states of the name.
+    /// The statement of the reply: a key, or absence.
     pub fn statement(&self) -> Statement<'a>
         ensures value { key_stated result ≡ stated self.now.reply.end }
         ensures accepted { Accepts H.digest_of V.accepted self.now.reply.body self.now.name (reply_bytes self.now.reply) (stated self.now.reply.end) }

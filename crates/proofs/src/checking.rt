@@ -14,7 +14,7 @@ use prefixtree::{end_text, leads};
 use rootchain::Body;
 use vrfiface::{VufCheck, index_of};
 
-/// Whether a leaf that shows absence is that of another index.
+/// Whether a leaf that shows absence is another index's.
 fn absence_is_by_another(index: &Index, end: EndView<'_>) -> bool
     ensures { IsTrue result ↔ AbsenceIsByAnother index.now (end_seen end.entry) }
 {
@@ -51,7 +51,7 @@ fn end_of_path<H: NodeHash>(hash: &mut H, name: &Name, end: EndView<'_>) -> pref
     }
 }
 
-/// The text of the node at an end.
+/// The text of the node at a reply's end.
 pub(crate) fn node_at_end<H: NodeHash>(
     hash: &mut H,
     nonce: &Hash32,
@@ -69,7 +69,7 @@ pub(crate) fn node_at_end<H: NodeHash>(
     end_text(nonce, index, level, end_of_path(hash, name, end))
 }
 
-/// The index of the name, where the reply passes each test, else the first that it does not.
+/// The index of the name, where the reply passes each test, else the first refusal that applies.
 fn test_reply<H: NodeHash, V: VufCheck>(
     hash: &mut H,
     vuf: &V,
@@ -103,12 +103,12 @@ fn test_reply<H: NodeHash, V: VufCheck>(
     Ok(index)
 }
 
-/// The reply, where it is accepted for the name under this body of a signed root, by at most three
-/// digests beside one for each sibling.
+/// Checks a reply for a name under this body of a signed root. Takes at most three digests, and one for
+/// each sibling.
 ///
 /// # Errors
 ///
-/// The first of the refusals from `OtherRoot` on that applies.
+/// The first refusal that applies, from `OtherRoot` on.
 pub fn check<'a, H: NodeHash, V: VufCheck>(
     hash: &mut H,
     vuf: &V,

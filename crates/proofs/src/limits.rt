@@ -9,11 +9,14 @@ pub(crate) const EMPTY: u8 = 2;
 /// The kind byte of the leaf of another index.
 pub(crate) const OTHER: u8 = 3;
 
+/// The fewest bytes of a key and of a value.
+pub(crate) const MIN_LEN: usize = 1;
+
 /// The most bytes of a key.
-pub(crate) const MAX_KEY_LEN: usize = 2048;
+pub(crate) const MAX_KEY_DATA_LEN: usize = 2048;
 
 /// The most bytes of a value.
-pub(crate) const MAX_VALUE_LEN: usize = 256;
+pub(crate) const MAX_SMALL_LEN: usize = 256;
 
 /// The most siblings: one for each bit of an index.
 pub(crate) const MAX_SIBLINGS: usize = 256;

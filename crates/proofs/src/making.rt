@@ -9,8 +9,8 @@ use encoding::{Hash32, ProofText, Small};
 use prefixtree::Path;
 use rootchain::Body;
 
-/// The bytes of the reply with this body, this value of the name, this end and the siblings of the
-/// path, at most 10,681. They are read again where the body is well formed.
+/// Encodes a reply: this body, this value of the name, this end and the siblings of the path. It has at
+/// most 10,681 bytes. With a well-formed body, `ReplyView::read` accepts them.
 pub fn make(body: &Body, value: &Small, end: &End<'_>, path: &Path) -> ProofText
     ensures value { result ≡ reply_bytes (record { body = body.now; value = value.now; end = end_given end.now; siblings = path.now.siblings.items }) }
     ensures form { IsWellFormed body.now → IsReply (record { body = body.now; value = value.now; end = end_given end.now; siblings = path.now.siblings.items }) }
