@@ -1,5 +1,5 @@
--- Two accepted replies: that they state the same, or what shows that they should not both be there (the
--- soundness of look-ups, CONIKS, section 4).
+-- What the comparison of two accepted replies finds: that they state the same, or evidence that no honest
+-- provider made both (the soundness of look-ups, CONIKS, section 4).
 use Rattle.std.specs.Prelude.{◌≡◌, ◌≢◌, ℕ, ◌⊎◌, List, length, Option, Some, None, Result, Ok, Err}
 use Rattle.encoding.specs.Limits.{IsName}
 use Rattle.nodehash.specs.Collisions.{IsCollision}

@@ -8,7 +8,7 @@ use Rattle.proofs.specs.declared.refusal.Refusal.TheVariants.{Malformed, Trailin
 use Rattle.proofs.specs.PathEnds.{end_text}
 use Rattle.proofs.specs.Replies.{End, Present, Empty, Other, Reply, Spells}
 
--- the number that tells a refusal
+-- the number of a refusal in the protocol
 abbrev pub refusal_number : Refusal → ℕ
 refusal_number Malformed = 1
 refusal_number Trailing = 2
@@ -50,8 +50,8 @@ AbsenceIsOnWay index n Empty = ⊤
 AbsenceIsOnWay index n (Other other commitment) = Agree index other n
 
 module _ (hash : List ℕ → List ℕ) (accepted : List ℕ → List ℕ → List ℕ → Type 0) where
-  -- what a reply for a name has to pass under a body, by the refusal where it does not; one that was
-  -- read has passed the first two
+  -- the test that each refusal stands for, of a reply for a name under a body; a reply that was read has
+  -- passed the first two
   abbrev pub Passes : Body → List ℕ → Reply → Refusal → Type 0
   Passes body name reply Malformed = ⊤
   Passes body name reply Trailing = ⊤
@@ -62,7 +62,7 @@ module _ (hash : List ℕ → List ℕ) (accepted : List ℕ → List ℕ → Li
   Passes body name reply PathMismatch =
       Way hash body.root (hash reply.value) reply.siblings (end_text hash body.nonce name (hash reply.value) (length reply.siblings) reply.end)
 
--- this one is not passed, and each that comes before it is
+-- the test of this refusal is not passed, and each before it is
 pub record IsFirst (Passed : Refusal → Type 0) (refusal : Refusal) : Type 0 where
   pub fails : ¬ Passed refusal
   pub before : (other : Refusal) → refusal_number other < refusal_number refusal → Passed other
