@@ -1,5 +1,8 @@
+//! Building the nodes of a list of items. The items ascend, so at each level those of bit 0 stand
+//! before those of bit 1, and one cut gives both halves. A half of one item is a leaf, and a half of
+//! none is an empty node.
 ghost use Rattle.std.specs.Prelude.{◌≡◌, ◌+◌, ◌-◌, ◌<◌, ◌≤◌, ◌++◌, IfOk};
-ghost use Rattle.prefixtree.specs.Node.{half, node_count};
+ghost use Rattle.prefixtree.specs.Node.{after_digests, half, node_count};
 ghost use Rattle.prefixtree.specs.Under.{IsUnder};
 ghost use Rattle.prefixtree.specs.Built.{contents, IsBuilt};
 
@@ -21,7 +24,7 @@ fn halves<'a>(items: &'a [Item], level: usize) -> (&'a [Item], &'a [Item])
     items.split_at(items.partition_point(|item| !bit(&item.0, level)))
 }
 
-/// The node at the prefix of `level` bits, with these items below it.
+/// The node at the prefix of `level` bits, with these items below it. Takes one digest a node.
 pub(crate) fn build<H: NodeHash>(
     alloc: Global,
     hash: &mut H,
@@ -35,6 +38,7 @@ pub(crate) fn build<H: NodeHash>(
     ensures built { IfOk result (λ node. IsBuilt H.digest_of nonce.now prefix.now level node) }
     ensures items { IfOk result (λ node. contents node ≡ items.now) }
     ensures work { H.digests hash.new ≤ H.digests hash.old + node_count (256 - level) items.now }
+    ensures exact { IfOk result (λ _. H.digests hash.new ≡ after_digests (node_count (256 - level) items.now) (H.digests hash.old)) }
 {
     match items {
         [] => Ok(empty(hash, nonce, prefix, level)),

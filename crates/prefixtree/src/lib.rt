@@ -1,9 +1,16 @@
 //! The prefix tree: commitments by index, under one root hash, and the path of each index. After
 //! CONIKS, section 3.
 //!
-//! To the layers above: the root is that of the contents by the recursive definition, whatever
-//! calls led there; a path leads from that root to what stands at the index; and an old tree stays
-//! as it was.
+//! The root is that of the contents by the recursive definition, whatever calls made the tree. A path
+//! leads from that root to what stands at the index. `with` makes a new tree, which shares nodes with
+//! the old one, and the old tree stays as it was.
+//!
+//! ```rust
+//! let tree = Tree::new(alloc, &mut hash, nonce)?.with(alloc, &mut hash, index, commitment)?;
+//! let path = tree.path(&index);
+//! assert_eq!(rt; path.end, End::Present(commitment));
+//! assert!(rt; path.leads(&mut hash, &nonce, &index, &tree.root()));
+//! ```
 #![tactic(auto)]
 
 mod build;
@@ -15,11 +22,13 @@ mod path;
 mod plain;
 mod put;
 mod tree;
+mod way;
 
 pub use items::{Item, placed};
 pub use laws::{path_ends, path_is_unique, path_is_way, way_is_fold, worked_roots};
 pub use path::{End, Path};
 pub use tree::Tree;
+pub use way::{climb, end_text, joined_text, leads};
 
 #[cfg(test)]
 mod tests;

@@ -16,7 +16,7 @@ use Rattle.encoding.proofs.FieldsOf.{both}
 use Rattle.rootchain.specs.declared.body.Body.{Body}
 use Rattle.rootchain.specs.Bodies.{body_bytes, read_body, IsBody}
 use Rattle.rootchain.specs.Readable.{body_field}
-use Rattle.proofs.specs.Replies.{End, Present, Empty, Other, Reply, end_bytes, end_kind, end_parts, joined_bytes, reply_bytes, sibling_bytes, AreSiblings, IsEnd, IsReply, Spells}
+use Rattle.proofs.specs.Replies.{End, Present, Empty, Other, Reply, reply_end_bytes, end_kind, end_parts, joined_bytes, reply_bytes, sibling_bytes, AreSiblings, IsEnd, IsReply, Spells}
 use Rattle.proofs.specs.Refusals.{BeginsWithReply}
 use Rattle.proofs.specs.Reading.{read_end, read_end_of, read_other, read_present, read_reply, read_siblings, reply_of}
 use Rattle.proofs.proofs.Chunks.{chunks-hashes, chunks-joined, joined-chunks, joined-hashes, length-chunks}
@@ -133,10 +133,10 @@ kind_small (Present salt key) = lit≤ tt
 kind_small Empty = lit≤ tt
 kind_small (Other index commitment) = lit≤ tt
 
-pub end_field : IsField read_end end_bytes IsEnd
+pub end_field : IsField read_end reply_end_bytes IsEnd
 unfolding read_end
 end_field =
-    allowed_field _ end_bytes (λ end. (end_kind end < 256) × IsEnd end) IsEnd (λ _ h. h.1) (λ end h. (kind_small end, h))
+    allowed_field _ reply_end_bytes (λ end. (end_kind end < 256) × IsEnd end) IsEnd (λ _ h. h.1) (λ end h. (kind_small end, h))
     (then_field end_kind read_byte read_end_of (λ kind. kind ∷ []) end_parts (λ kind. kind < 256) IsEnd byte_field (λ kind _. kinds kind))
 
 -- ---- siblings

@@ -1,12 +1,13 @@
--- Two accepted replies: that they state the same, or what shows that they should not both be there (the
--- soundness of look-ups, CONIKS, section 4).
+-- What the comparison of two accepted replies finds: that they state the same, or evidence that no honest
+-- provider made both (the soundness of look-ups, CONIKS, section 4).
 use Rattle.std.specs.Prelude.{◌≡◌, ◌≢◌, ℕ, ◌⊎◌, List, length, Option, Some, None, Result, Ok, Err}
 use Rattle.encoding.specs.Limits.{IsName}
 use Rattle.nodehash.specs.Collisions.{IsCollision}
 use Rattle.commit.specs.Commitments.{commitment_bytes}
 use Rattle.rootchain.specs.declared.body.Body.{Body}
 use Rattle.proofs.specs.Accepts.{stated, IsAccepted, NamedReply}
-use Rattle.proofs.specs.Refusals.{end_text, IsFirst, Passes, ReadsReply}
+use Rattle.proofs.specs.PathEnds.{end_text}
+use Rattle.proofs.specs.Refusals.{IsFirst, Passes, ReadsReply}
 use Rattle.proofs.specs.Replies.{End, Present, Empty, Other, Reply, IsReply, Spells}
 use Rattle.proofs.specs.WayTexts.{way_texts, AreFirstToDiffer}
 use Rattle.proofs.specs.declared.refusal.Refusal.{Refusal}

@@ -1,16 +1,14 @@
 -- Why a reply is refused, and which refusal comes first.
 use Rattle.std.specs.Prelude.{◌≡◌, ◌≢◌, ℕ, ◌<◌, List, [], ◌++◌, length, Result, Ok, Err, ⊤}
 use Rattle.encoding.specs.Bits.{Agree}
-use Rattle.commit.specs.Commitments.{commitment_bytes}
-use Rattle.prefixtree.specs.Paths.{end_bytes, Way}
-use Rattle.prefixtree.specs.declared.path.End.{End as PathEnd}
-use Rattle.prefixtree.specs.declared.path.End.TheVariants as path
+use Rattle.prefixtree.specs.Paths.{Way}
 use Rattle.rootchain.specs.declared.body.Body.{Body}
 use Rattle.proofs.specs.declared.refusal.Refusal.{Refusal}
 use Rattle.proofs.specs.declared.refusal.Refusal.TheVariants.{Malformed, Trailing, OtherRoot, BadVuf, SameIndex, OtherPrefix, PathMismatch}
+use Rattle.proofs.specs.PathEnds.{end_text}
 use Rattle.proofs.specs.Replies.{End, Present, Empty, Other, Reply, Spells}
 
--- the number that tells a refusal
+-- the number of a refusal in the protocol
 abbrev pub refusal_number : Refusal → ℕ
 refusal_number Malformed = 1
 refusal_number Trailing = 2
@@ -51,21 +49,9 @@ AbsenceIsOnWay index n (Present salt key) = ⊤
 AbsenceIsOnWay index n Empty = ⊤
 AbsenceIsOnWay index n (Other other commitment) = Agree index other n
 
-module _ (hash : List ℕ → List ℕ) where
-  -- the end of a tree's path that an end tells: an opened leaf has the commitment to its salt, the name
-  -- and its key
-  abbrev pub end_of_path : List ℕ → End → PathEnd
-  end_of_path name (Present salt key) = path.Present (hash (commitment_bytes salt name key))
-  end_of_path name Empty = path.Empty
-  end_of_path name (Other index commitment) = path.Other index commitment
-
-  -- the text of the node at an end, at level n on the way of an index
-  abbrev pub end_text : List ℕ → List ℕ → List ℕ → ℕ → End → List ℕ
-  end_text nonce name index n end = end_bytes nonce index n (end_of_path name end)
-
 module _ (hash : List ℕ → List ℕ) (accepted : List ℕ → List ℕ → List ℕ → Type 0) where
-  -- what a reply for a name has to pass under a body, by the refusal where it does not; one that was
-  -- read has passed the first two
+  -- the test that each refusal stands for, of a reply for a name under a body; a reply that was read has
+  -- passed the first two
   abbrev pub Passes : Body → List ℕ → Reply → Refusal → Type 0
   Passes body name reply Malformed = ⊤
   Passes body name reply Trailing = ⊤
@@ -76,7 +62,7 @@ module _ (hash : List ℕ → List ℕ) (accepted : List ℕ → List ℕ → Li
   Passes body name reply PathMismatch =
       Way hash body.root (hash reply.value) reply.siblings (end_text hash body.nonce name (hash reply.value) (length reply.siblings) reply.end)
 
--- this one is not passed, and each that comes before it is
+-- the test of this refusal is not passed, and each before it is
 pub record IsFirst (Passed : Refusal → Type 0) (refusal : Refusal) : Type 0 where
   pub fails : ¬ Passed refusal
   pub before : (other : Refusal) → refusal_number other < refusal_number refusal → Passed other

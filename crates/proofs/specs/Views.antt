@@ -1,4 +1,4 @@
--- What the types of this crate are seen as.
+-- What the types of this crate stand for in contracts.
 use Rattle.std.specs.Prelude.{◌≡◌, List, ℕ, Option, Some, None}
 use Rattle.proofs.specs.declared.end.End.{End as GivenEnd}
 use Rattle.proofs.specs.declared.end.End.TheVariants as given

@@ -1,11 +1,11 @@
 ghost use Rattle.std.specs.Prelude.{◌≡◌, ◌≢◌, length};
 ghost use Rattle.proofs.specs.Accepts.{stated, Accepts, IsAccepted};
 ghost use Rattle.proofs.specs.Comparisons.{opened};
-ghost use Rattle.proofs.specs.Refusals.{end_text};
+ghost use Rattle.proofs.specs.PathEnds.{end_text};
 ghost use Rattle.proofs.specs.Replies.{reply_bytes, IsReply};
 ghost use Rattle.proofs.specs.Views.{end_seen, key_stated};
 
-use crate::checking::end_text;
+use crate::checking::node_at_end;
 use crate::view::{EndView, key_data};
 use crate::{ReplyView, Statement};
 use commit::commit_text;
@@ -15,7 +15,7 @@ use rootchain::Body;
 use std::marker::{Model, PhantomData};
 use vrfiface::VufCheck;
 
-/// A reply that was accepted for a name, under the functions of `H` and `V`.
+/// A reply accepted for a name, under the hash function of `H` and the value function of `V`.
 #[derive(Drop)]
 pub struct Accepted<'a, H: NodeHash, V: VufCheck> {
     name: Name,
@@ -37,7 +37,7 @@ impl<'a, H: NodeHash, V: VufCheck> Model for Accepted<'a, H, V> {
 }
 
 impl<'a, H: NodeHash, V: VufCheck> Accepted<'a, H, V> {
-    /// A reply that is accepted.
+    /// Holds an accepted reply.
     pub(crate) fn new(name: Name, view: ReplyView<'a>, index: Index) -> Self
         requires accepted { IsAccepted H.digest_of V.accepted (record { name = name; reply = view }) }
         requires index { index ≡ H.digest_of view.value }
@@ -51,7 +51,7 @@ impl<'a, H: NodeHash, V: VufCheck> Accepted<'a, H, V> {
         }
     }
 
-    /// What the reply states of the name.
+    /// The statement of the reply: a key, or absence.
     pub fn statement(&self) -> Statement<'a>
         ensures value { key_stated result ≡ stated self.now.reply.end }
         ensures accepted { Accepts H.digest_of V.accepted self.now.reply.body self.now.name (reply_bytes self.now.reply) (stated self.now.reply.end) }
@@ -112,7 +112,7 @@ impl<'a, H: NodeHash, V: VufCheck> Accepted<'a, H, V> {
     {
         let nonce = &self.view.body().nonce;
         let level = self.view.hashes().len();
-        end_text(hash, nonce, &self.name, &self.index, level, self.view.end())
+        node_at_end(hash, nonce, &self.name, &self.index, level, self.view.end())
     }
 
     /// The text of the commitment that the reply opens, if it opens one.

@@ -1,3 +1,7 @@
+//! Two replies, and what shows that they should not both be there. If they state two things with one
+//! index, two ways lead from one root to two ends. They are climbed from the ends up, and the pair of
+//! texts kept is the last that differs, the nearest to the root: above it the texts are equal, so its
+//! digests are. If no texts differ, the ends open two commitment texts with one digest.
 ghost use Rattle.std.specs.Prelude.{◌≡◌, ◌≢◌, ◌⊎◌, ◌↔◌, ◌≤◌, ℕ, List, Option, length, IfErr, IfOk, IsOkAnd, IsSomeAnd, IsTrue, MatchOption};
 ghost use Rattle.proofs.specs.Accepts.{Accepts, HasIndex};
 ghost use Rattle.proofs.specs.Comparisons.{texts_of, Answers, AreOpposed, Compares, HaveOneIndex, IsAcceptedReply, IsOneBindingOr, Refuses};
@@ -5,41 +9,44 @@ ghost use Rattle.proofs.specs.Replies.{AreSiblings};
 ghost use Rattle.proofs.specs.Views.{key_stated};
 ghost use Rattle.proofs.specs.WayTexts.{way_texts, AreFirstToDiffer};
 
-use crate::way::{climb, joined_text};
 use crate::{Accepted, Refusal, ReplyView, Statement, check};
 use encoding::{Hash32, Index, Name, Text};
 use nodehash::{NodeHash, NodeText};
+use prefixtree::{climb, joined_text};
 use rootchain::Body;
+use thiserror::Error;
 use vrfiface::VufCheck;
 
-/// What two accepted replies come to.
+/// What the comparison of two accepted replies finds.
 #[derive(Debug, Drop)]
 pub enum SameOr {
     /// They are for two names, or under two bodies.
     NotComparable,
     /// They state the same.
     Same,
-    /// They state two things and have two indices, so two values of the name were accepted.
+    /// They state two things and have two indices, so two values were accepted for the name.
     TwoValues,
-    /// They state two things, by two byte strings with one digest: the first is from the first reply,
-    /// the second from the second. They are the first two node texts on the ways from the root down
-    /// that differ, or where none differ, the texts of the two commitments.
+    /// They state two things, and these are two byte strings with one digest, the first from the first
+    /// reply and the second from the second: the first two node texts that differ on the ways from the
+    /// root down, or, where none differ, the texts of the two commitments.
     Collision(Text, Text),
 }
 
 /// Which of two replies is refused, and why.
-#[derive(Clone, Copy, Debug, PartialEq, Eq)]
+#[derive(Clone, Copy, Debug, PartialEq, Eq, Error)]
 pub enum RefusedReply {
     /// The first is refused.
+    #[error("the first reply is refused: {0}")]
     First(Refusal),
     /// The first is accepted, and the second is refused.
+    #[error("the second reply is refused: {0}")]
     Second(Refusal),
 }
 
 /// Two texts of nodes, from the first reply and from the second.
 type Pair = (NodeText, NodeText);
 
-/// The two texts where they differ, else what was found below.
+/// The two texts where they differ, else the pair found below.
 fn first_of(first: &NodeText, second: &NodeText, below: Option<Pair>) -> Option<Pair>
     ensures { ((first.now ≡ second.now) × (result ≡ below)) ⊎ ((first.now ≢ second.now) × IsSomeAnd result (λ pair. (pair.0 ≡ first.now) × (pair.1 ≡ second.now))) }
 {
@@ -47,19 +54,6 @@ fn first_of(first: &NodeText, second: &NodeText, below: Option<Pair>) -> Option<
         below
     } else {
         Some((first.copied(), second.copied()))
-    }
-}
-
-/// Whether two statements are the same.
-fn are_same(first: Statement<'_>, second: Statement<'_>) -> bool
-    ensures { IsTrue result ↔ (key_stated first.entry ≡ key_stated second.entry) }
-{
-    match first {
-        Statement::Present(key) => match second {
-            Statement::Present(other) => key == other,
-            Statement::Absent => false,
-        },
-        Statement::Absent => matches!(second, Statement::Absent),
     }
 }
 
@@ -130,6 +124,7 @@ fn collision<H: NodeHash, V: VufCheck>(
     if let Some((x, y)) = first_nodes(hash, first, second) {
         return SameOr::Collision(x.copied(), y.copied());
     }
+    // No node texts differ, so both ends open a commitment.
     let Some(x) = first.opened_text() else {
         unreachable!()
     };
@@ -139,8 +134,8 @@ fn collision<H: NodeHash, V: VufCheck>(
     SameOr::Collision(x, y)
 }
 
-/// Whether two accepted replies state the same; where they do not with one index, two byte strings
-/// with one digest.
+/// Compares two accepted replies. If they state two things with one index, finds two byte strings with
+/// one digest.
 pub fn same_or_collision<H: NodeHash, V: VufCheck>(
     hash: &mut H,
     first: &Accepted<'_, H, V>,
@@ -154,7 +149,7 @@ pub fn same_or_collision<H: NodeHash, V: VufCheck>(
     if first.name().bytes() != second.name().bytes() {
         return SameOr::NotComparable;
     }
-    if are_same(first.end().statement(), second.end().statement()) {
+    if first.end().statement() == second.end().statement() {
         return SameOr::Same;
     }
     if first.index() != second.index() {
@@ -163,7 +158,7 @@ pub fn same_or_collision<H: NodeHash, V: VufCheck>(
     collision(hash, first, second)
 }
 
-/// A reply that is read and checked.
+/// Reads a reply and checks it.
 fn accept<'a, H: NodeHash, V: VufCheck>(
     hash: &mut H,
     vuf: &V,
@@ -175,17 +170,19 @@ fn accept<'a, H: NodeHash, V: VufCheck>(
     ensures kept { IfOk result (λ accepted. accepted ≡ record { name = name.now; reply = accepted.reply }) }
     ensures accepted { IfOk result (λ accepted. IsAcceptedReply H.digest_of V.accepted body.now name.now bytes.entry.now accepted.reply) }
 {
+    // `?` does not take a result that holds a view, here and below: the view borrows from the bytes.
     match ReplyView::read(bytes) {
         Ok(view) => check(hash, vuf, body, name, &view),
         Err(refusal) => Err(refusal),
     }
 }
 
-/// What two replies for one name under one body of a signed root come to, whoever made them.
+/// Reads, checks and compares two replies for one name under one body of a signed root, whoever made
+/// them.
 ///
 /// # Errors
 ///
-/// The refusal of the first reply that is refused, as `ReplyView::read` and `check` tell it.
+/// Where a reply is refused, the refusal of the first such, from `ReplyView::read` or `check`.
 pub fn compare_replies<H: NodeHash, V: VufCheck>(
     hash: &mut H,
     vuf: &V,
@@ -195,8 +192,8 @@ pub fn compare_replies<H: NodeHash, V: VufCheck>(
     second: &[u8],
 ) -> Result<SameOr, RefusedReply>
     ensures exact { Compares H.digest_of V.accepted body.now name.now first.now second.now result }
-    // Two replies that are accepted under one body with one index state the same binding, or two
-    // different byte strings with one digest are told.
+    // Two replies accepted under one body with one index state the same binding, or the answer is two
+    // different byte strings with one digest.
     ensures sound { (statement other : Option (List ℕ)) (index : List ℕ)
         → Accepts H.digest_of V.accepted body.now name.now first.now statement → Accepts H.digest_of V.accepted body.now name.now second.now other
         → HasIndex H.digest_of first.now index → HasIndex H.digest_of second.now index

@@ -1,10 +1,17 @@
-//! Replies to look-ups: how a provider makes them, how they are read where they lie, how a client
-//! checks one against a signed tree root, and what two of them come to. After CONIKS, sections 3
-//! and 4.
+//! Replies to look-ups: a provider makes them, a client reads one where it lies and checks it against
+//! a signed tree root, and anybody compares two. After CONIKS, sections 3 and 4.
 //!
-//! To the layers above: reading accepts exactly the replies, with one spelling each; a reply is
-//! accepted exactly where the definitions say so, and each refusal is the first that applies; two that
-//! are accepted state the same, or two texts with one digest are told. Nothing here takes memory.
+//! `read` accepts exactly the replies, and each has one spelling. `check` accepts exactly what the
+//! definitions accept, and a refusal is the first that applies. Two accepted replies state the same, or
+//! the comparison returns two texts with one digest. Nothing here allocates memory.
+//!
+//! ```rust
+//! let view = ReplyView::read(bytes)?;
+//! let accepted = check(&mut hash, &vuf, &body, &name, &view)?;
+//! if let Statement::Present(key) = accepted.statement() {
+//!     // The provider states that the name is bound to this key.
+//! }
+//! ```
 #![tactic(auto)]
 
 mod accepted;
@@ -12,11 +19,11 @@ mod checking;
 mod comparing;
 mod end;
 mod laws;
+mod limits;
 mod making;
 mod refusal;
 mod statement;
 mod view;
-mod way;
 
 pub use accepted::Accepted;
 pub use checking::check;

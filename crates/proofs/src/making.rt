@@ -1,16 +1,16 @@
 ghost use Rattle.std.specs.Prelude.{◌≡◌, ◌+◌, ◌*◌, ◌≤◌, ◌++◌, length};
 ghost use Rattle.rootchain.specs.Bodies.{IsWellFormed};
-ghost use Rattle.proofs.specs.Replies.{end_bytes, reply_bytes, sibling_bytes, AreSiblings, IsEnd, IsReply};
+ghost use Rattle.proofs.specs.Replies.{reply_end_bytes, reply_bytes, sibling_bytes, AreSiblings, IsEnd, IsReply};
 ghost use Rattle.proofs.specs.Views.{end_given};
 
 use crate::End;
-use crate::end::{EMPTY, OTHER, PRESENT};
+use crate::limits::{EMPTY, OTHER, PRESENT};
 use encoding::{Hash32, ProofText, Small};
 use prefixtree::Path;
 use rootchain::Body;
 
-/// The bytes of the reply with this body, this value of the name, this end and the siblings of the
-/// path, at most 10,681. They are read again where the body is well formed.
+/// Encodes a reply: this body, this value of the name, this end and the siblings of the path. It has at
+/// most 10,681 bytes. With a well-formed body, `ReplyView::read` accepts them.
 pub fn make(body: &Body, value: &Small, end: &End<'_>, path: &Path) -> ProofText
     ensures value { result ≡ reply_bytes (record { body = body.now; value = value.now; end = end_given end.now; siblings = path.now.siblings.items }) }
     ensures form { IsWellFormed body.now → IsReply (record { body = body.now; value = value.now; end = end_given end.now; siblings = path.now.siblings.items }) }
@@ -26,7 +26,7 @@ pub fn make(body: &Body, value: &Small, end: &End<'_>, path: &Path) -> ProofText
 /// Appends an end.
 fn push_end(text: &mut ProofText, end: &End<'_>)
     requires { length text.old + 2083 ≤ 10700 }
-    ensures value { text.new ≡ text.old ++ end_bytes (end_given end.now) }
+    ensures value { text.new ≡ text.old ++ reply_end_bytes (end_given end.now) }
     ensures len { length text.new ≤ length text.old + 2083 }
     ensures form { IsEnd (end_given end.now) }
 {

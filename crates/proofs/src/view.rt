@@ -7,7 +7,9 @@ ghost use Rattle.proofs.specs.Refusals.{ReadsReply};
 ghost use Rattle.proofs.specs.Replies.{joined_bytes, IsEnd, IsReply};
 ghost use Rattle.proofs.specs.Views.{end_seen, key_stated, reply_seen};
 
-use crate::end::{EMPTY, OTHER, PRESENT};
+use crate::limits::{
+    EMPTY, MAX_KEY_DATA_LEN, MAX_SIBLINGS, MAX_SMALL_LEN, MIN_LEN, OTHER, PRESENT,
+};
 use crate::{Refusal, Statement};
 use encoding::{Cursor, Fault, Form, KeyData};
 use rootchain::Body;
@@ -39,7 +41,7 @@ impl<'a> EndView<'a> {
     }
 }
 
-/// The key of an opened leaf.
+/// The key of an opened leaf, whose length was checked when it was read.
 pub(crate) fn key_data(bytes: &[u8]) -> KeyData
     requires { IsKeyData bytes.now }
     ensures { result ≡ bytes.now }
@@ -59,7 +61,7 @@ pub(crate) struct Parts<'a> {
     siblings: &'a [[u8; 32]],
 }
 
-/// A reply to a look-up that was read, whose parts are borrowed from its bytes.
+/// A reply to a look-up, read: its parts borrow from the bytes.
 #[derive(Drop)]
 pub struct ReplyView<'a> {
     parts: Parts<'a>,
@@ -79,11 +81,11 @@ impl<'a> Model for ReplyView<'a> {
 }
 
 impl<'a> ReplyView<'a> {
-    /// The reply that these bytes spell.
+    /// Reads the reply that these bytes spell.
     ///
     /// # Errors
     ///
-    /// `Trailing` where a proper beginning of the bytes spells one, else `Malformed`.
+    /// `Trailing` where more bytes follow a reply, else `Malformed`.
     pub fn read(bytes: &'a [u8]) -> Result<ReplyView<'a>, Refusal>
         ensures exact { ReadsReply bytes.entry.now result }
     {
@@ -135,7 +137,8 @@ impl<'a> ReplyView<'a> {
         self.parts.siblings
     }
 
-    /// The same reply once more.
+    /// A copy of the view. It is made field by field, since the borrow checker does not cover a move of
+    /// references beside a type with a model.
     pub(crate) fn copied(&self) -> ReplyView<'a>
         ensures { result ≡ self.now }
     {
@@ -158,7 +161,7 @@ fn read_end<'a>(cursor: &mut Cursor<'a>) -> Result<EndView<'a>, Fault>
     match cursor.u8()? {
         PRESENT => Ok(EndView::Present {
             salt: cursor.array()?,
-            key: cursor.counted(1, 2048)?,
+            key: cursor.counted(MIN_LEN, MAX_KEY_DATA_LEN)?,
         }),
         EMPTY => Ok(EndView::Empty),
         OTHER => Ok(EndView::Other {
@@ -175,7 +178,7 @@ fn read_siblings<'a>(cursor: &mut Cursor<'a>) -> Result<&'a [[u8; 32]], Fault>
     ensures { Gives (λ siblings. siblings.now) result cursor.new (read_siblings cursor.old) }
 {
     let count = usize::from(cursor.u16()?);
-    if 256 < count {
+    if MAX_SIBLINGS < count {
         return Err(Fault::OutOfRange);
     }
     let (siblings, _) = cursor.take(32 * count)?.as_chunks::<32>();
@@ -189,7 +192,7 @@ fn read_parts<'a>(cursor: &mut Cursor<'a>) -> Result<Parts<'a>, Fault>
 {
     Ok(Parts {
         body: Body::read_from(cursor)?,
-        value: cursor.counted(1, 256)?,
+        value: cursor.counted(MIN_LEN, MAX_SMALL_LEN)?,
         end: read_end(cursor)?,
         siblings: read_siblings(cursor)?,
     })
