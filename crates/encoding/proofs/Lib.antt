@@ -3,6 +3,7 @@ pub mod Beginnings
 pub mod BitLaws
 pub mod ByteLists
 pub mod Fields
+pub mod FieldsOf
 pub mod NumberBytes
 pub mod Prefixes
 pub mod Sides

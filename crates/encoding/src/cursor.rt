@@ -6,7 +6,7 @@ ghost use Rattle.encoding.specs.Limits.{IsBounded, IsWithin};
 ghost use Rattle.encoding.specs.Fields.{Reads};
 ghost use Rattle.encoding.specs.Reading.{Gives, read_bytes, read_byte, read_number, read_counted};
 
-use crate::{Bounded, Fault, Hash32};
+use crate::{Bounded, Fault, Hash32, MIN_LEN};
 use byteorder::{BigEndian, ByteOrder};
 use std::marker::Model;
 
@@ -152,7 +152,7 @@ impl<'a> Cursor<'a> {
         ensures form { MOST < 2 ^ 16 → Reads (λ text. text) counted_bytes (IsBounded MOST) self.old result self.new }
         ensures stays { OnErr result (self.new ≡ self.old) }
     {
-        Ok(Bounded::within_limits(self.counted(1, MOST)?))
+        Ok(Bounded::within_limits(self.counted(MIN_LEN, MOST)?))
     }
 
     /// Nothing is left, or `Trailing`.

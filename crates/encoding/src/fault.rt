@@ -1,15 +1,17 @@
 ghost use Rattle.std.specs.Prelude.{◌≡◌};
 
+use thiserror::Error;
+
 /// Why bytes are refused.
-#[derive(Clone, Copy, Debug, PartialEq, Eq)]
+#[derive(Clone, Copy, Debug, PartialEq, Eq, Error)]
 pub enum Fault {
-    /// The bytes end before the value does.
+    #[error("the bytes end before the value does")]
     Short,
 
-    /// Bytes are left after the value.
+    #[error("bytes are left after the value")]
     Trailing,
 
-    /// A length or a number is outside of its limits.
+    #[error("a length or a number is outside of its limits")]
     OutOfRange,
 }
 

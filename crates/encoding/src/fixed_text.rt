@@ -12,11 +12,17 @@ pub struct FixedText<const ROOM: usize> {
     bytes: ArrayVec<u8, ROOM>,
 }
 
+/// The room of a `Text`. The longest is a promise: 78 bytes, a name of 255 and a key of 2,048.
+const TEXT_ROOM: usize = 2400;
+
+/// The room of a `ProofText`. The longest reply to a look-up has 10,681 bytes.
+const PROOF_TEXT_ROOM: usize = 10700;
+
 /// A text that is signed, hashed or compared: at most 2,400 bytes.
-pub type Text = FixedText<2400>;
+pub type Text = FixedText<TEXT_ROOM>;
 
 /// The text of a proof: at most 10,700 bytes.
-pub type ProofText = FixedText<10700>;
+pub type ProofText = FixedText<PROOF_TEXT_ROOM>;
 
 impl<const ROOM: usize> Model for FixedText<ROOM> {
     ghost Value = { List ℕ };

@@ -10,15 +10,19 @@ mod bounded;
 mod cursor;
 mod fault;
 mod fixed_text;
+mod form;
 mod hash32;
 mod index;
 mod laws;
 
 pub use bits::{agree, bit, cut, with_one};
-pub use bounded::{Bounded, KeyData, Name, Small};
+pub use bounded::{
+    Bounded, KeyData, MAX_KEY_DATA_LEN, MAX_NAME_LEN, MAX_SMALL_LEN, MIN_LEN, Name, Small,
+};
 pub use cursor::Cursor;
 pub use fault::Fault;
 pub use fixed_text::{FixedText, ProofText, Text};
+pub use form::Form;
 pub use hash32::Hash32;
 pub use index::Index;
 pub use laws::{

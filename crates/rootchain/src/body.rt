@@ -6,7 +6,7 @@ ghost use Rattle.rootchain.specs.Bodies.{body_bytes, is_well_formed, read_body, 
 
 use crate::Refusal;
 use crate::whole::whole;
-use encoding::{Cursor, Fault, Hash32, Text};
+use encoding::{Cursor, Fault, Form, Hash32, Text};
 
 /// The kind byte of a body, the letter R, and the version of its form.
 const HEAD: [u8; 2] = [0x52, 1];
@@ -30,14 +30,11 @@ pub struct Body {
 
 impl Body {
     /// The body that these bytes spell. The only refusal is `Malformed`.
-    #[tactic(auto, using(crate::proofs::Bodies::body_exact))]
     pub fn read(bytes: &[u8]) -> Result<Body, Refusal>
         ensures exact { ReadsWhole (λ body. body) body_bytes IsBody bytes.now result }
         ensures refusal { IsOkUnless result Malformed }
     {
-        let mut cursor = Cursor::new(bytes);
-        let read = Body::read_from(&mut cursor);
-        whole(read, &cursor)
+        whole(bytes)
     }
 
     /// The 146 bytes of the body.
@@ -64,28 +61,21 @@ impl Body {
         self.previous_epoch < self.epoch
             && (self.previous_epoch != 0 || self.previous_hash == Hash32::new([0; 32]))
     }
+}
 
-    /// The body at the front of the bytes, or the refusal of its first part that is refused.
-    pub fn read_from(cursor: &mut Cursor<'_>) -> Result<Body, Fault>
-        ensures read { Gives (λ body. body) result cursor.new (read_body cursor.old) }
-        ensures form { Reads (λ body. body) body_bytes IsBody cursor.old result cursor.new }
-        ensures stays { OnErr result (cursor.new ≡ cursor.old) }
-    {
-        let mut ahead = cursor.copied();
-        match Body::read_parts(&mut ahead) {
-            Ok(body) => {
-                *cursor = ahead;
-                Ok(body)
-            }
-            Err(fault) => Err(fault),
-        }
-    }
+impl Form for Body {
+    ghost use Rattle.rootchain.specs.Readable.{body_field};
 
-    /// The body at the front of the bytes, of which some may have been read where it is refused.
+    ghost spelling = { body_bytes };
+
+    ghost Allowed = { IsBody };
+
+    ghost reader = { read_body };
+
+    ghost is_field = { body_field };
+
     #[tactic(auto, unfolding(crate::specs::Bodies::read_body))]
-    fn read_parts(cursor: &mut Cursor<'_>) -> Result<Body, Fault>
-        ensures { Gives (λ body. body) result cursor.new (read_body cursor.old) }
-    {
+    fn read_parts(cursor: &mut Cursor<'_>) -> Result<Body, Fault> {
         if cursor.take(2)? != HEAD.as_slice() {
             return Err(Fault::OutOfRange);
         }

@@ -8,7 +8,7 @@ ghost use Rattle.rootchain.specs.SignedRoots.{read_signed_root, signed_root_byte
 
 use crate::whole::whole;
 use crate::{Body, Refusal};
-use encoding::{Cursor, Fault, Hash32, Small, Text};
+use encoding::{Cursor, Fault, Form, Hash32, Small, Text};
 use nodehash::NodeHash;
 use sigiface::Verifier;
 
@@ -22,14 +22,11 @@ pub struct SignedRoot {
 
 impl SignedRoot {
     /// The signed root that these bytes spell. The only refusal is `Malformed`.
-    #[tactic(auto, using(crate::proofs::SignedRoots::signed_root_exact))]
     pub fn read(bytes: &[u8]) -> Result<SignedRoot, Refusal>
         ensures exact { ReadsWhole (λ signed. signed) signed_root_bytes IsSignedRoot bytes.now result }
         ensures refusal { IsOkUnless result Malformed }
     {
-        let mut cursor = Cursor::new(bytes);
-        let read = SignedRoot::read_from(&mut cursor);
-        whole(read, &cursor)
+        whole(bytes)
     }
 
     /// The bytes: the body's 146, and the signature behind its length.
@@ -41,17 +38,6 @@ impl SignedRoot {
         let mut text = self.body.write();
         text.push_counted(self.signature.bytes());
         text
-    }
-
-    /// The signed root at the front of the bytes.
-    #[tactic(auto, unfolding(crate::specs::SignedRoots::read_signed_root))]
-    pub(crate) fn read_from(cursor: &mut Cursor<'_>) -> Result<SignedRoot, Fault>
-        ensures { Gives (λ signed. signed) result cursor.new (read_signed_root cursor.old) }
-    {
-        Ok(SignedRoot {
-            body: Body::read_from(cursor)?,
-            signature: cursor.bounded()?,
-        })
     }
 
     /// Whether the signature verifies under the public key.
@@ -69,5 +55,25 @@ impl SignedRoot {
     {
         self.body.previous_epoch == earlier.body.epoch
             && self.body.previous_hash == hash.digest(earlier.body.write().bytes())
+    }
+}
+
+impl Form for SignedRoot {
+    ghost use Rattle.rootchain.specs.Readable.{signed_root_field};
+
+    ghost spelling = { signed_root_bytes };
+
+    ghost Allowed = { IsSignedRoot };
+
+    ghost reader = { read_signed_root };
+
+    ghost is_field = { signed_root_field };
+
+    #[tactic(auto, unfolding(crate::specs::SignedRoots::read_signed_root))]
+    fn read_parts(cursor: &mut Cursor<'_>) -> Result<SignedRoot, Fault> {
+        Ok(SignedRoot {
+            body: Body::read_from(cursor)?,
+            signature: cursor.bounded()?,
+        })
     }
 }
