@@ -1,13 +1,14 @@
 pub mod Ascending
 pub mod Built
 pub mod Childless
+pub mod Climbs
 pub mod Counts
 pub mod Ends
 pub mod Forked
 pub mod Forks
 pub mod Halves
 pub mod ItemLists
-pub mod Leads
+pub mod PathLeads
 pub mod Levels
 pub mod Membership
 pub mod NodeCases

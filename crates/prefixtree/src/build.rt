@@ -1,5 +1,5 @@
 ghost use Rattle.std.specs.Prelude.{◌≡◌, ◌+◌, ◌-◌, ◌<◌, ◌≤◌, ◌++◌, IfOk};
-ghost use Rattle.prefixtree.specs.Node.{half, node_count};
+ghost use Rattle.prefixtree.specs.Node.{after_digests, half, node_count};
 ghost use Rattle.prefixtree.specs.Under.{IsUnder};
 ghost use Rattle.prefixtree.specs.Built.{contents, IsBuilt};
 
@@ -35,6 +35,7 @@ pub(crate) fn build<H: NodeHash>(
     ensures built { IfOk result (λ node. IsBuilt H.digest_of nonce.now prefix.now level node) }
     ensures items { IfOk result (λ node. contents node ≡ items.now) }
     ensures work { H.digests hash.new ≤ H.digests hash.old + node_count (256 - level) items.now }
+    ensures exact { IfOk result (λ _. H.digests hash.new ≡ after_digests (node_count (256 - level) items.now) (H.digests hash.old)) }
 {
     match items {
         [] => Ok(empty(hash, nonce, prefix, level)),

@@ -15,11 +15,13 @@ mod path;
 mod plain;
 mod put;
 mod tree;
+mod way;
 
 pub use items::{Item, placed};
 pub use laws::{path_ends, path_is_unique, path_is_way, way_is_fold, worked_roots};
 pub use path::{End, Path};
 pub use tree::Tree;
+pub use way::{climb, end_text, joined_text, leads};
 
 #[cfg(test)]
 mod tests;

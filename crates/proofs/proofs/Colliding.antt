@@ -14,9 +14,11 @@ use Rattle.commit.proofs.Openings.{equal_texts_open_alike}
 use Rattle.prefixtree.specs.Paths.{joined}
 use Rattle.proofs.specs.Accepts.{stated}
 use Rattle.proofs.specs.Comparisons.{opened}
-use Rattle.proofs.specs.Refusals.{end_text, AbsenceIsByAnother}
+use Rattle.proofs.specs.PathEnds.{end_text}
+use Rattle.proofs.specs.Refusals.{AbsenceIsByAnother}
 use Rattle.proofs.specs.Replies.{End, Present, Empty, Other, IsEnd}
-use Rattle.proofs.specs.WayTexts.{node_text, way_texts, AreFirstToDiffer}
+use Rattle.prefixtree.specs.Paths.{node_text}
+use Rattle.proofs.specs.WayTexts.{way_texts, AreFirstToDiffer}
 use Rattle.proofs.proofs.Differing.{AreHashes}
 
 abbrev first_byte : List ℕ → ℕ

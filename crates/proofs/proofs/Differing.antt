@@ -7,8 +7,9 @@ use Rattle.std.proofs.lemmas.List.{drop_more, length-append}
 use Rattle.encoding.specs.Bits.{bit}
 use Rattle.encoding.specs.Bytes.{Is32Bytes}
 use Rattle.prefixtree.specs.Paths.{joined}
-use Rattle.proofs.specs.WayTexts.{node_text, way_texts, AreFirstToDiffer}
-use Rattle.proofs.proofs.Climbs.{climbed, text_below}
+use Rattle.prefixtree.specs.Paths.{node_text}
+use Rattle.proofs.specs.WayTexts.{way_texts, AreFirstToDiffer}
+use Rattle.prefixtree.proofs.Climbs.{climbed, text_below}
 
 abbrev pub Pair : Type 0
 Pair = List ℕ × List ℕ

@@ -1,5 +1,4 @@
 pub mod Chunks
-pub mod Climbs
 pub mod Colliding
 pub mod Differing
 pub mod Honest

@@ -8,9 +8,10 @@ use Rattle.proofs.specs.declared.refusal.Refusal.TheVariants.{SameIndex, PathMis
 use Rattle.proofs.specs.Accepts.{stated, IsAccepted, NamedReply}
 use Rattle.proofs.specs.declared.comparing.SameOr.TheVariants.{Collision}
 use Rattle.proofs.specs.Comparisons.{opened, texts_of, Answers, AreComparable, AreOpposed, AreTwoValues, HaveOneIndex, StandFirst}
-use Rattle.proofs.specs.Refusals.{end_text, AbsenceIsByAnother}
-use Rattle.proofs.specs.WayTexts.{node_text, way_texts, AreFirstToDiffer}
-use Rattle.proofs.proofs.Climbs.{top_hash}
+use Rattle.proofs.specs.PathEnds.{end_text}
+use Rattle.proofs.specs.Refusals.{AbsenceIsByAnother}
+use Rattle.prefixtree.specs.Paths.{node_text}
+use Rattle.proofs.specs.WayTexts.{way_texts, AreFirstToDiffer}
 use Rattle.proofs.proofs.Colliding.{both_open, collide, nothing_is_some, same_ends, some_is, BothOpen}
 use Rattle.proofs.proofs.Differing.{Found, Pair}
 use Rattle.proofs.proofs.Passing.{states-passed}
@@ -26,7 +27,6 @@ module _ (hash : List ℕ → List ℕ) (accepted : List ℕ → List ℕ → Li
   root_is named is =
       let passed = (states-passed hash accepted named.reply.body named.name named.reply (stated named.reply.end) is).1 in
       folded-Way hash (hash named.reply.value) named.reply.body.root named.reply.siblings (end_of named) (passed PathMismatch)
-      ∙ sym (top_hash hash (hash named.reply.value) 0 named.reply.siblings (end_of named))
 
   no_leaf : (named : NamedReply) → IsAccepted hash accepted named → AbsenceIsByAnother (hash named.reply.value) named.reply.end
   no_leaf named is = (states-passed hash accepted named.reply.body named.name named.reply (stated named.reply.end) is).1 SameIndex

@@ -8,7 +8,8 @@ use Rattle.proofs.specs.declared.refusal.Refusal.{Refusal}
 use Rattle.proofs.specs.declared.refusal.Refusal.TheVariants.{Malformed, Trailing, OtherRoot, BadVuf, SameIndex, OtherPrefix, PathMismatch}
 use Rattle.proofs.specs.Accepts.{stated, Accepts, EndStates, IsAccepted, States}
 use Rattle.proofs.specs.Reading.{read_reply}
-use Rattle.proofs.specs.Refusals.{end_text, IsFirst, AbsenceIsByAnother, AbsenceIsOnWay, Passes}
+use Rattle.proofs.specs.PathEnds.{end_text}
+use Rattle.proofs.specs.Refusals.{IsFirst, AbsenceIsByAnother, AbsenceIsOnWay, Passes}
 use Rattle.proofs.specs.Replies.{End, Present, Empty, Other, Reply, reply_bytes, IsReply, Spells}
 use Rattle.proofs.proofs.Replies.{reply_field}
 

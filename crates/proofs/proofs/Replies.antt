@@ -15,7 +15,7 @@ use Rattle.encoding.proofs.Fields.{whole-read, whole-refused, allowed_field, bot
 use Rattle.rootchain.specs.declared.body.Body.{Body}
 use Rattle.rootchain.specs.Bodies.{body_bytes, read_body, IsBody}
 use Rattle.rootchain.proofs.Bodies.{body_field}
-use Rattle.proofs.specs.Replies.{End, Present, Empty, Other, Reply, end_bytes, end_kind, end_parts, joined_bytes, reply_bytes, sibling_bytes, AreSiblings, IsEnd, IsReply, Spells}
+use Rattle.proofs.specs.Replies.{End, Present, Empty, Other, Reply, reply_end_bytes, end_kind, end_parts, joined_bytes, reply_bytes, sibling_bytes, AreSiblings, IsEnd, IsReply, Spells}
 use Rattle.proofs.specs.Refusals.{BeginsWithReply}
 use Rattle.proofs.specs.Reading.{read_end, read_end_of, read_other, read_present, read_reply, read_siblings, reply_of}
 use Rattle.proofs.proofs.Chunks.{chunks-hashes, chunks-joined, joined-chunks, joined-hashes, length-chunks}
@@ -132,10 +132,10 @@ kind_small (Present salt key) = lit≤ tt
 kind_small Empty = lit≤ tt
 kind_small (Other index commitment) = lit≤ tt
 
-pub end_field : IsField read_end end_bytes IsEnd
+pub end_field : IsField read_end reply_end_bytes IsEnd
 unfolding read_end
 end_field =
-    allowed_field _ end_bytes (λ end. (end_kind end < 256) × IsEnd end) IsEnd (λ _ h. h.1) (λ end h. (kind_small end, h))
+    allowed_field _ reply_end_bytes (λ end. (end_kind end < 256) × IsEnd end) IsEnd (λ _ h. h.1) (λ end h. (kind_small end, h))
     (then_field end_kind read_byte read_end_of (λ kind. kind ∷ []) end_parts (λ kind. kind < 256) IsEnd byte_field (λ kind _. kinds kind))
 
 -- ---- siblings
@@ -182,7 +182,7 @@ parts_of reply = (reply.body, (reply.value, (reply.end, reply.siblings)))
 pub reply_field : IsField read_reply reply_bytes IsReply
 unfolding read_reply
 reply_field =
-    let last = both_field _ _ end_bytes sibling_bytes IsEnd AreSiblings end_field siblings_field in
+    let last = both_field _ _ reply_end_bytes sibling_bytes IsEnd AreSiblings end_field siblings_field in
     let valued = both_field (read_counted 1 256) _ counted_bytes _ IsSmall _ (counted_field 1 256 (lit≤ tt)) last in
     let parts = both_field read_body _ body_bytes _ IsBody _ body_field valued in
     allowed_field _ _ _ IsReply (λ _ h. (h.0.0, h.0.1.0, h.0.1.1.0, h.0.1.1.1)) (λ _ h. ((h.0, (h.1, (h.2, h.3))), refl))

@@ -6,7 +6,8 @@ use Rattle.nodehash.specs.Collisions.{IsCollision}
 use Rattle.commit.specs.Commitments.{commitment_bytes}
 use Rattle.rootchain.specs.declared.body.Body.{Body}
 use Rattle.proofs.specs.Accepts.{stated, IsAccepted, NamedReply}
-use Rattle.proofs.specs.Refusals.{end_text, IsFirst, Passes, ReadsReply}
+use Rattle.proofs.specs.PathEnds.{end_text}
+use Rattle.proofs.specs.Refusals.{IsFirst, Passes, ReadsReply}
 use Rattle.proofs.specs.Replies.{End, Present, Empty, Other, Reply, IsReply, Spells}
 use Rattle.proofs.specs.WayTexts.{way_texts, AreFirstToDiffer}
 use Rattle.proofs.specs.declared.refusal.Refusal.{Refusal}

@@ -3,7 +3,7 @@ use Rattle.std.specs.Prelude.{◌≡◌, ℕ, List}
 use Rattle.prefixtree.specs.Node.{root_of}
 use Rattle.prefixtree.specs.Paths.{IsPath}
 use Rattle.prefixtree.specs.Placement.{Items, IsPlacement}
-use Rattle.proofs.specs.Refusals.{end_of_path}
+use Rattle.proofs.specs.PathEnds.{end_of_path}
 use Rattle.proofs.specs.Replies.{Reply, IsReply}
 
 module _ (hash : List ℕ → List ℕ) (accepted : List ℕ → List ℕ → List ℕ → Type 0) where

@@ -1,6 +1,7 @@
 pub mod Accepts
 pub mod Comparisons
 pub mod Honest
+pub mod PathEnds
 pub mod Reading
 pub mod Refusals
 pub mod Replies

@@ -1,13 +1,11 @@
 -- Why a reply is refused, and which refusal comes first.
 use Rattle.std.specs.Prelude.{◌≡◌, ◌≢◌, ℕ, ◌<◌, List, [], ◌++◌, length, Result, Ok, Err, ⊤}
 use Rattle.encoding.specs.Bits.{Agree}
-use Rattle.commit.specs.Commitments.{commitment_bytes}
-use Rattle.prefixtree.specs.Paths.{end_bytes, Way}
-use Rattle.prefixtree.specs.declared.path.End.{End as PathEnd}
-use Rattle.prefixtree.specs.declared.path.End.TheVariants as path
+use Rattle.prefixtree.specs.Paths.{Way}
 use Rattle.rootchain.specs.declared.body.Body.{Body}
 use Rattle.proofs.specs.declared.refusal.Refusal.{Refusal}
 use Rattle.proofs.specs.declared.refusal.Refusal.TheVariants.{Malformed, Trailing, OtherRoot, BadVuf, SameIndex, OtherPrefix, PathMismatch}
+use Rattle.proofs.specs.PathEnds.{end_text}
 use Rattle.proofs.specs.Replies.{End, Present, Empty, Other, Reply, Spells}
 
 -- the number that tells a refusal
@@ -50,18 +48,6 @@ abbrev pub AbsenceIsOnWay : List ℕ → ℕ → End → Type 0
 AbsenceIsOnWay index n (Present salt key) = ⊤
 AbsenceIsOnWay index n Empty = ⊤
 AbsenceIsOnWay index n (Other other commitment) = Agree index other n
-
-module _ (hash : List ℕ → List ℕ) where
-  -- the end of a tree's path that an end tells: an opened leaf has the commitment to its salt, the name
-  -- and its key
-  abbrev pub end_of_path : List ℕ → End → PathEnd
-  end_of_path name (Present salt key) = path.Present (hash (commitment_bytes salt name key))
-  end_of_path name Empty = path.Empty
-  end_of_path name (Other index commitment) = path.Other index commitment
-
-  -- the text of the node at an end, at level n on the way of an index
-  abbrev pub end_text : List ℕ → List ℕ → List ℕ → ℕ → End → List ℕ
-  end_text nonce name index n end = end_bytes nonce index n (end_of_path name end)
 
 module _ (hash : List ℕ → List ℕ) (accepted : List ℕ → List ℕ → List ℕ → Type 0) where
   -- what a reply for a name has to pass under a body, by the refusal where it does not; one that was

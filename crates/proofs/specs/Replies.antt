@@ -36,8 +36,8 @@ end_parts (Present salt key) = salt ++ counted_bytes key
 end_parts Empty = []
 end_parts (Other index commitment) = index ++ commitment
 
-abbrev pub end_bytes : End → List ℕ
-end_bytes end = (end_kind end ∷ []) ++ end_parts end
+abbrev pub reply_end_bytes : End → List ℕ
+reply_end_bytes end = (end_kind end ∷ []) ++ end_parts end
 
 -- the bytes of all of them, one after the other
 abbrev pub joined_bytes : List (List ℕ) → List ℕ
@@ -49,7 +49,7 @@ sibling_bytes siblings = big_bytes 2 (length siblings) ++ joined_bytes siblings
 
 -- the body, the value behind its length, the end, and the siblings
 abbrev pub reply_bytes : Reply → List ℕ
-reply_bytes reply = body_bytes reply.body ++ (counted_bytes reply.value ++ (end_bytes reply.end ++ sibling_bytes reply.siblings))
+reply_bytes reply = body_bytes reply.body ++ (counted_bytes reply.value ++ (reply_end_bytes reply.end ++ sibling_bytes reply.siblings))
 
 abbrev pub IsEnd : End → Type 0
 IsEnd (Present salt key) = Is32Bytes salt × IsKeyData key

@@ -1,11 +1,11 @@
 ghost use Rattle.std.specs.Prelude.{◌≡◌, ◌≢◌, length};
 ghost use Rattle.proofs.specs.Accepts.{stated, Accepts, IsAccepted};
 ghost use Rattle.proofs.specs.Comparisons.{opened};
-ghost use Rattle.proofs.specs.Refusals.{end_text};
+ghost use Rattle.proofs.specs.PathEnds.{end_text};
 ghost use Rattle.proofs.specs.Replies.{reply_bytes, IsReply};
 ghost use Rattle.proofs.specs.Views.{end_seen, key_stated};
 
-use crate::checking::end_text;
+use crate::checking::node_at_end;
 use crate::view::{EndView, key_data};
 use crate::{ReplyView, Statement};
 use commit::commit_text;
@@ -112,7 +112,7 @@ impl<'a, H: NodeHash, V: VufCheck> Accepted<'a, H, V> {
     {
         let nonce = &self.view.body().nonce;
         let level = self.view.hashes().len();
-        end_text(hash, nonce, &self.name, &self.index, level, self.view.end())
+        node_at_end(hash, nonce, &self.name, &self.index, level, self.view.end())
     }
 
     /// The text of the commitment that the reply opens, if it opens one.

@@ -1,17 +1,16 @@
 ghost use Rattle.std.specs.Prelude.{◌≡◌, ◌≢◌, ◌↔◌, ◌+◌, ◌≤◌, ℕ, List, Option, length, IfErr, IfOk, IsOkAnd, IsTrue};
-ghost use Rattle.prefixtree.specs.Paths.{Way};
 ghost use Rattle.proofs.specs.Accepts.{stated, Accepts};
-ghost use Rattle.proofs.specs.Refusals.{end_text, IsFirst, AbsenceIsByAnother, AbsenceIsOnWay, Passes};
+ghost use Rattle.proofs.specs.PathEnds.{end_of_path, end_text};
+ghost use Rattle.proofs.specs.Refusals.{IsFirst, AbsenceIsByAnother, AbsenceIsOnWay, Passes};
 ghost use Rattle.proofs.specs.Replies.{IsEnd, Spells};
 ghost use Rattle.proofs.specs.Views.{end_seen};
 
 use crate::view::{EndView, key_data};
-use crate::way::climb;
 use crate::{Accepted, Refusal, ReplyView};
 use commit::commit;
 use encoding::{Hash32, Index, Name, agree};
-use nodehash::{NodeHash, NodeText, empty_text, leaf_text};
-use prefixtree::way_is_fold;
+use nodehash::{NodeHash, NodeText};
+use prefixtree::{end_text, leads};
 use rootchain::Body;
 use vrfiface::{VufCheck, index_of};
 
@@ -35,8 +34,25 @@ fn absence_is_on_way(index: &Index, level: usize, end: EndView<'_>) -> bool
     }
 }
 
+/// The end of a tree's path that a reply's end stands for.
+fn end_of_path<H: NodeHash>(hash: &mut H, name: &Name, end: EndView<'_>) -> prefixtree::End
+    requires { IsEnd (end_seen end) }
+    ensures value { result ≡ end_of_path H.digest_of name.now (end_seen end.entry) }
+    ensures counted { H.digests hash.new ≤ H.digests hash.old + 1 }
+{
+    match end {
+        EndView::Present { salt, key } => {
+            prefixtree::End::Present(commit(hash, &Hash32::new(*salt), name, &key_data(key)))
+        }
+        EndView::Empty => prefixtree::End::Empty,
+        EndView::Other { index, commitment } => {
+            prefixtree::End::Other(Index::new(*index), Hash32::new(*commitment))
+        }
+    }
+}
+
 /// The text of the node at an end.
-pub(crate) fn end_text<H: NodeHash>(
+pub(crate) fn node_at_end<H: NodeHash>(
     hash: &mut H,
     nonce: &Hash32,
     name: &Name,
@@ -50,35 +66,7 @@ pub(crate) fn end_text<H: NodeHash>(
     ensures no_interior { length result ≢ 64 }
     ensures counted { H.digests hash.new ≤ H.digests hash.old + 1 }
 {
-    let level = level as u32;
-    match end {
-        EndView::Present { salt, key } => {
-            let commitment = commit(hash, &Hash32::new(*salt), name, &key_data(key));
-            leaf_text(nonce, index, level, &commitment)
-        }
-        EndView::Empty => empty_text(nonce, index, level),
-        EndView::Other { index, commitment } => {
-            let commitment = Hash32::new(*commitment);
-            leaf_text(nonce, &Index::new(*index), level, &commitment)
-        }
-    }
-}
-
-/// Whether there is a way from the root to the text.
-fn leads<H: NodeHash>(
-    hash: &mut H,
-    root: &Hash32,
-    index: &Index,
-    siblings: &[[u8; 32]],
-    end: NodeText,
-) -> bool
-    requires { length siblings.now ≤ 256 }
-    ensures way { IsTrue result ↔ Way H.digest_of root.now index.now siblings.now end }
-    ensures counted { H.digests hash.new ≤ H.digests hash.old + length siblings.now + 1 }
-{
-    way_is_fold();
-    let top = climb(hash, index, siblings, end, 0);
-    hash.digest(top.bytes()) == *root
+    end_text(nonce, index, level, end_of_path(hash, name, end))
 }
 
 /// The index of the name, where the reply passes each test, else the first that it does not.
@@ -108,7 +96,7 @@ fn test_reply<H: NodeHash, V: VufCheck>(
     if !absence_is_on_way(&index, level, view.end()) {
         return Err(Refusal::OtherPrefix);
     }
-    let end = end_text(hash, &body.nonce, name, &index, level, view.end());
+    let end = node_at_end(hash, &body.nonce, name, &index, level, view.end());
     if !leads(hash, &body.root, &index, view.hashes(), end) {
         return Err(Refusal::PathMismatch);
     }

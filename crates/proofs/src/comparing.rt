@@ -5,11 +5,12 @@ ghost use Rattle.proofs.specs.Replies.{AreSiblings};
 ghost use Rattle.proofs.specs.Views.{key_stated};
 ghost use Rattle.proofs.specs.WayTexts.{way_texts, AreFirstToDiffer};
 
-use crate::way::{climb, joined_text};
 use crate::{Accepted, Refusal, ReplyView, Statement, check};
 use encoding::{Hash32, Index, Name, Text};
 use nodehash::{NodeHash, NodeText};
+use prefixtree::{climb, joined_text};
 use rootchain::Body;
+use thiserror::Error;
 use vrfiface::VufCheck;
 
 /// What two accepted replies come to.
@@ -28,11 +29,13 @@ pub enum SameOr {
 }
 
 /// Which of two replies is refused, and why.
-#[derive(Clone, Copy, Debug, PartialEq, Eq)]
+#[derive(Clone, Copy, Debug, PartialEq, Eq, Error)]
 pub enum RefusedReply {
     /// The first is refused.
+    #[error("the first reply is refused: {0}")]
     First(Refusal),
     /// The first is accepted, and the second is refused.
+    #[error("the second reply is refused: {0}")]
     Second(Refusal),
 }
 
@@ -47,19 +50,6 @@ fn first_of(first: &NodeText, second: &NodeText, below: Option<Pair>) -> Option<
         below
     } else {
         Some((first.copied(), second.copied()))
-    }
-}
-
-/// Whether two statements are the same.
-fn are_same(first: Statement<'_>, second: Statement<'_>) -> bool
-    ensures { IsTrue result ↔ (key_stated first.entry ≡ key_stated second.entry) }
-{
-    match first {
-        Statement::Present(key) => match second {
-            Statement::Present(other) => key == other,
-            Statement::Absent => false,
-        },
-        Statement::Absent => matches!(second, Statement::Absent),
     }
 }
 
@@ -154,7 +144,7 @@ pub fn same_or_collision<H: NodeHash, V: VufCheck>(
     if first.name().bytes() != second.name().bytes() {
         return SameOr::NotComparable;
     }
-    if are_same(first.end().statement(), second.end().statement()) {
+    if first.end().statement() == second.end().statement() {
         return SameOr::Same;
     }
     if first.index() != second.index() {

@@ -12,11 +12,11 @@ mod checking;
 mod comparing;
 mod end;
 mod laws;
+mod limits;
 mod making;
 mod refusal;
 mod statement;
 mod view;
-mod way;
 
 pub use accepted::Accepted;
 pub use checking::check;

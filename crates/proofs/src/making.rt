@@ -1,10 +1,10 @@
 ghost use Rattle.std.specs.Prelude.{◌≡◌, ◌+◌, ◌*◌, ◌≤◌, ◌++◌, length};
 ghost use Rattle.rootchain.specs.Bodies.{IsWellFormed};
-ghost use Rattle.proofs.specs.Replies.{end_bytes, reply_bytes, sibling_bytes, AreSiblings, IsEnd, IsReply};
+ghost use Rattle.proofs.specs.Replies.{reply_end_bytes, reply_bytes, sibling_bytes, AreSiblings, IsEnd, IsReply};
 ghost use Rattle.proofs.specs.Views.{end_given};
 
 use crate::End;
-use crate::end::{EMPTY, OTHER, PRESENT};
+use crate::limits::{EMPTY, OTHER, PRESENT};
 use encoding::{Hash32, ProofText, Small};
 use prefixtree::Path;
 use rootchain::Body;
@@ -26,7 +26,7 @@ pub fn make(body: &Body, value: &Small, end: &End<'_>, path: &Path) -> ProofText
 /// Appends an end.
 fn push_end(text: &mut ProofText, end: &End<'_>)
     requires { length text.old + 2083 ≤ 10700 }
-    ensures value { text.new ≡ text.old ++ end_bytes (end_given end.now) }
+    ensures value { text.new ≡ text.old ++ reply_end_bytes (end_given end.now) }
     ensures len { length text.new ≤ length text.old + 2083 }
     ensures form { IsEnd (end_given end.now) }
 {

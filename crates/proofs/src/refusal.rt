@@ -1,29 +1,38 @@
 ghost use Rattle.std.specs.Prelude.{◌≡◌};
 
-/// Why a reply is refused. The first that applies is told.
-#[derive(Clone, Copy, Debug, PartialEq, Eq)]
+use thiserror::Error;
+
+/// Why a reply is refused: the first of these that applies.
+#[derive(Clone, Copy, Debug, PartialEq, Eq, Error)]
 pub enum Refusal {
-    /// The bytes are no reply, and no reply followed by others.
+    /// The bytes do not begin with a reply.
+    #[error("the bytes do not begin with a reply")]
     Malformed,
-    /// The bytes are a reply followed by others.
+    /// More bytes follow the reply.
+    #[error("more bytes follow the reply")]
     Trailing,
-    /// The reply's body is not this one.
+    /// The reply is under another signed root.
+    #[error("the reply is under another signed root")]
     OtherRoot,
     /// The value is not accepted for the name.
+    #[error("the value is not accepted for the name")]
     BadVuf,
-    /// Absence is shown by a leaf of the name's very index.
+    /// The leaf that should show absence is that of the name's own index.
+    #[error("the leaf that should show absence is that of the name's own index")]
     SameIndex,
-    /// Absence is shown by a leaf that does not agree with the name's index in as many bits as there
+    /// The leaf that should show absence does not agree with the name's index in as many bits as there
     /// are siblings.
+    #[error("the leaf that should show absence is not on the way of the name's index")]
     OtherPrefix,
-    /// The way leads from another root.
+    /// The siblings do not lead from the root to the end.
+    #[error("the siblings do not lead from the root to the end")]
     PathMismatch,
 }
 
 impl Refusal {
     ghost use Rattle.proofs.specs.Refusals.{refusal_number};
 
-    /// The number that tells this refusal.
+    /// The number of this refusal in the protocol.
     pub fn number(self) -> u8
         ensures { result ≡ refusal_number self }
     {

@@ -7,7 +7,7 @@ ghost use Rattle.proofs.specs.Refusals.{ReadsReply};
 ghost use Rattle.proofs.specs.Replies.{joined_bytes, IsEnd, IsReply};
 ghost use Rattle.proofs.specs.Views.{end_seen, key_stated, reply_seen};
 
-use crate::end::{EMPTY, OTHER, PRESENT};
+use crate::limits::{EMPTY, MAX_KEY_LEN, MAX_SIBLINGS, MAX_VALUE_LEN, OTHER, PRESENT};
 use crate::{Refusal, Statement};
 use encoding::{Cursor, Fault, KeyData};
 use rootchain::Body;
@@ -158,7 +158,7 @@ fn read_end<'a>(cursor: &mut Cursor<'a>) -> Result<EndView<'a>, Fault>
     match cursor.u8()? {
         PRESENT => Ok(EndView::Present {
             salt: cursor.array()?,
-            key: cursor.counted(1, 2048)?,
+            key: cursor.counted(1, MAX_KEY_LEN)?,
         }),
         EMPTY => Ok(EndView::Empty),
         OTHER => Ok(EndView::Other {
@@ -175,7 +175,7 @@ fn read_siblings<'a>(cursor: &mut Cursor<'a>) -> Result<&'a [[u8; 32]], Fault>
     ensures { Gives (λ siblings. siblings.now) result cursor.new (read_siblings cursor.old) }
 {
     let count = usize::from(cursor.u16()?);
-    if 256 < count {
+    if MAX_SIBLINGS < count {
         return Err(Fault::OutOfRange);
     }
     let (siblings, _) = cursor.take(32 * count)?.as_chunks::<32>();
@@ -189,7 +189,7 @@ fn read_parts<'a>(cursor: &mut Cursor<'a>) -> Result<Parts<'a>, Fault>
 {
     Ok(Parts {
         body: Body::read_from(cursor)?,
-        value: cursor.counted(1, 256)?,
+        value: cursor.counted(1, MAX_VALUE_LEN)?,
         end: read_end(cursor)?,
         siblings: read_siblings(cursor)?,
     })

@@ -1,7 +1,7 @@
 use Rattle.std.proofs.Common.{◌≡◌, ◌≤◌, ℕ, ◌+◌, ◌-◌, ◌++◌, List, refl, sym, ap, subst, ◌∙◌, arith}
 use Rattle.prefixtree.specs.Placement.{Items}
 use Rattle.prefixtree.specs.Built.{contents, IsBuilt}
-use Rattle.prefixtree.proofs.Counts.{node_count-few, node_count-halves}
+use Rattle.prefixtree.proofs.Counts.{after-few, after-halves, node_count-few, node_count-halves}
 use Rattle.prefixtree.proofs.Halves.{level-below, under-zeros, under-ones}
 use Rattle.prefixtree.proofs.build.+build.Goals as goal
 
@@ -44,6 +44,12 @@ returns-in-empty-clause-work g t c = omega (arith, node_count-few (256 - c.args.
 pub returns-in_ok-new-in-len1-clause-work : goal.returns-in_ok-new-in-len1-clause-work
 returns-in_ok-new-in-len1-clause-work g t c = omega (arith, node_count-few (256 - c.args.level) c.args.items.now (omega arith), c.leaf.ensures.work)
 
+pub returns-in-empty-clause-exact : goal.returns-in-empty-clause-exact
+returns-in-empty-clause-exact g t c = after-few (256 - c.args.level) c.args.items.now (omega arith) _ _ c.empty.ensures.exact
+
+pub returns-in_ok-new-in-len1-clause-exact : goal.returns-in_ok-new-in-len1-clause-exact
+returns-in_ok-new-in-len1-clause-exact g t c = after-few (256 - c.args.level) c.args.items.now (omega arith) _ _ c.leaf.ensures.exact
+
 pub returns-in_ok-children-in_default : goal.returns-in_ok-children-in_default
 returns-in_ok-children-in_default g t c =
     let of = g.H.NodeHash.digest_of in
@@ -61,4 +67,5 @@ returns-in_ok-children-in_default g t c =
           (refl, below, rw (made, held) c.in_default.len_at_least, rw made c.in_ok-zero_side-in_default.ensures.built, rw made (rw c.with_one.ensures at c.in_ok-one_side-in_default.ensures.built));
       items = ap contents c.interior.ensures.node ∙ rw made held;
       work = omega (arith, node_count-halves level items below c.in_default.len_at_least, rw c.halves.ensures.zeros at c.build.ensures.work, rw c.halves.ensures.ones at c.build-in_default.ensures.work, c.interior.ensures.work);
+      exact = after-halves level items below c.in_default.len_at_least _ _ _ _ (rw c.halves.ensures.zeros at c.in_ok-zero_side-in_default.ensures.exact) (rw c.halves.ensures.ones at c.in_ok-one_side-in_default.ensures.exact) c.interior.ensures.exact;
     }

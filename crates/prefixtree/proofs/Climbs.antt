@@ -1,18 +1,9 @@
 -- The texts of the nodes on a way, one level up.
 use Rattle.std.proofs.Common.{◌≡◌, ℕ, ◌+◌, ◌<◌, List, [], ◌∷◌, length, get_or, drop, refl, sym, ap, subst, ◌∙◌}
 use Rattle.std.proofs.lemmas.List.{drop_more}
-use Rattle.prefixtree.specs.Paths.{folded, joined}
-use Rattle.proofs.specs.WayTexts.{node_text}
+use Rattle.prefixtree.specs.Paths.{joined, node_text}
 
 module _ (hash : List ℕ → List ℕ) (index : List ℕ) where
-  -- the hash that a way is folded to is that of its topmost text
-  pub top_hash : (k : ℕ) (siblings : List (List ℕ)) (text : List ℕ) → hash (node_text hash index k siblings text) ≡ folded hash index k siblings text
-  top_hash k [] text = refl
-  top_hash k (beside ∷ siblings) text = ap (λ (below : List ℕ). hash (joined index k below beside)) (top_hash (k + 1) siblings text)
-
-  pub top_digest : (siblings : List (List ℕ)) (end digest text : List ℕ) → digest ≡ hash text → text ≡ node_text hash index 0 siblings end → digest ≡ folded hash index 0 siblings end
-  top_digest siblings end digest text is_digest is_text = is_digest ∙ ap hash is_text ∙ top_hash 0 siblings end
-
   -- the text one level below j
   pub text_below : (siblings : List (List ℕ)) (end text : List ℕ) (j k : ℕ) → k ≡ j + 1 → text ≡ node_text hash index k (drop k siblings) end
       → text ≡ node_text hash index (j + 1) (drop (j + 1) siblings) end

@@ -1,6 +1,6 @@
 use Rattle.std.proofs.Common.{◌≡◌, ◌+◌, ◌≤◌, drop, length}
-use Rattle.proofs.specs.WayTexts.{node_text}
-use Rattle.proofs.proofs.way.climb.Given as goal
+use Rattle.prefixtree.specs.Paths.{node_text}
+use Rattle.prefixtree.proofs.way.climb.Given as goal
 
 -- the text so far is that of this level, for one digest a level
 abbrev pub invariant-loop-k : goal.invariant-loop-k

@@ -1,6 +1,6 @@
 use Rattle.std.proofs.Common.{◌≡◌, ◌+◌, ◌-◌, ◌<◌, length, arith}
-use Rattle.proofs.proofs.Climbs.{climbed}
-use Rattle.proofs.proofs.way.climb.Goals as goal
+use Rattle.prefixtree.proofs.Climbs.{climbed}
+use Rattle.prefixtree.proofs.way.climb.Goals as goal
 
 pub loop-k-preserved : goal.loop-k-preserved
 loop-k-preserved g c =

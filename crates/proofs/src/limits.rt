@@ -1,0 +1,19 @@
+//! The kind bytes of a reply's end, and the greatest lengths of its parts.
+
+/// The kind byte of an opened leaf.
+pub(crate) const PRESENT: u8 = 1;
+
+/// The kind byte of an empty node.
+pub(crate) const EMPTY: u8 = 2;
+
+/// The kind byte of the leaf of another index.
+pub(crate) const OTHER: u8 = 3;
+
+/// The most bytes of a key.
+pub(crate) const MAX_KEY_LEN: usize = 2048;
+
+/// The most bytes of a value.
+pub(crate) const MAX_VALUE_LEN: usize = 256;
+
+/// The most siblings: one for each bit of an index.
+pub(crate) const MAX_SIBLINGS: usize = 256;
