@@ -14,7 +14,7 @@ use Rattle.encoding.specs.Reading.{is_within, read_as, read_byte, read_bytes, re
 use Rattle.encoding.proofs.Fields.{whole-read, whole-refused, allowed_field, both_field, byte_field, bytes_field, counted_field, itself, nothing_field, numbers_field, refused_read, renamed_field, respelled_field, tested_field, then_field}
 use Rattle.rootchain.specs.declared.body.Body.{Body}
 use Rattle.rootchain.specs.Bodies.{body_bytes, read_body, IsBody}
-use Rattle.rootchain.proofs.Bodies.{body_field}
+use Rattle.rootchain.specs.Readable.{body_field}
 use Rattle.proofs.specs.Replies.{End, Present, Empty, Other, Reply, reply_end_bytes, end_kind, end_parts, joined_bytes, reply_bytes, sibling_bytes, AreSiblings, IsEnd, IsReply, Spells}
 use Rattle.proofs.specs.Refusals.{BeginsWithReply}
 use Rattle.proofs.specs.Reading.{read_end, read_end_of, read_other, read_present, read_reply, read_siblings, reply_of}

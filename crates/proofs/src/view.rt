@@ -9,7 +9,7 @@ ghost use Rattle.proofs.specs.Views.{end_seen, key_stated, reply_seen};
 
 use crate::limits::{EMPTY, MAX_KEY_LEN, MAX_SIBLINGS, MAX_VALUE_LEN, OTHER, PRESENT};
 use crate::{Refusal, Statement};
-use encoding::{Cursor, Fault, KeyData};
+use encoding::{Cursor, Fault, Form, KeyData};
 use rootchain::Body;
 use std::marker::Model;
 
