@@ -1,4 +1,4 @@
-//! The kind bytes of a reply's end, and the greatest lengths of its parts.
+//! The kind bytes of a reply's end, and the most siblings of a reply.
 
 /// The kind byte of an opened leaf.
 pub(crate) const PRESENT: u8 = 1;
@@ -8,15 +8,6 @@ pub(crate) const EMPTY: u8 = 2;
 
 /// The kind byte of the leaf of another index.
 pub(crate) const OTHER: u8 = 3;
-
-/// The fewest bytes of a key and of a value.
-pub(crate) const MIN_LEN: usize = 1;
-
-/// The most bytes of a key.
-pub(crate) const MAX_KEY_DATA_LEN: usize = 2048;
-
-/// The most bytes of a value.
-pub(crate) const MAX_SMALL_LEN: usize = 256;
 
 /// The most siblings: one for each bit of an index.
 pub(crate) const MAX_SIBLINGS: usize = 256;

@@ -7,11 +7,9 @@ ghost use Rattle.proofs.specs.Refusals.{ReadsReply};
 ghost use Rattle.proofs.specs.Replies.{joined_bytes, IsEnd, IsReply};
 ghost use Rattle.proofs.specs.Views.{end_seen, key_stated, reply_seen};
 
-use crate::limits::{
-    EMPTY, MAX_KEY_DATA_LEN, MAX_SIBLINGS, MAX_SMALL_LEN, MIN_LEN, OTHER, PRESENT,
-};
+use crate::limits::{EMPTY, MAX_SIBLINGS, OTHER, PRESENT};
 use crate::{Refusal, Statement};
-use encoding::{Cursor, Fault, Form, KeyData};
+use encoding::{Cursor, Fault, Form, KeyData, MAX_KEY_DATA_LEN, MAX_SMALL_LEN, MIN_LEN};
 use rootchain::Body;
 use std::marker::Model;
 
