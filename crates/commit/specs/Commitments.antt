@@ -1,5 +1,5 @@
--- The text that a commitment is the digest of (after CONIKS, section 3; the bytes are this directory's own). The
--- text has the name beside the key, so that no text opens to two names.
+-- The text whose digest is a commitment (after CONIKS, section 3; the bytes are this directory's own).
+-- It has the name beside the key, so that no text opens to two names.
 use Rattle.std.specs.Prelude.{◌≡◌, ℕ, ◌^◌, ◌<◌, List, [], ◌∷◌, ◌++◌, length}
 use Rattle.encoding.specs.Forms.{counted_bytes}
 

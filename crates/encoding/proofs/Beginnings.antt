@@ -1,5 +1,5 @@
--- Texts that are one begin alike: two beginnings of one length, two numbers in as many bytes, and two
--- times counted bytes.
+-- Equal texts begin alike: with beginnings of one length, with numbers in as many bytes, and with
+-- counted bytes.
 use Rattle.std.proofs.Common.{◌≡◌, ℕ, ◌^◌, ◌<◌, List, ◌++◌, length, take, drop, sym, ap, ap₂, ◌∙◌, append_assoc, arith}
 use Rattle.std.proofs.Math.Seq.{take-append_seam, drop-append_seam}
 use Rattle.byteorder.specs.Endian.{big_bytes, big_number}

@@ -3,8 +3,8 @@ use Rattle.std.proofs.Common.{◌≡◌, ◌≢◌, ℕ, zero, suc, ◌+◌, ◌
 use Rattle.std.specs.Int.{bit_at}
 use Rattle.std.proofs.lemmas.Bool.{cases_lt, cases_eq, cond_below, cond_above, cond_both, eqb-true, eqb-false}
 use Rattle.std.proofs.lemmas.Grind.{get_or-set_at}
-use Rattle.std.proofs.lemmas.Nat.{shr_split, pow_pos}
-use Rattle.std.proofs.lemmas.Nat.Bits.{bit_at-zero, bit_at_or, bit_at-pow_same, bit_at-pow_other, bit_at-lt, bit_at_cat_low, bit_at_cat_high, same_from_bits_below}
+use Rattle.std.proofs.lemmas.Nat.{shr_split}
+use Rattle.std.proofs.lemmas.Nat.Bits.{bit_at_or, bit_at-pow_other, same_from_bits_below}
 use Rattle.encoding.specs.Bits.{bit, top_bits, cut, with_one, Agree}
 use Rattle.encoding.specs.BitLaws.{BitsOfCut, BitsOfWithOne, SameBits, AgreementOfBits}
 use Rattle.encoding.specs.Bytes.{IsBytes, Is32Bytes}

@@ -1,6 +1,6 @@
--- Readers of forms: what is read is spelled so, and what is spelled so is read, whatever follows. One
--- lemma for each reader, and one for each way to make a reader of others.
-use Rattle.std.proofs.Common.{◌≡◌, ◌≢◌, ℕ, zero, suc, ◌^◌, ◌<◌, ◌≤◌, Bool, true, false, ◌&&◌, cond, ltb, leb, List, [], ◌∷◌, ◌++◌, length, take, drop, flat_map, Result, Ok, Err, refl, sym, ap, subst, ◌∙◌, append_assoc, arith}
+-- Readers of forms read spellings alone, and each of them, whatever follows. One lemma for each reader,
+-- and one for each way to make a reader of others (FieldsOf has these with fewer arguments to write).
+use Rattle.std.proofs.Common.{◌≡◌, ◌≢◌, ℕ, zero, suc, ◌^◌, ◌<◌, ◌≤◌, Bool, true, false, cond, ltb, leb, List, [], ◌∷◌, ◌++◌, length, take, drop, flat_map, Result, Ok, Err, refl, sym, ap, subst, ◌∙◌, append_assoc, arith}
 use Rattle.std.specs.List.{AllByRecursion}
 use Rattle.std.proofs.lemmas.Bool.{and_parts, ltb-false, le-ltb, leb-true, le-leb}
 use Rattle.std.proofs.lemmas.List.{append-nil, take_at, drop_at, take-append-drop, length-append, length-take}
@@ -36,11 +36,11 @@ passed_ok false fault r y e = absurd cc
 abbrev done : {A : Type 0} → A → Result A Fault
 done x = Ok x
 
--- two answers that are one have one value
+-- equal answers have equal values
 pub ok_is : {A : Type 0} (x y : A) → done x ≡ done y → x ≡ y
 ok_is x y e = cc
 
--- what is refused is not read
+-- a reader that refuses bytes reads nothing from them
 pub refused_read : {A : Type 0} (fault : Fault) (y : A) → Err fault ≡ done y → ⊥
 refused_read fault y e = absurd cc
 

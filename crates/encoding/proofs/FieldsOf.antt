@@ -1,5 +1,5 @@
--- The lemmas of Fields on readers made of readers, where the readers, spellings and what is allowed are
--- found from the fields that they are made of.
+-- The lemmas of Fields on readers made of readers, with the readers, the spellings and what is allowed
+-- as implicit arguments: a form's lemma is then written as its reader is.
 use Rattle.std.proofs.Common.{◌≡◌, ℕ, Bool, true, List, ◌++◌}
 use Rattle.encoding.specs.Bytes.{IsBytes}
 use Rattle.encoding.specs.Fields.{IsField}
