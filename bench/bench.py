@@ -237,7 +237,8 @@ def print_machine():
     memory = int(facts["MemTotal"].split()[0]) / 1024**2
     has = "with" if "sha_ni" in facts.get("flags", "").split() else "without"
     print(f"{facts.get('model name', 'unknown processor')}, {has} SHA instructions")
-    print(f"{os.cpu_count()} cores, {memory:.0f} GiB, load {os.getloadavg()[0]:.2f}; built for {BUILD}")
+    print(f"{os.cpu_count()} cores, {memory:.0f} GiB, load {os.getloadavg()[0]:.2f}")
+    print(f"built for {BUILD}")
     kit, openssl = (LONG / 2**20 / t.least for t in (digest_times(LONG, 20), openssl_times()))
     version = " ".join(ssl.OPENSSL_VERSION.split()[:2])
     print(f"SHA-256 of 1 MiB: this build {kit:.0f} MiB/s, {version} {openssl:.0f} MiB/s")
@@ -245,7 +246,8 @@ def print_machine():
 
 def print_digest(length, times):
     least, median, greatest = times.cells(1e9, 0)
-    print(f"\none digest of {length} bytes, ns: least {least}, median {median}, greatest {greatest}")
+    spread = f"least {least}, median {median}, greatest {greatest}"
+    print(f"\none digest of {length} bytes, ns: {spread}")
 
 
 # ---- the tables

@@ -5,7 +5,7 @@ build() {
     log=$(mktemp)
     for crate in "$@"; do
         echo "building $crate" >&2
-        # A wrong command line ends the program with a status of its own: what counts is that it ran.
+        # Where `--help` is no option, the program ends with another status. It has to have run.
         (cd "crates/$crate" && rt run -- --help </dev/null >"$log" 2>&1) || true
         if ! grep -q "^rt: running" "$log"; then
             cat "$log" >&2

@@ -1,28 +1,27 @@
 #!/usr/bin/env bash
-# Refuses each allocation of the tests in turn, and looks for an answer that changes in place of
-# the error.
+# Makes each allocation of the tests fail in turn, and looks for a wrong answer in place of the error.
 #
 #   [FROM=N] [STEP=N] [MOST=N] scripts/fail_alloc.sh [CRATE..]
 #
-# Without a name: each crate whose tests take memory. FROM is the first allocation that is refused,
-# and STEP how far each run goes on from the last, 1 if not given. With MOST, it goes on to that
-# allocation whatever passes.
+# Without a name it takes each crate whose tests allocate. FROM is the first allocation that fails, and
+# STEP the distance to the next; both are 1 unless given. With MOST it goes on up to that allocation,
+# whatever passes.
 #
-# Each test is a process of its own, so the Nth run refuses the Nth allocation of each test. A test
-# is then to pass, or to end with an `Err` that tells of memory (AllocError, AllocFailed or
-# OutOfMemory). Ended in any other way (a failed assertion, another error, a signal, no end), it is
-# bad: an answer changed in place of the error. A crate is done once every test has passed in two
-# runs on end, which is past the last allocation of each test but those that try once more: they
-# take hundreds, and MOST goes on through them.
+# Each test is a process of its own, so the Nth run makes the Nth allocation of each test fail. The
+# test then has to pass, or to end with an `Err` that speaks of memory (AllocError, AllocFailed or
+# OutOfMemory). Any other end (a failed assertion, another error, a signal, no end at all) is bad: the
+# test got a wrong answer in place of the error. A crate is done once every test has passed in two runs
+# on end: then no test allocates that often. Only tests that try again after a failed allocation can
+# pass earlier. They allocate hundreds of times, and MOST goes on through them.
 #
-# The status is 0 where nothing was bad. A run takes about 15 seconds, since it builds the tests.
+# The status is 0 if nothing was bad. A run takes about 15 seconds, since it builds the tests.
 set -uo pipefail
 cd "$(dirname "$0")/.."
 
 most=${MOST:-500}
 seconds_a_run=300
 
-# Says of each test that failed how it ended: TEST memory, or TEST bad and what it printed.
+# Prints for each test that failed how it ended: TEST memory, or TEST bad and what it printed.
 ends() {
     awk '
         function tell() {
@@ -43,7 +42,7 @@ ends() {
         END { tell() }'
 }
 
-# Refuses each allocation of the tests of the crate in the current folder.
+# Makes each allocation of the tests of the crate in the current folder fail in turn.
 sweep() {
     local crate=$1 number passed=0 bad=0 output status failed
     for ((number = ${FROM:-1}; number <= most; number += ${STEP:-1})); do
@@ -57,7 +56,7 @@ sweep() {
         fi
         failed=$(ends <<<"$output")
         echo "$crate: allocation $number: $(grep -c " \.\.\. ok$" <<<"$output") passed," \
-            "$(grep -c " memory$" <<<"$failed") ended for want of memory"
+            "$(grep -c " memory$" <<<"$failed") ended as memory ran out"
         if grep " bad" <<<"$failed"; then
             bad=1
         fi
@@ -85,6 +84,6 @@ for crate in "${crates[@]}"; do
     (cd "crates/$crate" && sweep "$crate") || wrong=1
 done
 if [ $wrong = 0 ]; then
-    echo "no answer changed in place of the error: ${crates[*]}"
+    echo "no wrong answer in place of an error: ${crates[*]}"
 fi
 exit $wrong

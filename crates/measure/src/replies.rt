@@ -2,12 +2,12 @@ ghost use Rattle.std.specs.Prelude.{◌<◌};
 
 use crate::digests::take_digests;
 use crate::steps::end_step;
-use anyhow::{Context, Result, bail};
+use anyhow::{Context, Result};
 use commit::commit;
 use encoding::{Hash32, Index, KeyData, Name, Small};
 use nodehash::{NodeHash, Sha256Hash};
 use prefixtree::{Item, Path, Tree, placed};
-use proofs::{End, Refusal, ReplyView, check, make};
+use proofs::{End, ReplyView, check, make};
 use rootchain::Body;
 use sha2::{Digest, Sha256};
 use std::alloc::Global;
@@ -74,9 +74,8 @@ impl LookUp {
         let mut hash = Sha256Hash::new();
         let number = (number as u64).to_be_bytes();
         let digest = Sha256::digest(&number);
-        let (Ok(name), Ok(key)) = (Name::new(&number), KeyData::new(&digest)) else {
-            unreachable!()
-        };
+        let name = Name::new(&number)?;
+        let key = KeyData::new(&digest)?;
         let value = vuf.value(&name);
         let salt = Hash32::new(digest);
         let index = index_of(&mut hash, value.bytes());
@@ -124,7 +123,7 @@ fn make_all(look_ups: &[LookUp], rounds: usize) -> u64 {
 }
 
 /// Reads and checks all replies, and counts the digests.
-fn check_all(look_ups: &[LookUp], vuf: &KeyedVuf, rounds: usize) -> Result<u64, Refusal> {
+fn check_all(look_ups: &[LookUp], vuf: &KeyedVuf, rounds: usize) -> Result<u64> {
     let mut hash = Sha256Hash::new();
     for _ in 0..rounds {
         for look_up in look_ups {
@@ -161,10 +160,7 @@ pub(crate) fn measure(rt: &(impl Print + Input), alloc: Global, wanted: &LookUps
     end_step(rt, alloc, 0)?;
     end_step(rt, alloc, take_digests(&mut text, wanted.digests))?;
     end_step(rt, alloc, make_all(&look_ups, wanted.rounds))?;
-    let Ok(digests) = check_all(&look_ups, &vuf, wanted.rounds) else {
-        bail!("a reply was refused");
-    };
-    end_step(rt, alloc, digests)?;
+    end_step(rt, alloc, check_all(&look_ups, &vuf, wanted.rounds)?)?;
     end_step(rt, alloc, accept_all(&look_ups, &vuf, wanted.rounds))?;
     end_step(rt, alloc, take_digests(&mut text, wanted.digests))?;
     Ok(())

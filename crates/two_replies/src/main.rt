@@ -38,12 +38,8 @@ fn main(rt: HostRuntime) -> Result<()> {
     println!(rt; "name {}", name.bytes().escape_ascii())?;
 
     // A client verifies the signature of the root, and then checks each reply under it.
-    let chain: Chain<SumHash, KeyedSign> = Chain::start(
-        alloc,
-        &signer,
-        signer.public(),
-        shown.root,
-    )?;
+    let key = signer.public();
+    let chain: Chain<SumHash, KeyedSign> = Chain::start(alloc, &signer, key, shown.root)?;
     let body = &chain.head().body;
     println!(rt; "signed root {}", hex::encode(alloc, body.root.bytes())?)?;
     for (which, reply) in [("first", &shown.first), ("second", &shown.second)] {
@@ -56,10 +52,8 @@ fn main(rt: HostRuntime) -> Result<()> {
 
     // Whoever has both replies has evidence against the provider.
     let (x, y) = evidence(body, &name, shown.first.bytes(), shown.second.bytes())?;
-    println!(rt;
-        "one digest {}",
-        hex::encode(alloc, hash.digest(x.bytes()).bytes())?
-    )?;
+    let digest = hash.digest(x.bytes());
+    println!(rt; "one digest {}", hex::encode(alloc, digest.bytes())?)?;
     println!(rt; "first text {}", hex::encode(alloc, x.bytes())?)?;
     println!(rt; "second text {}", hex::encode(alloc, y.bytes())?)?;
     Ok(())
