@@ -1,11 +1,3 @@
 pub mod CommandLine
 pub mod Orders
-pub mod Faults
-pub mod Output
-pub mod Lines
-pub mod Pieces
-pub mod Items
-pub mod Listing
-pub mod Root
-pub mod Prove
 pub mod Programs

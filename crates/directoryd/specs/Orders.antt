@@ -4,25 +4,17 @@ use Rattle.std.specs.Option.{option_map_or}
 use Rattle.std.specs.Str.{bytes_eq}
 use Rattle.clap.specs.declared.builder.value_parser.ValueParser.{ValueParser}
 use Rattle.clap.specs.Words.{Row, Text, first_of, subcommand_of}
-use Rattle.directoryd.specs.declared.order.kinds.HashChoice.{HashChoice}
-use Rattle.directoryd.specs.declared.order.kinds.HashChoice.TheVariants.{Sha256, Sum}
+use Rattle.items.specs.declared.kinds.HashChoice.{HashChoice}
+use Rattle.items.specs.declared.kinds.HashChoice.TheVariants.{Sha256, Sum}
+use Rattle.items.specs.Asked.{Asked, values_of}
 use Rattle.directoryd.specs.declared.order.kinds.Order.{Order}
 use Rattle.directoryd.specs.declared.order.kinds.Order.TheVariants.{Root, Prove}
-use Rattle.directoryd.specs.declared.order.kinds.RootOrder.{RootOrder}
 use Rattle.directoryd.specs.CommandLine.{directory_app}
 
--- the values of an order: the hash function, and the nonce's text where one is given
-pub record Asked : Type 0 where
-  pub hash : HashChoice
-  pub nonce : Option Text
-
--- what is ordered: a root, or the path of the index that a text tells
+-- what is ordered: a root, or the path of the index that a text gives
 pub data Ordered : Type 0 where
   the_root : Asked → Ordered
   the_path : Text → Asked → Ordered
-
-abbrev pub values_of : RootOrder → Asked
-values_of order = record { hash = order.hash; nonce = option_map (λ text. text.now) order.nonce }
 
 abbrev pub values_in : Order → Ordered
 values_in (Root order) = the_root (values_of order)

@@ -1,13 +1,85 @@
--- What the programs do.
-use Rattle.std.specs.Prelude.{◌≡◌, List, ℕ, Option, Result}
-use Rattle.directoryd.specs.declared.fault.ProgramFault.{ProgramFault}
-use Rattle.directoryd.specs.Items.{hex32}
-use Rattle.directoryd.specs.Orders.{Ordered, the_root, the_path}
-use Rattle.directoryd.specs.Output.{Ends}
-use Rattle.directoryd.specs.Prove.{Proves}
-use Rattle.directoryd.specs.Root.{nonce_of, root_answer}
+-- What the programs do, and how the process ends.
+use Rattle.std.specs.Prelude.{◌≡◌, ◌⊎◌, ◌↔◌, ℕ, zero, suc, List, Bool, true, false, Option, Some, Result, Ok, Err, Vec, String, map, string_bytes, codes}
+use Rattle.std.specs.IoError.{error_kind}
+use Rattle.std.specs.declared.io.Error.{Error as IoError}
+use Rattle.std.specs.declared.io.ErrorKind.TheVariants as io
+use Rattle.std.specs.Io.KnownBytes.{Appends, Keeps}
+use Rattle.clap.specs.declared.builder.value_parser.ValueParser.{ValueParser}
+use Rattle.clap.specs.declared.error.Error.{Error}
+use Rattle.clap.specs.Words.{Text, kind_of}
+use Rattle.textio.specs.declared.program_fault.ProgramFault.{ProgramFault}
+use Rattle.textio.specs.declared.program_fault.ProgramFault.TheVariants.{CannotWrite, OutOfMemory}
+use Rattle.textio.specs.Digits.{hex32}
+use Rattle.textio.specs.Faults.{fault_text}
+use Rattle.textio.specs.Output.{Ends, WritesBeginning}
+use Rattle.items.specs.Prove.{Proves}
+use Rattle.items.specs.Root.{nonce_of, root_answer}
+use Rattle.directoryd.specs.declared.ending.Ending.{Ending}
+use Rattle.directoryd.specs.CommandLine.{status_of, IsHashNames, Refuses}
+use Rattle.directoryd.specs.Orders.{Ordered, ordered, the_root, the_path}
+
+-- a program says a text to its input, and answers this status where that was written
+abbrev pub EndsAt : ℕ → (List ℕ → Result (List ℕ) ProgramFault → Type 0) → Option (List ℕ) → Option (List ℕ) → Option (List ℕ) → Result ℕ ProgramFault → Type 0
+EndsAt status Says input old new (Ok given) = (given ≡ status) × Ends Says input old new (Ok tt)
+EndsAt status Says input old new (Err fault) = Ends Says input old new (Err fault)
 
 -- what is ordered is done: a root is told, or the path of an index
-abbrev pub Obeys : Ordered → Option (List ℕ) → Option (List ℕ) → Option (List ℕ) → Result (Unit {0}) ProgramFault → Type 0
-Obeys (the_root asked) = Ends (λ input said. root_answer asked input ≡ said)
-Obeys (the_path index asked) = Ends (Proves asked.hash (nonce_of asked.nonce) (hex32 index))
+abbrev pub Obeys : Ordered → Option (List ℕ) → Option (List ℕ) → Option (List ℕ) → Result ℕ ProgramFault → Type 0
+Obeys (the_root asked) = EndsAt 0 (λ input said. root_answer asked input ≡ said)
+Obeys (the_path index asked) = EndsAt 0 (Proves asked.hash (nonce_of asked.nonce) (hex32 index))
+
+-- a text is written whole, and this status answered; or less of it where a write failed, or nothing
+-- for want of memory
+abbrev pub Prints : ℕ → List ℕ → Option (List ℕ) → Option (List ℕ) → Result ℕ ProgramFault → Type 0
+Prints status text old new (Ok given) = (given ≡ status) × Appends old new text
+Prints status text old new (Err CannotWrite) = WritesBeginning old new text
+Prints status text old new (Err OutOfMemory) = Keeps old new
+Prints status text old new (Err _) = ⊥
+
+-- Words that order nothing are answered by a text of clap's, on the output with status 0, on the errors
+-- with any other. The other stream stays.
+abbrev pub Shows : ℕ → Option (List ℕ) → Option (List ℕ) → Option (List ℕ) → Option (List ℕ) → Result ℕ ProgramFault → Type 0
+Shows zero out out-new err err-new outcome = ((text : List ℕ) × Prints 0 text out out-new outcome) × Keeps err err-new
+Shows (suc n) out out-new err err-new outcome = Keeps out out-new × ((text : List ℕ) × Prints (suc n) text err err-new outcome)
+
+-- memory is wanting, and nothing written
+abbrev pub WantsMemory : Option (List ℕ) → Option (List ℕ) → Option (List ℕ) → Option (List ℕ) → Result ℕ ProgramFault → Type 0
+WantsMemory out out-new err err-new outcome = (outcome ≡ Err OutOfMemory) × Keeps out out-new × Keeps err err-new
+
+-- what the words order is done
+abbrev pub DoesOrder : List Text → Option (List ℕ) → Option (List ℕ) → Option (List ℕ) → Option (List ℕ) → Option (List ℕ) → Result ℕ ProgramFault → Type 0
+DoesOrder words input out out-new err err-new outcome = (names : ValueParser) × (what : Ordered) × IsHashNames names
+    × (ordered names words ≡ Some what) × Obeys what input out out-new outcome × Keeps err err-new
+
+-- clap refuses the words, or they ask for help
+abbrev pub Refused : List Text → Option (List ℕ) → Option (List ℕ) → Option (List ℕ) → Option (List ℕ) → Result ℕ ProgramFault → Type 0
+Refused words out out-new err err-new outcome = (error : Error) × Refuses words error
+    × Shows (status_of (kind_of error)) out out-new err err-new outcome
+
+-- what comes of words and an input
+abbrev pub Runs : List Text → Option (List ℕ) → Option (List ℕ) → Option (List ℕ) → Option (List ℕ) → Option (List ℕ) → Result ℕ ProgramFault → Type 0
+Runs words input out out-new err err-new outcome =
+    DoesOrder words input out out-new err err-new outcome ⊎ (Refused words out out-new err err-new outcome ⊎ WantsMemory out out-new err err-new outcome)
+
+-- what is said of words that are no text
+abbrev pub no_text : List ℕ
+no_text = codes "error: invalid UTF-8 was detected in one or more arguments\n"
+
+-- what comes of what the process is given: the words, or why there are none; and the input, or none for
+-- want of memory
+abbrev pub Starts : {A B R : Type 0} → (R → Option (List ℕ)) → Result (Vec (String A) B) IoError → Result R IoError
+    → Option (List ℕ) → Option (List ℕ) → Option (List ℕ) → Option (List ℕ) → Result ℕ ProgramFault → Type 0
+Starts remaining (Err error) reader out out-new err err-new outcome = Keeps out out-new
+    × Prints 2 no_text err err-new outcome × ((outcome ≡ Err OutOfMemory) ↔ (error_kind error ≡ io.OutOfMemory))
+Starts remaining (Ok words) (Err error) out out-new err err-new outcome = WantsMemory out out-new err err-new outcome
+Starts remaining (Ok words) (Ok reader) out out-new err err-new outcome = Runs (map string_bytes words.items) (remaining reader) out out-new err err-new outcome
+
+-- a fault's line is written, whole or, where a write failed, less of it
+abbrev pub TellsFault : Bool → List ℕ → Option (List ℕ) → Option (List ℕ) → Type 0
+TellsFault true text old new = Appends old new text
+TellsFault false text old new = WritesBeginning old new text
+
+-- how the process ends: with the status that was answered, or with the fault's line and status 1
+abbrev pub EndsAs : Result ℕ ProgramFault → Option (List ℕ) → Option (List ℕ) → Ending → Type 0
+EndsAs (Ok status) old new ending = (ending ≡ record { status = status; is_told = true }) × Keeps old new
+EndsAs (Err fault) old new ending = (ending.status ≡ 1) × TellsFault ending.is_told (fault_text fault) old new

@@ -1,24 +1,32 @@
-//! The key directory's programs.
+//! The key directory's programs. The words of the command line order one; what it does is in a crate
+//! below, and here are the words, the choice, and how the process ends.
 #![tactic(auto)]
 
-mod digits;
-mod fault;
-mod items;
-mod line;
+mod ending;
 mod order;
-mod output;
-mod program;
-mod prove;
-mod root;
+mod refusal;
 
+pub use ending::{Ending, end};
+pub use items::{prove, root};
+pub use order::{Order, order};
+use std::env;
+use std::io::{self, BufReader};
 use std::process::ExitCode;
+pub use textio::ProgramFault;
+
+/// The words of the command line, the program's name first.
+fn words(rt: &HostRuntime) -> io::Result<Vec<String>> {
+    Ok(env::args(rt)?.collect(rt.alloc())?)
+}
 
 fn main(rt: HostRuntime) -> ExitCode {
-    match program::run(&rt) {
-        Ok(status) => ExitCode::from(status),
-        Err(fault) => {
-            let _ = fault.tell(&mut rt.stderr());
-            ExitCode::from(fault.status())
-        }
-    }
+    let input = BufReader::new(rt.alloc(), rt.reader());
+    let ending = end(
+        rt.alloc(),
+        words(&rt),
+        input,
+        &mut io::writer(&rt),
+        &mut rt.stderr(),
+    );
+    ExitCode::from(ending.status)
 }

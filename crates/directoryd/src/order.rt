@@ -1,18 +1,34 @@
-ghost use Rattle.std.specs.Prelude.{◌≡◌, ◌↔◌, IfOk, IfErr, Err, Some, false, map, option_map, ◌⊎◌};
+ghost use Rattle.std.specs.Prelude.{◌≡◌, ◌⊎◌, IfOk, IfErr, Some, false, map, option_map};
 ghost use Rattle.clap.specs.Words.{app_of, found_of, kind_of, rows_of, rule_of};
 ghost use Rattle.clap.specs.declared.builder.command.Command.TheViews.{out-Command};
 ghost use Rattle.clap.specs.declared.error.kind.ErrorKind.TheVariants.{OutOfMemory};
-ghost use Rattle.directoryd.specs.CommandLine.{directory_app, hash_rule, index_rule, nonce_rule, prove_app, root_app, status_of, IsHashNames, Refuses};
-ghost use Rattle.directoryd.specs.Orders.{asked_in, hash_named, ordered, ordered_in, values_in, values_of};
+ghost use Rattle.directoryd.specs.CommandLine.{directory_app, hash_rule, index_rule, nonce_rule, prove_app, root_app, IsHashNames, Refuses};
+ghost use Rattle.items.specs.Asked.{values_of};
+ghost use Rattle.directoryd.specs.Orders.{asked_in, hash_named, ordered, ordered_in, values_in};
 
 mod kinds;
 
-use crate::fault::ProgramFault;
 use clap::builder::ValueParser;
-use clap::error::ErrorKind;
 use clap::{Arg, ArgMatches, Command, Error};
-pub use kinds::{HashChoice, Order, ProveOrder, RootOrder};
+use items::{HashChoice, ProveOrder, RootOrder};
+pub use kinds::Order;
 use std::alloc::{AllocError, Global};
+use std::convert::AsStr;
+
+/// What stands below the options of `root`: the format of its input, and an example.
+static ROOT_HELP: &str = "\
+Items: one a line, INDEX COMMITMENT, each 64 hexadecimal digits, with one space between.
+Prints `root HASH`.
+
+Example: directoryd root --hash sum < items.txt";
+
+/// What stands below the options of `prove`.
+static PROVE_HELP: &str = "\
+Items: one a line, INDEX COMMITMENT, each 64 hexadecimal digits, with one space between.
+Prints `level N`, then `present COMMITMENT`, `empty` or `other INDEX COMMITMENT`, then N lines
+`sibling HASH` from the root down, then `root HASH`.
+
+Example: directoryd prove --index 4000000000000000000000000000000000000000000000000000000000000000 < items.txt";
 
 /// The names of the hash functions.
 static HASHES: [&str; 2] = ["sha256", "sum"];
@@ -43,7 +59,7 @@ fn nonce_arg<'a>(alloc: Global) -> Arg<'a>
     Arg::new(alloc, "nonce")
         .long("nonce")
         .value_name("HEX")
-        .help("The nonce of the tree, 32 bytes [default: zeros]")
+        .help("The nonce of the tree, 64 hexadecimal digits [default: zeros]")
 }
 
 /// `--index HEX`.
@@ -55,7 +71,7 @@ fn index_arg<'a>(alloc: Global) -> Arg<'a>
         .long("index")
         .value_name("HEX")
         .required(true)
-        .help("The index, 32 bytes")
+        .help("The index, 64 hexadecimal digits")
 }
 
 /// `root`, with its options.
@@ -65,6 +81,7 @@ fn root_command<'a>(alloc: Global, names: ValueParser<'a>) -> Result<Command<'a>
 {
     let root = Command::new(alloc, "root")
         .about("Prints the root of the items on standard input")
+        .after_help(ROOT_HELP)
         .arg(hash_arg(alloc, names))?
         .arg(nonce_arg(alloc))?;
     Ok(root)
@@ -77,6 +94,7 @@ fn prove_command<'a>(alloc: Global, names: ValueParser<'a>) -> Result<Command<'a
 {
     let prove = Command::new(alloc, "prove")
         .about("Prints the path of an index among the items on standard input")
+        .after_help(PROVE_HELP)
         .arg(index_arg(alloc))?
         .arg(hash_arg(alloc, names))?
         .arg(nonce_arg(alloc))?;
@@ -133,37 +151,16 @@ fn named_order<'a>(name: &str, found: &ArgMatches<'a>) -> Order<'a>
 /// # Errors
 ///
 /// clap's, of words that it refuses or that ask for help, or of memory that ran out.
-pub fn order<'a>(alloc: Global, words: &'a [&'a str]) -> Result<Order<'a>, Error>
+pub fn order<'a, S: AsStr>(alloc: Global, words: &'a [S]) -> Result<Order<'a>, Error>
     ensures ok { IfOk result (λ order. (names : _) × IsHashNames names
-        × (ordered names (map (λ word. word.now) words.entry.now) ≡ Some (values_in order))) }
-    ensures err { IfErr result (λ fault. (kind_of fault ≡ OutOfMemory) ⊎ Refuses (map (λ word. word.now) words.entry.now) fault) }
+        × (ordered names (map S.text words.entry.now) ≡ Some (values_in order))) }
+    ensures err { IfErr result (λ fault. (kind_of fault ≡ OutOfMemory) ⊎ Refuses (map S.text words.entry.now) fault) }
 {
     let matches = command(alloc)?.try_get_matches_from(words)?;
     let Some((name, found)) = matches.subcommand() else {
         unreachable!()
     };
     Ok(named_order(name, found))
-}
-
-/// Prints clap's text about words that order nothing. The status is 2, or 0 where they ask for help.
-///
-/// # Errors
-///
-/// `OutOfMemory` where clap had none, else `CannotWrite`.
-pub fn refuse<R: Print + Eprint>(rt: &R, error: &Error) -> Result<u8, ProgramFault>
-    ensures ok { IfOk result (λ status. status ≡ status_of (kind_of error.now)) }
-    ensures memory { (result ≡ Err ProgramFault.OutOfMemory) ↔ (kind_of error.now ≡ OutOfMemory) }
-    ensures two { IfOk result (λ status. (status ≡ 0) ⊎ (status ≡ 2)) }
-    ensures err { IfErr result (λ fault. (fault ≡ ProgramFault.OutOfMemory) ⊎ (fault ≡ ProgramFault.CannotWrite)) }
-{
-    if error.kind() == ErrorKind::OutOfMemory {
-        return Err(ProgramFault::OutOfMemory);
-    }
-    let status = if error.use_stderr() { 2 } else { 0 };
-    match error.print(rt) {
-        Ok(()) => Ok(status),
-        Err(_) => Err(ProgramFault::CannotWrite),
-    }
 }
 
 #[cfg(test)]

@@ -1,7 +1,5 @@
 use super::*;
-use std::cell::RefCell;
-use std::fmt::{Display, Write};
-use std::io;
+use clap::error::ErrorKind;
 use std::test::Fail;
 
 #[test]
@@ -118,101 +116,20 @@ fn refused_words(rt: HostRuntime) -> Result<(), Fail> {
     Ok(())
 }
 
-/// Two streams that keep what is printed, or fail. Each has room from the start.
-#[derive(Drop)]
-struct Streams {
-    output: RefCell<String>,
-    error: RefCell<String>,
-    fails: bool,
-}
-
-fn new_streams(alloc: Global, fails: bool) -> Result<Streams, AllocError> {
-    Ok(Streams {
-        output: RefCell::new(String::with_capacity(alloc, 1024)?),
-        error: RefCell::new(String::with_capacity(alloc, 1024)?),
-        fails,
-    })
-}
-
-impl Streams {
-    fn keep<D: Display + Drop>(&self, stream: &RefCell<String>, value: D) -> io::Result<()> {
-        if self.fails {
-            return Err(io::Error::from(io::ErrorKind::BrokenPipe));
-        }
-        let Ok(mut kept) = stream.try_borrow_mut() else {
-            return Err(io::Error::from(io::ErrorKind::Other));
-        };
-        match write!(kept, "{value}") {
-            Ok(()) => Ok(()),
-            Err(_) => Err(io::Error::from(io::ErrorKind::Other)),
+/// The help of each subcommand gives the format of an item and an example.
+#[test]
+fn help_shows_an_example(rt: HostRuntime) -> Result<(), Fail> {
+    for name in ["root", "prove"] {
+        let help = refusal(rt.alloc(), &["directoryd", name, "--help"])?;
+        assert_eq!(rt; help.kind(), ErrorKind::DisplayHelp);
+        let text = format!(in rt.alloc(); "{help}")?;
+        let example = format!(in rt.alloc(); "\nExample: directoryd {name} ")?;
+        for part in [
+            "INDEX COMMITMENT, each 64 hexadecimal digits",
+            example.as_str(),
+        ] {
+            assert!(rt; text.contains(part), "{part} of {name}");
         }
     }
-}
-
-impl Print for Streams {
-    fn print<D: Display + Drop>(&self, value: D) -> io::Result<()> {
-        self.keep(&self.output, value)
-    }
-
-    fn println<D: Display + Drop>(&self, value: D) -> io::Result<()> {
-        self.keep(&self.output, format_args!("{value}\n"))
-    }
-
-    fn write_all(&self, _: &[u8]) -> io::Result<()> {
-        Err(io::Error::from(io::ErrorKind::Unsupported))
-    }
-}
-
-impl Eprint for Streams {
-    fn eprint<D: Display + Drop>(&self, value: D) -> io::Result<()> {
-        self.keep(&self.error, value)
-    }
-
-    fn eprintln<D: Display + Drop>(&self, value: D) -> io::Result<()> {
-        self.keep(&self.error, format_args!("{value}\n"))
-    }
-}
-
-#[test]
-fn refusals_are_told(rt: HostRuntime) -> Result<(), Fail> {
-    let rows: [(&[&str], u8, &str, &str); 3] = [
-        (
-            &["directoryd", "bogus"],
-            2,
-            "",
-            "error: unrecognized subcommand 'bogus'\n",
-        ),
-        (&["directoryd", "--help"], 0, "A CONIKS key directory\n", ""),
-        (
-            &["directoryd", "root", "--help"],
-            0,
-            "Prints the root of the items",
-            "",
-        ),
-    ];
-    for (words, status, output, error) in rows {
-        let refused = refusal(rt.alloc(), words)?;
-        let told = new_streams(rt.alloc(), false)?;
-        assert_eq!(rt; refuse(&told, &refused), Ok(status), "at {words:?}");
-        let written = told.output.into_inner();
-        assert_eq!(rt; written.is_empty(), output.is_empty(), "at {words:?}");
-        assert!(rt; written.starts_with(output), "at {words:?}");
-        let written = told.error.into_inner();
-        assert_eq!(rt; written.is_empty(), error.is_empty(), "at {words:?}");
-        assert!(rt; written.starts_with(error), "at {words:?}");
-        let failing = new_streams(rt.alloc(), true)?;
-        let answer = refuse(&failing, &refused);
-        assert_eq!(rt; answer, Err(ProgramFault::CannotWrite), "at {words:?}");
-    }
-    Ok(())
-}
-
-#[test]
-fn memory_is_told_as_memory(rt: HostRuntime) -> Result<(), Fail> {
-    let told = new_streams(rt.alloc(), false)?;
-    let answer = refuse(&told, &Error::from(AllocError));
-    assert_eq!(rt; answer, Err(ProgramFault::OutOfMemory));
-    assert!(rt; told.output.into_inner().is_empty());
-    assert!(rt; told.error.into_inner().is_empty());
     Ok(())
 }

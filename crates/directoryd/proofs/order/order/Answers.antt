@@ -5,7 +5,6 @@ use Rattle.std.specs.Prelude.{Box}
 use Rattle.std.specs.Box.{box_value}
 use Rattle.clap.specs.declared.parser.matches.ArgMatches.TheViews.{out-ArgMatches, out-SubCommand}
 use Rattle.clap.specs.declared.parser.matches.SubCommand.{SubCommand}
-use Rattle.std.specs.Borrow.{Bor}
 use Rattle.clap.specs.Words.{App, Row, Text, HasKind, app_of, fault_of, found_of, is_simple, is_simple_and_free, kind_of, rows_of, subcommand_of, subcommand_rows, subcommand_rows_of, takes}
 use Rattle.clap.specs.declared.builder.value_parser.ValueParser.{ValueParser}
 use Rattle.clap.specs.declared.error.kind.ErrorKind.TheVariants.{OutOfMemory}
@@ -35,12 +34,12 @@ ordered_here (Some p) name rows h k =
     rw (e, f) refl
 
 pub returns-clause-ok : goal.returns-clause-ok
-returns-clause-ok c =
+returns-clause-ok g c =
     let matches = c.in_ok-matches.matches in
     let made = c.in_ok-command.ensures in
     let names = made.0 in
     let app_is : app_of c.in_ok-command.field-0 ≡ directory_app names = made.2 in
-    let words = map (λ (s : Bor Text). s.now) c.args.words.now in
+    let words = map g.S.AsStr.text c.args.words.now in
     let sub : subcommand_rows_of matches ≡ subcommand_of (directory_app names) words
     = (c.in_ok-matches.ensures.matches (ap is_simple app_is ∙ is_simple-directory_app names)).1 ∙ ap (λ a. subcommand_of a words) app_is in
     let named : Some c.in-Some.name.now ≡ option_map (λ p. p.0) (subcommand_rows_of matches)
@@ -71,7 +70,7 @@ err_is (Ok x) P fault h p = tt
 err_is (Err e) P fault h p = subst P (sym h) p
 
 pub returns-in_err-matches-clause-err : goal.returns-in_err-matches-clause-err
-returns-in_err-matches-clause-err c =
+returns-in_err-matches-clause-err g c =
     let made = c.in_ok-command.ensures in
     err_is c.from_residual-in_err-matches.result _ c.in_err-matches.field-0.0 (search rules)
     (refused made.0 (app_of c.in_ok-command.field-0) _ c.in_err-matches.field-0.0 made.1 made.2 c.in_err-matches.ensures.passes c.in_err-matches.ensures.kinds)

@@ -1,5 +1,0 @@
-use Rattle.directoryd.proofs.Lists.{IsListedSoFar}
-use Rattle.directoryd.proofs.items.list_items.Given as goal
-
-abbrev pub invariant-loop : goal.invariant-loop
-invariant-loop g l = IsListedSoFar (g.R.Read.remaining l.fn.reader) (g.R.Read.remaining l.reader) l.items.items

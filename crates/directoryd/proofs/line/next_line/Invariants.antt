@@ -1,5 +1,0 @@
-use Rattle.directoryd.proofs.NextLine.{HasBegun}
-use Rattle.directoryd.proofs.line.next_line.Given as goal
-
-abbrev pub invariant-loop : goal.invariant-loop
-invariant-loop g l = HasBegun (g.R.Read.remaining l.fn.reader) (g.R.Read.remaining l.reader) l.line

@@ -1,0 +1,119 @@
+// From the words to the end of the process. What the words order is done, and answers a status or a
+// fault; a fault's line goes to the errors. `main` only hands over the process's own words and streams,
+// so that all of this is in one contract.
+ghost use Rattle.std.specs.Prelude.{◌≡◌, map};
+ghost use Rattle.directoryd.specs.Orders.{values_in};
+ghost use Rattle.directoryd.specs.Programs.{EndsAs, Obeys, Runs, Starts};
+
+use crate::order::{Order, order};
+use crate::refusal::{refuse, refuse_bytes};
+use crate::{prove, root};
+use std::alloc::Global;
+use std::convert::AsStr;
+use std::io::{self, BufRead, Write};
+use textio::ProgramFault;
+
+/// How the process ends.
+#[derive(Clone, Copy, Debug, PartialEq, Eq)]
+pub struct Ending {
+    pub status: u8,
+    /// Whether the line of a fault, where there is one, was written whole.
+    pub is_told: bool,
+}
+
+/// Does what is ordered, and answers the status.
+fn obey<R: BufRead, W: Write>(
+    alloc: Global,
+    order: Order<'_>,
+    reader: &mut R,
+    writer: &mut W,
+) -> Result<u8, ProgramFault>
+    ensures { Obeys (values_in order.entry) (R.remaining reader.old) (W.contents writer.old) (W.contents writer.new) result }
+{
+    match order {
+        Order::Root(order) => root(alloc, order, reader, writer)?,
+        Order::Prove(order) => prove(alloc, order, reader, writer)?,
+    }
+    Ok(0)
+}
+
+/// Does what the words order, or says why they order nothing.
+fn run<S: AsStr, R: BufRead, W: Write, E: Write>(
+    alloc: Global,
+    words: &[S],
+    reader: &mut R,
+    writer: &mut W,
+    errors: &mut E,
+) -> Result<u8, ProgramFault>
+    ensures { Runs (map S.text words.now) (R.remaining reader.old) (W.contents writer.old) (W.contents writer.new)
+        (E.contents errors.old) (E.contents errors.new) result }
+{
+    match order(alloc, words) {
+        Ok(order) => obey(alloc, order, reader, writer),
+        Err(error) => refuse(alloc, &error, writer, errors),
+    }
+}
+
+/// Does what the process's words order, where there are words and an input.
+fn start<R: BufRead + Drop, W: Write, E: Write>(
+    alloc: Global,
+    words: io::Result<Vec<String>>,
+    reader: io::Result<R>,
+    writer: &mut W,
+    errors: &mut E,
+) -> Result<u8, ProgramFault>
+    ensures { Starts R.remaining words reader (W.contents writer.old) (W.contents writer.new)
+        (E.contents errors.old) (E.contents errors.new) result }
+{
+    let words = match words {
+        Ok(words) => words,
+        Err(error) => return refuse_bytes(&error, errors),
+    };
+    match reader {
+        Ok(mut reader) => run(alloc, words.as_slice(), &mut reader, writer, errors),
+        // The buffer of the input is all that can fail.
+        Err(_) => Err(ProgramFault::OutOfMemory),
+    }
+}
+
+/// Tells a fault, and says how the process ends.
+fn ended<E: Write>(outcome: Result<u8, ProgramFault>, errors: &mut E) -> Ending
+    ensures { EndsAs outcome (E.contents errors.old) (E.contents errors.new) result }
+{
+    match outcome {
+        Ok(status) => Ending {
+            status,
+            is_told: true,
+        },
+        Err(fault) => {
+            let is_told = fault.tell(errors).is_ok();
+            Ending {
+                status: fault.status(),
+                is_told,
+            }
+        }
+    }
+}
+
+/// Does what the words order, from the input to the output, and says how the process ends: with the
+/// status that the program answers; or with status 1 and the fault's line on the errors; or, where the
+/// words order nothing, with clap's text, on the output with status 0 where they ask for help, else on
+/// the errors with status 2.
+pub fn end<R: BufRead + Drop, W: Write, E: Write>(
+    alloc: Global,
+    words: io::Result<Vec<String>>,
+    reader: io::Result<R>,
+    writer: &mut W,
+    errors: &mut E,
+) -> Ending
+    ensures { (outcome : _) × (errors_between : _)
+        × Starts R.remaining words reader (W.contents writer.old) (W.contents writer.new)
+        (E.contents errors.old) errors_between outcome
+        × EndsAs outcome errors_between (E.contents errors.new) result }
+{
+    let outcome = start(alloc, words, reader, writer, errors);
+    ended(outcome, errors)
+}
+
+#[cfg(test)]
+mod tests;

@@ -1,0 +1,72 @@
+ghost use Rattle.std.specs.Prelude.{◌≡◌, ◌↔◌, Err, IfErr};
+ghost use Rattle.std.specs.IoError.{error_kind};
+ghost use Rattle.clap.specs.Words.{kind_of};
+ghost use Rattle.clap.specs.declared.error.kind.ErrorKind.TheVariants.{OutOfMemory};
+ghost use Rattle.directoryd.specs.CommandLine.{status_of};
+ghost use Rattle.directoryd.specs.Programs.{no_text, Prints, Shows};
+
+use clap::Error;
+use clap::error::ErrorKind;
+use std::alloc::Global;
+use std::io::{self, ErrorKind as IoKind, Write};
+use textio::{ProgramFault, write_text};
+
+/// What is said of words that are not UTF-8.
+static NO_TEXT: &[u8] = b"error: invalid UTF-8 was detected in one or more arguments\n";
+
+/// Writes a text whole, and answers this status.
+fn print<W: Write>(writer: &mut W, text: &[u8], status: u8) -> Result<u8, ProgramFault>
+    ensures prints { Prints status text.now (W.contents writer.old) (W.contents writer.new) result }
+    ensures err { IfErr result (λ fault. fault ≡ ProgramFault.CannotWrite) }
+{
+    write_text(writer, text)?;
+    Ok(status)
+}
+
+/// The status of words that order nothing: 0 where they ask for help, else 2.
+fn status(error: &Error) -> u8
+    ensures { result ≡ status_of (kind_of error.now) }
+{
+    if error.use_stderr() { 2 } else { 0 }
+}
+
+/// Writes clap's text about words that order nothing, to the output where they ask for help, else to
+/// the errors, and answers the status.
+///
+/// # Errors
+///
+/// `OutOfMemory`, with nothing written; `CannotWrite`.
+pub fn refuse<W: Write, E: Write>(
+    alloc: Global,
+    error: &Error,
+    writer: &mut W,
+    errors: &mut E,
+) -> Result<u8, ProgramFault>
+    ensures memory { kind_of error.now ≡ OutOfMemory → result ≡ Err ProgramFault.OutOfMemory }
+    ensures shows { Shows (status_of (kind_of error.now)) (W.contents writer.old) (W.contents writer.new)
+        (E.contents errors.old) (E.contents errors.new) result }
+{
+    if error.kind() == ErrorKind::OutOfMemory {
+        return Err(ProgramFault::OutOfMemory);
+    }
+    let text = format!(in alloc; "{error}")?;
+    match status(error) {
+        0 => print(writer, text.as_bytes(), 0),
+        status => print(errors, text.as_bytes(), status),
+    }
+}
+
+/// Says that the words are no text, or that memory was wanting for them.
+///
+/// # Errors
+///
+/// `OutOfMemory` where the error is one of memory; `CannotWrite`.
+pub fn refuse_bytes<E: Write>(error: &io::Error, errors: &mut E) -> Result<u8, ProgramFault>
+    ensures memory { (result ≡ Err ProgramFault.OutOfMemory) ↔ (error_kind error.now ≡ IoKind.OutOfMemory) }
+    ensures prints { Prints 2 no_text (E.contents errors.old) (E.contents errors.new) result }
+{
+    if error.kind() == IoKind::OutOfMemory {
+        return Err(ProgramFault::OutOfMemory);
+    }
+    print(errors, NO_TEXT, 2)
+}

@@ -1,0 +1,63 @@
+-- Items are listed line by line.
+use Rattle.std.proofs.Common.{◌≡◌, ℕ, List, [], ◌∷◌, ◌++◌, Option, None, Some, IfSome, true, false, length, take, refl, sym, ap, ◌∙◌, arith, append_assoc, append-nil, ne_eqb, take_all, length-take-le, inl, inr}
+use Rattle.std.proofs.lemmas.Bool.{cases_lt}
+use Rattle.std.specs.Prelude.{⊤, IsSomeAnd}
+use Rattle.prefixtree.specs.Placement.{Items}
+use Rattle.items.specs.Items.{item_of}
+use Rattle.textio.specs.Lines.{lines_of, TakesLine}
+use Rattle.items.specs.Listing.{Listed, listed, onto_listed}
+
+-- the items before, and then those of the lines that are left
+abbrev pub onto_all : Items → Listed → Listed
+onto_all before rest = record { items = before ++ rest.items; is_cut = rest.is_cut }
+
+-- the items so far and those of what is left are those of the input
+abbrev pub IsListedSoFar : Option (List ℕ) → Option (List ℕ) → Items → Type 0
+IsListedSoFar None left items = ⊤
+IsListedSoFar (Some input) left items = IsSomeAnd left (λ rest. listed (lines_of input) ≡ onto_all items (listed (lines_of rest)))
+
+pub IsListedSoFar-none : (input : Option (List ℕ)) → IsListedSoFar input input []
+IsListedSoFar-none None = tt
+IsListedSoFar-none (Some input) = refl
+
+not_item : (line : List ℕ) → (length line ≡ 129 → ⊥) → item_of line ≡ None
+unfolding item_of
+not_item line h = rw (ne_eqb (length line) 129 h) refl
+
+-- a line is an item exactly where its first 130 bytes are: one that is longer is none, nor are they
+item_of-take : (line : List ℕ) → item_of (take 130 line) ≡ item_of line
+item_of-take line = elim (cases_lt (length line) 131) [
+  | inl h ↦ ap item_of (take_all 130 line (omega arith))
+  | inr h ↦
+      let kept : length (take 130 line) ≡ 130 = length-take-le 130 line (omega arith) in
+      not_item (take 130 line) (λ e. omega arith) ∙ sym (not_item line (λ e. omega arith))
+]
+
+pub IsListedSoFar-more : (input mid left : Option (List ℕ)) (items : Items) (kept : List ℕ) (item : List ℕ × List ℕ)
+    → IsListedSoFar input mid items → TakesLine 130 mid left (Some kept) → item_of kept ≡ Some item → IsListedSoFar input left (items ++ item ∷ [])
+IsListedSoFar-more None mid left items kept item so_far line is = tt
+IsListedSoFar-more (Some input) None left items kept item so_far line is = absurd so_far
+IsListedSoFar-more (Some input) (Some rest) None items kept item so_far line is = absurd line
+IsListedSoFar-more (Some input) (Some rest) (Some after) items kept item so_far (whole, first, beginning) is =
+    let same : item_of whole ≡ Some item = sym (item_of-take whole) ∙ ap item_of (sym beginning) ∙ is in
+    so_far ∙ ap (λ lines. onto_all items (listed lines)) first ∙ ap (λ i. onto_all items (onto_listed i (listed (lines_of after)))) same
+    ∙ ap (λ (i : Items). record { items = i; is_cut = (listed (lines_of after)).is_cut }) (sym (append_assoc items (item ∷ []) (listed (lines_of after)).items))
+
+-- the end of the input
+pub listed-end : (input mid left : Option (List ℕ)) (items : Items) → IsListedSoFar input mid items → TakesLine 130 mid left None
+    → IfSome input (λ text. listed (lines_of text) ≡ record { items = items; is_cut = false })
+listed-end None mid left items so_far line = tt
+listed-end (Some input) None left items so_far line = absurd so_far
+listed-end (Some input) (Some rest) left items so_far line =
+    so_far ∙ ap (λ text. onto_all items (listed (lines_of text))) line.0 ∙ ap (λ (i : Items). record { items = i; is_cut = false }) (append-nil items)
+
+-- a malformed line
+pub listed-cut : (input mid left : Option (List ℕ)) (items : Items) (kept : List ℕ) → IsListedSoFar input mid items → TakesLine 130 mid left (Some kept) → item_of kept ≡ None
+    → IfSome input (λ text. listed (lines_of text) ≡ record { items = items; is_cut = true })
+listed-cut None mid left items kept so_far line is = tt
+listed-cut (Some input) None left items kept so_far line is = absurd so_far
+listed-cut (Some input) (Some rest) None items kept so_far line is = absurd line
+listed-cut (Some input) (Some rest) (Some after) items kept so_far (whole, first, beginning) is =
+    let same : item_of whole ≡ None = sym (item_of-take whole) ∙ ap item_of (sym beginning) ∙ is in
+    so_far ∙ ap (λ lines. onto_all items (listed lines)) first ∙ ap (λ i. onto_all items (onto_listed i (listed (lines_of after)))) same
+    ∙ ap (λ (i : Items). record { items = i; is_cut = true }) (append-nil items)

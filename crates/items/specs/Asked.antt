@@ -1,0 +1,12 @@
+-- What `root` and `prove` are asked.
+use Rattle.std.specs.Prelude.{ℕ, List, Option, option_map}
+use Rattle.items.specs.declared.kinds.HashChoice.{HashChoice}
+use Rattle.items.specs.declared.kinds.RootOrder.{RootOrder}
+
+-- the values of an order: the hash function, and the nonce's text where one is given
+pub record Asked : Type 0 where
+  pub hash : HashChoice
+  pub nonce : Option (List ℕ)
+
+abbrev pub values_of : RootOrder → Asked
+values_of order = record { hash = order.hash; nonce = option_map (λ text. text.now) order.nonce }

@@ -1,0 +1,9 @@
+pub mod Asked
+pub mod Items
+pub mod Listing
+pub mod Root
+pub mod Prove
+pub use Rattle.textio.specs.Digits
+pub use Rattle.textio.specs.Faults
+pub use Rattle.textio.specs.Lines
+pub use Rattle.textio.specs.Output

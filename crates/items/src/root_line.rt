@@ -1,0 +1,87 @@
+ghost use Rattle.std.specs.Prelude.{◌≡◌, ◌≢◌, ◌↔◌, ◌++◌, length, Err, IfErr, MatchResult, None, Some, option_map};
+ghost use Rattle.items.specs.Asked.{values_of};
+ghost use Rattle.items.specs.Items.{placement_of};
+ghost use Rattle.textio.specs.Output.{Ends};
+ghost use Rattle.items.specs.Root.{nonce_of, root_answer, root_line, root_told};
+
+use crate::kinds::{HashChoice, RootOrder};
+use crate::listing::read_placement;
+use encoding::{FixedText, Hash32};
+use nodehash::{NodeHash, Sha256Hash, SumHash};
+use prefixtree::Tree;
+use std::alloc::Global;
+use std::io::{BufRead, Write};
+use textio::{HASH_DIGITS, HASH_SIZE, ProgramFault, hex_digits, option_hex32, write_text};
+
+/// The bytes of `root `, a hash in digits and LF.
+const ROOT_TEXT: usize = b"root \n".len() + HASH_DIGITS;
+
+pub(crate) type RootText = FixedText<ROOT_TEXT>;
+
+/// The line that tells a root.
+pub(crate) fn root_text(root: &Hash32) -> RootText
+    ensures { result ≡ root_line root.now }
+{
+    let mut text = RootText::new();
+    text.push_slice(b"root ");
+    text.push_slice(&hex_digits(root.bytes()));
+    text.push(b'\n');
+    text
+}
+
+/// The nonce of an order: 32 zero bytes where none is given.
+pub(crate) fn nonce_of(text: Option<&str>) -> Result<Hash32, ProgramFault>
+    ensures { MatchResult result (λ nonce. nonce_of (option_map (λ t. t.now) text.entry) ≡ Some nonce)
+        (λ fault. (fault ≡ ProgramFault.BadHex) × (nonce_of (option_map (λ t. t.now) text.entry) ≡ None)) }
+{
+    match text {
+        None => Ok(Hash32::new([0; HASH_SIZE])),
+        Some(text) => Ok(Hash32::new(option_hex32(text)?)),
+    }
+}
+
+/// Writes the root of the items that the input lists, under this hash function and nonce.
+fn root_under<H: NodeHash, R: BufRead, W: Write>(
+    alloc: Global,
+    hash: &mut H,
+    nonce: &Hash32,
+    reader: &mut R,
+    writer: &mut W,
+) -> Result<(), ProgramFault>
+    ensures ends { Ends (λ input said. root_told H.digest_of nonce.now (placement_of input) ≡ said)
+        (R.remaining reader.old) (W.contents writer.old) (W.contents writer.new) result }
+    ensures good_hex { IfErr result (λ fault. fault ≢ ProgramFault.BadHex) }
+{
+    let items = read_placement(alloc, reader)?;
+    let tree = Tree::from_items(alloc, hash, *nonce, &items)?;
+    write_text(writer, root_text(&tree.root()).bytes())?;
+    Ok(())
+}
+
+/// Reads items, one a line, and writes the root of their tree. Nothing is written before the whole
+/// input was read and is good.
+///
+/// # Errors
+///
+/// `BadHex`, before anything is read, where the nonce's text is not 64 hexadecimal digits; the fault
+/// of the first faulty line; `CannotRead`; `OutOfMemory`; `CannotWrite`, with a beginning of the text
+/// written.
+pub fn root<R: BufRead, W: Write>(
+    alloc: Global,
+    order: RootOrder<'_>,
+    reader: &mut R,
+    writer: &mut W,
+) -> Result<(), ProgramFault>
+    ensures ends { Ends (λ input said. root_answer (values_of order.entry) input ≡ said) (R.remaining reader.old) (W.contents writer.old) (W.contents writer.new) result }
+    ensures bad_hex { (result ≡ Err ProgramFault.BadHex) ↔ (nonce_of (values_of order.entry).nonce ≡ None) }
+    ensures unread { result ≡ Err ProgramFault.BadHex → (reader.new ≡ reader.old) × (writer.new ≡ writer.old) }
+{
+    let nonce = nonce_of(order.nonce)?;
+    match order.hash {
+        HashChoice::Sha256 => root_under(alloc, &mut Sha256Hash::new(), &nonce, reader, writer),
+        HashChoice::Sum => root_under(alloc, &mut SumHash::new(), &nonce, reader, writer),
+    }
+}
+
+#[cfg(test)]
+mod tests;

@@ -1,0 +1,4 @@
+pub mod Writing
+pub mod InLine
+pub mod Steps
+pub mod NextLine

@@ -1,0 +1,39 @@
+-- What a fault says.
+use Rattle.std.specs.Prelude.{ℕ, List, ◌++◌, Result, Err, codes, decimal, ⊤}
+use Rattle.textio.specs.declared.stream_fault.StreamFault.{StreamFault}
+use Rattle.textio.specs.declared.stream_fault.StreamFault.TheVariants as stream
+use Rattle.textio.specs.declared.program_fault.ProgramFault.{ProgramFault}
+use Rattle.textio.specs.declared.program_fault.ProgramFault.TheVariants.{BadHex, BadItem, IndexRepeated, CannotRead, CannotWrite, OutOfMemory}
+
+-- what a program says of a read or a write that failed
+abbrev pub of_stream : StreamFault → ProgramFault
+of_stream stream.CannotRead = CannotRead
+of_stream stream.CannotWrite = CannotWrite
+
+-- the line that tells a fault
+abbrev pub fault_text : ProgramFault → List ℕ
+fault_text BadHex = codes "bad hex\n"
+fault_text (BadItem line) = codes "line " ++ decimal line ++ codes ": bad item\n"
+fault_text (IndexRepeated line) = codes "line " ++ decimal line ++ codes ": index repeated\n"
+fault_text CannotRead = codes "cannot read\n"
+fault_text CannotWrite = codes "cannot write\n"
+fault_text OutOfMemory = codes "out of memory\n"
+
+-- A fault that speaks of the input is one that is said of it. A failed read and want of memory speak
+-- of no input.
+abbrev pub IsTold : {T : Type 0} → ProgramFault → (Result T ProgramFault → Type 0) → Type 0
+IsTold CannotRead Says = ⊤
+IsTold OutOfMemory Says = ⊤
+IsTold fault Says = Says (Err fault)
+
+-- a read or memory failed
+abbrev pub IsDeviceFault : ProgramFault → Type 0
+IsDeviceFault CannotRead = ⊤
+IsDeviceFault OutOfMemory = ⊤
+IsDeviceFault _ = ⊥
+
+-- the fault came up while the input was read
+abbrev pub IsInputFault : ProgramFault → Type 0
+IsInputFault BadHex = ⊥
+IsInputFault CannotWrite = ⊥
+IsInputFault _ = ⊤

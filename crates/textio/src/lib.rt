@@ -1,0 +1,30 @@
+//! Text in and out of the programs: lines, whole writes, hexadecimal digits, and the faults that a
+//! program ends with. It stands on std's `BufRead` and `Write`, and on the kit's `hex`.
+//!
+//! To the layers above: a line is what stands between two LFs, a text is written whole or the error
+//! says that a write failed, and the line and the status of each fault are exact. Their tests use
+//! `CutReader` and `CutWriter`, which fail at a call of their choice.
+//!
+//! ```text
+//! while let Some(line) = next_line::<80, R>(&mut reader)? {
+//!     let Some(hash) = hex32(line.bytes()) else {
+//!         return Err(ProgramFault::BadItem(1));
+//!     };
+//!     write_text(&mut writer, &hex_digits(&hash))?;
+//! }
+//! ```
+#![tactic(auto)]
+
+mod devices;
+mod digits;
+mod line;
+mod output;
+mod program_fault;
+mod stream_fault;
+
+pub use devices::{CutReader, CutWriter};
+pub use digits::{HASH_DIGITS, HASH_SIZE, hex32, hex_digits, option_hex32};
+pub use line::next_line;
+pub use output::write_text;
+pub use program_fault::ProgramFault;
+pub use stream_fault::StreamFault;

@@ -1,0 +1,93 @@
+ghost use Rattle.std.specs.Prelude.{◌≡◌, ◌<◌, ◌≤◌, length, take, OnOk, IfOk, IfErr};
+ghost use Rattle.std.specs.Io.KnownBytes.{Appends, Keeps};
+ghost use Rattle.textio.specs.Output.{WritesBeginning};
+
+use crate::stream_fault::{StreamFault, after_error};
+use std::io::Write;
+
+/// Writes some of the bytes that are left, and answers how many: none where a signal interrupted it.
+fn write_some<W: Write>(writer: &mut W, rest: &[u8]) -> Result<usize, StreamFault>
+    ensures within { IfOk result (λ count. count ≤ length rest.now) }
+    ensures ok { IfOk result (λ count. Appends (W.contents writer.old) (W.contents writer.new) (take count rest.now)) }
+    ensures err { IfErr result (λ fault. (fault ≡ StreamFault.CannotWrite)
+        × Keeps (W.contents writer.old) (W.contents writer.new)) }
+{
+    match writer.write(rest) {
+        Ok(0) => Err(StreamFault::CannotWrite),
+        Ok(count) => Ok(count),
+        Err(error) => {
+            after_error(&error, StreamFault::CannotWrite)?;
+            Ok(0)
+        }
+    }
+}
+
+/// Writes a text whole. A write that takes no byte counts as failed, and one that a signal
+/// interrupted is tried again. An empty text is written by no write.
+///
+/// # Errors
+///
+/// `CannotWrite`, with a beginning of the text written.
+#[tactic(auto, using(crate::proofs::Writing::writes))]
+pub fn write_text<W: Write>(writer: &mut W, text: &[u8]) -> Result<(), StreamFault>
+    ensures ok { OnOk result (Appends (W.contents writer.old) (W.contents writer.new) text.now) }
+    ensures err { IfErr result (λ fault. (fault ≡ StreamFault.CannotWrite)
+        × WritesBeginning (W.contents writer.old) (W.contents writer.new) text.now) }
+{
+    let mut rest = text;
+    // Every loop of Rattle has an end: this one's is past any text.
+    for _ in 0..u64::MAX {
+        if rest.is_empty() {
+            break;
+        }
+        let count = write_some(writer, rest)?;
+        rest = rest.split_at(count).1;
+    }
+    if rest.is_empty() {
+        Ok(())
+    } else {
+        Err(StreamFault::CannotWrite)
+    }
+}
+
+#[cfg(test)]
+mod tests {
+    use super::*;
+    use crate::devices::CutWriter;
+    use std::io::ErrorKind;
+    use std::test::Fail;
+
+    #[test]
+    fn one_write_fails(rt: HostRuntime) -> Result<(), Fail> {
+        let text = b"bad hex\n";
+        for call in 0..text.len() {
+            for kind in [Some(ErrorKind::BrokenPipe), None] {
+                let mut writer = CutWriter::new(rt.alloc(), 8, 1)?.fail_at(call, kind);
+                let answer = write_text(&mut writer, text);
+                assert_eq!(rt; answer, Err(StreamFault::CannotWrite), "at {call}");
+                assert_eq!(rt; Some(writer.taken()), text.get(..call), "at {call}");
+            }
+            let kind = Some(ErrorKind::Interrupted);
+            let mut writer = CutWriter::new(rt.alloc(), 8, 1)?.fail_at(call, kind);
+            assert_eq!(rt; write_text(&mut writer, text), Ok(()), "at {call}");
+            assert_eq!(rt; writer.taken(), text.as_slice(), "at {call}");
+        }
+        Ok(())
+    }
+
+    #[test]
+    fn many_writes(rt: HostRuntime) -> Result<(), Fail> {
+        let text = [b'x'; 1000];
+        let mut writer = CutWriter::new(rt.alloc(), 1000, 1)?;
+        assert_eq!(rt; write_text(&mut writer, &text), Ok(()));
+        assert_eq!(rt; writer.taken(), text.as_slice());
+        Ok(())
+    }
+
+    #[test]
+    fn nothing_to_write(rt: HostRuntime) -> Result<(), Fail> {
+        let mut writer = CutWriter::new(rt.alloc(), 0, 1)?.fail_at(0, None);
+        assert_eq!(rt; write_text(&mut writer, &[]), Ok(()));
+        Ok(())
+    }
+}

@@ -1,0 +1,27 @@
+ghost use Rattle.std.specs.Prelude.{◌≡◌, ◌↔◌, IsOk, IfErr};
+ghost use Rattle.std.specs.IoError.{error_kind};
+
+use std::io::{Error, ErrorKind};
+use thiserror::Error;
+
+/// Why a text was not read or written.
+#[derive(Clone, Copy, Debug, PartialEq, Eq, Error)]
+pub enum StreamFault {
+    #[error("cannot read")]
+    CannotRead,
+    #[error("cannot write")]
+    CannotWrite,
+}
+
+/// What to do about an error of a read or a write: try again where a signal interrupted it, else
+/// answer this fault.
+pub(crate) fn after_error(error: &Error, fault: StreamFault) -> Result<(), StreamFault>
+    ensures interrupted { IsOk result ↔ (error_kind error.now ≡ ErrorKind.Interrupted) }
+    ensures err { IfErr result (λ given. given ≡ fault) }
+{
+    if error.kind() == ErrorKind::Interrupted {
+        Ok(())
+    } else {
+        Err(fault)
+    }
+}
