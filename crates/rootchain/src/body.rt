@@ -1,6 +1,5 @@
-ghost use Rattle.std.specs.Prelude.{◌≡◌, length, IsOkUnless, OnErr};
-ghost use Rattle.encoding.specs.Fields.{Reads, ReadsWhole};
-ghost use Rattle.encoding.specs.Reading.{Gives};
+ghost use Rattle.std.specs.Prelude.{◌≡◌, length, IsOkUnless};
+ghost use Rattle.encoding.specs.Fields.{ReadsWhole};
 ghost use Rattle.rootchain.specs.declared.refusal.Refusal.TheVariants.{Malformed};
 ghost use Rattle.rootchain.specs.Bodies.{body_bytes, is_well_formed, read_body, IsBody, IsWellFormed};
 

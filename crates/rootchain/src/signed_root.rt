@@ -1,6 +1,5 @@
 ghost use Rattle.std.specs.Prelude.{◌≡◌, ◌≤◌, ◌↔◌, ◌+◌, length, IsOkUnless, IsTrue};
 ghost use Rattle.encoding.specs.Fields.{ReadsWhole};
-ghost use Rattle.encoding.specs.Reading.{Gives};
 ghost use Rattle.rootchain.specs.declared.refusal.Refusal.TheVariants.{Malformed};
 ghost use Rattle.rootchain.specs.Bodies.{IsWellFormed};
 ghost use Rattle.rootchain.specs.Chains.{Names, Verifies};

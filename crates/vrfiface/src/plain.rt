@@ -1,4 +1,4 @@
-ghost use Rattle.std.specs.Prelude.{◌≡◌, ℕ, List, refl};
+ghost use Rattle.std.specs.Prelude.{◌≡◌, refl};
 ghost use Rattle.std.proofs.Common.{◌∙◌, sym, lit≤};
 ghost use Rattle.std.proofs.Math.Nat.{le_trans};
 ghost use Rattle.vrfiface.specs.StandIns.{plain_key, plain_value};
