@@ -1,7 +1,7 @@
-//! Two replies, and what shows that they should not both be there. If they state two things with one
-//! index, two ways lead from one root to two ends. They are climbed from the ends up, and the pair of
-//! texts kept is the last that differs, the nearest to the root: above it the texts are equal, so its
-//! digests are. If no texts differ, the ends open two commitment texts with one digest.
+//! Comparing two replies. If they state two things with one index, two ways lead from one root to two
+//! ends. Both are climbed from the ends up, and the last pair of texts that differs is kept, which is the
+//! nearest to the root: the texts above it are equal, so the two have one digest. If no texts differ,
+//! the ends open two commitment texts with one digest.
 ghost use Rattle.std.specs.Prelude.{◌≡◌, ◌≢◌, ◌⊎◌, ◌↔◌, ◌≤◌, ℕ, List, Option, length, IfErr, IfOk, IsOkAnd, IsSomeAnd, IsTrue, MatchOption};
 ghost use Rattle.proofs.specs.Accepts.{Accepts, HasIndex};
 ghost use Rattle.proofs.specs.Comparisons.{texts_of, Answers, AreOpposed, Compares, HaveOneIndex, IsAcceptedReply, IsOneBindingOr, Refuses};
