@@ -164,4 +164,4 @@ pub fn order<'a, S: AsStr>(alloc: Global, words: &'a [S]) -> Result<Order<'a>, E
 }
 
 #[cfg(test)]
-mod tests;
+pub(crate) mod tests;

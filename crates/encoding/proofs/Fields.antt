@@ -10,9 +10,9 @@ use Rattle.std.proofs.lemmas.Slice.Eq.{bytes_eq-Decides}
 use Rattle.byteorder.specs.Endian.{big_bytes, big_number}
 use Rattle.byteorder.specs.Numbers.{big_from-lt, length-bytes_high_first}
 use Rattle.encoding.specs.declared.fault.Fault.{Fault}
-use Rattle.encoding.specs.declared.fault.Fault.TheVariants.{Short, OutOfRange}
+use Rattle.encoding.specs.declared.fault.Fault.TheVariants.{Short, Trailing, OutOfRange}
 use Rattle.encoding.specs.Bytes.{IsBytes, HasBytes}
-use Rattle.encoding.specs.Reading.{Gives, Reading, ◌>>=◌, is_within, read_bytes, read_byte, read_number, read_counted, read_both, read_as, read_nothing, read_then, read_where, read_behind, read_list}
+use Rattle.encoding.specs.Reading.{Gives, Reading, ◌>>=◌, is_within, read_bytes, read_byte, read_number, read_counted, read_both, read_as, read_nothing, read_then, read_where, read_behind, read_list, whole_of}
 use Rattle.encoding.specs.Forms.{counted_bytes}
 use Rattle.encoding.specs.Limits.{IsWithin}
 use Rattle.encoding.specs.Fields.{Reads, IsField, Spells, BytesAreField, ByteIsField, NumbersAreFields, CountedAreFields}
@@ -238,6 +238,10 @@ pub whole-left : {A : Type 0} (f : List ℕ → Reading A) (s : A → List ℕ) 
     → (bytes : List ℕ) (y : A) (rest : List ℕ) → f bytes ≡ Ok (y, rest) → rest ≢ [] → (x : A) → ¬ Spells s P bytes x
 whole-left f s P field bytes y rest e some x = λ spelled.
     some (ap (λ (z : _ × List ℕ). z.1) (ok_is (y, rest) (x, []) (sym e ∙ whole-spelled f s P field bytes x spelled)))
+
+pub whole_of-left : {A : Type 0} (reading : Reading A) (y : A) (rest : List ℕ) → reading ≡ Ok (y, rest) → rest ≢ [] → whole_of reading ≡ Err Trailing
+whole_of-left reading y [] e some = absurd (some refl)
+whole_of-left reading y (_ ∷ _) e some = ap whole_of e
 
 -- ---- the front of bytes
 

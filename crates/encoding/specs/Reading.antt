@@ -4,7 +4,7 @@ use Rattle.std.specs.Prelude.{◌≡◌, ℕ, zero, suc, ◌&&◌, Bool, List, [
 use Rattle.std.specs.Str.{bytes_eq}
 use Rattle.byteorder.specs.Endian.{big_number}
 use Rattle.encoding.specs.declared.fault.Fault.{Fault}
-use Rattle.encoding.specs.declared.fault.Fault.TheVariants.{Short, OutOfRange}
+use Rattle.encoding.specs.declared.fault.Fault.TheVariants.{Short, Trailing, OutOfRange}
 
 -- a value and the bytes that are left, or the fault
 abbrev pub Reading : Type 0 → Type 0
@@ -70,3 +70,9 @@ read_list read (suc count) bytes = read bytes >>= λ x. read_list read count x.1
 abbrev pub Gives : {X A : Type 0} → (X → A) → Result X Fault → List ℕ → Reading A → Type 0
 Gives seen (Ok x) rest reading = reading ≡ Ok (seen x, rest)
 Gives seen (Err fault) rest reading = reading ≡ Err fault
+
+-- what a reader gives for whole bytes: its value where none are left, else Trailing
+abbrev pub whole_of : {A : Type 0} → Reading A → Result A Fault
+whole_of (Ok (x, [])) = Ok x
+whole_of (Ok (x, _ ∷ _)) = Err Trailing
+whole_of (Err fault) = Err fault

@@ -1,6 +1,6 @@
 ghost use Rattle.std.specs.Prelude.{◌≡◌, ℕ, List, OnErr};
 ghost use Rattle.encoding.specs.Fields.{IsField, Reads, ReadsWhole};
-ghost use Rattle.encoding.specs.Reading.{Gives, Reading};
+ghost use Rattle.encoding.specs.Reading.{Gives, Reading, whole_of};
 
 use crate::{Cursor, Fault};
 
@@ -38,9 +38,10 @@ pub trait Form: Drop {
         Ok(value)
     }
 
-    /// The value that these bytes spell.
+    /// The value that these bytes spell, or the first fault: `Trailing` where bytes are left.
     final fn read_whole(bytes: &[u8]) -> Result<Self, Fault>
-        ensures { ReadsWhole (λ value. value) spelling Allowed bytes.now result }
+        ensures read { result ≡ whole_of (reader bytes.now) }
+        ensures form { ReadsWhole (λ value. value) spelling Allowed bytes.now result }
     {
         let mut cursor = Cursor::new(bytes);
         let value = Self::read_from(&mut cursor)?;

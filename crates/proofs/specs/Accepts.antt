@@ -1,4 +1,4 @@
--- Which replies to a look-up are accepted (CONIKS, sections 3 and 4; absence has this profile's form).
+-- Which replies to a look-up are accepted (CONIKS, sections 3 and 4; absence has this directory's own form).
 use Rattle.std.specs.Prelude.{◌≡◌, ◌≢◌, ℕ, List, length, Option, Some, None}
 use Rattle.encoding.specs.Bits.{Agree}
 use Rattle.nodehash.specs.NodeTexts.{empty_bytes, leaf_bytes}

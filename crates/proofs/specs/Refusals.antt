@@ -8,7 +8,7 @@ use Rattle.proofs.specs.declared.refusal.Refusal.TheVariants.{Malformed, Trailin
 use Rattle.proofs.specs.PathEnds.{end_text}
 use Rattle.proofs.specs.Replies.{End, Present, Empty, Other, Reply, Spells}
 
--- the number of a refusal in the protocol
+-- the number of a refusal
 abbrev pub refusal_number : Refusal → ℕ
 refusal_number Malformed = 1
 refusal_number Trailing = 2

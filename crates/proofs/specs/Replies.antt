@@ -1,5 +1,5 @@
--- What a reply to a look-up says, and its one spelling (after CONIKS, sections 3 and 4; the bytes are the
--- profile's).
+-- What a reply to a look-up says, and its one spelling (after CONIKS, sections 3 and 4; the bytes are this
+-- directory's own).
 use Rattle.std.specs.Prelude.{◌≡◌, ℕ, ◌≤◌, List, [], ◌∷◌, ◌++◌, length, ⊤}
 use Rattle.std.specs.List.{flat_map, AllByRecursion}
 use Rattle.encoding.specs.Bytes.{Is32Bytes}

@@ -170,7 +170,7 @@ fn accept<'a, H: NodeHash, V: VufCheck>(
     ensures kept { IfOk result (λ accepted. accepted ≡ record { name = name.now; reply = accepted.reply }) }
     ensures accepted { IfOk result (λ accepted. IsAcceptedReply H.digest_of V.accepted body.now name.now bytes.entry.now accepted.reply) }
 {
-    // `?` does not take a result that holds a view, here and below: the view borrows from the bytes.
+    // The prover does not cover `?` in a function with clauses whose result holds a view: here and below.
     match ReplyView::read(bytes) {
         Ok(view) => check(hash, vuf, body, name, &view),
         Err(refusal) => Err(refusal),

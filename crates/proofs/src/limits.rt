@@ -1,4 +1,4 @@
-//! The kind bytes of a reply's end, and the most siblings of a reply.
+//! The kind bytes of a reply's end.
 
 /// The kind byte of an opened leaf.
 pub(crate) const PRESENT: u8 = 1;
@@ -8,6 +8,3 @@ pub(crate) const EMPTY: u8 = 2;
 
 /// The kind byte of the leaf of another index.
 pub(crate) const OTHER: u8 = 3;
-
-/// The most siblings: one for each bit of an index.
-pub(crate) const MAX_SIBLINGS: usize = 256;

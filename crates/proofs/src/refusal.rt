@@ -5,26 +5,20 @@ use thiserror::Error;
 /// Why a reply is refused: the first of these that applies.
 #[derive(Clone, Copy, Debug, PartialEq, Eq, Error)]
 pub enum Refusal {
-    /// The bytes do not begin with a reply.
     #[error("the bytes do not begin with a reply")]
     Malformed,
-    /// More bytes follow the reply.
     #[error("more bytes follow the reply")]
     Trailing,
-    /// The reply is under another signed root.
     #[error("the reply is under another signed root")]
     OtherRoot,
-    /// The value is not accepted for the name.
     #[error("the value is not accepted for the name")]
     BadVuf,
-    /// The leaf that should show absence is that of the name's own index.
     #[error("the leaf that should show absence is that of the name's own index")]
     SameIndex,
     /// The leaf that should show absence does not agree with the name's index in as many bits as there
     /// are siblings.
     #[error("the leaf that should show absence is not on the way of the name's index")]
     OtherPrefix,
-    /// The siblings do not lead from the root to the end.
     #[error("the siblings do not lead from the root to the end")]
     PathMismatch,
 }
@@ -32,7 +26,7 @@ pub enum Refusal {
 impl Refusal {
     ghost use Rattle.proofs.specs.Refusals.{refusal_number};
 
-    /// The number of this refusal in the protocol.
+    /// The number of this refusal.
     pub fn number(self) -> u8
         ensures { result ≡ refusal_number self }
     {

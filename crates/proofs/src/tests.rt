@@ -81,17 +81,27 @@ fn judged<'a, H: NodeHash, V: VufCheck>(
 }
 
 #[test]
-fn refusals_by_number(rt: HostRuntime) {
-    let numbers = [
-        (Refusal::Malformed, 1),
-        (Refusal::Trailing, 2),
-        (Refusal::OtherRoot, 3),
-        (Refusal::BadVuf, 4),
-        (Refusal::SameIndex, 5),
-        (Refusal::OtherPrefix, 6),
-        (Refusal::PathMismatch, 7),
-    ];
-    for (refusal, number) in numbers {
-        assert_eq!(rt; refusal.number(), number, "{refusal:?}");
+fn messages(rt: HostRuntime) -> Result<(), Fail> {
+    for (refusal, message) in [
+        (Refusal::Malformed, "the bytes do not begin with a reply"),
+        (Refusal::Trailing, "more bytes follow the reply"),
+        (Refusal::OtherRoot, "the reply is under another signed root"),
+        (Refusal::BadVuf, "the value is not accepted for the name"),
+        (
+            Refusal::SameIndex,
+            "the leaf that should show absence is that of the name's own index",
+        ),
+        (
+            Refusal::OtherPrefix,
+            "the leaf that should show absence is not on the way of the name's index",
+        ),
+        (
+            Refusal::PathMismatch,
+            "the siblings do not lead from the root to the end",
+        ),
+    ] {
+        let text = format!(in rt.alloc(); "{refusal}")?;
+        assert_eq!(rt; text.as_str(), message);
     }
+    Ok(())
 }

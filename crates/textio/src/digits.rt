@@ -5,7 +5,7 @@ ghost use Rattle.textio.specs.Digits.{hex32};
 use crate::program_fault::ProgramFault;
 use hex::FromHex;
 
-/// The bytes of a hash, an index, a key or a nonce.
+/// The bytes of a hash, an index or a nonce.
 pub const HASH_SIZE: usize = 32;
 
 /// Their hexadecimal digits.

@@ -6,12 +6,13 @@
 //! `CutReader` and `CutWriter`, which fail at a call of their choice.
 //!
 //! ```text
-//! while let Some(line) = next_line::<80, R>(&mut reader)? {
-//!     let Some(hash) = hex32(line.bytes()) else {
-//!         return Err(ProgramFault::BadItem(1));
-//!     };
-//!     write_text(&mut writer, &hex_digits(&hash))?;
-//! }
+//! let Some(line) = next_line::<65, R>(&mut reader)? else {
+//!     return Ok(());
+//! };
+//! let Some(hash) = hex32(line.bytes()) else {
+//!     return Err(ProgramFault::BadItem(1));
+//! };
+//! write_text(&mut writer, &hex_digits(&hash))?;
 //! ```
 #![tactic(auto)]
 
@@ -23,7 +24,7 @@ mod program_fault;
 mod stream_fault;
 
 pub use devices::{CutReader, CutWriter};
-pub use digits::{HASH_DIGITS, HASH_SIZE, hex32, hex_digits, option_hex32};
+pub use digits::{HASH_DIGITS, HASH_SIZE, hex_digits, hex32, option_hex32};
 pub use line::next_line;
 pub use output::write_text;
 pub use program_fault::ProgramFault;

@@ -76,7 +76,8 @@ fn take_step<const MOST: usize, R: BufRead>(
 }
 
 /// The first `MOST` bytes of the next line, without its LF, or `None` at the end of the input. The
-/// line is taken whole, however long it is.
+/// line is taken whole, however long it is. Without room for a byte, the end of the input could not be
+/// told from a line, so `MOST` is at least 1.
 ///
 /// # Errors
 ///

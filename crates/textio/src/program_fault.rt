@@ -68,7 +68,9 @@ impl<T: Drop> From<AllocFailed<T>> for ProgramFault {
 
 /// The most bytes that stand before and after the number of a line, and of the number itself.
 const BEFORE_NUMBER: usize = b"line ".len();
+
 const AFTER_NUMBER: usize = b": index repeated\n".len();
+
 const NUMBER: usize = 20;
 
 /// The most bytes of a fault's line.

@@ -1,4 +1,5 @@
 use super::*;
+use crate::order::tests::refusal;
 use std::alloc::AllocError;
 use std::io::{BufReader, ErrorKind};
 use std::test::Fail;
@@ -119,8 +120,15 @@ fn refused_words_are_told(rt: HostRuntime) -> Result<(), Fail> {
         ),
     ];
     for (words, status, output, errors) in rows {
+        let text = format!(in rt.alloc(); "{}", refusal(rt.alloc(), words)?)?;
         let run = told(rt.alloc(), words, "x\n")?;
         assert_eq!(rt; run.ending, ending(status), "at {words:?}");
+        let shown = if status == 0 {
+            &run.output
+        } else {
+            &run.errors
+        };
+        assert_eq!(rt; shown.as_slice(), text.as_bytes(), "at {words:?}");
         assert_eq!(rt; run.output.is_empty(), output.is_empty(), "at {words:?}");
         assert!(rt; run.output.starts_with(output.as_bytes()), "at {words:?}");
         assert_eq!(rt; run.errors.is_empty(), errors.is_empty(), "at {words:?}");

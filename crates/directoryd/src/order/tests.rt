@@ -58,7 +58,7 @@ fn words_of_prove(rt: HostRuntime) -> Result<(), Fail> {
 }
 
 /// Why clap refuses the words.
-fn refusal(alloc: Global, words: &[&str]) -> Result<Error, Fail> {
+pub(crate) fn refusal(alloc: Global, words: &[&str]) -> Result<Error, Fail> {
     match order(alloc, words) {
         Ok(_) => Err(Fail::new("clap takes the words")),
         Err(error) if error.kind() == ErrorKind::OutOfMemory => Err(error.into()),

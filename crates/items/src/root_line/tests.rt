@@ -219,3 +219,20 @@ fn one_write_fails(rt: HostRuntime) -> Result<(), Fail> {
     }
     Ok(())
 }
+
+/// An index that stands on a line among hundreds, and again on the last.
+#[test]
+fn repeat_after_many_items(rt: HostRuntime) -> Result<(), Fail> {
+    let mut input = listed_many(rt.alloc(), 300)?;
+    let last = items_at(rt.alloc(), &["0150"])?;
+    input.push_str(&last)?;
+    let mut written = Vec::with_capacity(rt.alloc(), 128)?;
+    let mut answer = root(rt.alloc(), SUM, &mut input.as_bytes(), &mut written);
+    // Once more: a body that gives up does so again.
+    if answer == Err(ProgramFault::OutOfMemory) {
+        answer = root(rt.alloc(), SUM, &mut input.as_bytes(), &mut written);
+    }
+    assert_eq!(rt; answer, Err(ProgramFault::IndexRepeated(301)));
+    assert!(rt; written.is_empty());
+    Ok(())
+}
