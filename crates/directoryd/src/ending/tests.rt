@@ -123,12 +123,11 @@ fn refused_words_are_told(rt: HostRuntime) -> Result<(), Fail> {
         let text = format!(in rt.alloc(); "{}", refusal(rt.alloc(), words)?)?;
         let run = told(rt.alloc(), words, "x\n")?;
         assert_eq!(rt; run.ending, ending(status), "at {words:?}");
-        let shown = if status == 0 {
-            &run.output
+        if status == 0 {
+            assert_eq!(rt; run.output.as_slice(), text.as_bytes(), "at {words:?}");
         } else {
-            &run.errors
-        };
-        assert_eq!(rt; shown.as_slice(), text.as_bytes(), "at {words:?}");
+            assert_eq!(rt; run.errors.as_slice(), text.as_bytes(), "at {words:?}");
+        }
         assert_eq!(rt; run.output.is_empty(), output.is_empty(), "at {words:?}");
         assert!(rt; run.output.starts_with(output.as_bytes()), "at {words:?}");
         assert_eq!(rt; run.errors.is_empty(), errors.is_empty(), "at {words:?}");
