@@ -1,9 +1,11 @@
-ghost use Rattle.std.specs.Prelude.{◌≡◌, ℕ};
+ghost use Rattle.std.specs.Prelude.{◌≡◌, ℕ, [], ◌∷◌, ◌+◌, ◌<◌, ◌≤◌, length, take, map, IsTrue};
 ghost use Rattle.sha2.specs.Sha256.{sha256};
+ghost use Rattle.nodehash.specs.Digests.{after_digests};
 ghost use Rattle.nodehash.specs.DigestSizes.{Is32Bytes-sha256};
 
-use crate::NodeHash;
+use crate::{NodeHash, NodeText};
 use encoding::Hash32;
+use lanes::sha256_four;
 use sha2::{Digest, Sha256};
 use std::marker::Model;
 
@@ -28,6 +30,60 @@ impl Sha256Hash {
     }
 }
 
+/// Whether the text and its padding fill two blocks, as the texts of all nodes do.
+fn has_two_blocks(text: &NodeText) -> bool
+    ensures { IsTrue result → (56 ≤ length text.now) × (length text.now < 120) }
+{
+    let len = text.bytes().len();
+    56 <= len && len < 120
+}
+
+/// The digests of four texts.
+fn digest_four(a: &NodeText, b: &NodeText, c: &NodeText, d: &NodeText) -> [Hash32; 4]
+    ensures { result ≡ map sha256 (a.now ∷ b.now ∷ c.now ∷ d.now ∷ []) }
+{
+    if has_two_blocks(a) && has_two_blocks(b) && has_two_blocks(c) && has_two_blocks(d) {
+        let [a, b, c, d] = sha256_four(a.bytes(), b.bytes(), c.bytes(), d.bytes());
+        return [
+            Hash32::new(a),
+            Hash32::new(b),
+            Hash32::new(c),
+            Hash32::new(d),
+        ];
+    }
+    [
+        Hash32::new(Sha256::digest(a.bytes())),
+        Hash32::new(Sha256::digest(b.bytes())),
+        Hash32::new(Sha256::digest(c.bytes())),
+        Hash32::new(Sha256::digest(d.bytes())),
+    ]
+}
+
+/// Fills the next four places with the digests of the texts there.
+fn digest_group(texts: &[NodeText], out: &mut [Hash32], first: usize)
+    requires fits { first + 4 ≤ length texts.now }
+    requires sizes { length out.old ≡ length texts.now }
+    ensures { take first out.old ≡ map sha256 (take first texts.now) → take (first + 4) out.new ≡ map sha256 (take (first + 4) texts.now) }
+{
+    let [a, b, c, d] = digest_four(
+        &texts[first],
+        &texts[first + 1],
+        &texts[first + 2],
+        &texts[first + 3],
+    );
+    out[first] = a;
+    out[first + 1] = b;
+    out[first + 2] = c;
+    out[first + 3] = d;
+}
+
+/// The count after this many digests more.
+fn counted(count: u64, more: usize) -> u64
+    ensures { result ≡ after_digests more count }
+{
+    count.saturating_add(more as u64)
+}
+
 impl NodeHash for Sha256Hash {
     ghost digest_of = { sha256 };
 
@@ -38,6 +94,17 @@ impl NodeHash for Sha256Hash {
     fn digest(&mut self, text: &[u8]) -> Hash32 {
         self.count = self.count.saturating_add(1);
         Hash32::new(Sha256::digest(text))
+    }
+
+    fn digest_all(&mut self, texts: &[NodeText], out: &mut [Hash32]) {
+        let groups = texts.len() / 4;
+        'groups: for group in 0..groups {
+            digest_group(texts, out, 4 * group);
+        }
+        'rest: for place in 4 * groups..texts.len() {
+            out[place] = Hash32::new(Sha256::digest(texts[place].bytes()));
+        }
+        self.count = counted(self.count, texts.len());
     }
 
     fn count(&self) -> u64 {
