@@ -6,6 +6,7 @@ pub mod Counts
 pub mod Ends
 pub mod Forked
 pub mod Forks
+pub mod Growing
 pub mod Halves
 pub mod ItemLists
 pub mod PathLeads
@@ -16,7 +17,9 @@ pub mod Order
 pub mod Parts
 pub mod Placements
 pub mod Places
+pub mod Rejoined
 pub mod Rows
+pub mod Several
 pub mod Siblings
 pub mod Sorting
 pub mod Splits

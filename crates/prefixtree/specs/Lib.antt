@@ -1,5 +1,7 @@
 pub mod Built
+pub mod Changes
 pub mod Contents
+pub mod Growth
 pub mod Node
 pub mod Paths
 pub mod Placement

@@ -2,7 +2,8 @@
 //! before those of bit 1, and one cut gives both halves. A half of one item is a leaf, and a half of
 //! none is an empty node.
 ghost use Rattle.std.specs.Prelude.{◌≡◌, ◌+◌, ◌-◌, ◌<◌, ◌≤◌, ◌++◌, IfOk};
-ghost use Rattle.prefixtree.specs.Node.{after_digests, half, node_count};
+ghost use Rattle.nodehash.specs.Digests.{after_digests};
+ghost use Rattle.prefixtree.specs.Node.{half, node_count};
 ghost use Rattle.prefixtree.specs.Under.{IsUnder};
 ghost use Rattle.prefixtree.specs.Built.{contents, IsBuilt};
 

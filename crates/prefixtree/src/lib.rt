@@ -18,6 +18,7 @@ mod items;
 mod laws;
 mod node;
 mod path;
+mod place;
 #[cfg(test)]
 mod plain;
 mod put;
