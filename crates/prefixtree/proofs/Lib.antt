@@ -18,6 +18,7 @@ pub mod Parts
 pub mod Placements
 pub mod Places
 pub mod Rejoined
+pub mod RowPlaces
 pub mod Rows
 pub mod Several
 pub mod Siblings

@@ -5,6 +5,7 @@ pub mod Growth
 pub mod Node
 pub mod Paths
 pub mod Placement
+pub mod Rows
 pub mod Under
 pub mod WorkedRoots
 pub use Rattle.encoding.specs.Bits

@@ -15,7 +15,7 @@ use std::alloc::{AllocError, Global};
 use std::rc::Rc;
 
 /// The items with bit `level` equal to 0, and those with bit `level` equal to 1.
-fn halves<'a>(items: &'a [Item], level: usize) -> (&'a [Item], &'a [Item])
+pub(crate) fn halves<'a>(items: &'a [Item], level: usize) -> (&'a [Item], &'a [Item])
     requires level { level < 256 }
     requires under { (prefix : _) × IsUnder prefix level items.now }
     ensures zeros { result.0.now ≡ half 0 level items.entry.now }

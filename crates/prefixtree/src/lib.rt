@@ -22,6 +22,7 @@ mod place;
 #[cfg(test)]
 mod plain;
 mod put;
+mod row;
 mod tree;
 mod way;
 

@@ -1,0 +1,272 @@
+//! The nodes of many places, made one level at a time, so that the digests of a level can be taken
+//! together. On the way down each row of places gives what is made at each and the row of their
+//! sides. On the way up the nodes of a row are made over those of the row below.
+ghost use Rattle.std.specs.Prelude.{◌≡◌, ℕ, List, [], ◌∷◌, ◌++◌, ◌+◌, ◌<◌, ◌≤◌, length, map, drop, IfOk, OnOk};
+ghost use Rattle.std.specs.Vec.Iter.{into_iter_items};
+ghost use Rattle.nodehash.specs.Digests.{after_digests};
+ghost use Rattle.prefixtree.specs.Built.{kept};
+ghost use Rattle.prefixtree.specs.declared.row.Place.{Place};
+ghost use Rattle.prefixtree.specs.declared.row.Spot.{Spot};
+ghost use Rattle.prefixtree.specs.declared.node.Node.{Node};
+ghost use Rattle.prefixtree.specs.Rows.{changes_of, digests_of, row_count, row_digests, row_sides, row_texts, sides_of, spot_texts, AreBuilt, AreMade, ArePlaces, AreSplit, IsPlace};
+
+use crate::Item;
+use crate::build::halves;
+use crate::node::{Children, Node};
+use crate::place::{Before, Outcome, come_of};
+use encoding::{Hash32, Index, with_one};
+use nodehash::{NodeHash, NodeText, empty_text, interior_text, leaf_text};
+use std::alloc::{AllocError, Global};
+use std::rc::Rc;
+use std::vec::IntoIter;
+
+/// A place of a row: its prefix, what stands there, and where the changes below it stand among all.
+#[derive(Drop)]
+pub(crate) struct Place {
+    pub(crate) prefix: Index,
+    pub(crate) before: Before,
+    pub(crate) start: usize,
+    pub(crate) end: usize,
+}
+
+/// What is made at a place.
+#[derive(Drop)]
+pub(crate) enum Spot {
+    /// The node that stands there is shared.
+    Shared(Node),
+    /// The empty node at this prefix.
+    Blank(Index),
+    /// The leaf of an item.
+    Alone(Rc<Item>),
+    /// An interior node over the next two nodes of the row below.
+    Joined,
+}
+
+/// The changes below a place.
+fn part<'a>(changes: &'a [Item], place: &Place) -> &'a [Item]
+    requires order { place.now.start ≤ place.now.end }
+    requires within { place.now.end ≤ length changes.now }
+    ensures { result.now ≡ changes_of changes.entry.now place.now }
+{
+    &changes[place.start..place.end]
+}
+
+/// What is made at a place. Appends the places of its sides, where it has them.
+fn split_place(
+    alloc: Global,
+    level: usize,
+    changes: &[Item],
+    place: &Place,
+    lower: &mut Vec<Place>,
+) -> Result<Spot, AllocError>
+    requires level { level ≤ 256 }
+    requires place { (of : List ℕ → List ℕ) × (nonce : List ℕ) × IsPlace of nonce changes.now level place.now }
+    ensures { IfOk result (λ spot. (below : List Place) × (lower.new.items ≡ lower.old.items ++ below)
+        × ((of : List ℕ → List ℕ) (nonce : List ℕ) (places : List Place) (spots : List Spot) (rest : List Place)
+            → IsPlace of nonce changes.now level place.now → AreSplit of nonce changes.now level places spots rest
+            → AreSplit of nonce changes.now level (place.now ∷ places) (spot ∷ spots) (below ++ rest))) }
+{
+    let here = part(changes, place);
+    match come_of(alloc, level, &place.before, here)? {
+        Outcome::Kept(node) => Ok(Spot::Shared(node)),
+        Outcome::Vacant => Ok(Spot::Blank(place.prefix)),
+        Outcome::Single(item) => Ok(Spot::Alone(item)),
+        Outcome::Parted(zero_side, one_side) => {
+            let middle = place.start + halves(here, level).0.len();
+            lower.push(Place {
+                prefix: place.prefix,
+                before: zero_side,
+                start: place.start,
+                end: middle,
+            })?;
+            lower.push(Place {
+                prefix: with_one(&place.prefix, level),
+                before: one_side,
+                start: middle,
+                end: place.end,
+            })?;
+            Ok(Spot::Joined)
+        }
+    }
+}
+
+/// What is made at each place of a row, and the places of their sides, in order.
+fn split_row(
+    alloc: Global,
+    level: usize,
+    changes: &[Item],
+    places: &[Place],
+) -> Result<(Vec<Spot>, Vec<Place>), AllocError>
+    requires level { level ≤ 256 }
+    requires places { (of : List ℕ → List ℕ) × (nonce : List ℕ) × ArePlaces of nonce changes.now level places.now }
+    ensures { IfOk result (λ row. (of : List ℕ → List ℕ) (nonce : List ℕ) → ArePlaces of nonce changes.now level places.now
+        → AreSplit of nonce changes.now level places.now row.0.items row.1.items) }
+{
+    let mut spots = Vec::with_capacity(alloc, places.len())?;
+    let mut lower = Vec::with_capacity(alloc, places.len())?;
+    for place in places {
+        let spot = split_place(alloc, level, changes, place, &mut lower)?;
+        spots.push(spot)?;
+    }
+    Ok((spots, lower))
+}
+
+/// How many nodes of the row below are used at a spot.
+fn sides_of(spot: &Spot) -> usize
+    ensures { result ≡ sides_of spot.now }
+{
+    match spot {
+        Spot::Joined => 2,
+        _ => 0,
+    }
+}
+
+/// How many digests are used at a spot.
+fn digests_of(spot: &Spot) -> usize
+    ensures { result ≡ digests_of spot.now }
+{
+    match spot {
+        Spot::Shared(_) => 0,
+        _ => 1,
+    }
+}
+
+/// Appends the text that is hashed at a spot, if any. Its children are the nodes of the row below
+/// from `below` on.
+fn push_text(
+    nonce: &Hash32,
+    level: usize,
+    spot: &Spot,
+    lower: &[Node],
+    below: usize,
+    texts: &mut Vec<NodeText>,
+) -> Result<(), AllocError>
+    requires level { level ≤ 256 }
+    requires fits { below + sides_of spot.now ≤ length lower.now }
+    ensures { OnOk result (texts.new.items ≡ texts.old.items ++ spot_texts nonce.now level spot.now (drop below (map kept lower.now))) }
+{
+    match spot {
+        Spot::Shared(_) => Ok(()),
+        Spot::Blank(prefix) => Ok(texts.push(empty_text(nonce, prefix, level as u32))?),
+        Spot::Alone(item) => Ok(texts.push(leaf_text(nonce, &item.0, level as u32, &item.1))?),
+        Spot::Joined => {
+            let text = interior_text(&lower[below].hash(), &lower[below + 1].hash());
+            Ok(texts.push(text)?)
+        }
+    }
+}
+
+/// The texts that are hashed for a row, over the nodes of the row below.
+fn texts_of_row(
+    alloc: Global,
+    nonce: &Hash32,
+    level: usize,
+    spots: &[Spot],
+    lower: &[Node],
+) -> Result<Vec<NodeText>, AllocError>
+    requires level { level ≤ 256 }
+    requires lower { length lower.now ≡ row_sides spots.now }
+    ensures { IfOk result (λ texts. texts.items ≡ row_texts nonce.now level spots.now (map kept lower.now)) }
+{
+    let mut texts = Vec::with_capacity(alloc, spots.len())?;
+    let mut below = 0;
+    for spot in spots {
+        push_text(nonce, level, spot, lower, below, &mut texts)?;
+        below += sides_of(spot);
+    }
+    Ok(texts)
+}
+
+/// The node at a spot, from the digests from `used` on and the next nodes of the row below.
+fn node_at(
+    alloc: Global,
+    spot: &Spot,
+    digests: &[Hash32],
+    used: usize,
+    lower: &mut IntoIter<Node>,
+) -> Result<Node, AllocError>
+    requires digests { used + digests_of spot.now ≤ length digests.now }
+    requires lower { sides_of spot.now ≤ length (into_iter_items lower.old) }
+    ensures made { IfOk result (λ node. (spots : List Spot) (nodes : List Node)
+        → AreMade (drop (used + digests_of spot.now) digests.now) spots (drop (sides_of spot.now) (into_iter_items lower.old)) nodes
+        → AreMade (drop used digests.now) (spot.now ∷ spots) (into_iter_items lower.old) (node ∷ nodes)) }
+    ensures rest { OnOk result (into_iter_items lower.new ≡ drop (sides_of spot.now) (into_iter_items lower.old)) }
+{
+    match spot {
+        Spot::Shared(node) => Ok(node.share()?),
+        Spot::Blank(_) => Ok(Node::Empty {
+            hash: digests[used],
+        }),
+        Spot::Alone(item) => Ok(Node::Leaf {
+            hash: digests[used],
+            item: item.clone()?,
+        }),
+        Spot::Joined => {
+            let Some(zero_side) = lower.next() else {
+                unreachable!()
+            };
+            let Some(one_side) = lower.next() else {
+                unreachable!()
+            };
+            let children = Rc::new(
+                alloc,
+                Children {
+                    zero_side,
+                    one_side,
+                },
+            )?;
+            Ok(Node::Interior {
+                hash: digests[used],
+                children,
+            })
+        }
+    }
+}
+
+/// The nodes of a row, from their digests and the nodes of the row below.
+fn join_row(
+    alloc: Global,
+    spots: &[Spot],
+    digests: &[Hash32],
+    lower: Vec<Node>,
+) -> Result<Vec<Node>, AllocError>
+    requires digests { length digests.now ≡ row_digests spots.now }
+    requires lower { length lower.items ≡ row_sides spots.now }
+    ensures { IfOk result (λ nodes. AreMade digests.now spots.now lower.items nodes.items) }
+{
+    let mut nodes = Vec::with_capacity(alloc, spots.len())?;
+    let mut below = lower.into_iter();
+    let mut used = 0;
+    for spot in spots {
+        nodes.push(node_at(alloc, spot, digests, used, &mut below)?)?;
+        used += digests_of(spot);
+    }
+    Ok(nodes)
+}
+
+/// The nodes of a row of places. Takes one digest for each node that is made at or below them.
+fn grow_row<H: NodeHash>(
+    alloc: Global,
+    hash: &mut H,
+    nonce: &Hash32,
+    level: usize,
+    changes: &[Item],
+    places: &[Place],
+) -> Result<Vec<Node>, AllocError>
+    requires level { level ≤ 257 }
+    requires fits { 0 < length places.now → level ≤ 256 }
+    requires places { ArePlaces H.digest_of nonce.now changes.now level places.now }
+    ensures built { IfOk result (λ nodes. AreBuilt H.digest_of nonce.now changes.now level places.now nodes.items) }
+    ensures work { H.digests hash.new ≤ H.digests hash.old + row_count level changes.now places.now }
+    ensures exact { IfOk result (λ _. H.digests hash.new ≡ after_digests (row_count level changes.now places.now) (H.digests hash.old)) }
+{
+    if places.is_empty() {
+        return Ok(Vec::new(alloc));
+    }
+    let (spots, lower) = split_row(alloc, level, changes, places)?;
+    let below = grow_row(alloc, hash, nonce, level + 1, changes, &lower)?;
+    let texts = texts_of_row(alloc, nonce, level, &spots, &below)?;
+    let mut digests = vec![in alloc; Hash32::new([0; 32]); texts.len()]?;
+    hash.digest_all(&texts, &mut digests);
+    join_row(alloc, &spots, &digests, below)
+}
