@@ -20,6 +20,7 @@ pub mod Places
 pub mod Rejoined
 pub mod RowPlaces
 pub mod Rows
+pub mod RowsMade
 pub mod Several
 pub mod Siblings
 pub mod Sorting

@@ -64,15 +64,15 @@ IsSame node other =
     × ((of : List ℕ → List ℕ) (nonce prefix : List ℕ) (level : ℕ) → IsBuilt of nonce prefix level node → IsBuilt of nonce prefix level other)
 
 -- the nodes that are made at spots, of these digests and over these nodes of the row below
-abbrev pub AreMade : List (List ℕ) → List Spot → List Node → List Node → Type 0
+abbrev pub AreMade : List Spot → List (List ℕ) → List Node → List Node → Type 0
 AreMade [] [] [] [] = Unit {0}
-AreMade digests (Shared node ∷ spots) lower (other ∷ nodes) = IsSame node other × AreMade digests spots lower nodes
-AreMade (digest ∷ digests) (Blank prefix ∷ spots) lower (Empty hash ∷ nodes) = (hash ≡ digest) × AreMade digests spots lower nodes
-AreMade (digest ∷ digests) (Alone item ∷ spots) lower (Leaf hash shared ∷ nodes) =
-    (hash ≡ digest) × (shared.value ≡ item.value) × AreMade digests spots lower nodes
-AreMade (digest ∷ digests) (Joined ∷ spots) (zero_node ∷ one_node ∷ lower) (Interior' hash p zero_side one_side ∷ nodes) =
-    (hash ≡ digest) × (zero_side ≡ zero_node) × (one_side ≡ one_node) × AreMade digests spots lower nodes
-AreMade digests spots lower nodes = ⊥
+AreMade (Shared node ∷ spots) digests lower (other ∷ nodes) = IsSame node other × AreMade spots digests lower nodes
+AreMade (Blank prefix ∷ spots) (digest ∷ digests) lower (Empty hash ∷ nodes) = (hash ≡ digest) × AreMade spots digests lower nodes
+AreMade (Alone item ∷ spots) (digest ∷ digests) lower (Leaf hash shared ∷ nodes) =
+    (hash ≡ digest) × (shared.value ≡ item.value) × AreMade spots digests lower nodes
+AreMade (Joined ∷ spots) (digest ∷ digests) (zero_node ∷ one_node ∷ lower) (Interior' hash p zero_side one_side ∷ nodes) =
+    (hash ≡ digest) × (zero_side ≡ zero_node) × (one_side ≡ one_node) × AreMade spots digests lower nodes
+AreMade spots digests lower nodes = ⊥
 
 module _ (of : List ℕ → List ℕ) (nonce : List ℕ) (all : Items) where
   -- a place of this level, whose changes are some of all

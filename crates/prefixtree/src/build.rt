@@ -1,18 +1,24 @@
-//! Building the nodes of a list of items. The items ascend, so at each level those of bit 0 stand
-//! before those of bit 1, and one cut gives both halves. A half of one item is a leaf, and a half of
-//! none is an empty node.
-ghost use Rattle.std.specs.Prelude.{◌≡◌, ◌+◌, ◌-◌, ◌<◌, ◌≤◌, ◌++◌, IfOk};
+//! Putting many items into a node at once. A place with few changes below it is made level by level,
+//! with the digests of a level taken together. Above that each place is parted into its two sides, so
+//! that no row gets long.
+ghost use Rattle.std.specs.Prelude.{◌≡◌, ◌+◌, ◌-◌, ◌<◌, ◌≤◌, ◌++◌, IfOk, OnOk};
 ghost use Rattle.nodehash.specs.Digests.{after_digests};
-ghost use Rattle.prefixtree.specs.Node.{half, node_count};
+ghost use Rattle.prefixtree.specs.Node.{half};
 ghost use Rattle.prefixtree.specs.Under.{IsUnder};
 ghost use Rattle.prefixtree.specs.Built.{contents, IsBuilt};
+ghost use Rattle.prefixtree.specs.Growth.{grown, grown_count, IsAt};
 
 use crate::Item;
 use crate::node::{Children, Node, empty, interior, leaf};
+use crate::place::{Before, Outcome, come_of};
+use crate::row::grow_together;
 use encoding::{Hash32, Index, bit, with_one};
 use nodehash::NodeHash;
 use std::alloc::{AllocError, Global};
 use std::rc::Rc;
+
+/// The most changes whose nodes are made level by level.
+const TOGETHER: usize = 256;
 
 /// The items with bit `level` equal to 0, and those with bit `level` equal to 1.
 pub(crate) fn halves<'a>(items: &'a [Item], level: usize) -> (&'a [Item], &'a [Item])
@@ -25,34 +31,41 @@ pub(crate) fn halves<'a>(items: &'a [Item], level: usize) -> (&'a [Item], &'a [I
     items.split_at(items.partition_point(|item| !bit(&item.0, level)))
 }
 
-/// The node at the prefix of `level` bits, with these items below it. Takes one digest a node.
-pub(crate) fn build<H: NodeHash>(
+/// The node at the prefix of `level` bits with these changes put in. Takes one digest for each node
+/// that is made.
+pub(crate) fn grow<H: NodeHash>(
     alloc: Global,
     hash: &mut H,
     nonce: &Hash32,
     prefix: &Index,
     level: usize,
-    items: &[Item],
+    before: Before,
+    changes: &[Item],
 ) -> Result<Node, AllocError>
     requires level { level ≤ 256 }
-    requires under { IsUnder prefix.now level items.now }
+    requires place { IsAt H.digest_of nonce.now prefix.now level before changes.now }
     ensures built { IfOk result (λ node. IsBuilt H.digest_of nonce.now prefix.now level node) }
-    ensures items { IfOk result (λ node. contents node ≡ items.now) }
-    ensures work { H.digests hash.new ≤ H.digests hash.old + node_count (256 - level) items.now }
-    ensures exact { IfOk result (λ _. H.digests hash.new ≡ after_digests (node_count (256 - level) items.now) (H.digests hash.old)) }
+    ensures items { IfOk result (λ node. contents node ≡ grown before changes.now) }
+    ensures work { H.digests hash.new ≤ H.digests hash.old + grown_count (256 - level) before changes.now }
+    ensures exact { OnOk result (H.digests hash.new ≡ after_digests (grown_count (256 - level) before changes.now) (H.digests hash.old)) }
 {
-    match items {
-        [] => Ok(empty(hash, nonce, prefix, level)),
-        [item] => Ok(leaf(hash, nonce, level, Rc::new(alloc, *item)?)),
-        _ => {
-            let (zeros, ones) = halves(items, level);
-            let zero_side = build(alloc, hash, nonce, prefix, level + 1, zeros)?;
-            let one_side = build(
+    if changes.len() > 1 && changes.len() <= TOGETHER {
+        return grow_together(alloc, hash, nonce, prefix, level, before, changes);
+    }
+    match come_of(alloc, level, &before, changes)? {
+        Outcome::Kept(node) => Ok(node),
+        Outcome::Vacant => Ok(empty(hash, nonce, prefix, level)),
+        Outcome::Single(item) => Ok(leaf(hash, nonce, level, item)),
+        Outcome::Parted(zero_side, one_side) => {
+            let (zeros, ones) = halves(changes, level);
+            let zero_side = grow(alloc, hash, nonce, prefix, level + 1, zero_side, zeros)?;
+            let one_side = grow(
                 alloc,
                 hash,
                 nonce,
                 &with_one(prefix, level),
                 level + 1,
+                one_side,
                 ones,
             )?;
             let children = Rc::new(

@@ -1,10 +1,11 @@
 //! The nodes of many places, made one level at a time, so that the digests of a level can be taken
 //! together. On the way down each row of places gives what is made at each and the row of their
 //! sides. On the way up the nodes of a row are made over those of the row below.
-ghost use Rattle.std.specs.Prelude.{◌≡◌, ℕ, List, [], ◌∷◌, ◌++◌, ◌+◌, ◌<◌, ◌≤◌, length, map, drop, IfOk, OnOk};
+ghost use Rattle.std.specs.Prelude.{◌≡◌, ℕ, List, [], ◌∷◌, ◌++◌, ◌+◌, ◌-◌, ◌<◌, ◌≤◌, length, map, drop, IfOk, OnOk};
 ghost use Rattle.std.specs.Vec.Iter.{into_iter_items};
 ghost use Rattle.nodehash.specs.Digests.{after_digests};
-ghost use Rattle.prefixtree.specs.Built.{kept};
+ghost use Rattle.prefixtree.specs.Built.{contents, kept, IsBuilt};
+ghost use Rattle.prefixtree.specs.Growth.{grown, grown_count, IsAt};
 ghost use Rattle.prefixtree.specs.declared.row.Place.{Place};
 ghost use Rattle.prefixtree.specs.declared.row.Spot.{Spot};
 ghost use Rattle.prefixtree.specs.declared.node.Node.{Node};
@@ -188,8 +189,8 @@ fn node_at(
     requires digests { used + digests_of spot.now ≤ length digests.now }
     requires lower { sides_of spot.now ≤ length (into_iter_items lower.old) }
     ensures made { IfOk result (λ node. (spots : List Spot) (nodes : List Node)
-        → AreMade (drop (used + digests_of spot.now) digests.now) spots (drop (sides_of spot.now) (into_iter_items lower.old)) nodes
-        → AreMade (drop used digests.now) (spot.now ∷ spots) (into_iter_items lower.old) (node ∷ nodes)) }
+        → AreMade spots (drop (used + digests_of spot.now) digests.now) (drop (sides_of spot.now) (into_iter_items lower.old)) nodes
+        → AreMade (spot.now ∷ spots) (drop used digests.now) (into_iter_items lower.old) (node ∷ nodes)) }
     ensures rest { OnOk result (into_iter_items lower.new ≡ drop (sides_of spot.now) (into_iter_items lower.old)) }
 {
     match spot {
@@ -232,7 +233,7 @@ fn join_row(
 ) -> Result<Vec<Node>, AllocError>
     requires digests { length digests.now ≡ row_digests spots.now }
     requires lower { length lower.items ≡ row_sides spots.now }
-    ensures { IfOk result (λ nodes. AreMade digests.now spots.now lower.items nodes.items) }
+    ensures { IfOk result (λ nodes. AreMade spots.now digests.now lower.items nodes.items) }
 {
     let mut nodes = Vec::with_capacity(alloc, spots.len())?;
     let mut below = lower.into_iter();
@@ -242,6 +243,41 @@ fn join_row(
         used += digests_of(spot);
     }
     Ok(nodes)
+}
+
+/// The digests of these texts, in order.
+fn digests_of_texts<H: NodeHash>(
+    alloc: Global,
+    hash: &mut H,
+    texts: &[NodeText],
+) -> Result<Vec<Hash32>, AllocError>
+    ensures digests { IfOk result (λ digests. digests.items ≡ map H.digest_of texts.now) }
+    ensures work { H.digests hash.new ≤ H.digests hash.old + length texts.now }
+    ensures exact { OnOk result (H.digests hash.new ≡ after_digests (length texts.now) (H.digests hash.old)) }
+{
+    let mut digests = vec![in alloc; Hash32::default(); texts.len()]?;
+    hash.digest_all(texts, &mut digests);
+    Ok(digests)
+}
+
+/// The nodes of a row, over those of the row below. Takes one digest for each that is made.
+fn make_row<H: NodeHash>(
+    alloc: Global,
+    hash: &mut H,
+    nonce: &Hash32,
+    level: usize,
+    spots: &[Spot],
+    lower: Vec<Node>,
+) -> Result<Vec<Node>, AllocError>
+    requires level { level ≤ 256 }
+    requires lower { length lower.items ≡ row_sides spots.now }
+    ensures made { IfOk result (λ nodes. AreMade spots.now (map H.digest_of (row_texts nonce.now level spots.now (map kept lower.items))) lower.items nodes.items) }
+    ensures work { H.digests hash.new ≤ H.digests hash.old + row_digests spots.now }
+    ensures exact { OnOk result (H.digests hash.new ≡ after_digests (row_digests spots.now) (H.digests hash.old)) }
+{
+    let texts = texts_of_row(alloc, nonce, level, spots, &lower)?;
+    let digests = digests_of_texts(alloc, hash, &texts)?;
+    join_row(alloc, spots, &digests, lower)
 }
 
 /// The nodes of a row of places. Takes one digest for each node that is made at or below them.
@@ -258,15 +294,41 @@ fn grow_row<H: NodeHash>(
     requires places { ArePlaces H.digest_of nonce.now changes.now level places.now }
     ensures built { IfOk result (λ nodes. AreBuilt H.digest_of nonce.now changes.now level places.now nodes.items) }
     ensures work { H.digests hash.new ≤ H.digests hash.old + row_count level changes.now places.now }
-    ensures exact { IfOk result (λ _. H.digests hash.new ≡ after_digests (row_count level changes.now places.now) (H.digests hash.old)) }
+    ensures exact { OnOk result (H.digests hash.new ≡ after_digests (row_count level changes.now places.now) (H.digests hash.old)) }
 {
     if places.is_empty() {
         return Ok(Vec::new(alloc));
     }
     let (spots, lower) = split_row(alloc, level, changes, places)?;
     let below = grow_row(alloc, hash, nonce, level + 1, changes, &lower)?;
-    let texts = texts_of_row(alloc, nonce, level, &spots, &below)?;
-    let mut digests = vec![in alloc; Hash32::new([0; 32]); texts.len()]?;
-    hash.digest_all(&texts, &mut digests);
-    join_row(alloc, &spots, &digests, below)
+    make_row(alloc, hash, nonce, level, &spots, below)
+}
+/// The node at the prefix of `level` bits with these changes put in, made level by level.
+pub(crate) fn grow_together<H: NodeHash>(
+    alloc: Global,
+    hash: &mut H,
+    nonce: &Hash32,
+    prefix: &Index,
+    level: usize,
+    before: Before,
+    changes: &[Item],
+) -> Result<Node, AllocError>
+    requires level { level ≤ 256 }
+    requires place { IsAt H.digest_of nonce.now prefix.now level before changes.now }
+    ensures built { IfOk result (λ node. IsBuilt H.digest_of nonce.now prefix.now level node) }
+    ensures items { IfOk result (λ node. contents node ≡ grown before changes.now) }
+    ensures work { H.digests hash.new ≤ H.digests hash.old + grown_count (256 - level) before changes.now }
+    ensures exact { OnOk result (H.digests hash.new ≡ after_digests (grown_count (256 - level) before changes.now) (H.digests hash.old)) }
+{
+    let place = Place {
+        prefix: *prefix,
+        before,
+        start: 0,
+        end: changes.len(),
+    };
+    let mut nodes = grow_row(alloc, hash, nonce, level, changes, &[place])?;
+    let Some(node) = nodes.pop() else {
+        unreachable!()
+    };
+    Ok(node)
 }

@@ -9,6 +9,6 @@ abbrev pub invariant-loop-spot : goal.invariant-loop-spot
 invariant-loop-spot l = record {
   digests : l.used + row_digests (drop l.spot-index l.spots) ≡ length l.digests;
   lower : length (into_iter_items l.below) ≡ row_sides (drop l.spot-index l.spots);
-  ends : (nodes : List Node) → AreMade (drop l.used l.digests) (drop l.spot-index l.spots) (into_iter_items l.below) nodes
-      → AreMade l.digests l.spots l.fn.lower.items (l.nodes.items ++ nodes);
+  ends : (nodes : List Node) → AreMade (drop l.spot-index l.spots) (drop l.used l.digests) (into_iter_items l.below) nodes
+      → AreMade l.spots l.digests l.fn.lower.items (l.nodes.items ++ nodes);
 }
