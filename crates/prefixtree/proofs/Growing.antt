@@ -16,10 +16,11 @@ use Rattle.prefixtree.specs.Node.{half, node_count}
 use Rattle.prefixtree.specs.Under.{IsUnder}
 use Rattle.prefixtree.specs.Changes.{made_count}
 use Rattle.prefixtree.specs.Built.{contents, IsBuilt}
-use Rattle.prefixtree.specs.Growth.{AreSides, Comes}
+use Rattle.prefixtree.specs.Growth.{grown_count, standing, AreSides, Comes, IsAt}
 use Rattle.prefixtree.specs.declared.node.Children.{Children}
 use Rattle.prefixtree.specs.declared.node.Node.{Node}
 use Rattle.prefixtree.specs.declared.node.Node.TheVariants.{Interior}
+use Rattle.prefixtree.specs.declared.place.Before.{Before}
 use Rattle.prefixtree.specs.declared.place.Before.TheVariants.{Made, Moved, Nothing}
 use Rattle.prefixtree.specs.declared.place.Outcome.{Outcome}
 use Rattle.prefixtree.specs.declared.place.Outcome.TheVariants.{Parted}
@@ -207,3 +208,12 @@ comes-few of nonce prefix level held items changes outcome e few some h =
 pub put_all-no : (items changes : Items) → length changes ≡ 0 → put_all items changes ≡ items
 put_all-no items [] h = refl
 put_all-no items (c ∷ cs) h = absurd (omega arith)
+
+-- what comes of a place, told of one outcome
+pub comes-as : (prefix : List ℕ) (level : ℕ) (before : Before) (changes : Items) (outcome wanted : Outcome)
+    → ((of : List ℕ → List ℕ) (nonce prefix : List ℕ) → IsAt of nonce prefix level before changes
+        → Comes of nonce prefix level (standing before) changes (grown_count (256 - level) before changes) outcome)
+    → outcome ≡ wanted → (of : List ℕ → List ℕ) (nonce : List ℕ) → IsAt of nonce prefix level before changes
+    → Comes of nonce prefix level (standing before) changes (grown_count (256 - level) before changes) wanted
+comes-as prefix level before changes outcome wanted h e of nonce is =
+    subst (λ (o : Outcome). Comes of nonce prefix level (standing before) changes (grown_count (256 - level) before changes) o) e (h of nonce prefix is)

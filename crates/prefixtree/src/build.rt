@@ -10,7 +10,7 @@ ghost use Rattle.prefixtree.specs.Growth.{grown, grown_count, IsAt};
 
 use crate::Item;
 use crate::node::{Children, Node, empty, interior, leaf};
-use crate::place::{Before, Outcome, come_of};
+use crate::place::{Before, Outcome};
 use crate::row::grow_together;
 use encoding::{Hash32, Index, bit, with_one};
 use nodehash::NodeHash;
@@ -52,7 +52,7 @@ pub(crate) fn grow<H: NodeHash>(
     if changes.len() > 1 && changes.len() <= TOGETHER {
         return grow_together(alloc, hash, nonce, prefix, level, before, changes);
     }
-    match come_of(alloc, level, &before, changes)? {
+    match before.into_outcome(alloc, level, changes)? {
         Outcome::Kept(node) => Ok(node),
         Outcome::Vacant => Ok(empty(hash, nonce, prefix, level)),
         Outcome::Single(item) => Ok(leaf(hash, nonce, level, item)),

@@ -123,21 +123,38 @@ fn of_node(
     }
 }
 
-/// What comes of a place. Takes no digest.
-pub(crate) fn come_of(
-    alloc: Global,
-    level: usize,
-    before: &Before,
-    changes: &[Item],
-) -> Result<Outcome, AllocError>
-    requires level { level ≤ 256 }
-    requires place { (of : List ℕ → List ℕ) × (nonce : List ℕ) × (prefix : List ℕ) × IsAt of nonce prefix level before.now changes.now }
-    ensures { IfOk result (λ outcome. (of : List ℕ → List ℕ) (nonce prefix : List ℕ) → IsAt of nonce prefix level before.now changes.now
-        → Comes of nonce prefix level (standing before.now) changes.now (grown_count (256 - level) before.now changes.now) outcome) }
-{
-    match before {
-        Before::Made(node) => of_node(alloc, level, node, changes),
-        Before::Moved(item) => of_item(alloc, level, item, changes),
-        Before::Nothing => of_nothing(alloc, level, changes),
+impl Before {
+    /// What comes of a place where this stands.
+    pub(crate) fn becomes(
+        &self,
+        alloc: Global,
+        level: usize,
+        changes: &[Item],
+    ) -> Result<Outcome, AllocError>
+        requires level { level ≤ 256 }
+        requires place { (of : List ℕ → List ℕ) × (nonce : List ℕ) × (prefix : List ℕ) × IsAt of nonce prefix level self.now changes.now }
+        ensures { IfOk result (λ outcome. (of : List ℕ → List ℕ) (nonce prefix : List ℕ) → IsAt of nonce prefix level self.now changes.now
+            → Comes of nonce prefix level (standing self.now) changes.now (grown_count (256 - level) self.now changes.now) outcome) }
+    {
+        match self {
+            Before::Made(node) => of_node(alloc, level, node, changes),
+            Before::Moved(item) => of_item(alloc, level, item, changes),
+            Before::Nothing => of_nothing(alloc, level, changes),
+        }
+    }
+
+    /// The same, for a caller that has no further use of what stands there.
+    pub(crate) fn into_outcome(
+        self,
+        alloc: Global,
+        level: usize,
+        changes: &[Item],
+    ) -> Result<Outcome, AllocError>
+        requires level { level ≤ 256 }
+        requires place { (of : List ℕ → List ℕ) × (nonce : List ℕ) × (prefix : List ℕ) × IsAt of nonce prefix level self changes.now }
+        ensures { IfOk result (λ outcome. (of : List ℕ → List ℕ) (nonce prefix : List ℕ) → IsAt of nonce prefix level self changes.now
+            → Comes of nonce prefix level (standing self) changes.now (grown_count (256 - level) self changes.now) outcome) }
+    {
+        self.becomes(alloc, level, changes)
     }
 }

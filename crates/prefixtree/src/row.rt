@@ -14,7 +14,7 @@ ghost use Rattle.prefixtree.specs.Rows.{changes_of, digests_of, row_count, row_d
 use crate::Item;
 use crate::build::halves;
 use crate::node::{Children, Node};
-use crate::place::{Before, Outcome, come_of};
+use crate::place::{Before, Outcome};
 use encoding::{Hash32, Index, with_one};
 use nodehash::{NodeHash, NodeText, empty_text, interior_text, leaf_text};
 use std::alloc::{AllocError, Global};
@@ -68,7 +68,7 @@ fn split_place(
             → AreSplit of nonce changes.now level (place.now ∷ places) (spot ∷ spots) (below ++ rest))) }
 {
     let here = part(changes, place);
-    match come_of(alloc, level, &place.before, here)? {
+    match place.before.becomes(alloc, level, here)? {
         Outcome::Kept(node) => Ok(Spot::Shared(node)),
         Outcome::Vacant => Ok(Spot::Blank(place.prefix)),
         Outcome::Single(item) => Ok(Spot::Alone(item)),
