@@ -30,6 +30,28 @@ for name, text in node_texts:
     digest = hashlib.sha256(text).hexdigest()
     print(f"{name}: {len(text)} bytes, sha256 {digest}, sum {sum(text) % 65536:04x}")
 
+
+
+def message(first, size):
+    """This many bytes, each 7 above the one before, modulo 256."""
+    return bytes((first + 7 * k) % 256 for k in range(size))
+
+
+# Messages of two blocks: some, and in each of four lanes one of each size from 56 to 119 bytes, and
+# 64 of 64 bytes.
+for size in [56, 64, 101, 119]:
+    digest = hashlib.sha256(message(size, size)).hexdigest()
+    print(f"message of {size} bytes: sha256 {digest}")
+
+of_each_size, of_64_bytes = hashlib.sha256(), hashlib.sha256()
+for turn in range(64):
+    for lane in range(4):
+        size = 56 + (turn + lane) % 64
+        of_each_size.update(hashlib.sha256(message(size, size)).digest())
+        of_64_bytes.update(hashlib.sha256(message(size, 64)).digest())
+print(f"digests of messages of each size: sha256 {of_each_size.hexdigest()}")
+print(f"digests of messages of 64 bytes: sha256 {of_64_bytes.hexdigest()}")
+
 # The stand-ins: a kind byte, a key, and a name or a message.
 low_key, high_key = bytes([1]) * 32, bytes([2]) * 32
 stand_ins = [
