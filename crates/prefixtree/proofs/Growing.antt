@@ -1,5 +1,5 @@
 -- What comes of a place: its node stays, a leaf or an empty node is made, or its two sides are.
-use Rattle.std.proofs.Common.{◌≡◌, ◌≢◌, ◌==◌, get_or, ℕ, ◌+◌, ◌-◌, ◌<◌, ◌≤◌, cond, Bool, inl, inr, List, [], ◌∷◌, ◌++◌, length, length-append, refl, sym, ap, subst, ◌∙◌, arith}
+use Rattle.std.proofs.Common.{◌≡◌, ◌≢◌, ◌==◌, get_or, ℕ, ◌+◌, ◌-◌, ◌<◌, ◌≤◌, cond, Bool, inl, inr, List, [], ◌∷◌, ◌++◌, length, refl, sym, ap, subst, ◌∙◌, arith}
 use Rattle.std.specs.declared.rc.Rc.{Rc}
 use Rattle.std.specs.declared.alloc.Global.{Global}
 use Rattle.std.specs.declared.cmp.Ordering.{Ordering}
@@ -31,7 +31,8 @@ use Rattle.prefixtree.proofs.Halves.{level-below, under-zeros, under-ones}
 use Rattle.prefixtree.proofs.ItemLists.{length_le-put}
 use Rattle.prefixtree.proofs.Order.{equal-same, same-equal}
 use Rattle.prefixtree.proofs.Parts.{On, half-zeros, half-ones}
-use Rattle.prefixtree.proofs.Several.{length_le-put_all, made_count-few, made_count-halves, node_count-sides, put_all-none, put_all-sides}
+use Rattle.prefixtree.proofs.MadeCounts.{made_count-few, made_count-halves}
+use Rattle.prefixtree.proofs.Several.{length_le-put_all, node_count-sides, put_all-none, put_all-sides}
 
 module _ (of : List ℕ → List ℕ) (nonce prefix : List ℕ) (level : ℕ) (changes : Items) (under : IsUnder prefix level changes) where
   -- where nothing stands
@@ -88,8 +89,8 @@ module _ (of : List ℕ → List ℕ) (nonce prefix : List ℕ) (level : ℕ) (c
       → Comes of nonce prefix level (x ∷ []) changes (node_count (256 - level) (put_all (x ∷ []) changes)) outcome
   item-parted p x w begins two outcome (moved, is, e) =
       subst (λ (y : Item). Is32Bytes y.0 → cut y.0 level ≡ prefix → 1 < length (put_all (y ∷ []) changes)
-          → outcome ≡ cond (bit y.0 level == 0) (Parted (Moved moved) Nothing) (Parted Nothing (Moved moved))
-          → Comes of nonce prefix level (y ∷ []) changes (node_count (256 - level) (put_all (y ∷ []) changes)) outcome)
+      → outcome ≡ cond (bit y.0 level == 0) (Parted (Moved moved) Nothing) (Parted Nothing (Moved moved))
+      → Comes of nonce prefix level (y ∷ []) changes (node_count (256 - level) (put_all (y ∷ []) changes)) outcome)
       is (λ w' b' t' e'. item-sides p moved w' b' t' outcome e') w begins two e
 
   -- where an interior node stands
@@ -212,7 +213,7 @@ put_all-no items (c ∷ cs) h = absurd (omega arith)
 -- what comes of a place, told of one outcome
 pub comes-as : (prefix : List ℕ) (level : ℕ) (before : Before) (changes : Items) (outcome wanted : Outcome)
     → ((of : List ℕ → List ℕ) (nonce prefix : List ℕ) → IsAt of nonce prefix level before changes
-        → Comes of nonce prefix level (standing before) changes (grown_count (256 - level) before changes) outcome)
+    → Comes of nonce prefix level (standing before) changes (grown_count (256 - level) before changes) outcome)
     → outcome ≡ wanted → (of : List ℕ → List ℕ) (nonce : List ℕ) → IsAt of nonce prefix level before changes
     → Comes of nonce prefix level (standing before) changes (grown_count (256 - level) before changes) wanted
 comes-as prefix level before changes outcome wanted h e of nonce is =

@@ -11,6 +11,7 @@ pub mod Halves
 pub mod ItemLists
 pub mod PathLeads
 pub mod Levels
+pub mod MadeCounts
 pub mod Membership
 pub mod NodeCases
 pub mod Order

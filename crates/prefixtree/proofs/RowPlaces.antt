@@ -1,12 +1,11 @@
 -- A place of a row, and the places of its sides.
-use Rattle.std.proofs.Common.{◌≡◌, ℕ, ◌+◌, ◌-◌, ◌<◌, ◌≤◌, List, [], ◌∷◌, ◌++◌, length, take, drop, refl, sym, ap, subst, ◌∙◌, arith, length-append}
+use Rattle.std.proofs.Common.{◌≡◌, ℕ, ◌+◌, ◌-◌, ◌≤◌, List, ◌∷◌, ◌++◌, length, take, drop, refl, sym, ap, subst, ◌∙◌, arith, length-append}
 use Rattle.std.proofs.lemmas.List.{drop-drop, take_at, drop_at, take-take, drop-take, length-take-le, length-drop}
 use Rattle.encoding.specs.Bits.{with_one}
 use Rattle.prefixtree.specs.Placement.{Items}
 use Rattle.prefixtree.specs.Node.{half}
-use Rattle.prefixtree.specs.Growth.{grown, grown_count, standing, AreSides, Comes, IsAt}
-use Rattle.prefixtree.specs.Rows.{changes_of, count_of, items_of, AreSplit, IsPlace}
-use Rattle.prefixtree.specs.declared.place.Before.{Before}
+use Rattle.prefixtree.specs.Growth.{grown, grown_count, standing, Comes, IsAt}
+use Rattle.prefixtree.specs.Rows.{changes_of, count_of, AreSplit, IsPlace}
 use Rattle.prefixtree.specs.declared.place.Outcome.{Outcome}
 use Rattle.prefixtree.specs.declared.place.Outcome.TheVariants.{Parted}
 use Rattle.prefixtree.specs.declared.row.Place.{Place}
@@ -16,12 +15,12 @@ use Rattle.prefixtree.specs.declared.row.Spot.TheVariants.{Joined}
 -- what comes of a place, told of the changes below it
 pub comes-at : (all : Items) (level : ℕ) (place : Place) (here : Items) (outcome wanted : Outcome) → here ≡ changes_of all place
     → ((of : List ℕ → List ℕ) (nonce prefix : List ℕ) → IsAt of nonce prefix level place.before here
-        → Comes of nonce prefix level (standing place.before) here (grown_count (256 - level) place.before here) outcome)
+    → Comes of nonce prefix level (standing place.before) here (grown_count (256 - level) place.before here) outcome)
     → outcome ≡ wanted → (of : List ℕ → List ℕ) (nonce : List ℕ) → IsPlace of nonce all level place
     → Comes of nonce place.prefix level (standing place.before) (changes_of all place) (count_of level all place) wanted
 comes-at all level place here outcome wanted e h eo of nonce is =
     let told = subst (λ (l : Items). IsAt of nonce place.prefix level place.before l
-        → Comes of nonce place.prefix level (standing place.before) l (grown_count (256 - level) place.before l) outcome) e (h of nonce place.prefix) in
+    → Comes of nonce place.prefix level (standing place.before) l (grown_count (256 - level) place.before l) outcome) e (h of nonce place.prefix) in
     subst (λ (o : Outcome). Comes of nonce place.prefix level (standing place.before) (changes_of all place) (count_of level all place) o) eo (told is.at)
 
 -- the changes below a place, parted into those of its two sides
@@ -37,7 +36,7 @@ parted-changes all here zeros ones start end middle order within is whole at =
       omega arith,
       ap (λ (k : ℕ). take k (drop start all)) width ∙ sym (take-take n (end - start) (drop start all) room) ∙ ap (take n) (sym is ∙ whole) ∙ take_at zeros ones n refl,
       ap (λ (k : ℕ). take (end - middle) (drop k all)) at ∙ ap (take (end - middle)) (sym (drop-drop n start all)) ∙ sym (drop-take n (end - middle) (drop start all))
-      ∙ ap (λ (k : ℕ). drop n (take k (drop start all))) (sym left) ∙ ap (drop n) (sym is ∙ whole) ∙ drop_at zeros ones n refl,
+          ∙ ap (λ (k : ℕ). drop n (take k (drop start all))) (sym left) ∙ ap (drop n) (sym is ∙ whole) ∙ drop_at zeros ones n refl,
     )
 
 -- a place that is parted, and those of its sides

@@ -1,12 +1,11 @@
 -- The nodes of a row of places, made over those of the row below.
-use Rattle.std.proofs.Common.{◌≡◌, ℕ, zero, suc, ◌+◌, ◌-◌, ◌<◌, ◌≤◌, List, [], ◌∷◌, ◌++◌, length, map, take, drop, get_or, refl, sym, ap, subst, ◌∙◌, arith, add-zero, length-append}
-use Rattle.std.proofs.lemmas.List.{append-nil, append_assoc, drop_all, drop_more}
-use Rattle.std.specs.List.{AllByRecursion}
+use Rattle.std.proofs.Common.{◌≡◌, ℕ, suc, ◌+◌, ◌<◌, ◌≤◌, List, [], ◌∷◌, ◌++◌, length, map, drop, refl, sym, ap, subst, ◌∙◌, arith, add-zero}
+use Rattle.std.proofs.lemmas.List.{append-nil, drop_all}
 use Rattle.encoding.specs.Bits.{with_one}
 use Rattle.nodehash.specs.NodeTexts.{interior_bytes}
 use Rattle.prefixtree.specs.Placement.{Item, Items}
 use Rattle.prefixtree.specs.Built.{contents, kept, IsBuilt}
-use Rattle.prefixtree.specs.Rows.{count_of, digests_of, items_of, row_count, row_digests, row_sides, row_texts, sides_of, spot_texts, AreBuilt, AreMade, ArePlaces, AreSplit, IsPlace, IsSame}
+use Rattle.prefixtree.specs.Rows.{digests_of, items_of, row_count, row_digests, row_sides, row_texts, sides_of, AreBuilt, AreMade, ArePlaces, AreSplit, IsSame}
 use Rattle.prefixtree.specs.declared.node.Node.{Node}
 use Rattle.prefixtree.specs.declared.node.Node.TheVariants.{Empty, Leaf, Interior'}
 use Rattle.prefixtree.specs.declared.row.Place.{Place}

@@ -1,5 +1,5 @@
--- Many items put in: into two parts, and into none; and how many nodes are made.
-use Rattle.std.proofs.Common.{◌≡◌, ℕ, zero, suc, ◌+◌, ◌-◌, ◌<◌, ◌≤◌, List, [], ◌∷◌, ◌++◌, length, refl, sym, ap, ◌∙◌, arith}
+-- Many items put in: into two parts, and into none.
+use Rattle.std.proofs.Common.{◌≡◌, ℕ, ◌+◌, ◌-◌, ◌<◌, ◌≤◌, List, [], ◌∷◌, ◌++◌, length, refl, sym, ap, ◌∙◌, arith}
 use Rattle.std.specs.declared.cmp.Ordering.{Ordering}
 use Rattle.std.specs.declared.cmp.Ordering.TheVariants.{Less}
 use Rattle.std.specs.Ordering.{match_ordering}
@@ -9,9 +9,8 @@ use Rattle.std.specs.Map.{keys_of}
 use Rattle.encoding.specs.Bits.{cut, with_one}
 use Rattle.encoding.specs.Bytes.{Is32Bytes}
 use Rattle.prefixtree.specs.Placement.{Item, Items, index_cmp, put, put_all, IsPlacement}
-use Rattle.prefixtree.specs.Node.{half, level_of, node_count}
-use Rattle.prefixtree.specs.Under.{IsUnder}
-use Rattle.prefixtree.specs.Changes.{made_count}
+use Rattle.prefixtree.specs.Node.{half, node_count}
+use Rattle.prefixtree.specs.Under.{IsPrefix, IsUnder}
 use Rattle.prefixtree.proofs.Counts.{node_count-halves}
 use Rattle.prefixtree.proofs.ItemLists.{all-put, length_le-put}
 use Rattle.prefixtree.proofs.Order.{greater-less}
@@ -108,41 +107,27 @@ pub length_le-put_all : (cs items : Items) → length items ≤ length (put_all 
 length_le-put_all [] items = omega arith
 length_le-put_all (c ∷ cs) items = omega (arith, length_le-put c.0 c.1 items, length_le-put_all cs (put items c.0 c.1))
 
--- ---- how many nodes are made
+pub half-put_all : (prefix : List ℕ) (level : ℕ) (items changes : Items) → level < 256 → IsUnder prefix level items → IsUnder prefix level changes →
+    (half 0 level (put_all items changes) ≡ put_all (half 0 level items) (half 0 level changes))
+    × (half 1 level (put_all items changes) ≡ put_all (half 1 level items) (half 1 level changes))
+half-put_all prefix level items changes p old new =
+    let xs : Items = half 0 level items in
+    let ys : Items = half 1 level items in
+    let zeros : Items = half 0 level changes in
+    let ones : Items = half 1 level changes in
+    let on_xs = on-zero_side prefix level xs p old.whole (begin-IsUnder prefix (level + 1) xs (under-zeros prefix level items p old)) in
+    let on_ys = on-one_side prefix level ys p old.whole (begin-IsUnder (with_one prefix level) (level + 1) ys (under-ones prefix level items p old)) in
+    let on_zeros = on-zero_side prefix level zeros p old.whole (begin-IsUnder prefix (level + 1) zeros (under-zeros prefix level changes p new)) in
+    let on_ones = on-one_side prefix level ones p old.whole (begin-IsUnder (with_one prefix level) (level + 1) ones (under-ones prefix level changes p new)) in
+    let parts : put_all items changes ≡ put_all xs zeros ++ put_all ys ones =
+    (λ i. put_all (sym (halves_append prefix level items p old) i) (sym (halves_append prefix level changes p new) i))
+    ∙ put_all-parts prefix level p zeros ones xs ys on_zeros on_ones on_xs on_ys in
+    let below_zeros = all-on-put_all prefix level p 0 zeros xs on_zeros on_xs in
+    let below_ones = all-on-put_all prefix level p 1 ones ys on_ones on_ys in (
+      ap (half 0 level) parts ∙ half-zeros prefix level (put_all xs zeros) (put_all ys ones) below_zeros below_ones,
+      ap (half 1 level) parts ∙ half-ones prefix level (put_all xs zeros) (put_all ys ones) below_zeros below_ones,
+    )
 
-pub made_count-none : (below : ℕ) (items changes : Items) → length changes ≡ 0 → made_count below items changes ≡ 0
-unfolding made_count
-made_count-none zero [] [] h = refl
-made_count-none zero (x ∷ []) [] h = refl
-made_count-none zero (x ∷ y ∷ items) [] h = refl
-made_count-none (suc below) [] [] h = refl
-made_count-none (suc below) (x ∷ []) [] h = refl
-made_count-none (suc below) (x ∷ y ∷ items) [] h = refl
-made_count-none below items (c ∷ cs) h = absurd (omega arith)
-
-pub made_count-few : (below : ℕ) (items changes : Items) → length items ≤ 1 → 0 < length changes → made_count below items changes ≡ node_count below (put_all items changes)
-unfolding made_count
-made_count-few below items [] h k = absurd (omega arith)
-made_count-few zero [] (c ∷ cs) h k = refl
-made_count-few zero (x ∷ []) (c ∷ cs) h k = refl
-made_count-few (suc below) [] (c ∷ cs) h k = refl
-made_count-few (suc below) (x ∷ []) (c ∷ cs) h k = refl
-made_count-few below (x ∷ y ∷ items) (c ∷ cs) h k = absurd (omega arith)
-
-made_count-more : (below : ℕ) (items changes : Items) → 1 < length items → 0 < length changes →
-    made_count (suc below) items changes
-    ≡ made_count below (half 0 (level_of (suc below)) items) (half 0 (level_of (suc below)) changes) + made_count below (half 1 (level_of (suc below)) items) (half 1 (level_of (suc below)) changes) + 1
-unfolding made_count
-made_count-more below items [] h k = absurd (omega arith)
-made_count-more below [] (c ∷ cs) h k = absurd (omega arith)
-made_count-more below (x ∷ []) (c ∷ cs) h k = absurd (omega arith)
-made_count-more below (x ∷ y ∷ items) (c ∷ cs) h k = refl
-
-pub made_count-halves : (level : ℕ) (items changes : Items) → level < 256 → 1 < length items → 0 < length changes →
-    made_count (256 - level) items changes
-    ≡ made_count (256 - (level + 1)) (half 0 level items) (half 0 level changes) + made_count (256 - (level + 1)) (half 1 level items) (half 1 level changes) + 1
-made_count-halves level items changes p two some =
-    let room : 256 - level ≡ suc (256 - (level + 1)) = omega arith in
-    let at : 256 - suc (256 - (level + 1)) ≡ level = omega arith in
-    ap (λ n. made_count n items changes) room ∙ made_count-more (256 - (level + 1)) items changes two some
-    ∙ ap (λ l. made_count (256 - (level + 1)) (half 0 l items) (half 0 l changes) + made_count (256 - (level + 1)) (half 1 l items) (half 1 l changes) + 1) at
+pub under-one : (prefix : List ℕ) (level : ℕ) (x : Item) → IsPrefix prefix level → Is32Bytes x.0 → cut x.0 level ≡ prefix → IsUnder prefix level (x ∷ [])
+unfolding IsStrictlySortedBy
+under-one prefix level x is w b = record { whole = is; placement = record { ascending = (tt, tt); indices = (w, tt) }; prefixed = (b, tt) }

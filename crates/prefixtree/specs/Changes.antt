@@ -1,11 +1,11 @@
--- Many changes at once: how many nodes are made.
+-- Many changes put in at once: how many nodes of the new tree are made for them.
 use Rattle.std.specs.Prelude.{ℕ, zero, suc, ◌+◌, [], ◌∷◌}
 use Rattle.prefixtree.specs.Placement.{Items, put_all}
 use Rattle.prefixtree.specs.Node.{half, level_of, node_count}
 
--- How many nodes are made at and below a prefix with these items when the changes below it are put in:
--- with no change none; where at most one item stood, each node that stands there then; else the node
--- itself, and those made below both sides.
+-- How many nodes are made at and below a prefix with these items when the changes below it are put in.
+-- Without a change none is made, since the new tree shares the old node. Where at most one item stood,
+-- each node that stands there then is made. Else the node itself is, and those below both sides.
 unfoldable pub made_count : ℕ → Items → Items → ℕ
 made_count below items [] = 0
 made_count below [] (change ∷ changes) = node_count below (put_all [] (change ∷ changes))

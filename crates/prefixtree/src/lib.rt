@@ -27,7 +27,10 @@ mod tree;
 mod way;
 
 pub use items::{Item, placed};
-pub use laws::{path_ends, path_is_unique, path_is_way, way_is_fold, worked_roots};
+pub use laws::{
+    made_at_most_all, made_for_one_change, path_ends, path_is_unique, path_is_way, way_is_fold,
+    worked_roots,
+};
 pub use path::{End, MAX_SIBLINGS, Path};
 pub use tree::Tree;
 pub use way::{climb, end_text, joined_text, leads};

@@ -64,8 +64,8 @@ fn split_place(
     requires place { (of : List ℕ → List ℕ) × (nonce : List ℕ) × IsPlace of nonce changes.now level place.now }
     ensures { IfOk result (λ spot. (below : List Place) × (lower.new.items ≡ lower.old.items ++ below)
         × ((of : List ℕ → List ℕ) (nonce : List ℕ) (places : List Place) (spots : List Spot) (rest : List Place)
-            → IsPlace of nonce changes.now level place.now → AreSplit of nonce changes.now level places spots rest
-            → AreSplit of nonce changes.now level (place.now ∷ places) (spot ∷ spots) (below ++ rest))) }
+        → IsPlace of nonce changes.now level place.now → AreSplit of nonce changes.now level places spots rest
+        → AreSplit of nonce changes.now level (place.now ∷ places) (spot ∷ spots) (below ++ rest))) }
 {
     let here = part(changes, place);
     match place.before.becomes(alloc, level, here)? {

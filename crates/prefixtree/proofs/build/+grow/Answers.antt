@@ -1,6 +1,6 @@
-use Rattle.std.proofs.Common.{◌≡◌, ◌+◌, ◌-◌, ◌≤◌, ◌++◌, ℕ, List, refl, sym, ap, subst, ◌∙◌, arith}
+use Rattle.std.proofs.Common.{◌≡◌, ◌+◌, ◌≤◌, ◌++◌, refl, sym, ap, subst, ◌∙◌, arith}
 use Rattle.prefixtree.specs.Built.{contents, IsBuilt}
-use Rattle.prefixtree.specs.Growth.{grown, grown_count}
+use Rattle.prefixtree.specs.Growth.{grown}
 use Rattle.prefixtree.proofs.Counts.{after-none, after-one, after-sides}
 use Rattle.prefixtree.proofs.Growing.{comes-as}
 use Rattle.prefixtree.proofs.build.+grow.Goals as goal

@@ -1,7 +1,6 @@
-use Rattle.std.proofs.Common.{◌≢◌, ◌<◌, ◌∙◌, sym, length, [], ◌∷◌}
+use Rattle.std.proofs.Common.{◌∙◌, sym}
 use Rattle.std.specs.Cmp.Lexicographic.{same_text, other_text}
 use Rattle.std.proofs.lemmas.Result.{IfOk-weaker}
-use Rattle.prefixtree.specs.Placement.{put_all}
 use Rattle.prefixtree.proofs.Forks.{differ_below}
 use Rattle.prefixtree.proofs.Growing.{item-kept, item-parted, item-replaced, only, put-other, put-several}
 use Rattle.prefixtree.proofs.Halves.{level-below}

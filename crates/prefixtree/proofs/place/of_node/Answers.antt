@@ -1,9 +1,8 @@
-use Rattle.std.proofs.Common.{◌≡◌, ◌-◌, ◌<◌, ℕ, rules, length, [], ◌∷◌, ap, sym, ◌∙◌, subst, arith}
+use Rattle.std.proofs.Common.{◌≡◌, ◌-◌, ◌<◌, rules, length, [], ◌∷◌, ap, sym, ◌∙◌, subst, arith}
 use Rattle.std.proofs.lemmas.Result.{IfOk-weaker}
-use Rattle.prefixtree.specs.Placement.{Items, put_all}
 use Rattle.prefixtree.specs.Built.{contents, IsBuilt}
 use Rattle.prefixtree.proofs.Growing.{comes-few, node-parted, put_all-no}
-use Rattle.prefixtree.proofs.Several.{made_count-none}
+use Rattle.prefixtree.proofs.MadeCounts.{made_count-none}
 use Rattle.prefixtree.proofs.place.of_node.Goals as goal
 
 pub returns-then-is_empty : goal.returns-then-is_empty

@@ -42,8 +42,8 @@ returns-clause-built g t c =
     let split = c.in_ok-spots.ensures of c.args.nonce.now c.requires.places in
     let built = rw c.deref.ensures.value at c.in_ok-below.ensures.built in
     IfOk-weaker c.make_row.result _ _ (λ nodes made.
-        made-built of c.args.nonce.now c.args.changes.now c.args.level c.args.places.now c.in_ok-spots.spots.items c.in_ok-spots.lower.items c.in_ok-below.below.items nodes.items
-        split built (rw c.deref-2.ensures.value at made))
+    made-built of c.args.nonce.now c.args.changes.now c.args.level c.args.places.now c.in_ok-spots.spots.items c.in_ok-spots.lower.items c.in_ok-below.below.items nodes.items
+    split built (rw c.deref-2.ensures.value at made))
     c.make_row.ensures.made
 
 pub returns-clause-work : goal.returns-clause-work
@@ -63,7 +63,7 @@ returns-clause-exact g t c =
     let below : ℕ = row_count (c.args.level + 1) c.args.changes.now c.in_ok-spots.lower.items in
     let here : ℕ = row_digests c.in_ok-spots.spots.items in
     on_ok_weaker c.make_row.result (λ (made : count c.make_row.new.hash ≡ after_digests here (count c.grow_row.new.hash)).
-        made ∙ ap (after_digests here) (rw c.deref.ensures.value at c.in_ok-below.ensures.exact)
-        ∙ after_digests-join below here (count c.args.hash.now)
-        ∙ ap (λ (n : ℕ). after_digests n (count c.args.hash.now)) (sym (split-count g.H.NodeHash.digest_of c.args.nonce.now c.args.changes.now c.args.level c.args.places.now _ _ split)))
+    made ∙ ap (after_digests here) (rw c.deref.ensures.value at c.in_ok-below.ensures.exact)
+    ∙ after_digests-join below here (count c.args.hash.now)
+    ∙ ap (λ (n : ℕ). after_digests n (count c.args.hash.now)) (sym (split-count g.H.NodeHash.digest_of c.args.nonce.now c.args.changes.now c.args.level c.args.places.now _ _ split)))
     (rw c.deref-2.ensures.value at c.make_row.ensures.exact)

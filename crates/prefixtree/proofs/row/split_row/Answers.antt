@@ -2,7 +2,7 @@ use Rattle.std.proofs.Common.{◌≡◌, ◌+◌, ◌++◌, List, [], ◌∷◌,
 use Rattle.std.proofs.lemmas.List.{append-nil, append_assoc, drop_all, drop_more}
 use Rattle.prefixtree.specs.declared.row.Place.{Place}
 use Rattle.prefixtree.specs.declared.row.Spot.{Spot}
-use Rattle.prefixtree.specs.Rows.{ArePlaces, AreSplit}
+use Rattle.prefixtree.specs.Rows.{AreSplit}
 use Rattle.prefixtree.proofs.row.split_row.Goals as goal
 
 pub loop-place-preserved : goal.loop-place-preserved
@@ -23,10 +23,10 @@ loop-place-preserved c =
           let left = rw from at here.0 in (
             left.1,
             λ spots rest done.
-            let more = here.1 (c.in_ok-spot.spot ∷ spots) (split.0 ++ rest) (rw from (split.2 of nonce (drop (i + 1) c.args.places.now) spots rest left.0 done)) in
-            subst (λ (l : List Place). AreSplit of nonce changes level c.args.places.now (c.push.new.self.items ++ spots) l) (sym (append_assoc c.loop-place.lower.items split.0 rest) ∙ ap (λ (l : List Place). l ++ rest) (sym lower))
-            (subst (λ (l : List Spot). AreSplit of nonce changes level c.args.places.now l (c.loop-place.lower.items ++ (split.0 ++ rest)))
-            (sym (append_assoc c.loop-place.spots.items (c.in_ok-spot.spot ∷ []) spots) ∙ ap (λ (l : List Spot). l ++ spots) (sym c.in_ok-push.ensures.items)) more),
+                let more = here.1 (c.in_ok-spot.spot ∷ spots) (split.0 ++ rest) (rw from (split.2 of nonce (drop (i + 1) c.args.places.now) spots rest left.0 done)) in
+                subst (λ (l : List Place). AreSplit of nonce changes level c.args.places.now (c.push.new.self.items ++ spots) l) (sym (append_assoc c.loop-place.lower.items split.0 rest) ∙ ap (λ (l : List Place). l ++ rest) (sym lower))
+                (subst (λ (l : List Spot). AreSplit of nonce changes level c.args.places.now l (c.loop-place.lower.items ++ (split.0 ++ rest)))
+                (sym (append_assoc c.loop-place.spots.items (c.in_ok-spot.spot ∷ []) spots) ∙ ap (λ (l : List Spot). l ++ spots) (sym c.in_ok-push.ensures.items)) more),
           );
     }
 

@@ -11,5 +11,5 @@ invariant-loop-place l = record {
   ends : (of : List ℕ → List ℕ) (nonce : List ℕ) → ArePlaces of nonce l.changes l.level l.places
       → ArePlaces of nonce l.changes l.level (drop l.place-index l.places)
       × ((spots : List Spot) (rest : List Place) → AreSplit of nonce l.changes l.level (drop l.place-index l.places) spots rest
-          → AreSplit of nonce l.changes l.level l.places (l.spots.items ++ spots) (l.lower.items ++ rest));
+      → AreSplit of nonce l.changes l.level l.places (l.spots.items ++ spots) (l.lower.items ++ rest));
 }
