@@ -116,6 +116,7 @@ impl NodeHash for Sha256Hash {
 #[cfg(test)]
 pub(crate) mod tests {
     use super::*;
+    use std::test::Fail;
 
     // The hash that is written as these two halves.
     pub(crate) fn hash(high: u128, low: u128) -> Hash32 {
@@ -152,5 +153,32 @@ pub(crate) mod tests {
         assert_eq!(rt; sha256.digest(b"abc"), abc);
         assert_eq!(rt; sha256.count(), 4);
         assert_eq!(rt; Sha256Hash::default().count(), 0);
+    }
+
+    /// Text `number`: `number` modulo 102 bytes, each of which is `number` modulo 251.
+    fn numbered(number: usize) -> NodeText {
+        let mut text = NodeText::new();
+        text.push_slice(&[(number % 251) as u8; 101][..number % 102]);
+        text
+    }
+
+    #[test]
+    fn digests_many_texts(rt: HostRuntime) -> Result<(), Fail> {
+        let mut texts = Vec::with_capacity(rt.alloc(), 300)?;
+        for number in 0..300 {
+            texts.push(numbered(number))?;
+        }
+        for len in [0, 1, 2, 3, 4, 5, 6, 7, 8, 300] {
+            let some = texts.get(..len).unwrap_or(&[]);
+            let mut digests = vec![in rt.alloc(); Hash32::default(); some.len()]?;
+            let mut sha256 = Sha256Hash::new();
+            sha256.digest_all(some, &mut digests);
+            assert_eq!(rt; sha256.count(), len as u64);
+            for (number, digest) in digests.iter().enumerate() {
+                let wanted = Hash32::new(Sha256::digest(numbered(number).bytes()));
+                assert_eq!(rt; *digest, wanted, "{number} of {len}");
+            }
+        }
+        Ok(())
     }
 }

@@ -209,6 +209,7 @@ fn node_at(
             let Some(one_side) = lower.next() else {
                 unreachable!()
             };
+            let hash = digests[used];
             let children = Rc::new(
                 alloc,
                 Children {
@@ -216,10 +217,7 @@ fn node_at(
                     one_side,
                 },
             )?;
-            Ok(Node::Interior {
-                hash: digests[used],
-                children,
-            })
+            Ok(Node::Interior { hash, children })
         }
     }
 }
