@@ -5,9 +5,11 @@
 //! `compare_replies` answers with the evidence: two different texts that have one digest.
 #![tactic(auto)]
 
-ghost use Rattle.std.specs.Prelude.{IfOk};
+ghost use Rattle.std.specs.Prelude.{IfOk, Ok, OnErr};
 ghost use Rattle.nodehash.specs.Collisions.{IsCollision};
 ghost use Rattle.nodehash.specs.Digests.{byte_sum};
+ghost use Rattle.proofs.specs.declared.comparing.SameOr.TheVariants.{Collision};
+ghost use Rattle.two_replies.specs.Evidence.{Finds, IsNoCollision};
 
 mod provider;
 
@@ -21,7 +23,9 @@ use vrfiface::PlainVuf;
 
 /// The evidence of two replies for one name: two different texts with one digest.
 fn evidence(body: &Body, name: &Name, first: &[u8], second: &[u8]) -> Result<(Text, Text)>
-    ensures { IfOk result (λ texts. IsCollision byte_sum texts.0 texts.1) }
+    ensures collision { IfOk result (λ texts. IsCollision byte_sum texts.0 texts.1) }
+    ensures found { IfOk result (λ texts. Finds body.now name.now first.now second.now (Ok (Collision texts.0 texts.1))) }
+    ensures none { OnErr result ((answer : _) × Finds body.now name.now first.now second.now answer × IsNoCollision answer) }
 {
     match compare_replies(&mut SumHash::new(), &PlainVuf, body, name, first, second)? {
         SameOr::Collision(x, y) => Ok((x, y)),
