@@ -17,8 +17,11 @@ use nodehash::NodeHash;
 use std::alloc::{AllocError, Global};
 use std::rc::Rc;
 
+/// The fewest changes whose nodes are made level by level: with fewer no row has four digests.
+const FEWEST_TOGETHER: usize = 4;
+
 /// The most changes whose nodes are made level by level.
-const TOGETHER: usize = 256;
+const MOST_TOGETHER: usize = 256;
 
 /// The items with bit `level` equal to 0, and those with bit `level` equal to 1.
 pub(crate) fn halves<'a>(items: &'a [Item], level: usize) -> (&'a [Item], &'a [Item])
@@ -49,7 +52,7 @@ pub(crate) fn grow<H: NodeHash>(
     ensures work { H.digests hash.new ≤ H.digests hash.old + grown_count (256 - level) before changes.now }
     ensures exact { OnOk result (H.digests hash.new ≡ after_digests (grown_count (256 - level) before changes.now) (H.digests hash.old)) }
 {
-    if changes.len() > 1 && changes.len() <= TOGETHER {
+    if changes.len() >= FEWEST_TOGETHER && changes.len() <= MOST_TOGETHER {
         return grow_together(alloc, hash, nonce, prefix, level, before, changes);
     }
     match before.into_outcome(alloc, level, changes)? {
