@@ -287,17 +287,16 @@ fn grow_row<H: NodeHash>(
     changes: &[Item],
     places: &[Place],
 ) -> Result<Vec<Node>, AllocError>
-    requires level { level ≤ 257 }
-    requires fits { 0 < length places.now → level ≤ 256 }
+    requires level { level ≤ 256 }
     requires places { ArePlaces H.digest_of nonce.now changes.now level places.now }
     ensures built { IfOk result (λ nodes. AreBuilt H.digest_of nonce.now changes.now level places.now nodes.items) }
     ensures work { H.digests hash.new ≤ H.digests hash.old + row_count level changes.now places.now }
     ensures exact { OnOk result (H.digests hash.new ≡ after_digests (row_count level changes.now places.now) (H.digests hash.old)) }
 {
-    if places.is_empty() {
-        return Ok(Vec::new(alloc));
-    }
     let (spots, lower) = split_row(alloc, level, changes, places)?;
+    if lower.is_empty() {
+        return make_row(alloc, hash, nonce, level, &spots, Vec::new(alloc));
+    }
     let below = grow_row(alloc, hash, nonce, level + 1, changes, &lower)?;
     make_row(alloc, hash, nonce, level, &spots, below)
 }
