@@ -1,4 +1,4 @@
-ghost use Rattle.std.specs.Prelude.{◌≡◌, ℕ, [], ◌∷◌, ◌+◌, ◌≤◌, length, take, map, IsTrue};
+ghost use Rattle.std.specs.Prelude.{◌≡◌, ◌↔◌, ℕ, [], ◌∷◌, ◌+◌, ◌≤◌, length, take, map, IsTrue};
 ghost use Rattle.sha2.specs.Sha256.{sha256};
 ghost use Rattle.lanes.specs.TwoBlocks.{HasTwoBlocks};
 ghost use Rattle.nodehash.specs.Digests.{after_digests};
@@ -33,7 +33,7 @@ impl Sha256Hash {
 
 /// Whether the text and its padding fill two blocks, as the texts of all nodes do.
 fn has_two_blocks(text: &NodeText) -> bool
-    ensures { IsTrue result → HasTwoBlocks text.now }
+    ensures { IsTrue result ↔ HasTwoBlocks text.now }
 {
     let len = text.bytes().len();
     56 <= len && len < 120
