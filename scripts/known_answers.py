@@ -31,7 +31,6 @@ for name, text in node_texts:
     print(f"{name}: {len(text)} bytes, sha256 {digest}, sum {sum(text) % 65536:04x}")
 
 
-
 def message(first, size):
     """This many bytes, each 7 above the one before, modulo 256."""
     return bytes((first + 7 * k) % 256 for k in range(size))

@@ -2,7 +2,7 @@ ghost use Rattle.std.specs.Prelude.{◌≡◌, ℕ, ◌<◌, [], ◌∷◌, map}
 ghost use Rattle.sha2.specs.Sha256.{add_state, digest_bytes, initial_hash_256};
 ghost use Rattle.lanes.specs.Lanes.{state_lane};
 
-use crate::words::{add, every};
+use crate::words::add;
 use std::simd::prelude::*;
 
 /// Eight words of each of four messages: their hash values, or their working variables, which have

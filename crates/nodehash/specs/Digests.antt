@@ -10,7 +10,7 @@ byte_sum text = replicate 30 0 ++ to_be_bytes w16 (sum text % 2 ^ 16)
 abbrev pub one_more : ℕ → ℕ
 one_more count = min (count + 1) (2 ^ 64 - 1)
 
--- n digests more
+-- n digests more, one by one: count + n, up to the greatest number that a count can hold
 abbrev pub after_digests : ℕ → ℕ → ℕ
 after_digests zero count = count
 after_digests (suc n) count = one_more (after_digests n count)

@@ -1,4 +1,4 @@
--- What comes of a place: its node stays, a leaf or an empty node is made, or its two sides are.
+-- What becomes of a place: its node stays, a leaf or an empty node is made, or its two sides are.
 use Rattle.std.proofs.Common.{◌≡◌, ◌≢◌, ◌==◌, get_or, ℕ, ◌+◌, ◌-◌, ◌<◌, ◌≤◌, cond, Bool, inl, inr, List, [], ◌∷◌, ◌++◌, length, refl, sym, ap, subst, ◌∙◌, arith}
 use Rattle.std.specs.declared.rc.Rc.{Rc}
 use Rattle.std.specs.declared.alloc.Global.{Global}
@@ -198,7 +198,7 @@ item-replaced prefix level x change item changes is e same w begins =
       node_count-few (256 - level) (put_all (x ∷ []) changes) (omega (arith, ap length one)),
     )
 
--- what comes of at most one item comes of the node that has it
+-- what becomes of at most one item comes of the node that has it
 pub comes-few : (of : List ℕ → List ℕ) (nonce prefix : List ℕ) (level : ℕ) (held items changes : Items) (outcome : Outcome) → held ≡ items → length items ≤ 1 → 0 < length changes
     → Comes of nonce prefix level items changes (node_count (256 - level) (put_all items changes)) outcome
     → Comes of nonce prefix level held changes (made_count (256 - level) held changes) outcome
@@ -210,7 +210,7 @@ pub put_all-no : (items changes : Items) → length changes ≡ 0 → put_all it
 put_all-no items [] h = refl
 put_all-no items (c ∷ cs) h = absurd (omega arith)
 
--- what comes of a place, told of one outcome
+-- what becomes of a place, told of one outcome
 pub comes-as : (prefix : List ℕ) (level : ℕ) (before : Before) (changes : Items) (outcome wanted : Outcome)
     → ((of : List ℕ → List ℕ) (nonce prefix : List ℕ) → IsAt of nonce prefix level before changes
     → Comes of nonce prefix level (standing before) changes (grown_count (256 - level) before changes) outcome)

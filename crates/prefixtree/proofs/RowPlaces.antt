@@ -12,7 +12,7 @@ use Rattle.prefixtree.specs.declared.row.Place.{Place}
 use Rattle.prefixtree.specs.declared.row.Spot.{Spot}
 use Rattle.prefixtree.specs.declared.row.Spot.TheVariants.{Joined}
 
--- what comes of a place, told of the changes below it
+-- what becomes of a place, told of the changes below it
 pub comes-at : (all : Items) (level : ℕ) (place : Place) (here : Items) (outcome wanted : Outcome) → here ≡ changes_of all place
     → ((of : List ℕ → List ℕ) (nonce prefix : List ℕ) → IsAt of nonce prefix level place.before here
     → Comes of nonce prefix level (standing place.before) here (grown_count (256 - level) place.before here) outcome)

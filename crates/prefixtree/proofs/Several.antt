@@ -20,6 +20,10 @@ use Rattle.prefixtree.proofs.Splits.{put-zeros, put-ones, begin-put}
 use Rattle.prefixtree.proofs.Halves.{begin-IsUnder, under-zeros, under-ones}
 use Rattle.prefixtree.proofs.Rejoined.{halves_append}
 
+pub put_all-append : (zs more items : Items) → put_all items (zs ++ more) ≡ put_all (put_all items zs) more
+put_all-append [] more items = refl
+put_all-append (z ∷ zs) more items = put_all-append zs more (put items z.0 z.1)
+
 -- ---- into two parts, each its own
 
 module _ (prefix : List ℕ) (level : ℕ) (p : level < 256) where
@@ -45,15 +49,11 @@ module _ (prefix : List ℕ) (level : ℕ) (p : level < 256) where
   pub put_all-parts : (zeros ones xs ys : Items) → On prefix level 0 zeros → On prefix level 1 ones → On prefix level 0 xs → On prefix level 1 ys →
       put_all (xs ++ ys) (zeros ++ ones) ≡ put_all xs zeros ++ put_all ys ones
   put_all-parts zeros ones xs ys f g h k =
-      put_all-append zeros (xs ++ ys)
+      put_all-append zeros ones (xs ++ ys)
       ∙ ap (λ (l : Items). put_all l ones) (put_all-zeros zeros xs ys f h k)
       ∙ put_all-ones ones (put_all xs zeros) ys g (all-on-put_all 0 zeros xs f h) k
-    where
-      put_all-append : (zs items : Items) → put_all items (zs ++ ones) ≡ put_all (put_all items zs) ones
-      put_all-append [] items = refl
-      put_all-append (z ∷ zs) items = put_all-append zs (put items z.0 z.1)
 
--- ---- into none, and beside one
+-- ---- into none
 
 put_all-past : (x : Item) (ys cs : Items) → AllByRecursion (λ index. index_cmp x.0 index ≡ Less) (keys_of cs) → put_all (x ∷ ys) cs ≡ x ∷ put_all ys cs
 put_all-past x ys [] h = refl

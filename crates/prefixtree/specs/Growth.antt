@@ -40,7 +40,7 @@ module _ (of : List ℕ → List ℕ) (nonce : List ℕ) where
     pub under : IsUnder prefix level changes
     pub stands : IsStanding prefix level before
 
-  -- two sides that have, between them, what comes of these items and changes, and the nodes made for it
+  -- two sides that have, between them, what becomes of these items and changes, and the nodes made for it
   pub record AreSides (prefix : List ℕ) (level : ℕ) (items changes : Items) (count : ℕ) (zero_side one_side : Before) : Type 0 where
     pub below_256 : level < 256
     pub zeros : IsAt prefix (level + 1) zero_side (half 0 level changes)
@@ -49,7 +49,7 @@ module _ (of : List ℕ → List ℕ) (nonce : List ℕ) where
     pub both : put_all items changes ≡ grown zero_side (half 0 level changes) ++ grown one_side (half 1 level changes)
     pub counted : count ≡ grown_count (256 - (level + 1)) zero_side (half 0 level changes) + grown_count (256 - (level + 1)) one_side (half 1 level changes) + 1
 
-  -- what comes of these items and changes at a place, with this many nodes made
+  -- what becomes of these items and changes at a place, with this many nodes made
   abbrev pub Comes : List ℕ → ℕ → Items → Items → ℕ → Outcome → Type 0
   Comes prefix level items changes count (Kept node) = IsBuilt of nonce prefix level node × (contents node ≡ put_all items changes) × (count ≡ 0)
   Comes prefix level items changes count Vacant = (put_all items changes ≡ []) × (count ≡ 1)

@@ -1,6 +1,6 @@
 //! Putting many items into a node at once. A place with few changes below it is made level by level,
-//! with the digests of a level taken together. Above that each place is parted into its two sides, so
-//! that no row gets long.
+//! with the digests of a level taken together. Else a place is parted into its two sides: with many
+//! changes, so that rows stay short, and with one to three, since rows would only cost time.
 ghost use Rattle.std.specs.Prelude.{◌≡◌, ◌+◌, ◌-◌, ◌<◌, ◌≤◌, ◌++◌, IfOk, OnOk};
 ghost use Rattle.nodehash.specs.Digests.{after_digests};
 ghost use Rattle.prefixtree.specs.Node.{half};
@@ -17,7 +17,7 @@ use nodehash::NodeHash;
 use std::alloc::{AllocError, Global};
 use std::rc::Rc;
 
-/// The fewest changes whose nodes are made level by level: with fewer no row has four digests.
+/// The fewest changes whose nodes are made level by level: with fewer a row seldom has four digests.
 const FEWEST_TOGETHER: usize = 4;
 
 /// The most changes whose nodes are made level by level.
@@ -34,8 +34,8 @@ pub(crate) fn halves<'a>(items: &'a [Item], level: usize) -> (&'a [Item], &'a [I
     items.split_at(items.partition_point(|item| !bit(&item.0, level)))
 }
 
-/// The node at the prefix of `level` bits with these changes put in. Takes one digest for each node
-/// that is made.
+/// The node at the prefix of `level` bits, where `before` stood, with these changes put in. Takes one
+/// digest for each node that is made.
 pub(crate) fn grow<H: NodeHash>(
     alloc: Global,
     hash: &mut H,

@@ -2,8 +2,8 @@
 //! CONIKS, section 3.
 //!
 //! The root is that of the contents by the recursive definition, whatever calls made the tree. A path
-//! leads from that root to what stands at the index. `with` makes a new tree, which shares nodes with
-//! the old one, and the old tree stays as it was.
+//! leads from that root to what stands at the index. `with` and `with_all` make a new tree,
+//! which shares nodes with the old one, and the old tree stays as it was.
 //!
 //! ```rust
 //! let tree = Tree::new(alloc, &mut hash, nonce)?.with(alloc, &mut hash, index, commitment)?;
@@ -28,8 +28,8 @@ mod way;
 
 pub use items::{Item, placed};
 pub use laws::{
-    made_at_most_all, made_for_one_change, path_ends, path_is_unique, path_is_way, way_is_fold,
-    worked_roots,
+    changes_join, made_at_most_all, made_for_one_change, path_ends, path_is_unique, path_is_way,
+    way_is_fold, worked_roots,
 };
 pub use path::{End, MAX_SIBLINGS, Path};
 pub use tree::Tree;

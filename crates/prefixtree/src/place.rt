@@ -1,4 +1,4 @@
-//! What comes of a place of a tree when changes come below it. The place keeps its node where no
+//! What becomes of a place of a tree when changes come below it. The place keeps its node where no
 //! change comes. Where one item or none stands afterwards, a leaf or an empty node is made. Else the
 //! place is parted by the next bit: an interior node's children go to their sides, and the item of a
 //! leaf goes down to the side of its bit.
@@ -42,11 +42,11 @@ pub(crate) enum Outcome {
     Vacant,
     /// The leaf of an item.
     Single(Rc<Item>),
-    /// An interior node over what comes of the side of bit 0 and of that of bit 1.
+    /// An interior node over what becomes of the side of bit 0 and of that of bit 1.
     Parted(Before, Before),
 }
 
-/// What comes of a place where nothing stands.
+/// What becomes of a place where nothing stands.
 fn of_nothing(alloc: Global, level: usize, changes: &[Item]) -> Result<Outcome, AllocError>
     ensures { IfOk result (λ outcome. (of : List ℕ → List ℕ) (nonce prefix : List ℕ) → level ≤ 256 → IsUnder prefix level changes.now
         → Comes of nonce prefix level [] changes.now (node_count (256 - level) (put_all [] changes.now)) outcome) }
@@ -72,7 +72,7 @@ fn part_item(level: usize, item: &Rc<Item>) -> Result<Outcome, AllocError>
     }
 }
 
-/// What comes of a place where this item stands.
+/// What becomes of a place where this item stands.
 fn of_item(
     alloc: Global,
     level: usize,
@@ -97,7 +97,7 @@ fn of_item(
     }
 }
 
-/// What comes of a place that has this node.
+/// What becomes of a place that has this node.
 fn of_node(
     alloc: Global,
     level: usize,
@@ -124,7 +124,7 @@ fn of_node(
 }
 
 impl Before {
-    /// What comes of a place where this stands.
+    /// What becomes of a place where this stands.
     pub(crate) fn becomes(
         &self,
         alloc: Global,
@@ -143,7 +143,7 @@ impl Before {
         }
     }
 
-    /// The same, for a caller that has no further use of what stands there.
+    /// The same, and lets go of what stands there: a caller that calls itself then keeps nothing of it.
     pub(crate) fn into_outcome(
         self,
         alloc: Global,

@@ -300,6 +300,7 @@ fn grow_row<H: NodeHash>(
     let below = grow_row(alloc, hash, nonce, level + 1, changes, &lower)?;
     make_row(alloc, hash, nonce, level, &spots, below)
 }
+
 /// The node at the prefix of `level` bits with these changes put in, made level by level.
 pub(crate) fn grow_together<H: NodeHash>(
     alloc: Global,
