@@ -5,17 +5,21 @@
 //! reads how much time and memory the process has used.
 #![tactic(auto)]
 
+mod changes;
 mod digests;
+mod lanes;
 mod replies;
 mod steps;
 mod tree;
+mod whole;
 
 use anyhow::{Context, Result, bail};
 use std::alloc::Global;
 use std::env;
 
-const USAGE: &str = "usage: measure digests BYTES COUNT | tree GROWN MORE DIGESTS \
-    | replies SIBLINGS REPLIES ROUNDS DIGESTS | all";
+const USAGE: &str = "usage: measure digests BYTES COUNT | lanes COUNT ROUNDS \
+    | tree GROWN MORE DIGESTS | whole ITEMS TIMES DIGESTS \
+    | changes ITEMS CHANGES LISTS ROUNDS DIGESTS | replies SIBLINGS REPLIES ROUNDS DIGESTS | all";
 
 /// The number that this word writes.
 fn number(word: &str) -> Result<usize> {
@@ -26,12 +30,27 @@ fn number(word: &str) -> Result<usize> {
 /// Runs each program once, on small numbers: this shows that they still work.
 fn run_all(rt: &(impl Print + Input), alloc: Global) -> Result<()> {
     digests::measure(rt, alloc, 64, 3)?;
+    lanes::measure(rt, alloc, 9, 1)?;
     let inserts = tree::Inserts {
         grown: 5,
         more: 2,
         digests: 1,
     };
     tree::measure(rt, alloc, &inserts)?;
+    let lists = whole::Lists {
+        items: 5,
+        times: 2,
+        digests: 1,
+    };
+    whole::measure(rt, alloc, &lists)?;
+    let wanted = changes::Changes {
+        items: 5,
+        changes: 3,
+        lists: 2,
+        rounds: 2,
+        digests: 1,
+    };
+    changes::measure(rt, alloc, &wanted)?;
     let look_ups = replies::LookUps {
         siblings: 4,
         replies: 3,
@@ -49,6 +68,7 @@ fn main(rt: HostRuntime) -> Result<()> {
         [_, "digests", bytes, count] => {
             digests::measure(&rt, alloc, number(bytes)?, number(count)?)
         }
+        [_, "lanes", count, rounds] => lanes::measure(&rt, alloc, number(count)?, number(rounds)?),
         [_, "tree", grown, more, digests] => {
             let inserts = tree::Inserts {
                 grown: number(grown)?,
@@ -56,6 +76,24 @@ fn main(rt: HostRuntime) -> Result<()> {
                 digests: number(digests)?,
             };
             tree::measure(&rt, alloc, &inserts)
+        }
+        [_, "whole", items, times, digests] => {
+            let lists = whole::Lists {
+                items: number(items)?,
+                times: number(times)?,
+                digests: number(digests)?,
+            };
+            whole::measure(&rt, alloc, &lists)
+        }
+        [_, "changes", items, changes, lists, rounds, digests] => {
+            let wanted = changes::Changes {
+                items: number(items)?,
+                changes: number(changes)?,
+                lists: number(lists)?,
+                rounds: number(rounds)?,
+                digests: number(digests)?,
+            };
+            changes::measure(&rt, alloc, &wanted)
         }
         [_, "replies", siblings, replies, rounds, digests] => {
             let look_ups = replies::LookUps {
