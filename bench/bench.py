@@ -376,10 +376,10 @@ def text_rows():
     """The rows of the two lengths: digests one by one, and all at once."""
     taken = [[], [], [], []]
     for _ in range(TEXT_RUNS):
-        _, run_steps = steps(4, "lanes", TEXTS, TEXT_ROUNDS)
+        _, run_steps = steps(4, "texts", TEXTS, TEXT_ROUNDS)
         for single, joint in (run_steps[:2], run_steps[2:]):
             if single.number != joint.number:
-                sys.exit("lanes: the digests differ")
+                sys.exit("texts: the digests differ")
         for kept, step in zip(taken, run_steps):
             kept.append(step.seconds)
     for length, kept in ((INTERIOR, taken[:2]), (LEAF, taken[2:])):
