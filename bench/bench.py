@@ -30,7 +30,7 @@ LEAF, INTERIOR = 101, 64
 # How many digests are timed at once, how often, and the bytes of a long text.
 DIGESTS, DIGEST_RUNS, LONG = 400_000, 5, 1 << 20
 
-ROOT_RUNS = {1_000: 40, 100_000: 20, 1_000_000: 7}
+ROOT_RUNS = {1_000: 40, 100_000: 20, 1_000_000: 9}
 # The trees that are made of small lists: how many nodes are made in a run, and the runs.
 LIST_SIZES, LIST_NODES, LIST_RUNS = (10, 100, 1_000), 60_000, 20
 # How often each size of a tree is measured, and the inserts and paths in the grown tree.
