@@ -2,7 +2,10 @@
 """Times the built programs and prints the tables of the scripts beside it. docs/SPEED.md says what
 the columns mean.
 
-usage: bench/bench.py root|tree|replies, at the top of the repository
+usage: bench/bench.py root|tree|changes|replies, at the top of the repository
+
+BEFORE, if it is set, is the top of another clone, in which directoryd and measure are built. `root`
+then times the programs of both, in turn.
 """
 
 import bisect
@@ -18,6 +21,7 @@ import time
 
 DIRECTORYD = "crates/directoryd/out/directoryd"
 MEASURE = "crates/measure/out/measure"
+BEFORE = os.environ.get("BEFORE", "")
 # What `rt run` builds by, unless crates.txt says otherwise.
 BUILD = "x86-64-v2, by LLVM at -O3"
 
@@ -26,11 +30,18 @@ LEAF, INTERIOR = 101, 64
 # How many digests are timed at once, how often, and the bytes of a long text.
 DIGESTS, DIGEST_RUNS, LONG = 400_000, 5, 1 << 20
 
-ROOT_SIZES, ROOT_RUNS = (1_000, 100_000, 1_000_000), 5
+ROOT_RUNS = {1_000: 40, 100_000: 20, 1_000_000: 9}
+# The trees that are made of small lists: how many nodes are made in a run, and the runs.
+LIST_SIZES, LIST_NODES, LIST_RUNS = (10, 100, 1_000), 60_000, 20
 # How often each size of a tree is measured, and the inserts and paths in the grown tree.
 TREE_RUNS = {1_000: 10, 10_000: 10, 100_000: 5, 1_000_000: 3}
 MORE = 10_000
-PROVE_SIZES = (100_000, 1_000_000)
+PROVE_RUNS = {100_000: 10, 1_000_000: 5}
+# The texts whose digests are taken together, how often in a step, and the runs.
+TEXTS, TEXT_ROUNDS, TEXT_RUNS = 1_000, 100, 20
+CHANGE_SIZES = (1_000, 10_000, 100_000, 1_000_000)
+# For each number of changes: the lists of a round, and the rounds.
+CHANGE_ROUNDS = {1: (500, 40), 10: (50, 40), 1_000: (1, 40), 100_000: (1, 6)}
 SIBLINGS, REPLY_RUNS = (10, 20, 256), 10
 # How many replies are measured, and about how many digests the checks of a run take.
 REPLIES, CHECK_DIGESTS = 1_000, 800_000
@@ -96,9 +107,10 @@ class Step:
         self.memory = after[2] - before[2]
 
 
-def steps(count, *words):
-    """One run of the crate `measure`: the number that it prints first, and so many steps."""
-    words = [MEASURE, *map(str, words)]
+def steps(count, *words, top=""):
+    """One run of the crate `measure` of the clone at `top`: the number that it prints first, and so
+    many steps."""
+    words = [os.path.join(top, MEASURE), *map(str, words)]
     process = subprocess.Popen(words, bufsize=0, stdin=subprocess.PIPE, stdout=subprocess.PIPE)
     looks = [look(process)]
     for _ in range(count):
@@ -116,9 +128,10 @@ def check(words, status, answer, wanted):
         sys.exit(f"{' '.join(words)}: status {status}, output {answer!r}")
 
 
-def run(words, items, wanted):
-    """The time by the clock and the processor's time of one run of directoryd."""
-    words = [DIRECTORYD, *words]
+def run(words, items, wanted, top=""):
+    """The time by the clock and the processor's time of one run of directoryd of the clone at
+    `top`."""
+    words = [os.path.join(top, DIRECTORYD), *words]
     with open(items, "rb") as file:
         start = time.perf_counter()
         process = subprocess.Popen(words, stdin=file, stdout=subprocess.PIPE)
@@ -131,10 +144,16 @@ def run(words, items, wanted):
     return taken, usage.ru_utime + usage.ru_stime
 
 
-def runs(words, items, wanted):
-    """The times by the clock, and those of the processor."""
-    clock, processor = zip(*(run(words, items, wanted) for _ in range(ROOT_RUNS)))
-    return Spread(clock), Spread(processor)
+def runs(words, items, wanted, count):
+    """The times of so many runs: by the clock, of the processor, and of the processor for the clone
+    before, whose runs come in between."""
+    clock, processor, before = [], [], []
+    for _ in range(count):
+        for kept, time_taken in zip((clock, processor), run(words, items, wanted)):
+            kept.append(time_taken)
+        if BEFORE:
+            before.append(run(words, items, wanted, BEFORE)[1])
+    return Spread(clock), Spread(processor), Spread(before) if before else None
 
 
 def peak_memory(words, items):
@@ -253,29 +272,68 @@ def print_digest(length, times):
 # ---- the tables
 
 
-def root(folder):
-    digest = digest_times(LEAF)
-    rows = []
-    for size in ROOT_SIZES:
+def with_before(row, now, before, scale, digits):
+    """The row, and where there is a clone before: its times, and what part of them the times are."""
+    if before is None:
+        return row
+    return [*row, *before.cells(scale, digits), f"{now.least / before.least:.2f}"]
+
+
+def head_with_before(head):
+    return [*head, "before", "median", "greatest", "part"] if BEFORE else head
+
+
+def root_rows(folder, digest):
+    for size, count in ROOT_RUNS.items():
         items = f"{folder}/items"
         write_items(items, size)
-        clock, processor = runs(["root"], items, b"root ")
+        clock, processor, before = runs(["root"], items, b"root ", count)
         digests = nodes_of_items(items)
         memory = peak_memory(["root"], items)
         ratio = processor.least / (digests * digest.least)
-        row = [f"{size:,}", f"{digests:,}", f"{clock.least:.3f}", *processor.cells(1, 3)]
-        rows.append([*row, f"{ratio:.2f}", f"{memory / 2**20:.1f}"])
+        row = [f"{size:,}", f"{digests:,}", f"{clock.least:.3f}", *processor.cells(1, 4)]
+        row += [f"{ratio:.2f}", f"{memory / 2**20:.1f}"]
+        yield with_before(row, processor, before, 1, 4)
+
+
+def list_row(size):
+    """The row of trees that are made of a list of this size."""
+    nodes = nodes_of_numbers(size)
+    times = LIST_NODES // nodes
+    tops = ["", BEFORE] if BEFORE else [""]
+    digests, taken = [], [[] for _ in tops]
+    for _ in range(LIST_RUNS):
+        for top, kept in zip(tops, taken):
+            at_start, run_steps = steps(3, "whole", size, times, DIGESTS // 10, top=top)
+            before, made, after = run_steps
+            if made.number - at_start != times * nodes:
+                sys.exit(f"whole: {made.number - at_start} digests, and {times * nodes} was wanted")
+            digests += [before.seconds, after.seconds]
+            kept.append(made.seconds)
+    now, *before = (Spread(kept, times) for kept in taken)
+    ratio = now.least / (nodes * min(digests) / (DIGESTS // 10))
+    row = [f"{size:,}", f"{nodes:,}", *now.cells(1e6, 2), f"{ratio:.2f}"]
+    return with_before(row, now, before[0] if before else None, 1e6, 2)
+
+
+def root(folder):
+    digest = digest_times(LEAF)
+    spread = ["least", "median", "greatest", "ratio"]
+    rows = list(root_rows(folder, digest))
     print_digest(LEAF, digest)
-    head = ["items", "digests", "by the clock", "least", "median", "greatest", "ratio", "MiB"]
+    head = head_with_before(["items", "digests", "by the clock", *spread, "MiB"])
     table("directoryd root, seconds", head, rows)
+    head = head_with_before(["items", "digests", *spread])
+    table("a tree made of a list, microseconds", head, [list_row(size) for size in LIST_SIZES])
 
 
 def prove_rows(folder):
-    for size in PROVE_SIZES:
+    for size, count in PROVE_RUNS.items():
         items = f"{folder}/items"
         write_items(items, size)
-        _, of_root = runs(["root"], items, b"root ")
-        _, of_prove = runs(["prove", "--index", first_index(items)], items, b"level ")
+        _, of_root, _ = runs(["root"], items, b"root ", count)
+        words = ["prove", "--index", first_index(items)]
+        _, of_prove, _ = runs(words, items, b"level ", count)
         ratio = of_prove.least / of_root.least
         yield [f"{size:,}", f"{of_root.least:.3f}", *of_prove.cells(1, 3), f"{ratio:.2f}"]
 
@@ -314,6 +372,60 @@ def tree(folder):
     table("directoryd prove beside root, seconds", head, list(prove_rows(folder)))
 
 
+def text_rows():
+    """The rows of the two lengths: digests one by one, and all at once."""
+    taken = [[], [], [], []]
+    for _ in range(TEXT_RUNS):
+        _, run_steps = steps(4, "texts", TEXTS, TEXT_ROUNDS)
+        for single, joint in (run_steps[:2], run_steps[2:]):
+            if single.number != joint.number:
+                sys.exit("texts: the digests differ")
+        for kept, step in zip(taken, run_steps):
+            kept.append(step.seconds)
+    for length, kept in ((INTERIOR, taken[:2]), (LEAF, taken[2:])):
+        single, joint = (Spread(times, TEXTS * TEXT_ROUNDS) for times in kept)
+        ratio = joint.least / single.least
+        yield [f"{length}", *single.cells(1e9, 0), *joint.cells(1e9, 0), f"{ratio:.2f}"]
+
+
+def change_row(size, changes):
+    """The row of a tree of this size and so many changes, and the times of digests."""
+    lists, rounds = CHANGE_ROUNDS[changes]
+    count = changes * lists
+    words = ["changes", size, changes, lists, rounds, DIGESTS]
+    _, (before, *middle, after) = steps(3 * rounds + 2, *words)
+    digests, times = [0, 0], [[], []]
+    for k in range(rounds):
+        made, *put = middle[3 * k : 3 * k + 3]
+        numbers = [made.number, *(step.number for step in put)]
+        for place, step in enumerate(put):
+            # The ways change places from round to round.
+            way = (place + k) % 2
+            digests[way] += numbers[place + 1] - numbers[place]
+            times[way].append(step.seconds)
+    each = [f"{number / (rounds * count):.2f}" for number in digests]
+    joint, single = (Spread(taken, count) for taken in times)
+    ratio = joint.least / single.least
+    spreads = [*joint.cells(1e6, 2), *single.cells(1e6, 2)]
+    row = [f"{size:,}", f"{changes:,}", *each, *spreads, f"{ratio:.2f}"]
+    return row, [before.seconds, after.seconds]
+
+
+def changes(_folder):
+    spread = ["least", "median", "greatest"]
+    head = ["bytes", "one by one", *spread[1:], "all at once", *spread[1:], "ratio"]
+    table("one digest, nanoseconds", head, list(text_rows()))
+    rows, digests = [], []
+    for size in CHANGE_SIZES:
+        for count in CHANGE_ROUNDS:
+            row, times = change_row(size, count)
+            rows.append(row)
+            digests += times
+    print_digest(LEAF, Spread(digests, DIGESTS))
+    head = ["items", "changes", "digests", "one by one", *spread, "one by one", *spread[1:]]
+    table("a change by with_all, and by with one by one, microseconds", [*head, "ratio"], rows)
+
+
 def reply_row(siblings):
     each = siblings + 3
     rounds = max(1, CHECK_DIGESTS // (each * REPLIES))
@@ -346,7 +458,7 @@ def replies(_folder):
 def main(which):
     with tempfile.TemporaryDirectory() as folder:
         print_machine()
-        {"root": root, "tree": tree, "replies": replies}[which](folder)
+        {"root": root, "tree": tree, "changes": changes, "replies": replies}[which](folder)
     print(f"\nload at the end {os.getloadavg()[0]:.2f}")
 
 

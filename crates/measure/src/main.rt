@@ -5,17 +5,21 @@
 //! reads how much time and memory the process has used.
 #![tactic(auto)]
 
+mod changes;
 mod digests;
 mod replies;
 mod steps;
+mod texts;
 mod tree;
+mod whole;
 
 use anyhow::{Context, Result, bail};
 use std::alloc::Global;
 use std::env;
 
-const USAGE: &str = "usage: measure digests BYTES COUNT | tree GROWN MORE DIGESTS \
-    | replies SIBLINGS REPLIES ROUNDS DIGESTS | all";
+const USAGE: &str = "usage: measure digests BYTES COUNT | texts COUNT ROUNDS \
+    | tree GROWN MORE DIGESTS | whole ITEMS TIMES DIGESTS \
+    | changes ITEMS CHANGES LISTS ROUNDS DIGESTS | replies SIBLINGS REPLIES ROUNDS DIGESTS | all";
 
 /// The number that this word writes.
 fn number(word: &str) -> Result<usize> {
@@ -23,50 +27,72 @@ fn number(word: &str) -> Result<usize> {
         .context(format_args!("reading {word:?}"))
 }
 
+/// Runs the program of this name on these numbers.
+fn run(rt: &(impl Print + Input), alloc: Global, program: &str, numbers: &[usize]) -> Result<()> {
+    match (program, numbers) {
+        ("digests", &[bytes, count]) => digests::measure(rt, alloc, bytes, count),
+        ("texts", &[count, rounds]) => texts::measure(rt, alloc, count, rounds),
+        ("tree", &[grown, more, digests]) => {
+            let inserts = tree::Inserts {
+                grown,
+                more,
+                digests,
+            };
+            tree::measure(rt, alloc, &inserts)
+        }
+        ("whole", &[items, times, digests]) => {
+            let lists = whole::Lists {
+                items,
+                times,
+                digests,
+            };
+            whole::measure(rt, alloc, &lists)
+        }
+        ("changes", &[items, changes, lists, rounds, digests]) => {
+            let wanted = changes::Changes {
+                items,
+                changes,
+                lists,
+                rounds,
+                digests,
+            };
+            changes::measure(rt, alloc, &wanted)
+        }
+        ("replies", &[siblings, replies, rounds, digests]) => {
+            let look_ups = replies::LookUps {
+                siblings,
+                replies,
+                rounds,
+                digests,
+            };
+            replies::measure(rt, alloc, &look_ups)
+        }
+        _ => bail!("{USAGE}"),
+    }
+}
+
 /// Runs each program once, on small numbers: this shows that they still work.
 fn run_all(rt: &(impl Print + Input), alloc: Global) -> Result<()> {
-    digests::measure(rt, alloc, 64, 3)?;
-    let inserts = tree::Inserts {
-        grown: 5,
-        more: 2,
-        digests: 1,
-    };
-    tree::measure(rt, alloc, &inserts)?;
-    let look_ups = replies::LookUps {
-        siblings: 4,
-        replies: 3,
-        rounds: 2,
-        digests: 1,
-    };
-    replies::measure(rt, alloc, &look_ups)
+    run(rt, alloc, "digests", &[64, 3])?;
+    run(rt, alloc, "texts", &[9, 1])?;
+    run(rt, alloc, "tree", &[5, 2, 1])?;
+    run(rt, alloc, "whole", &[5, 2, 1])?;
+    run(rt, alloc, "changes", &[5, 3, 2, 2, 1])?;
+    run(rt, alloc, "replies", &[4, 3, 2, 1])
 }
 
 fn main(rt: HostRuntime) -> Result<()> {
     let alloc = rt.alloc();
-    let texts: Vec<String> = env::args(&rt)?.collect(alloc)?;
-    let words: Vec<&str> = texts.iter().map(|text| text.as_str()).collect(alloc)?;
-    match words.as_slice() {
-        [_, "digests", bytes, count] => {
-            digests::measure(&rt, alloc, number(bytes)?, number(count)?)
-        }
-        [_, "tree", grown, more, digests] => {
-            let inserts = tree::Inserts {
-                grown: number(grown)?,
-                more: number(more)?,
-                digests: number(digests)?,
-            };
-            tree::measure(&rt, alloc, &inserts)
-        }
-        [_, "replies", siblings, replies, rounds, digests] => {
-            let look_ups = replies::LookUps {
-                siblings: number(siblings)?,
-                replies: number(replies)?,
-                rounds: number(rounds)?,
-                digests: number(digests)?,
-            };
-            replies::measure(&rt, alloc, &look_ups)
-        }
-        [_, "all"] => run_all(&rt, alloc),
-        _ => bail!("{USAGE}"),
+    let words: Vec<String> = env::args(&rt)?.collect(alloc)?;
+    let [_, program, rest @ ..] = words.as_slice() else {
+        bail!("{USAGE}");
+    };
+    if program.as_str() == "all" {
+        return run_all(&rt, alloc);
     }
+    let mut numbers = Vec::with_capacity(alloc, rest.len())?;
+    for word in rest {
+        numbers.push(number(word)?)?;
+    }
+    run(&rt, alloc, program, &numbers)
 }

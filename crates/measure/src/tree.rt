@@ -8,7 +8,7 @@ use sha2::{Digest, Sha256};
 use std::alloc::{AllocError, Global};
 
 /// The length of a leaf's text, the longest text that a tree digests.
-const LEAF_BYTES: usize = 101;
+pub(crate) const LEAF_BYTES: usize = 101;
 
 /// What is measured of a tree.
 #[derive(Clone, Copy)]
@@ -22,7 +22,7 @@ pub(crate) struct Inserts {
 }
 
 /// The digests of so many numbers from `first` on, as indices.
-fn indices(alloc: Global, first: usize, count: usize) -> Result<Vec<Index>, AllocError> {
+pub(crate) fn indices(alloc: Global, first: usize, count: usize) -> Result<Vec<Index>, AllocError> {
     let mut indices = Vec::with_capacity(alloc, count)?;
     for k in 0..count {
         let number = (first as u64).wrapping_add(k as u64);
