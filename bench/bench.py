@@ -273,7 +273,7 @@ def print_digest(length, times):
 
 
 def with_before(row, now, before, scale, digits):
-    """The row, and where there is a clone before: its times, and what part of them the times are."""
+    """The row; and where there is a clone before, its times and what part of them the times are."""
     if before is None:
         return row
     return [*row, *before.cells(scale, digits), f"{now.least / before.least:.2f}"]

@@ -1,6 +1,6 @@
 #!/usr/bin/env bash
-# Measures `directoryd root` on 1,000, 100,000 and 1,000,000 random items, and trees that are made of
-# 10, 100 and 1,000 items.
+# Measures `directoryd root` on 1,000, 100,000 and 1,000,000 random items, and trees that are made
+# of 10, 100 and 1,000 items.
 #
 #   bench/root.sh
 #   BEFORE=CLONE bench/root.sh
