@@ -5,8 +5,8 @@
 #   bench/changes.sh
 #
 # Needs the kit (`rt` on the PATH) and Python 3, on Linux. Takes about one and a half minutes once
-# the program is proved and built, which it does first. docs/SPEED.md says what the columns mean. The
-# status is 0 unless something could not be measured.
+# the program is proved and built, which it does first. docs/SPEED.md says what the columns mean.
+# The status is 0 unless something could not be measured.
 set -euo pipefail
 cd "$(dirname "$0")/.."
 . bench/build.sh
