@@ -41,7 +41,7 @@ PROVE_RUNS = {100_000: 10, 1_000_000: 5}
 TEXTS, TEXT_ROUNDS, TEXT_RUNS = 1_000, 100, 20
 CHANGE_SIZES = (1_000, 10_000, 100_000, 1_000_000)
 # For each number of changes: the lists of a round, and the rounds.
-CHANGE_ROUNDS = {1: (500, 40), 10: (50, 40), 1_000: (1, 40), 100_000: (1, 6)}
+CHANGE_ROUNDS = {1: (500, 40), 10: (50, 40), 1_000: (1, 100), 100_000: (1, 6)}
 SIBLINGS, REPLY_RUNS = (10, 20, 256), 10
 # How many replies are measured, and about how many digests the checks of a run take.
 REPLIES, CHECK_DIGESTS = 1_000, 800_000
@@ -273,7 +273,7 @@ def print_digest(length, times):
 
 
 def with_before(row, now, before, scale, digits):
-    """The row, and where there is a clone before: its times, and what part of them the times are."""
+    """The row; and where there is a clone before, its times and what part of them the times are."""
     if before is None:
         return row
     return [*row, *before.cells(scale, digits), f"{now.least / before.least:.2f}"]

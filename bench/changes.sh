@@ -4,9 +4,9 @@
 #
 #   bench/changes.sh
 #
-# Needs the kit (`rt` on the PATH) and Python 3, on Linux. Takes about three minutes once the program
-# is proved and built, which it does first. docs/SPEED.md says what the columns mean. The status is 0
-# unless something could not be measured.
+# Needs the kit (`rt` on the PATH) and Python 3, on Linux. Takes about one and a half minutes once
+# the program is proved and built, which it does first. docs/SPEED.md says what the columns mean.
+# The status is 0 unless something could not be measured.
 set -euo pipefail
 cd "$(dirname "$0")/.."
 . bench/build.sh
