@@ -5,12 +5,20 @@ use Rattle.encoding.specs.Bits.{with_one}
 use Rattle.nodehash.specs.NodeTexts.{interior_bytes}
 use Rattle.prefixtree.specs.Placement.{Item, Items}
 use Rattle.prefixtree.specs.Built.{contents, kept, IsBuilt}
-use Rattle.prefixtree.specs.Rows.{items_of, row_count, row_digests, row_sides, row_texts, AreBuilt, AreMade, ArePlaces, AreSplit}
+use Rattle.prefixtree.specs.Rows.{digests_of, items_of, row_count, row_digests, row_sides, row_texts, sides_of, AreBuilt, AreMade, ArePlaces, AreSplit, IsSame}
 use Rattle.prefixtree.specs.declared.node.Node.{Node}
 use Rattle.prefixtree.specs.declared.node.Node.TheVariants.{Empty, Leaf, Interior'}
 use Rattle.prefixtree.specs.declared.row.Place.{Place}
 use Rattle.prefixtree.specs.declared.row.Spot.{Spot}
 use Rattle.prefixtree.specs.declared.row.Spot.TheVariants.{Shared, Blank, Alone, Joined}
+
+-- ---- one spot, and those after it
+
+pub shared-made : (spot : Spot) (node other : Node) (digests : List (List ℕ)) (used : ℕ) (lower : List Node) (spots : List Spot) (nodes : List Node) → spot ≡ Shared node → IsSame node other
+    → AreMade spots (drop (used + digests_of spot) digests) (drop (sides_of spot) lower) nodes → AreMade (spot ∷ spots) (drop used digests) lower (other ∷ nodes)
+shared-made spot node other digests used lower spots nodes is same =
+    subst (λ (s : Spot). AreMade spots (drop (used + digests_of s) digests) (drop (sides_of s) lower) nodes → AreMade (s ∷ spots) (drop used digests) lower (other ∷ nodes)) (sym is)
+    (λ made. (same, subst (λ (n : ℕ). AreMade spots (drop n digests) lower nodes) (add-zero used) made))
 
 -- a list of no element
 pub none : {X : Type 0} (xs : List X) → length xs ≡ 0 → xs ≡ []
@@ -98,7 +106,7 @@ made-built of nonce all level [] (s ∷ ss) sides lower nodes split built made =
 made-built of nonce all level (p ∷ ps) [] sides lower nodes split built made = absurd split
 made-built of nonce all level (p ∷ ps) (Shared node ∷ ss) sides lower [] split built made = absurd made
 made-built of nonce all level (p ∷ ps) (Shared node ∷ ss) sides lower (n ∷ ns) split built made =
-    (subst (IsBuilt of nonce p.prefix level) (sym made.0) split.0, ap contents made.0 ∙ split.1, made-built of nonce all level ps ss sides lower ns split.3 built made.1)
+    (made.0.1 of nonce p.prefix level split.0, made.0.0 ∙ split.1, made-built of nonce all level ps ss sides lower ns split.3 built made.1)
 made-built of nonce all level (p ∷ ps) (Blank prefix ∷ ss) sides lower [] split built made = absurd made
 made-built of nonce all level (p ∷ ps) (Blank prefix ∷ ss) sides lower (Empty hash ∷ ns) split built made =
     (rw (← split.0) made.0, sym split.1, made-built of nonce all level ps ss sides lower ns split.3 built made.1)

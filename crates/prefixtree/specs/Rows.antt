@@ -57,10 +57,16 @@ abbrev pub row_texts : List ℕ → ℕ → List Spot → List (List ℕ) → Li
 row_texts nonce level [] hashes = []
 row_texts nonce level (spot ∷ spots) hashes = spot_texts nonce level spot hashes ++ row_texts nonce level spots (drop (sides_of spot) hashes)
 
+-- the same node, as far as can be told from what it refers to
+abbrev pub IsSame : Node → Node → Type 0
+IsSame node other =
+    (contents other ≡ contents node)
+    × ((of : List ℕ → List ℕ) (nonce prefix : List ℕ) (level : ℕ) → IsBuilt of nonce prefix level node → IsBuilt of nonce prefix level other)
+
 -- the nodes that are made at spots, of these digests and over these nodes of the row below
 abbrev pub AreMade : List Spot → List (List ℕ) → List Node → List Node → Type 0
 AreMade [] [] [] [] = Unit {0}
-AreMade (Shared node ∷ spots) digests lower (other ∷ nodes) = (other ≡ node) × AreMade spots digests lower nodes
+AreMade (Shared node ∷ spots) digests lower (other ∷ nodes) = IsSame node other × AreMade spots digests lower nodes
 AreMade (Blank prefix ∷ spots) (digest ∷ digests) lower (Empty hash ∷ nodes) = (hash ≡ digest) × AreMade spots digests lower nodes
 AreMade (Alone item ∷ spots) (digest ∷ digests) lower (Leaf hash shared ∷ nodes) =
     (hash ≡ digest) × (shared.value ≡ item.value) × AreMade spots digests lower nodes

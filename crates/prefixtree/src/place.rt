@@ -3,6 +3,8 @@
 //! place is parted by the next bit: an interior node's children go to their sides, and the item of a
 //! leaf goes down to the side of its bit.
 ghost use Rattle.std.specs.Prelude.{◌≡◌, ℕ, List, [], ◌∷◌, ◌-◌, ◌<◌, ◌≤◌, ◌==◌, if◌then◌else◌, IfOk};
+ghost use Rattle.std.specs.declared.rc.Rc.{Rc};
+ghost use Rattle.std.specs.declared.alloc.Global.{Global};
 ghost use Rattle.encoding.specs.Bits.{bit, cut};
 ghost use Rattle.encoding.specs.Bytes.{Is32Bytes};
 ghost use Rattle.prefixtree.specs.Placement.{Item, put_all};
@@ -57,14 +59,16 @@ fn of_nothing(alloc: Global, level: usize, changes: &[Item]) -> Result<Outcome, 
 }
 
 /// The sides of a place where this item stands: it goes to the side of its bit at this level.
-fn part_item(level: usize, item: Rc<Item>) -> Outcome
+fn part_item(level: usize, item: &Rc<Item>) -> Result<Outcome, AllocError>
     requires { level < 256 }
-    ensures { result ≡ (if bit item.value.0 level == 0 then Parted (Moved item) Nothing else Parted Nothing (Moved item)) }
+    ensures { IfOk result (λ outcome. (moved : Rc Item Global) × (moved.value ≡ item.now.value)
+        × (outcome ≡ (if bit item.now.value.0 level == 0 then Parted (Moved moved) Nothing else Parted Nothing (Moved moved)))) }
 {
+    let moved = Before::Moved(item.clone()?);
     if bit(&item.0, level) {
-        Outcome::Parted(Before::Nothing, Before::Moved(item))
+        Ok(Outcome::Parted(Before::Nothing, moved))
     } else {
-        Outcome::Parted(Before::Moved(item), Before::Nothing)
+        Ok(Outcome::Parted(moved, Before::Nothing))
     }
 }
 
@@ -72,36 +76,41 @@ fn part_item(level: usize, item: Rc<Item>) -> Outcome
 fn of_item(
     alloc: Global,
     level: usize,
-    item: Rc<Item>,
+    item: &Rc<Item>,
     changes: &[Item],
 ) -> Result<Outcome, AllocError>
     requires level { level ≤ 256 }
-    requires under { (prefix : List ℕ) × IsUnder prefix level changes.now × Is32Bytes item.value.0 × (cut item.value.0 level ≡ prefix) }
-    ensures { IfOk result (λ outcome. (of : List ℕ → List ℕ) (nonce prefix : List ℕ) → IsUnder prefix level changes.now → Is32Bytes item.value.0 → cut item.value.0 level ≡ prefix
-        → Comes of nonce prefix level (item.value ∷ []) changes.now (node_count (256 - level) (put_all (item.value ∷ []) changes.now)) outcome) }
+    requires under { (prefix : List ℕ) × IsUnder prefix level changes.now × Is32Bytes item.now.value.0 × (cut item.now.value.0 level ≡ prefix) }
+    ensures { IfOk result (λ outcome. (of : List ℕ → List ℕ) (nonce prefix : List ℕ) → IsUnder prefix level changes.now → Is32Bytes item.now.value.0 → cut item.now.value.0 level ≡ prefix
+        → Comes of nonce prefix level (item.now.value ∷ []) changes.now (node_count (256 - level) (put_all (item.now.value ∷ []) changes.now)) outcome) }
 {
     match changes {
-        [] => Ok(Outcome::Single(item)),
+        [] => Ok(Outcome::Single(item.clone()?)),
         [change] => {
             if change.0 == item.0 {
                 Ok(Outcome::Single(Rc::new(alloc, *change)?))
             } else {
-                Ok(part_item(level, item))
+                part_item(level, item)
             }
         }
-        _ => Ok(part_item(level, item)),
+        _ => part_item(level, item),
     }
 }
 
 /// What becomes of a place that has this node.
-fn of_node(alloc: Global, level: usize, node: Node, changes: &[Item]) -> Result<Outcome, AllocError>
+fn of_node(
+    alloc: Global,
+    level: usize,
+    node: &Node,
+    changes: &[Item],
+) -> Result<Outcome, AllocError>
     requires level { level ≤ 256 }
-    requires under { (of : List ℕ → List ℕ) × (nonce : List ℕ) × (prefix : List ℕ) × IsUnder prefix level changes.now × IsBuilt of nonce prefix level node }
-    ensures { IfOk result (λ outcome. (of : List ℕ → List ℕ) (nonce prefix : List ℕ) → IsUnder prefix level changes.now → IsBuilt of nonce prefix level node
-        → Comes of nonce prefix level (contents node) changes.now (made_count (256 - level) (contents node) changes.now) outcome) }
+    requires under { (of : List ℕ → List ℕ) × (nonce : List ℕ) × (prefix : List ℕ) × IsUnder prefix level changes.now × IsBuilt of nonce prefix level node.now }
+    ensures { IfOk result (λ outcome. (of : List ℕ → List ℕ) (nonce prefix : List ℕ) → IsUnder prefix level changes.now → IsBuilt of nonce prefix level node.now
+        → Comes of nonce prefix level (contents node.now) changes.now (made_count (256 - level) (contents node.now) changes.now) outcome) }
 {
     if changes.is_empty() {
-        return Ok(Outcome::Kept(node));
+        return Ok(Outcome::Kept(node.share()?));
     }
     match node {
         Node::Empty { .. } => of_nothing(alloc, level, changes),
@@ -116,6 +125,25 @@ fn of_node(alloc: Global, level: usize, node: Node, changes: &[Item]) -> Result<
 
 impl Before {
     /// What becomes of a place where this stands.
+    pub(crate) fn becomes(
+        &self,
+        alloc: Global,
+        level: usize,
+        changes: &[Item],
+    ) -> Result<Outcome, AllocError>
+        requires level { level ≤ 256 }
+        requires place { (of : List ℕ → List ℕ) × (nonce : List ℕ) × (prefix : List ℕ) × IsAt of nonce prefix level self.now changes.now }
+        ensures { IfOk result (λ outcome. (of : List ℕ → List ℕ) (nonce prefix : List ℕ) → IsAt of nonce prefix level self.now changes.now
+            → Comes of nonce prefix level (standing self.now) changes.now (grown_count (256 - level) self.now changes.now) outcome) }
+    {
+        match self {
+            Before::Made(node) => of_node(alloc, level, node, changes),
+            Before::Moved(item) => of_item(alloc, level, item, changes),
+            Before::Nothing => of_nothing(alloc, level, changes),
+        }
+    }
+
+    /// The same, and lets go of what stands there: a caller that calls itself then keeps nothing of it.
     pub(crate) fn into_outcome(
         self,
         alloc: Global,
@@ -127,10 +155,6 @@ impl Before {
         ensures { IfOk result (λ outcome. (of : List ℕ → List ℕ) (nonce prefix : List ℕ) → IsAt of nonce prefix level self changes.now
             → Comes of nonce prefix level (standing self) changes.now (grown_count (256 - level) self changes.now) outcome) }
     {
-        match self {
-            Before::Made(node) => of_node(alloc, level, node, changes),
-            Before::Moved(item) => of_item(alloc, level, item, changes),
-            Before::Nothing => of_nothing(alloc, level, changes),
-        }
+        self.becomes(alloc, level, changes)
     }
 }

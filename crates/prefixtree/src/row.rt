@@ -57,40 +57,34 @@ fn split_place(
     alloc: Global,
     level: usize,
     changes: &[Item],
-    place: Place,
+    place: &Place,
     lower: &mut Vec<Place>,
 ) -> Result<Spot, AllocError>
     requires level { level ≤ 256 }
-    requires place { (of : List ℕ → List ℕ) × (nonce : List ℕ) × IsPlace of nonce changes.now level place }
+    requires place { (of : List ℕ → List ℕ) × (nonce : List ℕ) × IsPlace of nonce changes.now level place.now }
     ensures { IfOk result (λ spot. (below : List Place) × (lower.new.items ≡ lower.old.items ++ below)
         × ((of : List ℕ → List ℕ) (nonce : List ℕ) (places : List Place) (spots : List Spot) (rest : List Place)
-        → IsPlace of nonce changes.now level place → AreSplit of nonce changes.now level places spots rest
-        → AreSplit of nonce changes.now level (place ∷ places) (spot ∷ spots) (below ++ rest))) }
+        → IsPlace of nonce changes.now level place.now → AreSplit of nonce changes.now level places spots rest
+        → AreSplit of nonce changes.now level (place.now ∷ places) (spot ∷ spots) (below ++ rest))) }
 {
-    let here = part(changes, &place);
-    let Place {
-        prefix,
-        before,
-        start,
-        end,
-    } = place;
-    match before.into_outcome(alloc, level, here)? {
+    let here = part(changes, place);
+    match place.before.becomes(alloc, level, here)? {
         Outcome::Kept(node) => Ok(Spot::Shared(node)),
-        Outcome::Vacant => Ok(Spot::Blank(prefix)),
+        Outcome::Vacant => Ok(Spot::Blank(place.prefix)),
         Outcome::Single(item) => Ok(Spot::Alone(item)),
         Outcome::Parted(zero_side, one_side) => {
-            let middle = start + halves(here, level).0.len();
+            let middle = place.start + halves(here, level).0.len();
             lower.push(Place {
-                prefix,
+                prefix: place.prefix,
                 before: zero_side,
-                start,
+                start: place.start,
                 end: middle,
             })?;
             lower.push(Place {
-                prefix: with_one(&prefix, level),
+                prefix: with_one(&place.prefix, level),
                 before: one_side,
                 start: middle,
-                end,
+                end: place.end,
             })?;
             Ok(Spot::Joined)
         }
@@ -102,12 +96,12 @@ fn split_row(
     alloc: Global,
     level: usize,
     changes: &[Item],
-    places: Vec<Place>,
+    places: &[Place],
 ) -> Result<(Vec<Spot>, Vec<Place>), AllocError>
     requires level { level ≤ 256 }
-    requires places { (of : List ℕ → List ℕ) × (nonce : List ℕ) × ArePlaces of nonce changes.now level places.items }
-    ensures { IfOk result (λ row. (of : List ℕ → List ℕ) (nonce : List ℕ) → ArePlaces of nonce changes.now level places.items
-        → AreSplit of nonce changes.now level places.items row.0.items row.1.items) }
+    requires places { (of : List ℕ → List ℕ) × (nonce : List ℕ) × ArePlaces of nonce changes.now level places.now }
+    ensures { IfOk result (λ row. (of : List ℕ → List ℕ) (nonce : List ℕ) → ArePlaces of nonce changes.now level places.now
+        → AreSplit of nonce changes.now level places.now row.0.items row.1.items) }
 {
     let mut spots = Vec::with_capacity(alloc, places.len())?;
     let mut lower = Vec::with_capacity(alloc, places.len())?;
@@ -187,26 +181,26 @@ fn texts_of_row(
 /// The node at a spot, from the digests from `used` on and the next nodes of the row below.
 fn node_at(
     alloc: Global,
-    spot: Spot,
+    spot: &Spot,
     digests: &[Hash32],
     used: usize,
     lower: &mut IntoIter<Node>,
 ) -> Result<Node, AllocError>
-    requires digests { used + digests_of spot ≤ length digests.now }
-    requires lower { sides_of spot ≤ length (into_iter_items lower.old) }
+    requires digests { used + digests_of spot.now ≤ length digests.now }
+    requires lower { sides_of spot.now ≤ length (into_iter_items lower.old) }
     ensures made { IfOk result (λ node. (spots : List Spot) (nodes : List Node)
-        → AreMade spots (drop (used + digests_of spot) digests.now) (drop (sides_of spot) (into_iter_items lower.old)) nodes
-        → AreMade (spot ∷ spots) (drop used digests.now) (into_iter_items lower.old) (node ∷ nodes)) }
-    ensures rest { OnOk result (into_iter_items lower.new ≡ drop (sides_of spot) (into_iter_items lower.old)) }
+        → AreMade spots (drop (used + digests_of spot.now) digests.now) (drop (sides_of spot.now) (into_iter_items lower.old)) nodes
+        → AreMade (spot.now ∷ spots) (drop used digests.now) (into_iter_items lower.old) (node ∷ nodes)) }
+    ensures rest { OnOk result (into_iter_items lower.new ≡ drop (sides_of spot.now) (into_iter_items lower.old)) }
 {
     match spot {
-        Spot::Shared(node) => Ok(node),
+        Spot::Shared(node) => Ok(node.share()?),
         Spot::Blank(_) => Ok(Node::Empty {
             hash: digests[used],
         }),
         Spot::Alone(item) => Ok(Node::Leaf {
             hash: digests[used],
-            item,
+            item: item.clone()?,
         }),
         Spot::Joined => {
             let Some(zero_side) = lower.next() else {
@@ -231,21 +225,20 @@ fn node_at(
 /// The nodes of a row, from their digests and the nodes of the row below.
 fn join_row(
     alloc: Global,
-    spots: Vec<Spot>,
+    spots: &[Spot],
     digests: &[Hash32],
     lower: Vec<Node>,
 ) -> Result<Vec<Node>, AllocError>
-    requires digests { length digests.now ≡ row_digests spots.items }
-    requires lower { length lower.items ≡ row_sides spots.items }
-    ensures { IfOk result (λ nodes. AreMade spots.items digests.now lower.items nodes.items) }
+    requires digests { length digests.now ≡ row_digests spots.now }
+    requires lower { length lower.items ≡ row_sides spots.now }
+    ensures { IfOk result (λ nodes. AreMade spots.now digests.now lower.items nodes.items) }
 {
     let mut nodes = Vec::with_capacity(alloc, spots.len())?;
     let mut below = lower.into_iter();
     let mut used = 0;
     for spot in spots {
-        let more = digests_of(&spot);
         nodes.push(node_at(alloc, spot, digests, used, &mut below)?)?;
-        used += more;
+        used += digests_of(spot);
     }
     Ok(nodes)
 }
@@ -271,16 +264,16 @@ fn make_row<H: NodeHash>(
     hash: &mut H,
     nonce: &Hash32,
     level: usize,
-    spots: Vec<Spot>,
+    spots: &[Spot],
     lower: Vec<Node>,
 ) -> Result<Vec<Node>, AllocError>
     requires level { level ≤ 256 }
-    requires lower { length lower.items ≡ row_sides spots.items }
-    ensures made { IfOk result (λ nodes. AreMade spots.items (map H.digest_of (row_texts nonce.now level spots.items (map kept lower.items))) lower.items nodes.items) }
-    ensures work { H.digests hash.new ≤ H.digests hash.old + row_digests spots.items }
-    ensures exact { OnOk result (H.digests hash.new ≡ after_digests (row_digests spots.items) (H.digests hash.old)) }
+    requires lower { length lower.items ≡ row_sides spots.now }
+    ensures made { IfOk result (λ nodes. AreMade spots.now (map H.digest_of (row_texts nonce.now level spots.now (map kept lower.items))) lower.items nodes.items) }
+    ensures work { H.digests hash.new ≤ H.digests hash.old + row_digests spots.now }
+    ensures exact { OnOk result (H.digests hash.new ≡ after_digests (row_digests spots.now) (H.digests hash.old)) }
 {
-    let texts = texts_of_row(alloc, nonce, level, &spots, &lower)?;
+    let texts = texts_of_row(alloc, nonce, level, spots, &lower)?;
     let digests = digests_of_texts(alloc, hash, &texts)?;
     join_row(alloc, spots, &digests, lower)
 }
@@ -292,20 +285,20 @@ fn grow_row<H: NodeHash>(
     nonce: &Hash32,
     level: usize,
     changes: &[Item],
-    places: Vec<Place>,
+    places: &[Place],
 ) -> Result<Vec<Node>, AllocError>
     requires level { level ≤ 256 }
-    requires places { ArePlaces H.digest_of nonce.now changes.now level places.items }
-    ensures built { IfOk result (λ nodes. AreBuilt H.digest_of nonce.now changes.now level places.items nodes.items) }
-    ensures work { H.digests hash.new ≤ H.digests hash.old + row_count level changes.now places.items }
-    ensures exact { OnOk result (H.digests hash.new ≡ after_digests (row_count level changes.now places.items) (H.digests hash.old)) }
+    requires places { ArePlaces H.digest_of nonce.now changes.now level places.now }
+    ensures built { IfOk result (λ nodes. AreBuilt H.digest_of nonce.now changes.now level places.now nodes.items) }
+    ensures work { H.digests hash.new ≤ H.digests hash.old + row_count level changes.now places.now }
+    ensures exact { OnOk result (H.digests hash.new ≡ after_digests (row_count level changes.now places.now) (H.digests hash.old)) }
 {
     let (spots, lower) = split_row(alloc, level, changes, places)?;
     if lower.is_empty() {
-        return make_row(alloc, hash, nonce, level, spots, Vec::new(alloc));
+        return make_row(alloc, hash, nonce, level, &spots, Vec::new(alloc));
     }
-    let below = grow_row(alloc, hash, nonce, level + 1, changes, lower)?;
-    make_row(alloc, hash, nonce, level, spots, below)
+    let below = grow_row(alloc, hash, nonce, level + 1, changes, &lower)?;
+    make_row(alloc, hash, nonce, level, &spots, below)
 }
 
 /// The node at the prefix of `level` bits with these changes put in, made level by level.
@@ -331,9 +324,7 @@ pub(crate) fn grow_together<H: NodeHash>(
         start: 0,
         end: changes.len(),
     };
-    let mut places = Vec::with_capacity(alloc, 1)?;
-    places.push(place)?;
-    let mut nodes = grow_row(alloc, hash, nonce, level, changes, places)?;
+    let mut nodes = grow_row(alloc, hash, nonce, level, changes, &[place])?;
     let Some(node) = nodes.pop() else {
         unreachable!()
     };

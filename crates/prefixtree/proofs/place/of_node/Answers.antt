@@ -1,4 +1,4 @@
-use Rattle.std.proofs.Common.{◌≡◌, ◌-◌, ◌<◌, rules, length, [], ◌∷◌, ap, sym, subst, arith}
+use Rattle.std.proofs.Common.{◌≡◌, ◌-◌, ◌<◌, rules, length, [], ◌∷◌, ap, sym, ◌∙◌, subst, arith}
 use Rattle.std.proofs.lemmas.Result.{IfOk-weaker}
 use Rattle.prefixtree.specs.Built.{contents, IsBuilt}
 use Rattle.prefixtree.proofs.Growing.{comes-few, node-parted, put_all-no}
@@ -7,22 +7,25 @@ use Rattle.prefixtree.proofs.place.of_node.Goals as goal
 
 pub returns-then-is_empty : goal.returns-then-is_empty
 returns-then-is_empty c = λ of nonce prefix under built.
-    let none : length c.args.changes.now ≡ 0 = search rules in
-    (built, sym (put_all-no (contents c.args.node) c.args.changes.now none), made_count-none (256 - c.args.level) (contents c.args.node) c.args.changes.now none)
+    let none : length c.args.changes.now ≡ 0 = search rules in (
+      c.in_ok-share.ensures.built of nonce prefix c.args.level built,
+      c.in_ok-share.ensures.items ∙ sym (put_all-no (contents c.args.node.now) c.args.changes.now none),
+      made_count-none (256 - c.args.level) (contents c.args.node.now) c.args.changes.now none,
+    )
 
 pub returns-in-Empty : goal.returns-in-Empty
 returns-in-Empty c = IfOk-weaker c.of_nothing.result _ _ (λ outcome h. λ of nonce prefix under built.
     let some : 0 < length c.args.changes.now = search rules in
-    let held : contents c.args.node ≡ [] = ap contents c.in-Empty.is in
-    comes-few of nonce prefix c.args.level (contents c.args.node) [] c.args.changes.now outcome held (omega arith) some (h of nonce prefix c.requires.level under))
+    let held : contents c.args.node.now ≡ [] = ap contents c.in-Empty.is in
+    comes-few of nonce prefix c.args.level (contents c.args.node.now) [] c.args.changes.now outcome held (omega arith) some (h of nonce prefix c.requires.level under))
     c.of_nothing.ensures
 
 pub returns-in-Leaf : goal.returns-in-Leaf
 returns-in-Leaf c = IfOk-weaker c.of_item.result _ _ (λ outcome h. λ of nonce prefix under built.
     let some : 0 < length c.args.changes.now = search rules in
-    let held : contents c.args.node ≡ c.in-Leaf.item.value ∷ [] = ap contents c.in-Leaf.is in
+    let held : contents c.args.node.now ≡ c.in-Leaf.item.value ∷ [] = ap contents c.in-Leaf.is in
     let leaf = subst (IsBuilt of nonce prefix c.args.level) c.in-Leaf.is built in
-    comes-few of nonce prefix c.args.level (contents c.args.node) (c.in-Leaf.item.value ∷ []) c.args.changes.now outcome held (omega arith) some (h of nonce prefix under leaf.1 leaf.2))
+    comes-few of nonce prefix c.args.level (contents c.args.node.now) (c.in-Leaf.item.value ∷ []) c.args.changes.now outcome held (omega arith) some (h of nonce prefix under leaf.1 leaf.2))
     c.of_item.ensures
 
 pub returns-in_ok-share-in-Interior-2 : goal.returns-in_ok-share-in-Interior-2

@@ -1,6 +1,5 @@
-use Rattle.std.proofs.Common.{◌≡◌, ◌++◌, List, [], ◌∷◌, arith, sym, ap, subst, ◌∙◌}
-use Rattle.std.specs.Vec.Iter.{into_iter_items}
-use Rattle.std.proofs.lemmas.List.{append-nil, append_assoc, nil_from_length}
+use Rattle.std.proofs.Common.{◌≡◌, ◌+◌, ◌++◌, List, [], ◌∷◌, drop, arith, sym, ap, subst, ◌∙◌}
+use Rattle.std.proofs.lemmas.List.{append-nil, append_assoc, drop_all, drop_more}
 use Rattle.prefixtree.specs.declared.row.Place.{Place}
 use Rattle.prefixtree.specs.declared.row.Spot.{Spot}
 use Rattle.prefixtree.specs.Rows.{AreSplit}
@@ -10,8 +9,11 @@ pub loop-place-preserved : goal.loop-place-preserved
 loop-place-preserved c =
     let changes = c.args.changes.now in
     let level = c.args.level in
+    let i = c.loop-place.place-index in
+    let place = c.place-item.result in
     let inv = c.loop-place.invariant in
-    let from = c.in-Some.ensures.steps.0 in
+    let from : drop i c.args.places.now ≡ place ∷ drop (i + 1) c.args.places.now =
+    drop_more c.args.places.now i place (omega arith) ∙ ap (λ (p : Place). p ∷ drop (i + 1) c.args.places.now) (sym c.place-item.is) in
     let split = c.in_ok-spot.ensures in
     let lower = split.1 in
     record {
@@ -21,16 +23,16 @@ loop-place-preserved c =
           let left = rw from at here.0 in (
             left.1,
             λ spots rest done.
-                let more = here.1 (c.in_ok-spot.spot ∷ spots) (split.0 ++ rest) (rw from (split.2 of nonce (into_iter_items c.next.new.self) spots rest left.0 done)) in
-                subst (λ (l : List Place). AreSplit of nonce changes level c.args.places.items (c.push.new.self.items ++ spots) l) (sym (append_assoc c.loop-place.lower.items split.0 rest) ∙ ap (λ (l : List Place). l ++ rest) (sym lower))
-                (subst (λ (l : List Spot). AreSplit of nonce changes level c.args.places.items l (c.loop-place.lower.items ++ (split.0 ++ rest)))
+                let more = here.1 (c.in_ok-spot.spot ∷ spots) (split.0 ++ rest) (rw from (split.2 of nonce (drop (i + 1) c.args.places.now) spots rest left.0 done)) in
+                subst (λ (l : List Place). AreSplit of nonce changes level c.args.places.now (c.push.new.self.items ++ spots) l) (sym (append_assoc c.loop-place.lower.items split.0 rest) ∙ ap (λ (l : List Place). l ++ rest) (sym lower))
+                (subst (λ (l : List Spot). AreSplit of nonce changes level c.args.places.now l (c.loop-place.lower.items ++ (split.0 ++ rest)))
                 (sym (append_assoc c.loop-place.spots.items (c.in_ok-spot.spot ∷ []) spots) ∙ ap (λ (l : List Spot). l ++ spots) (sym c.in_ok-push.ensures.items)) more),
           );
     }
 
 pub returns : goal.returns
 returns c = λ of nonce are.
-    let left = c.loop-place.place-iterator in
-    let end : into_iter_items left ≡ [] = nil_from_length (into_iter_items left) (omega (arith, left.rest.ok.0, c.in-None.ensures.steps.0)) in
+    let i = c.loop-place.place-index in
+    let end : drop i c.args.places.now ≡ [] = drop_all i c.args.places.now (omega arith) in
     let done = (c.loop-place.invariant.ends of nonce are).1 [] [] (rw end tt) in
     rw (append-nil c.loop-place.spots.items, append-nil c.loop-place.lower.items) at done

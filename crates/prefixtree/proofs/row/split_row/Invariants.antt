@@ -1,5 +1,4 @@
-use Rattle.std.proofs.Common.{ℕ, List, ◌++◌}
-use Rattle.std.specs.Vec.Iter.{into_iter_items}
+use Rattle.std.proofs.Common.{ℕ, List, ◌++◌, drop}
 use Rattle.prefixtree.specs.declared.row.Place.{Place}
 use Rattle.prefixtree.specs.declared.row.Spot.{Spot}
 use Rattle.prefixtree.specs.Rows.{ArePlaces, AreSplit}
@@ -8,9 +7,9 @@ use Rattle.prefixtree.proofs.row.split_row.Given as goal
 -- what is left is a row of places, and whatever it gives completes the row
 abbrev pub invariant-loop-place : goal.invariant-loop-place
 invariant-loop-place l = record {
-  left : (of : List ℕ → List ℕ) × (nonce : List ℕ) × ArePlaces of nonce l.changes l.level (into_iter_items l.place-iterator);
-  ends : (of : List ℕ → List ℕ) (nonce : List ℕ) → ArePlaces of nonce l.changes l.level l.fn.places.items
-      → ArePlaces of nonce l.changes l.level (into_iter_items l.place-iterator)
-      × ((spots : List Spot) (rest : List Place) → AreSplit of nonce l.changes l.level (into_iter_items l.place-iterator) spots rest
-      → AreSplit of nonce l.changes l.level l.fn.places.items (l.spots.items ++ spots) (l.lower.items ++ rest));
+  left : (of : List ℕ → List ℕ) × (nonce : List ℕ) × ArePlaces of nonce l.changes l.level (drop l.place-index l.places);
+  ends : (of : List ℕ → List ℕ) (nonce : List ℕ) → ArePlaces of nonce l.changes l.level l.places
+      → ArePlaces of nonce l.changes l.level (drop l.place-index l.places)
+      × ((spots : List Spot) (rest : List Place) → AreSplit of nonce l.changes l.level (drop l.place-index l.places) spots rest
+      → AreSplit of nonce l.changes l.level l.places (l.spots.items ++ spots) (l.lower.items ++ rest));
 }
