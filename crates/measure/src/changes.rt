@@ -124,8 +124,8 @@ fn ways(round: usize) -> [Way; 2] {
 }
 
 /// The steps: digests; in each round its lists made, put in one way, and put in the other way;
-/// digests again. The ways change places from round to round. The number of a step in a round is
-/// the digests so far. Both ways have to come to the same roots.
+/// digests again. The ways change places from round to round. The number of a step in a round is the
+/// digests so far. Both ways have to come to the same roots.
 pub(crate) fn measure(rt: &(impl Print + Input), alloc: Global, wanted: &Changes) -> Result<()> {
     let items = Placed::new(alloc, 0, wanted.items)?;
     let mut text = [0; LEAF_BYTES];
