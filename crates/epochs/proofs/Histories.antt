@@ -8,14 +8,15 @@ use Rattle.std.specs.declared.cmp.Ordering.{Ordering}
 use Rattle.std.specs.declared.cmp.Ordering.TheVariants.{Less}
 use Rattle.std.proofs.lemmas.Bool.{cases_lt, eq-eqb, le-leb, leb-true, lt-leb, ne_eqb}
 use Rattle.prefixtree.proofs.Order.{equal-same, greater-less}
-use Rattle.epochs.specs.Books.{Binding}
-use Rattle.epochs.specs.Maps.{Map, name_cmp, overwritten, put}
+use Rattle.book.specs.Books.{Binding}
+use Rattle.book.specs.Maps.{Map, name_cmp, overwritten, put}
 use Rattle.epochs.specs.Histories.{Version, chosen, or_else, shown, waiting, with_some}
+use Rattle.epochs.specs.Versions.{Ascends}
 
-abbrev Above : {X : Type 0} → List ℕ → Map X → Type 0
+abbrev pub Above : {X : Type 0} → List ℕ → Map X → Type 0
 Above name map = AllByRecursion (λ other. name_cmp name other ≡ Less) (keys_of map)
 
-chosen-above : {V X : Type 0} (f : V → Option X) (name : List ℕ) (hs : Map V) → Above name hs → Above name (chosen f hs)
+pub chosen-above : {V X : Type 0} (f : V → Option X) (name : List ℕ) (hs : Map V) → Above name hs → Above name (chosen f hs)
 chosen-above {X = X} f name [] h = tt
 chosen-above {X = X} f name (e ∷ es) h = by (f e.1) (chosen-above f name es h.1)
   where
@@ -23,7 +24,7 @@ chosen-above {X = X} f name (e ∷ es) h = by (f e.1) (chosen-above f name es h.
     by None more = more
     by (Some x) more = (h.0, more)
 
-put-front : {X : Type 0} (name : List ℕ) (x : X) (map : Map X) → Above name map → put map name x ≡ (name, x) ∷ map
+pub put-front : {X : Type 0} (name : List ℕ) (x : X) (map : Map X) → Above name map → put map name x ≡ (name, x) ∷ map
 put-front name x [] h = refl
 put-front name x (e ∷ es) h = ap (λ (o : Ordering). match_ordering o ((name, x) ∷ e ∷ es) ((e.0, x) ∷ es) (e ∷ put es name x)) h.0
 
@@ -51,11 +52,6 @@ chosen-overwritten {X = X} f g (e ∷ es) h =
     by (Some x) (Some y) a b rest =
         ap (λ (o : Ordering). overwritten (match_ordering o ((e.0, y) ∷ (e.0, x) ∷ chosen f es) ((e.0, y) ∷ chosen f es) ((e.0, x) ∷ put (chosen f es) e.0 y)) (chosen g es)) (equal-same e.0 e.0 refl)
         ∙ overwritten-past e.0 y (chosen f es) (chosen g es) b ∙ ap (λ (m : Map X). (e.0, y) ∷ m) rest
-
--- the versions of a name ascend
-abbrev pub Ascends : List Version → Type 0
-Ascends [] = Unit {0}
-Ascends (version ∷ versions) = AllByRecursion (λ later. version.number < later.number) versions × Ascends versions
 
 -- what a page shows is no older than a version before all
 shown-after : (n p : ℕ) (versions : List Version) → AllByRecursion (λ later. n < later.number) versions → (b : Binding) → shown p versions ≡ Some b → n < p

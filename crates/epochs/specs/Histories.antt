@@ -1,8 +1,8 @@
 -- How pages can be kept without copies: the versions of each name, each with the number of the first page
 -- that shows it.
 use Rattle.std.specs.Prelude.{ℕ, List, [], ◌∷◌, nat_le, nat_eq, if◌then◌else◌, Option, Some, None}
-use Rattle.epochs.specs.Books.{Binding}
-use Rattle.epochs.specs.Maps.{Map}
+use Rattle.book.specs.Books.{Binding}
+use Rattle.book.specs.Maps.{Map}
 
 pub record Version : Type 0 where
   pub number : ℕ

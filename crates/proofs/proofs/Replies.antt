@@ -9,12 +9,11 @@ use Rattle.encoding.specs.Bytes.{HasBytes, IsBytes, Is32Bytes}
 use Rattle.encoding.specs.Endian.{big_bytes}
 use Rattle.encoding.specs.Fields.{IsField}
 use Rattle.encoding.specs.Forms.{counted_bytes}
-use Rattle.encoding.specs.Limits.{IsKeyData, IsSmall}
-use Rattle.encoding.specs.Reading.{is_within, read_as, read_byte, read_bytes, read_counted, read_number, read_where}
+use Rattle.encoding.specs.Limits.{IsKeyData}
+use Rattle.encoding.specs.Reading.{is_within, read_as, read_byte, read_bytes, read_number, read_where}
 use Rattle.encoding.proofs.Fields.{whole-read, whole-refused, allowed_field, byte_field, bytes_field, counted_field, nothing_field, numbers_field, refused_read, renamed_field, respelled_field, tested_field, then_field}
 use Rattle.encoding.proofs.FieldsOf.{both}
 use Rattle.rootchain.specs.declared.body.Body.{Body}
-use Rattle.rootchain.specs.Bodies.{body_bytes, read_body, IsBody}
 use Rattle.rootchain.specs.Readable.{body_field}
 use Rattle.proofs.specs.Replies.{End, Present, Empty, Other, Reply, reply_end_bytes, end_kind, end_parts, joined_bytes, reply_bytes, sibling_bytes, AreSiblings, IsEnd, IsReply, Spells}
 use Rattle.proofs.specs.Refusals.{BeginsWithReply}

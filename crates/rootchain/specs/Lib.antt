@@ -1,5 +1,6 @@
 pub mod Bodies
 pub mod Chains
+pub mod Evidence
 pub mod Promises
 pub mod Readable
 pub mod Refusals

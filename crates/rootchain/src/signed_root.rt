@@ -39,6 +39,16 @@ impl SignedRoot {
         text
     }
 
+    /// The same signed root once more.
+    pub fn copied(&self) -> SignedRoot
+        ensures { result ≡ self.now }
+    {
+        SignedRoot {
+            body: self.body,
+            signature: self.signature.copied(),
+        }
+    }
+
     /// Whether the signature verifies under the public key.
     pub(crate) fn verifies<S: Verifier>(&self, verifier: &S, key: &Hash32) -> bool
         ensures { IsTrue result ↔ Verifies S.verified key.now self.now }

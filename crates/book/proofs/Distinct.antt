@@ -1,0 +1,158 @@
+-- No two names of a page have one index, since a register is refused where another name has its index.
+use Rattle.std.proofs.Common.{◌≡◌, ℕ, List, [], ◌∷◌, Option, Some, None, Bool, true, false, cond, not, ◌&&◌, ◌||◌, Contains, refl, sym, ap, subst, inl, inr, ◌⊎◌, ◌∙◌}
+use Rattle.std.specs.Prelude.{is_some, is_none}
+use Rattle.std.specs.BTreeMap.{is_at}
+use Rattle.std.specs.List.{AllByRecursion, find}
+use Rattle.std.specs.Str.{bytes_eq}
+use Rattle.std.proofs.lemmas.Bool.{not-false}
+use Rattle.std.proofs.lemmas.Cmp.{nat_list_eq_equiv}
+use Rattle.std.proofs.lemmas.Slice.Eq.{bytes_eq-Decides}
+use Rattle.book.specs.declared.refusal.Refusal.TheVariants.{BadName, BadKey, NameTaken, NoSuchName, PendingExists, IndexTaken}
+use Rattle.book.specs.Answers.{Answer, has_its_index, is_within, next_page, refusal, with_page, with_pending}
+use Rattle.book.specs.Asked.{Asked, Register, Change, Promise, Lookup, History, Head, Close}
+use Rattle.book.specs.Books.{Binding, Book, pages}
+use Rattle.book.specs.Maps.{Map, at, name_cmp, overwritten, put}
+use Rattle.book.specs.Shows.{Provider, index_of}
+use Rattle.book.proofs.Entries.{at_put_other, found-entry, is_name, is_no_name, same_name, stays}
+use Rattle.book.proofs.Members.{first-or-later, none-there}
+use Rattle.book.proofs.Stepping.{Does}
+use Rattle.book.proofs.Turning.{all-push, passed, two-passed}
+
+-- the map has the name
+abbrev pub HasName : Map Binding → List ℕ → Type 0
+HasName map name = (binding : Binding) × (at map name ≡ Some binding)
+
+pub named-or-not : (map : Map Binding) (name : List ℕ) → HasName map name ⊎ (at map name ≡ None)
+named-or-not map name = by (at map name) refl
+  where
+    by : (found : Option Binding) → at map name ≡ found → HasName map name ⊎ (at map name ≡ None)
+    by None is = inr is
+    by (Some binding) is = inl (binding, is)
+
+-- an entry's name is found
+pub entry-named : (map : Map Binding) (entry : List ℕ × Binding) → Contains map entry → HasName map entry.0
+entry-named [] entry is = absurd (none-there entry is)
+entry-named (e ∷ es) entry is = elim (first-or-later e es entry is) [
+  | inl same ↦ subst (λ (x : List ℕ × Binding). HasName (e ∷ es) x.0) same (e.1, ap (λ (t : Bool). cond t (Some e.1) (at es e.0)) (same_name e.0))
+  | inr later ↦ by (is_at (name_cmp entry.0) e.0) (entry-named es entry later)
+]
+  where
+    by : (t : Bool) → HasName es entry.0 → (binding : Binding) × (cond t (Some e.1) (at es entry.0) ≡ Some binding)
+    by true more = (e.1, refl)
+    by false more = more
+
+put-named : (map : Map Binding) (name other : List ℕ) (binding : Binding) → HasName (put map name binding) other → HasName map other ⊎ (other ≡ name)
+put-named map name other binding has = by (is_at (name_cmp name) other) refl
+  where
+    by : (t : Bool) → is_at (name_cmp name) other ≡ t → HasName map other ⊎ (other ≡ name)
+    by true is = inr (is_name name other is)
+    by false is = inl (has.0, sym (at_put_other name binding map other (is_no_name name other is)) ∙ has.1)
+
+overwritten-named : (entries map : Map Binding) (name : List ℕ) → HasName (overwritten map entries) name → HasName map name ⊎ HasName entries name
+overwritten-named entries map name has = elim (named-or-not entries name) [
+  | inl there ↦ inr there
+  | inr none ↦ inl (has.0, sym (stays entries map name none) ∙ has.1)
+]
+
+neither : (a b : Bool) → (a || b) ≡ false → (a ≡ false) × (b ≡ false)
+neither false false e = (refl, refl)
+neither false true e = absurd cc
+neither true false e = absurd cc
+neither true true e = absurd cc
+
+none-passes : {X : Type 0} (p : X → Bool) (xs : List X) → is_some (find p xs) ≡ false → AllByRecursion (λ x. p x ≡ false) xs
+none-passes p [] none = tt
+none-passes p (x ∷ xs) none = by (p x) refl none (none-passes p xs)
+  where
+    by : (t : Bool) → p x ≡ t → is_some (cond t (Some x) (find p xs)) ≡ false → (is_some (find p xs) ≡ false → AllByRecursion (λ y. p y ≡ false) xs) → AllByRecursion (λ y. p y ≡ false) (x ∷ xs)
+    by true test none more = absurd cc
+    by false test none more = (test, more none)
+
+module _ (provider : Provider) where
+  -- no two of these names have one index
+  abbrev pub AreApart : (List ℕ → Type 0) → Type 0
+  AreApart Has = (one other : List ℕ) → Has one → Has other → index_of provider one ≡ index_of provider other → one ≡ other
+
+  -- of the last page, or waiting
+  abbrev Holds : Book → List ℕ → Type 0
+  Holds book name = HasName book.last.bindings name ⊎ HasName book.pending name
+
+  pub record IsApart (book : Book) : Type 0 where
+    pub now : AreApart (Holds book)
+    pub pages : AllByRecursion (λ page. AreApart (HasName page.bindings)) (pages book)
+
+  -- what the test says of a map
+  untaken : (name : List ℕ) (map : Map Binding) → has_its_index (index_of provider) name map ≡ false → (other : List ℕ) → HasName map other → index_of provider other ≡ index_of provider name → other ≡ name
+  untaken name map none other has same =
+      let e = found-entry (λ entry. (not (bytes_eq entry.0 name) && bytes_eq (index_of provider entry.0) (index_of provider name)) ≡ false) map other has.0 has.1 (none-passes _ map none) in
+      let i : bytes_eq (index_of provider e.0.0) (index_of provider name) ≡ true
+      = ap (bytes_eq (index_of provider e.0.0)) (sym (ap (index_of provider) e.2 ∙ same)) ∙ nat_list_eq_equiv.refl (index_of provider e.0.0) in
+      sym e.2 ∙ (bytes_eq-Decides e.0.0 name).0 (not-false _ (sole (not (bytes_eq e.0.0 name)) (bytes_eq (index_of provider e.0.0) (index_of provider name)) e.1 i))
+    where
+      sole : (a b : Bool) → (a && b) ≡ false → b ≡ true → a ≡ false
+      sole false b none is = refl
+      sole true b none is = let e : true ≡ false = sym is ∙ none in absurd cc
+
+  -- a name that is put in, where all others with its index are itself
+  apart-pending : (book : Book) (name key : List ℕ) → IsApart book → ((other : List ℕ) → Holds book other → index_of provider other ≡ index_of provider name → other ≡ name) → IsApart (with_pending book name key)
+  apart-pending book name key apart free = record { now = now; pages = apart.pages }
+    where
+      held : (other : List ℕ) → Holds (with_pending book name key) other → Holds book other ⊎ (other ≡ name)
+      held other (inl last) = inl (inl last)
+      held other (inr waits) = elim (put-named book.pending name other (record { key = key; salt = book.salt }) waits) [ inl before ↦ inl (inr before) | inr same ↦ inr same ]
+
+      by : (one other : List ℕ) → Holds book one ⊎ (one ≡ name) → Holds book other ⊎ (other ≡ name) → index_of provider one ≡ index_of provider other → one ≡ other
+      by one other (inl a) (inl b) same = apart.now one other a b same
+      by one other (inl a) (inr b) same = free one a (same ∙ ap (index_of provider) b) ∙ sym b
+      by one other (inr a) (inl b) same = a ∙ sym (free other b (sym same ∙ ap (index_of provider) a))
+      by one other (inr a) (inr b) same = a ∙ sym b
+
+      now : AreApart (Holds (with_pending book name key))
+      now one other a b same = by one other (held one a) (held other b) same
+
+  apart-page : (book : Book) (epoch : ℕ) → IsApart book → IsApart (with_page book (next_page book epoch))
+  apart-page book epoch apart = record { now = now; pages = all-push (λ page. AreApart (HasName page.bindings)) (pages book) (next_page book epoch) apart.pages page }
+    where
+      page : AreApart (HasName (next_page book epoch).bindings)
+      page one other a b same = apart.now one other (overwritten-named book.pending book.last.bindings one a) (overwritten-named book.pending book.last.bindings other b) same
+
+      shown : (name : List ℕ) → Holds (with_page book (next_page book epoch)) name → HasName (next_page book epoch).bindings name
+      shown name (inl last) = last
+      shown name (inr waits) = absurd (never waits.1)
+        where
+          never : {x : Binding} → None ≡ Some x → ⊥
+          never e = absurd cc
+
+      now : AreApart (Holds (with_page book (next_page book epoch)))
+      now one other a b same = page one other (shown one a) (shown other b) same
+
+  abbrev taken : Book → List ℕ → Bool
+  taken book name = has_its_index (index_of provider) name book.last.bindings || has_its_index (index_of provider) name book.pending
+
+  pub apart-after : (book after : Book) (asked : Asked) (answer : Answer) → IsApart book → refusal (index_of provider) book asked ≡ None → Does book asked answer after → IsApart after
+  apart-after book after (Register name key) answer apart none does =
+      let one = two-passed (not (is_within 1 255 name)) (not (is_within 1 2048 key)) BadName BadKey
+      ((is_some (at book.last.bindings name), NameTaken) ∷ (is_some (at book.pending name), PendingExists) ∷ (taken book name, IndexTaken) ∷ []) none in
+      let two = two-passed (is_some (at book.last.bindings name)) (is_some (at book.pending name)) NameTaken PendingExists ((taken book name, IndexTaken) ∷ []) one.2 in
+      let three = passed (taken book name, IndexTaken) [] two.2 in
+      let both = neither (has_its_index (index_of provider) name book.last.bindings) (has_its_index (index_of provider) name book.pending) three.0 in
+      subst IsApart (sym does.1) (apart-pending book name key apart (free name both.0 both.1))
+    where
+      free : (name : List ℕ) → has_its_index (index_of provider) name book.last.bindings ≡ false → has_its_index (index_of provider) name book.pending ≡ false
+          → (other : List ℕ) → Holds book other → index_of provider other ≡ index_of provider name → other ≡ name
+      free name a b other (inl last) same = untaken name book.last.bindings a other last same
+      free name a b other (inr waits) same = untaken name book.pending b other waits same
+  apart-after book after (Change name key) answer apart none does =
+      let one = two-passed (not (is_within 1 255 name)) (not (is_within 1 2048 key)) BadName BadKey
+      ((is_none (at book.last.bindings name), NoSuchName) ∷ (is_some (at book.pending name), PendingExists) ∷ []) none in
+      let two = two-passed (is_none (at book.last.bindings name)) (is_some (at book.pending name)) NoSuchName PendingExists [] one.2 in
+      subst IsApart (sym does.1) (apart-pending book name key apart (λ other held same. apart.now other name held (inl (there (at book.last.bindings name) two.0)) same))
+    where
+      there : (found : Option Binding) → is_none found ≡ false → (binding : Binding) × (found ≡ Some binding)
+      there None e = absurd cc
+      there (Some binding) e = (binding, refl)
+  apart-after book after (Promise name) answer apart none does = subst IsApart (sym does.3) apart
+  apart-after book after (Lookup name epoch) answer apart none does = subst IsApart (sym does.3) apart
+  apart-after book after (History from count) answer apart none does = subst IsApart (sym does.1) apart
+  apart-after book after Head answer apart none does = subst IsApart (sym does.1) apart
+  apart-after book after (Close epoch) answer apart none does = subst IsApart (sym does.1) (apart-page book epoch apart)

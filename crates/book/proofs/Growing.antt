@@ -1,0 +1,58 @@
+-- What a close leaves, and how the pages grow along a run.
+use Rattle.std.proofs.Common.{◌≡◌, ℕ, ◌<◌, List, [], ◌∷◌, ◌++◌, AllPairs, None, sym, ap, subst, ◌∙◌}
+use Rattle.std.specs.Prelude.{nat_le}
+use Rattle.std.proofs.lemmas.List.{append-nil, append_assoc}
+use Rattle.book.specs.declared.record.Record.{Record}
+use Rattle.book.specs.declared.refusal.Refusal.TheVariants.{EpochNotLater}
+use Rattle.book.specs.declared.reply.Reply.{Reply}
+use Rattle.book.specs.Answers.{Answer, next_page, refusal, with_page}
+use Rattle.book.specs.Asked.{Asked, Register, Change, Promise, Lookup, History, Head, Close}
+use Rattle.book.specs.Books.{Book, Page, pages}
+use Rattle.book.specs.Maps.{overwritten}
+use Rattle.book.specs.Shows.{Provider, index_of}
+use Rattle.book.specs.Steps.{Answers, step}
+use Rattle.book.specs.Turns.{Run}
+use Rattle.book.proofs.Carried.{carried}
+use Rattle.book.proofs.Soundness.{IsBefore, ascend-push}
+use Rattle.book.proofs.Stepping.{Does, stepped}
+use Rattle.book.proofs.Turning.{above-last, passed}
+
+pub closing : (index_of : List ℕ → List ℕ) (book after : Book) (epoch : ℕ) (answer : Answer) → step index_of book (Close epoch) ≡ (Answers answer, after)
+    → (after.last.epoch ≡ epoch) × (after.last.bindings ≡ overwritten book.last.bindings book.pending) × (after.earlier ≡ pages book) × (after.pending ≡ [])
+closing index_of book after epoch answer is =
+    let e = (stepped index_of book (Close epoch) answer after is).does.1 in
+    (ap (λ (b : Book). b.last.epoch) e, ap (λ (b : Book). b.last.bindings) e, ap (λ (b : Book). b.earlier) e, ap (λ (b : Book). b.pending) e)
+
+module _ (first : Book) where
+  -- the pages are those of the first book, followed by others, and they ascend
+  pub record HasGrown (book : Book) : Type 0 where
+    pub more : List Page
+    pub is : pages book ≡ pages first ++ more
+    pub ascend : AllPairs IsBefore (pages book)
+
+  grown-page : (book : Book) (epoch : ℕ) → HasGrown book → book.last.epoch < epoch → HasGrown (with_page book (next_page book epoch))
+  grown-page book epoch grown above = record {
+    more = grown.more ++ next_page book epoch ∷ [];
+    is = ap (λ (all : List Page). all ++ next_page book epoch ∷ []) grown.is ∙ append_assoc (pages first) grown.more (next_page book epoch ∷ []);
+    ascend = ascend-push book.earlier book.last (next_page book epoch) grown.ascend above;
+  }
+
+  same-pages : (book after : Book) → HasGrown book → pages after ≡ pages book → HasGrown after
+  same-pages book after grown same = record { more = grown.more; is = same ∙ grown.is; ascend = subst (AllPairs IsBefore) (sym same) grown.ascend }
+
+  grown-after : (index_of : List ℕ → List ℕ) (book after : Book) (asked : Asked) (answer : Answer) → HasGrown book → refusal index_of book asked ≡ None → Does book asked answer after → HasGrown after
+  grown-after index_of book after (Register name key) answer grown none does = same-pages book after grown (ap pages does.1)
+  grown-after index_of book after (Change name key) answer grown none does = same-pages book after grown (ap pages does.1)
+  grown-after index_of book after (Promise name) answer grown none does = same-pages book after grown (ap pages does.3)
+  grown-after index_of book after (Lookup name epoch) answer grown none does = same-pages book after grown (ap pages does.3)
+  grown-after index_of book after (History from count) answer grown none does = same-pages book after grown (ap pages does.1)
+  grown-after index_of book after Head answer grown none does = same-pages book after grown (ap pages does.1)
+  grown-after index_of book after (Close epoch) answer grown none does =
+      subst HasGrown (sym does.1) (grown-page book epoch grown (above-last epoch book.last.epoch (passed (nat_le epoch book.last.epoch, EpochNotLater) [] none).0))
+
+pub run-grows : (provider : Provider) {K : Type 0} (kept failed : K → Record → K → Type 0) (commands : List Asked) (replies : List Reply) (book after : Book) (before later : K)
+    → AllPairs IsBefore (pages book) → Run provider kept failed book before commands replies after later → HasGrown book after
+run-grows provider kept failed commands replies book after before later ascend run =
+    carried provider kept failed (HasGrown book) commands replies book after before later
+    (λ command there each next answer grown none does. grown-after book (index_of provider) each next command answer grown none does)
+    (record { more = []; is = sym (append-nil (pages book)); ascend = ascend }) run

@@ -1,0 +1,278 @@
+-- A run from a fresh book is honest.
+use Rattle.std.proofs.Common.{◌≡◌, ℕ, ◌+◌, ◌-◌, ◌<◌, List, [], ◌∷◌, ◌++◌, length, length-append, get_or, map, replicate, Option, Some, None, All, Contains, refl, sym, ap, subst, ◌∙◌, arith, inl, inr, ◌⊎◌}
+use Rattle.std.specs.Prelude.{option_map}
+use Rattle.std.specs.List.{AllByRecursion}
+use Rattle.std.proofs.lemmas.List.Elements.{All-contains, All-contains_itself, All-from_recursion, All-weaker, recursion_from_All}
+use Rattle.std.proofs.lemmas.List.{get_or-append_right, get_or_append_left}
+use Rattle.std.proofs.lemmas.Option.{slice_get-get_or}
+use Rattle.rand_core.specs.Stream.{Stream}
+use Rattle.encoding.specs.Bytes.{Is32Bytes}
+use Rattle.encoding.proofs.ByteLists.{IsBytes-zeros}
+use Rattle.rootchain.specs.Chains.{IsChain, IsHead, Links, Verifies}
+use Rattle.rootchain.specs.Bodies.{body_bytes}
+use Rattle.rootchain.specs.Promises.{promise_bytes}
+use Rattle.rootchain.specs.SignedRoots.{IsSignedRoot}
+use Rattle.rootchain.specs.declared.body.Body.{Body}
+use Rattle.rootchain.specs.declared.signed_promise.SignedPromise.{SignedPromise}
+use Rattle.rootchain.specs.declared.signed_root.SignedRoot.{SignedRoot}
+use Rattle.proofs.specs.Accepts.{Accepts, HasIndex}
+use Rattle.proofs.specs.Replies.{Reply as Spelled}
+use Rattle.proofs.proofs.Passing.{accepts-passed, one_reply}
+use Rattle.book.specs.declared.record.Record.{Record}
+use Rattle.book.specs.declared.reply.Reply.{Reply}
+use Rattle.book.specs.declared.reply.Reply.TheVariants as reply
+use Rattle.book.specs.Asked.{Asked, Lookup}
+use Rattle.book.specs.Books.{Binding, Book, Page, pages}
+use Rattle.proofs.specs.BrokenPromises.{IsBrokenPromise}
+use Rattle.book.specs.Fresh.{HasSalts, IsCommand, IsEpoch, KeepsLaws, fresh}
+use Rattle.book.specs.Honest.{DoublesAreRefused, IndicesDiffer, IsAlone, IsAnswer, IsHonest, IsKept, IsSaid, Tells, key_at}
+use Rattle.book.specs.Maps.{at}
+use Rattle.book.specs.Shows.{Provider, Sealed, index_of, promise, roots, sealed_behind, sealed_pages, IsRootOf}
+use Rattle.book.specs.Turns.{Run}
+use Rattle.book.specs.Watches.{expected}
+use Rattle.book.proofs.Carried.{carried}
+use Rattle.book.proofs.Distinct.{AreApart, HasName, IsApart, apart-after, entry-named, named-or-not}
+use Rattle.book.proofs.Doubled.{doubled}
+use Rattle.book.proofs.Entries.{ascends_none, found-entry}
+use Rattle.book.proofs.Found.{AreSalted, IsRight, found-right}
+use Rattle.book.proofs.Members.{mapped-there}
+use Rattle.book.proofs.Placed.{Alone}
+use Rattle.book.proofs.Running.{Seen, SeenFound, SeenPromise, ran}
+use Rattle.book.proofs.Sealing.{Climb, IsSealed, all-sealed, no-clash, sealed-chain, sealed-page}
+use Rattle.book.proofs.Turning.{IsSound}
+
+is-fresh : (epoch : ℕ) (nonce : List ℕ) (salts : Stream) → IsEpoch epoch → Is32Bytes nonce → IsSound (fresh epoch nonce salts)
+is-fresh epoch nonce salts is size = record {
+  climb = (is.0, tt);
+  pages = (record { epoch = is.1; nonce = size; ascends = ascends_none Binding; bindings = tt }, tt);
+  ascends = ascends_none Binding;
+  pending = tt;
+}
+
+some-key : (found : Option Binding) (key : List ℕ) → option_map (λ (binding : Binding). binding.key) found ≡ Some key → (binding : Binding) × (found ≡ Some binding)
+some-key None key e = absurd cc
+some-key (Some binding) key e = (binding, refl)
+
+-- ---- the front of a chain
+
+module _ (hash : List ℕ → List ℕ) (verified : List ℕ → List ℕ → List ℕ → Type 0) (key : List ℕ) (front : List SignedRoot) (root : SignedRoot) (back : List SignedRoot)
+    (chain : IsChain hash verified (record { key = key; roots = front ++ root ∷ back })) (more : 0 < length front) where
+  pub front-chain : IsChain hash verified (record { key = key; roots = front })
+  front-chain = record {
+    first = more;
+    signed = λ k d p. subst (Verifies verified key) (get_or_append_left front (root ∷ back) d k p) (chain.signed k d (omega (arith, p, length-append front (root ∷ back))));
+    linked = λ k d p.
+        subst (λ (x : SignedRoot). Links hash x (get_or front (k + 1) d)) (get_or_append_left front (root ∷ back) d k (omega (arith, p)))
+        (subst (Links hash (get_or (front ++ root ∷ back) k d)) (get_or_append_left front (root ∷ back) d (k + 1) p)
+        (chain.linked k d (omega (arith, p, length-append front (root ∷ back)))));
+  }
+
+  pub next-root : (head : SignedRoot) × IsHead (record { key = key; roots = front }) head × Verifies verified key root × Links hash head root
+  next-root = (
+    get_or front (length front - 1) root,
+    slice_get-get_or front (length front - 1) root (omega arith),
+    subst (Verifies verified key) here (chain.signed (length front) root (omega (arith, length-append front (root ∷ back)))),
+    subst (λ (x : SignedRoot). Links hash x root) (get_or_append_left front (root ∷ back) root (length front - 1) (omega arith))
+        (subst (Links hash (get_or (front ++ root ∷ back) (length front - 1) root)) (ap (λ (i : ℕ). get_or (front ++ root ∷ back) i root) last ∙ here)
+        (chain.linked (length front - 1) root (omega (arith, length-append front (root ∷ back))))),
+  )
+    where
+      last : length front - 1 + 1 ≡ length front
+      last = omega arith
+
+      none : length front - length front ≡ 0
+      none = omega arith
+
+      here : get_or (front ++ root ∷ back) (length front) root ≡ root
+      here = get_or-append_right front (root ∷ back) (length front) (length front) root refl (omega arith) ∙ ap (λ (i : ℕ). get_or (root ∷ back) i root) none
+
+module _ (provider : Provider) where
+  fresh-apart : (epoch : ℕ) (nonce : List ℕ) (salts : Stream) → IsApart provider (fresh epoch nonce salts)
+  fresh-apart epoch nonce salts = record { now = λ one other a b same. absurd (nobody one a); pages = (λ one other a b same. absurd (no-name one a), tt) }
+    where
+      no-name : (name : List ℕ) → HasName [] name → ⊥
+      no-name name has = never has.1
+        where
+          never : {x : Binding} → None ≡ Some x → ⊥
+          never e = absurd cc
+
+      nobody : (name : List ℕ) → HasName [] name ⊎ HasName [] name → ⊥
+      nobody name (inl has) = no-name name has
+      nobody name (inr has) = no-name name has
+
+  apart-run : {K : Type 0} (kept failed : K → Record → K → Type 0) (epoch : ℕ) (nonce : List ℕ) (salts : Stream) (before later : K) (after : Book) (commands : List Asked) (replies : List Reply)
+      → Run provider kept failed (fresh epoch nonce salts) before commands replies after later → IsApart provider after
+  apart-run kept failed epoch nonce salts before later after commands replies run =
+      carried provider kept failed (IsApart provider) commands replies (fresh epoch nonce salts) after before later
+      (λ command there book next given holds none does. apart-after provider book next command given holds none does) (fresh-apart epoch nonce salts) run
+
+  -- two names of a page of the book
+  page-apart : (after : Book) → IsApart provider after → (page : Page) (root : SignedRoot) → IsRootOf provider after page root → AreApart provider (HasName page.bindings)
+  page-apart after apart page root is =
+      All-contains (λ (each : Page). AreApart provider (HasName each.bindings)) (pages after) page
+      (All-from_recursion (λ (each : Page). AreApart provider (HasName each.bindings)) (pages after) apart.pages)
+      (sealed-page provider 0 (replicate 32 0) (pages after) (record { page = page; root = root }) is)
+
+  alone-list : (name : List ℕ) (page : Page) → IsAlone provider name page → Alone provider name page.bindings
+  alone-list name page alone = recursion_from_All _ page.bindings
+      (All-weaker (Contains page.bindings) (λ entry. index_of provider entry.0 ≡ index_of provider name → entry.0 ≡ name) alone page.bindings (All-contains_itself page.bindings))
+
+  module _ (accepted verified : List ℕ → List ℕ → List ℕ → Type 0) (key : List ℕ) (laws : KeepsLaws accepted verified key provider) (after : Book) (sound : IsSound after) (salts : HasSalts after) where
+    zeros : Is32Bytes (replicate 32 0)
+    zeros = (refl, IsBytes-zeros 32)
+
+    are-sealed : AllByRecursion (IsSealed provider accepted verified key laws) (sealed_pages provider after)
+    are-sealed = all-sealed provider accepted verified key laws 0 (replicate 32 0) (pages after) (omega arith) zeros (λ e. refl) sound.climb sound.pages
+
+    is-sealed : (page : Page) (root : SignedRoot) → IsRootOf provider after page root → IsSealed provider accepted verified key laws (record { page = page; root = root })
+    is-sealed page root is = All-contains (IsSealed provider accepted verified key laws) (sealed_pages provider after) _ (All-from_recursion (IsSealed provider accepted verified key laws) (sealed_pages provider after) are-sealed) is
+
+    chain-of : (earlier : List Page) (last : Page) → Climb 0 (earlier ++ last ∷ []) → AllByRecursion (IsSealed provider accepted verified key laws) (sealed_behind provider 0 (replicate 32 0) (earlier ++ last ∷ []))
+        → IsChain provider.hash verified (record { key = key; roots = map (λ (each : Sealed). each.root) (sealed_behind provider 0 (replicate 32 0) (earlier ++ last ∷ [])) })
+    chain-of [] last climb are = sealed-chain provider accepted verified key laws 0 (replicate 32 0) last [] climb are
+    chain-of (first ∷ earlier) last climb are = sealed-chain provider accepted verified key laws 0 (replicate 32 0) first (earlier ++ last ∷ []) climb are
+
+    in-chain : (page : Page) (root : SignedRoot) → IsRootOf provider after page root → Contains (roots provider after) root
+    in-chain page root is = mapped-there (λ (each : Sealed). each.root) (sealed_pages provider after) (record { page = page; root = root }) is
+
+    told : (command : Asked) (said : Reply) (root : SignedRoot) → Seen provider after command said → Tells said root → Contains (roots provider after) root
+    told command (reply.Promised promised) root s tells = absurd tells
+    told command (reply.Found text) root s tells = absurd tells
+    told command (reply.Told told_roots) root s tells = let p = s root tells in in-chain p.0 root p.1
+    told command (reply.Last last) root s tells = subst (Contains (roots provider after)) tells (in-chain s.0 last s.1)
+    told command (reply.Refused why) root s tells = absurd tells
+
+    salted : (page : Page) (root : SignedRoot) → IsRootOf provider after page root → AreSalted page.bindings
+    salted page root is = recursion_from_All (λ entry. Is32Bytes entry.1.salt) page.bindings
+        (All-contains (λ (each : Page). All (λ (entry : List ℕ × Binding). Is32Bytes entry.1.salt) each.bindings) (pages after) page salts
+        (sealed-page provider 0 (replicate 32 0) (pages after) (record { page = page; root = root }) is))
+
+    signed-form : (all : List Sealed) → AllByRecursion (IsSealed provider accepted verified key laws) all → AllByRecursion IsSignedRoot (map (λ (each : Sealed). each.root) all)
+    signed-form [] are = tt
+    signed-form (each ∷ all) are = ((are.0.form, are.0.small), signed-form all are.1)
+
+    right : (name : List ℕ) (epoch : ℕ) (text : List ℕ) → (s : SeenFound provider after name epoch text) → Alone provider name s.page.bindings → IsRight provider accepted verified key laws name s.page s.root.body text
+    right name epoch text s alone =
+        let is = is-sealed s.page s.root s.is in
+        found-right provider accepted verified key laws name s.page s.root.body text is.page is.form is.root is.nonce is.vuf_key s.named (salted s.page s.root s.is) alone s.answer
+
+    answer : (name : List ℕ) (epoch : ℕ) (text : List ℕ) → (s : SeenFound provider after name epoch text) → Alone provider name s.page.bindings → IsAnswer provider accepted verified key after name epoch text
+    answer name epoch text s alone =
+        let r = right name epoch text s alone in
+        let forth : (statement : Option (List ℕ)) → Accepts provider.hash accepted s.root.body name text statement → statement ≡ key_at s.page name
+        = λ statement accepts. sym (accepts-passed provider.hash accepted s.root.body name text r.reply r.spells statement accepts).0 ∙ r.states in
+        let back : (statement : Option (List ℕ)) → statement ≡ key_at s.page name → Accepts provider.hash accepted s.root.body name text statement
+        = λ statement same. subst (Accepts provider.hash accepted s.root.body name text) (sym same) r.accepts in
+        record {
+          page = s.page;
+          root = s.root;
+          is = s.is;
+          asked = s.asked;
+          states = λ statement. (forth statement, back statement);
+          index = (r.reply, r.spells, ap provider.hash r.value);
+          watched = λ watch. (λ accepts. sym (forth (expected watch s.page.epoch) accepts), λ same. back (expected watch s.page.epoch) (sym same));
+        }
+
+    kept : (promised : SignedPromise) → SeenPromise provider after promised → IsKept provider accepted verified key after promised
+    kept promised s = subst (IsKept provider accepted verified key after) (sym s.same) (record {
+      form = ((
+        (omega (arith, (is-sealed s.page s.root s.is).form.0.0), (is-sealed s.page s.root s.is).form.1, laws.digest_size (body_bytes s.root.body), laws.digest_size (provider.value s.name), s.named, s.keyed),
+        laws.signature_size (promise_bytes (promise provider s.root.body s.name s.binding)),
+      ));
+      signed = laws.signature_verifies (promise_bytes (promise provider s.root.body s.name s.binding));
+      page = s.page;
+      root = s.root;
+      is = s.is;
+      epoch = refl;
+      root_hash = refl;
+      index = refl;
+      next = s.holds.next;
+    })
+
+    -- a promise that is kept is not broken by a reply that is right
+    unbroken : (promised : SignedPromise) (name : List ℕ) (epoch : ℕ) (text : List ℕ) (root : SignedRoot) → IsKept provider accepted verified key after promised → (s : SeenFound provider after name epoch text)
+        → Alone provider name s.page.bindings → IsBrokenPromise provider.hash verified key accepted promised root text → ⊥
+    unbroken promised name epoch text root k s alone b =
+        let r = right name epoch text s alone in
+        let own : b.passes.0 ≡ r.reply = one_reply text b.passes.0 r.reply b.passes.1 r.spells in
+        let body : root.body ≡ s.root.body = sym b.passes.2.of_body ∙ ap (λ (x : Spelled). x.body) own ∙ r.of_body in
+        let behind : s.root.body.previous_epoch ≡ promised.promise.epoch = ap (λ (x : Body). x.previous_epoch) (sym body) ∙ b.next in
+        let has : key_at s.page promised.promise.name ≡ Some promised.promise.key = k.next s.page s.root s.is behind in
+        let entry = some-key (at s.page.bindings promised.promise.name) promised.promise.key has in
+        let e = found-entry (λ each. index_of provider each.0 ≡ index_of provider name → each.0 ≡ name) s.page.bindings promised.promise.name entry.0 entry.1 alone in
+        let spelled : b.index.0 ≡ r.reply = one_reply text b.index.0 r.reply b.index.1 r.spells in
+        let index : index_of provider promised.promise.name ≡ index_of provider name =
+        sym k.index ∙ sym b.index.2 ∙ ap (λ (x : Spelled). provider.hash x.value) spelled ∙ ap provider.hash r.value in
+        let same : promised.promise.name ≡ name = sym e.2 ∙ e.1 (ap (index_of provider) e.2 ∙ index) in
+        b.broken (sym (accepts-passed provider.hash accepted root.body promised.promise.name text r.reply r.spells b.statement b.passes).0
+        ∙ r.states ∙ ap (key_at s.page) (sym same) ∙ has)
+
+    -- what is found for the name of a promise under the next root
+    is-due : (promised : SignedPromise) (epoch : ℕ) (text : List ℕ) (root : SignedRoot) (statement : Option (List ℕ)) → IsKept provider accepted verified key after promised
+        → (s : SeenFound provider after promised.promise.name epoch text) → Alone provider promised.promise.name s.page.bindings → root.body.previous_epoch ≡ promised.promise.epoch
+        → Accepts provider.hash accepted root.body promised.promise.name text statement → (statement ≡ Some promised.promise.key) × HasIndex provider.hash text promised.promise.index
+    is-due promised epoch text root statement k s alone behind accepts =
+        let r = right promised.promise.name epoch text s alone in
+        let own : accepts.0 ≡ r.reply = one_reply text accepts.0 r.reply accepts.1 r.spells in
+        let body : root.body ≡ s.root.body = sym accepts.2.of_body ∙ ap (λ (x : Spelled). x.body) own ∙ r.of_body in
+        let has : key_at s.page promised.promise.name ≡ Some promised.promise.key = k.next s.page s.root s.is (ap (λ (x : Body). x.previous_epoch) (sym body) ∙ behind) in (
+          sym (accepts-passed provider.hash accepted root.body promised.promise.name text r.reply r.spells statement accepts).0 ∙ r.states ∙ has,
+          (r.reply, r.spells, ap provider.hash r.value ∙ sym k.index),
+        )
+
+    abbrev IsRoots : List SignedRoot → Type 0
+    IsRoots all = IsChain provider.hash verified (record { key = key; roots = all })
+
+    pub honest-sound : (commands : List Asked) (replies : List Reply) → ((asked : Asked) (said : Reply) → IsSaid commands replies asked said → Seen provider after asked said)
+        → IsApart provider after → IndicesDiffer provider commands replies after → IsHonest provider accepted verified key after commands replies
+    honest-sound commands replies shown apart differ = record {
+      chain = chain-of after.earlier after.last sound.climb are-sealed;
+      forms = All-from_recursion IsSignedRoot (roots provider after) (signed-form (sealed_pages provider after) are-sealed);
+      told = λ command said root is tells. told command said root (shown command said is) tells;
+      linear = λ one other is also evidence. no-clash provider 0 (replicate 32 0) (pages after) sound.climb one other is also evidence.2;
+      found = λ name epoch text is. let s = found name epoch text is in answer name epoch text s (alone name epoch text is s);
+      kept = λ command promised is. kept promised (shown command (reply.Promised promised) is);
+      audited = λ front back root is more. (front-chain provider.hash verified key front root back (subst IsRoots is whole) more, next-root provider.hash verified key front root back (subst IsRoots is whole) more);
+      due = λ command promised epoch text root statement is also behind accepts.
+          let s = found promised.promise.name epoch text also in
+          is-due promised epoch text root statement (kept promised (shown command (reply.Promised promised) is)) s (alone promised.promise.name epoch text also s) behind accepts;
+      unbroken = λ command promised name epoch text root is also broken.
+          let s = found name epoch text also in
+          unbroken promised name epoch text root (kept promised (shown command (reply.Promised promised) is)) s (alone name epoch text also s) broken;
+    }
+      where
+        whole : IsRoots (roots provider after)
+        whole = chain-of after.earlier after.last sound.climb are-sealed
+
+        found : (name : List ℕ) (epoch : ℕ) (text : List ℕ) → IsSaid commands replies (Lookup name epoch) (reply.Found text) → SeenFound provider after name epoch text
+        found name epoch text is = shown (Lookup name epoch) (reply.Found text) is name epoch refl
+
+        alone : (name : List ℕ) (epoch : ℕ) (text : List ℕ) → IsSaid commands replies (Lookup name epoch) (reply.Found text) → (s : SeenFound provider after name epoch text) → Alone provider name s.page.bindings
+        alone name epoch text is s = alone-list name s.page (elim (named-or-not s.page.bindings name) [
+          | inl has ↦ λ entry there same. page-apart after apart s.page s.root s.is entry.0 name (entry-named s.page.bindings entry there) has same
+          | inr none ↦ differ name epoch text is s.page s.root s.is none s.answer
+        ])
+
+  pub honest : {K : Type 0} (accepted verified : List ℕ → List ℕ → List ℕ → Type 0) (key : List ℕ) → KeepsLaws accepted verified key provider → (kept failed : K → Record → K → Type 0)
+      (epoch : ℕ) (nonce : List ℕ) (salts : Stream) (before later : K) (after : Book) (commands : List Asked) (replies : List Reply)
+      → IsEpoch epoch → Is32Bytes nonce → All IsCommand commands → Run provider kept failed (fresh epoch nonce salts) before commands replies after later
+      → HasSalts after → IndicesDiffer provider commands replies after → IsHonest provider accepted verified key after commands replies
+  honest accepted verified key laws kept failed epoch nonce salts before later after commands replies is size are run salted differ =
+      let r = ran provider kept failed commands replies (fresh epoch nonce salts) after before later (is-fresh epoch nonce salts is size) (recursion_from_All IsCommand commands are) run in
+      honest-sound accepted verified key laws after r.goes.sound salted commands replies r.shown (apart-run kept failed epoch nonce salts before later after commands replies run) differ
+
+  pub doubles-refused : {K : Type 0} (accepted verified : List ℕ → List ℕ → List ℕ → Type 0) (key : List ℕ) → KeepsLaws accepted verified key provider → (kept failed : K → Record → K → Type 0)
+      (epoch : ℕ) (nonce : List ℕ) (salts : Stream) (before later : K) (after : Book) (commands : List Asked) (replies : List Reply)
+      → IsEpoch epoch → Is32Bytes nonce → All IsCommand commands → Run provider kept failed (fresh epoch nonce salts) before commands replies after later
+      → HasSalts after → DoublesAreRefused provider accepted verified key after commands replies
+  doubles-refused accepted verified key laws kept failed epoch nonce salts before later after commands replies is size are run salted name asked text said page root rooted answer entry there same other =
+      let r = ran provider kept failed commands replies (fresh epoch nonce salts) after before later (is-fresh epoch nonce salts is size) (recursion_from_All IsCommand commands are) run in
+      let s = r.shown (Lookup name asked) (reply.Found text) said name asked refl in
+      let i = is-sealed accepted verified key laws after r.goes.sound salted page root rooted in
+      let apart = page-apart after (apart-run kept failed epoch nonce salts before later after commands replies run) page root rooted in
+      let none : at page.bindings name ≡ None = elim (named-or-not page.bindings name) [
+        | inl has ↦ absurd (other (apart entry.0 name (entry-named page.bindings entry there) has same))
+        | inr none ↦ none
+      ] in
+      let d = doubled provider accepted verified key laws name page root.body text entry i.page i.form i.vuf_key s.named answer there same none in
+      (d.reply, d.spells, d.refused)

@@ -1,0 +1,257 @@
+-- What commands, one after another, do to a sound book, and what their replies show of it in the end.
+use Rattle.std.proofs.Common.{◌≡◌, ℕ, List, [], ◌∷◌, Option, Some, None, Contains, refl, sym, ap, subst, inl, inr, ◌∙◌}
+use Rattle.std.specs.Bool.{⊤}
+use Rattle.std.specs.Prelude.{Bool, not, ◌||◌, is_some, is_none, nat_le}
+use Rattle.std.specs.List.{AllByRecursion, AllZip}
+use Rattle.encoding.specs.Limits.{IsName, IsKeyData}
+use Rattle.rootchain.specs.declared.signed_promise.SignedPromise.{SignedPromise}
+use Rattle.rootchain.specs.declared.signed_root.SignedRoot.{SignedRoot}
+use Rattle.book.specs.declared.record.Record.{Record}
+use Rattle.book.specs.declared.reply.Reply.{Reply}
+use Rattle.book.specs.declared.reply.Reply.TheVariants as reply
+use Rattle.book.specs.declared.refusal.Refusal.TheVariants.{BadName, BadKey, NameTaken, NoSuchName, PendingExists, IndexTaken, NoSuchEpoch, EpochNotLater}
+use Rattle.book.specs.Answers.{Answer, has_its_index, is_within, Promised, Found, refusal, with_pending}
+use Rattle.book.specs.Asked.{Asked, Register, Change, Promise, Lookup, History, Head, Close}
+use Rattle.book.specs.Books.{Binding, Book, Page, page_at, pages}
+use Rattle.book.specs.Fresh.{IsCommand}
+use Rattle.book.specs.Honest.{IsAskedBy, IsSaid}
+use Rattle.book.specs.Maps.{at}
+use Rattle.book.specs.Shows.{Provider, Sealed, index_of, promise, sealed_behind, signed_promise, IsReplyOf, IsRootOf}
+use Rattle.book.specs.Turns.{Shows, Turn, Run}
+use Rattle.book.proofs.Entries.{at_put_same, found-entry}
+use Rattle.book.proofs.Found.{IsBinding}
+use Rattle.book.proofs.Members.{first-or-later, first-there, later-there, none-there}
+use Rattle.book.proofs.Stepping.{Does, stepped}
+use Rattle.book.proofs.Turning.{Goes, Holds, IsSound, above-last, asked-page, goes-nowhere, goes-on, goes-page, goes-pending, holds-now, is-key, is-name, not-there, passed, two-passed}
+
+root-epoch : (provider : Provider) (epoch : ℕ) (before : List ℕ) (pages : List Page) (each : Sealed) → Contains (sealed_behind provider epoch before pages) each → each.root.body.epoch ≡ each.page.epoch
+root-epoch provider epoch before [] each is = absurd (none-there each is)
+root-epoch provider epoch before (page ∷ pages) each is = elim (first-or-later _ _ each is) [
+  | inl same ↦ subst (λ (x : Sealed). x.root.body.epoch ≡ x.page.epoch) same refl
+  | inr later ↦ root-epoch provider page.epoch _ pages each later
+]
+
+zipped : {X Y : Type 0} (R : X → Y → Type 0) (xs : List X) (ys : List Y) (y : Y) → AllZip R xs ys → Contains ys y → (x : X) × R x y
+zipped R [] [] y all is = absurd (none-there y is)
+zipped R [] (z ∷ zs) y all is = absurd all
+zipped R (x ∷ xs) [] y all is = absurd all
+zipped R (x ∷ xs) (z ∷ zs) y all is = elim (first-or-later z zs y is) [
+  | inl same ↦ (x, subst (R x) same all.0)
+  | inr later ↦ zipped R xs zs y all.1 later
+]
+
+module _ (provider : Provider) where
+  -- a name and a key, which is bound to it from the next page on
+  record IsPromisedIn (after : Book) (name : List ℕ) (binding : Binding) : Type 0 where
+    pub holds : Holds provider after name binding.key after.last.epoch
+    pub named : IsName name
+    pub keyed : IsKeyData binding.key
+
+  -- what a command's answer says of the book after it
+  record Answered (book after : Book) (asked : Asked) (answer : Answer) : Type 0 where
+    pub goes : Goes provider book after
+    pub promised : (name : List ℕ) (binding : Binding) → answer ≡ Promised name binding → IsPromisedIn after name binding
+    pub found : (name : List ℕ) (epoch : ℕ) → asked ≡ Lookup name epoch → (page : Page) (other : List ℕ) (binding : Option Binding) → answer ≡ Found page other binding → (other ≡ name) × IsName name × IsAskedBy epoch page × (binding ≡ at page.bindings name)
+
+  abbrev taken : Book → List ℕ → Bool
+  taken book name = has_its_index (index_of provider) name book.last.bindings || has_its_index (index_of provider) name book.pending
+
+  promised-now : (book : Book) (name : List ℕ) (binding : Binding) → IsSound book → at book.pending name ≡ Some binding → IsPromisedIn book name binding
+  promised-now book name binding sound found =
+      let e = found-entry (λ entry. IsName entry.0 × IsBinding entry.1) book.pending name binding found sound.pending in
+      record { holds = holds-now provider book name binding sound found; named = subst IsName e.2 e.1.0; keyed = subst IsBinding e.3 e.1.1 }
+
+  pends : (book : Book) (asked : Asked) (name key : List ℕ) → IsSound book → IsName name → IsKeyData key → at book.pending name ≡ None
+      → Answered book (with_pending book name key) asked (Promised name (record { key = key; salt = book.salt }))
+  pends book asked name key sound named keyed none = record {
+    goes = goes;
+    promised = λ other binding same. holds other binding same;
+    found = λ other epoch is page named binding same. absurd cc;
+  }
+    where
+      own : Binding
+      own = record { key = key; salt = book.salt }
+
+      goes : Goes provider book (with_pending book name key)
+      goes = goes-pending provider book name key sound named keyed none
+
+      holds : (other : List ℕ) (binding : Binding) → Promised name own ≡ Promised other binding → IsPromisedIn (with_pending book name key) other binding
+      holds other binding same =
+          let n : name ≡ other = cc in
+          let b : own ≡ binding = cc in
+          promised-now (with_pending book name key) other binding goes.sound
+          (ap (at (with_pending book name key).pending) (sym n) ∙ at_put_same name own book.pending ∙ ap (λ (x : Binding). Some x) b)
+
+  answered : (book after : Book) (asked : Asked) (answer : Answer) → IsSound book → IsCommand asked → refusal (index_of provider) book asked ≡ None → Does book asked answer after → Answered book after asked answer
+  answered book after (Register name key) answer sound are none does =
+      let one = two-passed (not (is_within 1 255 name)) (not (is_within 1 2048 key)) BadName BadKey
+      ((is_some (at book.last.bindings name), NameTaken) ∷ (is_some (at book.pending name), PendingExists) ∷ (taken book name, IndexTaken) ∷ []) none in
+      let two = two-passed (is_some (at book.last.bindings name)) (is_some (at book.pending name)) NameTaken PendingExists ((taken book name, IndexTaken) ∷ []) one.2 in
+      subst (λ (b : Book). Answered book b (Register name key) answer) (sym does.1) (subst (Answered book (with_pending book name key) (Register name key)) (sym does.0)
+      (pends book (Register name key) name key sound (is-name name one.0 are.0) (is-key key one.1 are.1) (not-there (at book.pending name) two.1)))
+  answered book after (Change name key) answer sound are none does =
+      let one = two-passed (not (is_within 1 255 name)) (not (is_within 1 2048 key)) BadName BadKey
+      ((is_none (at book.last.bindings name), NoSuchName) ∷ (is_some (at book.pending name), PendingExists) ∷ []) none in
+      let two = two-passed (is_none (at book.last.bindings name)) (is_some (at book.pending name)) NoSuchName PendingExists [] one.2 in
+      subst (λ (b : Book). Answered book b (Change name key) answer) (sym does.1) (subst (Answered book (with_pending book name key) (Change name key)) (sym does.0)
+      (pends book (Change name key) name key sound (is-name name one.0 are.0) (is-key key one.1 are.1) (not-there (at book.pending name) two.1)))
+  answered book after (Promise name) answer sound are none does =
+      subst (λ (b : Book). Answered book b (Promise name) answer) (sym does.3) (record {
+        goes = goes-nowhere provider book sound;
+        promised = λ other binding same.
+            let e : Promised name does.0 ≡ Promised other binding = sym does.2 ∙ same in
+            let n : name ≡ other = cc in
+            let b : does.0 ≡ binding = cc in
+            promised-now book other binding sound (ap (at book.pending) (sym n) ∙ does.1 ∙ ap (λ (x : Binding). Some x) b);
+        found = λ other epoch is page named binding same. absurd cc;
+      })
+  answered book after (Lookup name epoch) answer sound are none does =
+      let one = two-passed (not (is_within 1 255 name)) (is_none (page_at book epoch)) BadName NoSuchEpoch [] none in
+      subst (λ (b : Book). Answered book b (Lookup name epoch) answer) (sym does.3) (record {
+        goes = goes-nowhere provider book sound;
+        promised = λ other binding same. let e = sym does.2 ∙ same in absurd cc;
+        found = λ other also is page named binding same.
+            let e = sym does.2 ∙ same in
+            let n : name ≡ other = cc in
+            let m : name ≡ named = cc in
+            let p : does.0 ≡ page = cc in
+            let at_epoch : epoch ≡ also = cc in
+            let b : at (does.0).bindings name ≡ binding = cc in (
+              sym m ∙ n,
+              subst IsName n (is-name name one.0 are),
+              subst (λ (x : Page). IsAskedBy also x) p (subst (λ (k : ℕ). IsAskedBy k does.0) at_epoch (asked-page book epoch does.0 does.1)),
+              sym b ∙ ap (λ (x : Page). at x.bindings name) p ∙ ap (at page.bindings) n,
+            );
+      })
+  answered book after (History from count) answer sound are none does =
+      subst (λ (b : Book). Answered book b (History from count) answer) (sym does.1) (record {
+        goes = goes-nowhere provider book sound;
+        promised = λ other binding same. let e = sym does.0 ∙ same in absurd cc;
+        found = λ other also is page named binding same. let e = sym does.0 ∙ same in absurd cc;
+      })
+  answered book after Head answer sound are none does =
+      subst (λ (b : Book). Answered book b Head answer) (sym does.1) (record {
+        goes = goes-nowhere provider book sound;
+        promised = λ other binding same. let e = sym does.0 ∙ same in absurd cc;
+        found = λ other also is page named binding same. let e = sym does.0 ∙ same in absurd cc;
+      })
+  answered book after (Close epoch) answer sound are none does =
+      let one = passed (nat_le epoch book.last.epoch, EpochNotLater) [] none in
+      subst (λ (b : Book). Answered book b (Close epoch) answer) (sym does.1) (record {
+        goes = goes-page provider book epoch sound are (above-last epoch book.last.epoch one.0);
+        promised = λ other binding same. let e = sym does.0 ∙ same in absurd cc;
+        found = λ other also is page named binding same. let e = sym does.0 ∙ same in absurd cc;
+      })
+
+  -- ---- what is seen of a reply
+
+  pub record SeenPromise (after : Book) (promised : SignedPromise) : Type 0 where
+    pub page : Page
+    pub root : SignedRoot
+    pub name : List ℕ
+    pub binding : Binding
+    pub is : IsRootOf provider after page root
+    pub same : promised ≡ signed_promise provider (promise provider root.body name binding)
+    pub holds : Holds provider after name binding.key root.body.epoch
+    pub named : IsName name
+    pub keyed : IsKeyData binding.key
+
+  pub record SeenFound (after : Book) (name : List ℕ) (epoch : ℕ) (text : List ℕ) : Type 0 where
+    pub page : Page
+    pub root : SignedRoot
+    pub is : IsRootOf provider after page root
+    pub asked : IsAskedBy epoch page
+    pub named : IsName name
+    pub answer : IsReplyOf provider page root.body name (at page.bindings name) text
+
+  abbrev pub Seen : Book → Asked → Reply → Type 0
+  Seen after asked (reply.Promised promised) = SeenPromise after promised
+  Seen after asked (reply.Found text) = (name : List ℕ) (epoch : ℕ) → asked ≡ Lookup name epoch → SeenFound after name epoch text
+  Seen after asked (reply.Told told) = (root : SignedRoot) → Contains told.items root → (page : Page) × IsRootOf provider after page root
+  Seen after asked (reply.Last root) = (page : Page) × IsRootOf provider after page root
+  Seen after asked (reply.Refused why) = ⊤
+
+  seen : (book after : Book) (asked : Asked) (answer : Answer) (said : Reply) → Answered book after asked answer → Shows provider after answer said → Seen after asked said
+  seen book after asked answer (reply.Promised promised) a shows = record {
+    page = after.last;
+    root = shows.2;
+    name = shows.0;
+    binding = shows.1;
+    is = shows.4;
+    same = shows.5;
+    holds = subst (Holds provider after shows.0 shows.1.key) (sym (root-epoch provider 0 _ (pages after) _ shows.4)) (a.promised shows.0 shows.1 shows.3).holds;
+    named = (a.promised shows.0 shows.1 shows.3).named;
+    keyed = (a.promised shows.0 shows.1 shows.3).keyed;
+  }
+  seen book after asked answer (reply.Found text) a shows = λ name epoch is.
+      let f = a.found name epoch is shows.0 shows.1 shows.2 shows.4 in
+      record { page = shows.0; root = shows.3; is = shows.5; asked = f.2; named = f.1; answer = subst (λ (found : Option Binding). IsReplyOf provider shows.0 (shows.3).body name found text) f.3 (subst (λ (n : List ℕ). IsReplyOf provider shows.0 (shows.3).body n shows.2 text) f.0 shows.6) }
+  seen book after asked answer (reply.Told told) a shows = λ root is. zipped (IsRootOf provider after) shows.0 told.items root shows.2 is
+  seen book after asked answer (reply.Last root) a shows = (shows.0, shows.2)
+  seen book after asked answer (reply.Refused why) a shows = tt
+
+  seen-later : (book after : Book) (asked : Asked) (said : Reply) → Goes provider book after → Seen book asked said → Seen after asked said
+  seen-later book after asked (reply.Promised promised) goes s = record {
+    page = s.page;
+    root = s.root;
+    name = s.name;
+    binding = s.binding;
+    is = goes.later s.page s.root s.is;
+    same = s.same;
+    holds = goes.holds s.name s.binding.key s.root.body.epoch s.holds;
+    named = s.named;
+    keyed = s.keyed;
+  }
+  seen-later book after asked (reply.Found text) goes s = λ name epoch is.
+      let f = s name epoch is in
+      record { page = f.page; root = f.root; is = goes.later f.page f.root f.is; asked = f.asked; named = f.named; answer = f.answer }
+  seen-later book after asked (reply.Told told) goes s = λ root is. let f = s root is in (f.0, goes.later f.0 root f.1)
+  seen-later book after asked (reply.Last root) goes s = (s.0, goes.later s.0 root s.1)
+  seen-later book after asked (reply.Refused why) goes s = tt
+
+  module _ {K : Type 0} (kept failed : K → Record → K → Type 0) where
+    pub record Turned (book after : Book) (asked : Asked) (said : Reply) : Type 0 where
+      pub goes : Goes provider book after
+      pub shown : Seen after asked said
+
+    turned : (book after : Book) (before later : K) (asked : Asked) (said : Reply) → IsSound book → IsCommand asked → Turn provider kept failed book before asked said after later → Turned book after asked said
+    turned book after before later asked (reply.Refused why) sound are turn =
+        record { goes = subst (Goes provider book) (sym turn.0) (goes-nowhere provider book sound); shown = tt }
+    turned book after before later asked (reply.Promised promised) sound are turn =
+        let s = stepped (index_of provider) book asked turn.0 after turn.1 in let a = answered book after asked turn.0 sound are s.none s.does in record { goes = a.goes; shown = seen book after asked turn.0 (reply.Promised promised) a turn.3 }
+    turned book after before later asked (reply.Found text) sound are turn =
+        let s = stepped (index_of provider) book asked turn.0 after turn.1 in let a = answered book after asked turn.0 sound are s.none s.does in record { goes = a.goes; shown = seen book after asked turn.0 (reply.Found text) a turn.3 }
+    turned book after before later asked (reply.Told told) sound are turn =
+        let s = stepped (index_of provider) book asked turn.0 after turn.1 in let a = answered book after asked turn.0 sound are s.none s.does in record { goes = a.goes; shown = seen book after asked turn.0 (reply.Told told) a turn.3 }
+    turned book after before later asked (reply.Last root) sound are turn =
+        let s = stepped (index_of provider) book asked turn.0 after turn.1 in let a = answered book after asked turn.0 sound are s.none s.does in record { goes = a.goes; shown = seen book after asked turn.0 (reply.Last root) a turn.3 }
+
+    pub record Ran (book after : Book) (commands : List Asked) (replies : List Reply) : Type 0 where
+      pub goes : Goes provider book after
+      pub shown : (asked : Asked) (said : Reply) → IsSaid commands replies asked said → Seen after asked said
+      pub asked : (asked : Asked) (said : Reply) → IsSaid commands replies asked said → Contains commands asked
+
+    joined : (asked : Asked) (said : Reply) (commands : List Asked) (replies : List Reply) (book middle after : Book) → Turned book middle asked said → Ran middle after commands replies
+        → Ran book after (asked ∷ commands) (said ∷ replies)
+    joined asked said commands replies book middle after turn more = record {
+      goes = goes-on provider book middle after turn.goes more.goes;
+      shown = shown;
+      asked = is-asked;
+    }
+      where
+        shown : (command : Asked) (answer : Reply) → IsSaid (asked ∷ commands) (said ∷ replies) command answer → Seen after command answer
+        shown command answer (inl here) = subst (λ (c : Asked). Seen after c answer) here.0 (subst (Seen after asked) here.1 (seen-later middle after asked said more.goes turn.shown))
+        shown command answer (inr later) = more.shown command answer later
+
+        is-asked : (command : Asked) (answer : Reply) → IsSaid (asked ∷ commands) (said ∷ replies) command answer → Contains (asked ∷ commands) command
+        is-asked command answer (inl here) = subst (Contains (asked ∷ commands)) here.0 (first-there asked commands)
+        is-asked command answer (inr later) = later-there asked commands command (more.asked command answer later)
+
+    pub ran : (commands : List Asked) (replies : List Reply) (book after : Book) (before later : K) → IsSound book → AllByRecursion IsCommand commands → Run provider kept failed book before commands replies after later
+        → Ran book after commands replies
+    ran [] [] book after before later sound are run = record { goes = subst (Goes provider book) (sym run.0) (goes-nowhere provider book sound); shown = λ asked said is. absurd is; asked = λ asked said is. absurd is }
+    ran [] (said ∷ replies) book after before later sound are run = absurd run
+    ran (asked ∷ commands) [] book after before later sound are run = absurd run
+    ran (asked ∷ commands) (said ∷ replies) book after before later sound are run =
+        let turn = turned book run.0 before run.1 asked said sound are.0 run.2 in
+        joined asked said commands replies book run.0 after turn (ran commands replies run.0 after run.1 later turn.goes.sound are.1 run.3)

@@ -1,0 +1,116 @@
+-- What a step that answers is, command by command, and when a step refuses.
+use Rattle.std.proofs.Common.{◌≡◌, List, ℕ, [], false, Option, Some, None, not, refl, sym, ap, ◌∙◌}
+use Rattle.std.specs.Prelude.{is_none}
+use Rattle.book.specs.declared.refusal.Refusal.{Refusal}
+use Rattle.book.specs.declared.refusal.Refusal.TheVariants.{BadName, NoSuchEpoch, NoPromise}
+use Rattle.book.specs.Answers.{Answer, Promised, Found, Told, Last, is_within, next_page, refusal, told, with_page, with_pending}
+use Rattle.book.specs.Asked.{Asked, Register, Change, Promise, Lookup, History, Head, Close}
+use Rattle.book.specs.Books.{Binding, Book, Page, page_at}
+use Rattle.book.specs.Maps.{at}
+use Rattle.book.specs.Steps.{Outcome, Answers, Refuses, done, found_in, promise_of, step, unless_refused}
+use Rattle.book.proofs.Turning.{two-passed}
+
+-- what a book that does not refuse answers, and the book after it
+abbrev pub Does : Book → Asked → Answer → Book → Type 0
+Does book (Register name key) answer after = (answer ≡ Promised name (record { key = key; salt = book.salt })) × (after ≡ with_pending book name key)
+Does book (Change name key) answer after = (answer ≡ Promised name (record { key = key; salt = book.salt })) × (after ≡ with_pending book name key)
+Does book (Promise name) answer after = (binding : Binding) × (at book.pending name ≡ Some binding) × (answer ≡ Promised name binding) × (after ≡ book)
+Does book (Lookup name epoch) answer after = (page : Page) × (page_at book epoch ≡ Some page) × (answer ≡ Found page name (at page.bindings name)) × (after ≡ book)
+Does book (History from count) answer after = (answer ≡ Told (told book from count)) × (after ≡ book)
+Does book Head answer after = (answer ≡ Last book.last) × (after ≡ book)
+Does book (Close epoch) answer after = (answer ≡ Last (next_page book epoch)) × (after ≡ with_page book (next_page book epoch))
+
+abbrev made : Outcome → Book → Outcome × Book
+made outcome book = (outcome, book)
+
+-- ---- what is done
+
+both_same : (a b : Answer) (p q : Book) → a ≡ b → q ≡ p → made (Answers b) p ≡ made (Answers a) q
+both_same a b p q e f = ap (λ (x : Answer). made (Answers x) p) (sym e) ∙ ap (made (Answers a)) (sym f)
+
+same_both : (a b : Answer) (p q : Book) → made (Answers b) p ≡ made (Answers a) q → (a ≡ b) × (q ≡ p)
+same_both a b p q e = (by (ap (λ (x : Outcome × Book). x.0) e), sym (ap (λ (x : Outcome × Book). x.1) e))
+  where
+    by : Answers b ≡ Answers a → a ≡ b
+    by f = cc
+
+never : (why : Refusal) (answer : Answer) (p q : Book) → made (Refuses why) p ≡ made (Answers answer) q → ⊥
+never why answer p q e = by (ap (λ (x : Outcome × Book). x.0) e)
+  where
+    by : Refuses why ≡ Answers answer → ⊥
+    by f = absurd cc
+
+does_done : (book : Book) (asked : Asked) (answer : Answer) (after : Book) → Does book asked answer after → done book asked ≡ (Answers answer, after)
+does_done book (Register name key) answer after does = both_same answer _ _ after does.0 does.1
+does_done book (Change name key) answer after does = both_same answer _ _ after does.0 does.1
+does_done book (Promise name) answer after does = ap (λ (found : Option Binding). made (promise_of name found) book) does.1 ∙ both_same answer _ _ after does.2 does.3
+does_done book (Lookup name epoch) answer after does = ap (λ (found : Option Page). made (found_in name found) book) does.1 ∙ both_same answer _ _ after does.2 does.3
+does_done book (History from count) answer after does = both_same answer _ _ after does.0 does.1
+does_done book Head answer after does = both_same answer _ _ after does.0 does.1
+does_done book (Close epoch) answer after does = both_same answer _ _ after does.0 does.1
+
+done_does : (book : Book) (asked : Asked) (answer : Answer) (after : Book) → done book asked ≡ (Answers answer, after) → Does book asked answer after
+done_does book (Register name key) answer after e = same_both answer _ _ after e
+done_does book (Change name key) answer after e = same_both answer _ _ after e
+done_does book (Promise name) answer after e = by (at book.pending name) refl e
+  where
+    by : (found : Option Binding) → at book.pending name ≡ found → made (promise_of name found) book ≡ made (Answers answer) after → Does book (Promise name) answer after
+    by None is f = absurd (never NoPromise answer book after f)
+    by (Some binding) is f = let s = same_both answer (Promised name binding) book after f in (binding, is, s.0, s.1)
+done_does book (Lookup name epoch) answer after e = by (page_at book epoch) refl e
+  where
+    by : (found : Option Page) → page_at book epoch ≡ found → made (found_in name found) book ≡ made (Answers answer) after → Does book (Lookup name epoch) answer after
+    by None is f = absurd (never NoSuchEpoch answer book after f)
+    by (Some page) is f = let s = same_both answer (Found page name (at page.bindings name)) book after f in (page, is, s.0, s.1)
+done_does book (History from count) answer after e = same_both answer _ _ after e
+done_does book Head answer after e = same_both answer _ _ after e
+done_does book (Close epoch) answer after e = same_both answer _ _ after e
+
+-- ---- what is refused
+
+there : {X : Type 0} (found : Option X) → is_none found ≡ false → (x : X) × (found ≡ Some x)
+there None e = absurd cc
+there (Some x) e = (x, refl)
+
+module _ (index_of : List ℕ → List ℕ) where
+  -- where nothing refuses, the step is what is done
+  pub none_steps : (book : Book) (asked : Asked) → refusal index_of book asked ≡ None → step index_of book asked ≡ done book asked
+  none_steps book asked none = ap (λ (due : Option Refusal). unless_refused due book asked) none
+
+  pub does_steps : (book : Book) (asked : Asked) (answer : Answer) (after : Book) → refusal index_of book asked ≡ None → Does book asked answer after → step index_of book asked ≡ (Answers answer, after)
+  does_steps book asked answer after none does = none_steps book asked none ∙ does_done book asked answer after does
+
+  pub due_steps : (book : Book) (asked : Asked) (why : Refusal) → refusal index_of book asked ≡ Some why → step index_of book asked ≡ (Refuses why, book)
+  due_steps book asked why due = ap (λ (first : Option Refusal). unless_refused first book asked) due
+
+  pub record IsDone (book : Book) (asked : Asked) (answer : Answer) (after : Book) : Type 0 where
+    pub none : refusal index_of book asked ≡ None
+    pub does : Does book asked answer after
+
+  pub stepped : (book : Book) (asked : Asked) (answer : Answer) (after : Book) → step index_of book asked ≡ (Answers answer, after) → IsDone book asked answer after
+  stepped book asked answer after e = by (refusal index_of book asked) refl e
+    where
+      by : (due : Option Refusal) → refusal index_of book asked ≡ due → unless_refused due book asked ≡ (Answers answer, after) → IsDone book asked answer after
+      by None is f = record { none = is; does = done_does book asked answer after f }
+      by (Some why) is f = absurd (never why answer book after f)
+
+  -- what is not refused is answered
+  pub answer_of : (book : Book) (asked : Asked) → refusal index_of book asked ≡ None → (answer : Answer) × ((done book asked).0 ≡ Answers answer)
+  answer_of book (Register name key) none = (Promised name (record { key = key; salt = book.salt }), refl)
+  answer_of book (Change name key) none = (Promised name (record { key = key; salt = book.salt }), refl)
+  answer_of book (Promise name) none =
+      let t = there (at book.pending name) (two-passed (not (is_within 1 255 name)) (is_none (at book.pending name)) BadName NoPromise [] none).1 in
+      (Promised name t.0, ap (promise_of name) t.1)
+  answer_of book (Lookup name epoch) none =
+      let t = there (page_at book epoch) (two-passed (not (is_within 1 255 name)) (is_none (page_at book epoch)) BadName NoSuchEpoch [] none).1 in
+      (Found t.0 name (at (t.0).bindings name), ap (found_in name) t.1)
+  answer_of book (History from count) none = (Told (told book from count), refl)
+  answer_of book Head none = (Last book.last, refl)
+  answer_of book (Close epoch) none = (Last (next_page book epoch), refl)
+
+  pub refused_due : (book : Book) (asked : Asked) (why : Refusal) → (step index_of book asked).0 ≡ Refuses why → refusal index_of book asked ≡ Some why
+  refused_due book asked why e = by (refusal index_of book asked) refl e
+    where
+      by : (due : Option Refusal) → refusal index_of book asked ≡ due → (unless_refused due book asked).0 ≡ Refuses why → refusal index_of book asked ≡ Some why
+      by None is f = let a = answer_of book asked is in let g : Answers a.0 ≡ Refuses why = sym a.1 ∙ f in absurd cc
+      by (Some due) is f = let g : due ≡ why = cc in is ∙ ap (λ (x : Refusal). Some x) g

@@ -1,0 +1,71 @@
+-- What a book answers to a command, and the first refusal that applies.
+use Rattle.std.specs.Prelude.{ℕ, ◌&&◌, ◌||◌, not, nat_le, Bool, if◌then◌else◌, List, [], ◌∷◌, length, filter, take, find, Option, Some, None, is_some, is_none}
+use Rattle.std.specs.Str.{bytes_eq}
+use Rattle.rand_core.specs.Stream.{fill_bytes}
+use Rattle.book.specs.declared.refusal.Refusal.{Refusal}
+use Rattle.book.specs.declared.refusal.Refusal.TheVariants.{BadName, BadKey, NameTaken, NoSuchName, PendingExists, IndexTaken, NoSuchEpoch, EpochNotLater, NoPromise, BadRange}
+use Rattle.book.specs.Asked.{Asked, Register, Change, Promise, Lookup, History, Head, Close}
+use Rattle.book.specs.Books.{Binding, Book, Page, page_at, pages}
+use Rattle.book.specs.Maps.{Map, at, overwritten, put}
+
+-- the first of some tests that holds
+abbrev pub first : List (Bool × Refusal) → Option Refusal
+first [] = None
+first (test ∷ tests) = if test.0 then Some test.1 else first tests
+
+abbrev pub is_within : ℕ → ℕ → List ℕ → Bool
+is_within least most bytes = nat_le least (length bytes) && nat_le (length bytes) most
+
+abbrev pub bad_name : List ℕ → Bool × Refusal
+bad_name name = (not (is_within 1 255 name), BadName)
+
+abbrev pub bad_key : List ℕ → Bool × Refusal
+bad_key key = (not (is_within 1 2048 key), BadKey)
+
+-- what a book answers, where nothing refuses
+pub data Answer : Type 0 where
+  -- the key will be bound to the name in the next epoch
+  Promised : List ℕ → Binding → Answer
+  -- what the page has at the name
+  Found : Page → List ℕ → Option Binding → Answer
+  -- these pages
+  Told : List Page → Answer
+  -- the last page
+  Last : Page → Answer
+
+-- the name's binding waits with the next salt, and the salt after it is drawn
+abbrev pub with_pending : Book → List ℕ → List ℕ → Book
+with_pending book name key = record book {
+  pending = put book.pending name (record { key = key; salt = book.salt });
+  salt = (fill_bytes 32 book.left).0;
+  left = (fill_bytes 32 book.left).1;
+}
+
+-- the page of this epoch: the last one's bindings, overwritten by what waits
+abbrev pub next_page : Book → ℕ → Page
+next_page book epoch = record { epoch = epoch; nonce = book.last.nonce; bindings = overwritten book.last.bindings book.pending }
+
+abbrev pub with_page : Book → Page → Book
+with_page book page = record book { earlier = pages book; last = page; pending = [] }
+
+-- the first pages of at least this epoch, so many or all that there are
+abbrev pub told : Book → ℕ → ℕ → List Page
+told book from count = take count (filter (λ page. nat_le from page.epoch) (pages book))
+
+module _ (index_of : List ℕ → List ℕ) where
+  -- another name of these has the index of this one
+  abbrev pub has_its_index : List ℕ → Map Binding → Bool
+  has_its_index name bindings = is_some (find (λ entry. not (bytes_eq entry.0 name) && bytes_eq (index_of entry.0) (index_of name)) bindings)
+
+  -- the first refusal that applies, if one does, but for want of memory and what is not kept
+  abbrev pub refusal : Book → Asked → Option Refusal
+  refusal book (Register name key) = first (
+      bad_name name ∷ bad_key key ∷ (is_some (at book.last.bindings name), NameTaken) ∷ (is_some (at book.pending name), PendingExists)
+      ∷ (has_its_index name book.last.bindings || has_its_index name book.pending, IndexTaken) ∷ [])
+  refusal book (Change name key) = first (
+      bad_name name ∷ bad_key key ∷ (is_none (at book.last.bindings name), NoSuchName) ∷ (is_some (at book.pending name), PendingExists) ∷ [])
+  refusal book (Promise name) = first (bad_name name ∷ (is_none (at book.pending name), NoPromise) ∷ [])
+  refusal book (Lookup name epoch) = first (bad_name name ∷ (is_none (page_at book epoch), NoSuchEpoch) ∷ [])
+  refusal book (History from count) = first ((not (nat_le 1 count && nat_le count 64), BadRange) ∷ [])
+  refusal book Head = None
+  refusal book (Close epoch) = first ((nat_le epoch book.last.epoch, EpochNotLater) ∷ [])

@@ -1,0 +1,50 @@
+-- A run as the fold of steps, under what memory and the keeper let happen.
+use Rattle.std.specs.Prelude.{◌≡◌, ℕ, List, [], ◌∷◌, Option, Some, None, ⊤}
+use Rattle.book.specs.declared.record.Record.{Record}
+use Rattle.book.specs.declared.refusal.Refusal.TheVariants.{Memory, KeepFailed}
+use Rattle.book.specs.declared.reply.Reply.{Reply}
+use Rattle.book.specs.declared.reply.Reply.TheVariants as reply
+use Rattle.book.specs.Answers.{Promised, Found, Told, Last}
+use Rattle.book.specs.Asked.{Asked}
+use Rattle.book.specs.Books.{Book}
+use Rattle.book.specs.Steps.{Outcome, Answers, Refuses, step}
+use Rattle.book.specs.Turns.{kept_of}
+
+-- what becomes of a command that the book does not refuse: it is done; or it has a record to keep, and memory
+-- is wanting or the keeper fails
+pub data Fate : Type 0 where
+  Done : Fate
+  Wanting : Fate
+  Lost : Fate
+
+-- what comes of a command under its fate, by the record to keep, and by what the step gives
+abbrev pub fated : Fate → Book → Option Record → Outcome × Book → Outcome × Book
+fated fate book None (outcome, after) = (outcome, after)
+fated fate book (Some kept) (Refuses why, after) = (Refuses why, after)
+fated Done book (Some kept) (Answers answer, after) = (Answers answer, after)
+fated Wanting book (Some kept) (Answers answer, after) = (Refuses Memory, book)
+fated Lost book (Some kept) (Answers answer, after) = (Refuses KeepFailed, book)
+
+-- an outcome before others
+abbrev pub before : Outcome → List Outcome × Book → List Outcome × Book
+before outcome (outcomes, after) = (outcome ∷ outcomes, after)
+
+module _ (index_of : List ℕ → List ℕ) where
+  -- the step of a command, under its fate
+  abbrev pub fated_step : Fate → Book → Asked → Outcome × Book
+  fated_step fate book asked = fated fate book (kept_of book asked) (step index_of book asked)
+
+  -- steps one after another, each from the book that the one before left
+  abbrev pub folded : Book → List Asked → List Fate → List Outcome × Book
+  folded book [] fates = ([], book)
+  folded book (asked ∷ more) [] = ([], book)
+  folded book (asked ∷ more) (fate ∷ fates) = before (fated_step fate book asked).0 (folded (fated_step fate book asked).1 more fates)
+
+-- the reply is a refusal of the same name, or one of the answer's kind
+abbrev pub Tells : Outcome → Reply → Type 0
+Tells (Refuses why) (reply.Refused told) = told ≡ why
+Tells (Answers (Promised name binding)) (reply.Promised signed) = ⊤
+Tells (Answers (Found page name found)) (reply.Found text) = ⊤
+Tells (Answers (Told pages)) (reply.Told told) = ⊤
+Tells (Answers (Last page)) (reply.Last root) = ⊤
+Tells outcome said = ⊥

@@ -1,0 +1,50 @@
+-- A book as a directory begins it, and what is handed in: the provider's functions keep their laws, names,
+-- keys and salts are bytes, and numbers fit in their bytes.
+use Rattle.std.specs.Prelude.{ℕ, ◌<◌, ◌^◌, List, [], All, ⊤}
+use Rattle.encoding.specs.Bytes.{IsBytes, Is32Bytes}
+use Rattle.encoding.specs.Limits.{IsName, IsSmall}
+use Rattle.rand_core.specs.Stream.{Stream, fill_bytes}
+use Rattle.book.specs.Asked.{Asked, Register, Change, Promise, Lookup, History, Head, Close}
+use Rattle.book.specs.Books.{Binding, Book, Page, pages}
+use Rattle.book.specs.Shows.{Provider}
+
+-- one page without a name, and the first salt of the stream
+abbrev pub fresh : ℕ → List ℕ → Stream → Book
+fresh epoch nonce salts = record {
+  earlier = [];
+  last = record { epoch = epoch; nonce = nonce; bindings = [] };
+  pending = [];
+  salt = (fill_bytes 32 salts).0;
+  left = (fill_bytes 32 salts).1;
+}
+
+-- each salt of the pages has 32 bytes
+abbrev pub HasSalts : Book → Type 0
+HasSalts book = All (λ (page : Page). All (λ (entry : List ℕ × Binding). Is32Bytes entry.1.salt) page.bindings) (pages book)
+
+-- the epoch is at least 1 and fits in eight bytes
+abbrev pub IsEpoch : ℕ → Type 0
+IsEpoch epoch = (0 < epoch) × (epoch < 2 ^ 64)
+
+-- names and keys are bytes, of any length, and the epoch of a new page fits in eight bytes
+abbrev pub IsCommand : Asked → Type 0
+IsCommand (Register name key) = IsBytes name × IsBytes key
+IsCommand (Change name key) = IsBytes name × IsBytes key
+IsCommand (Promise name) = IsBytes name
+IsCommand (Lookup name epoch) = IsBytes name
+IsCommand (History from count) = ⊤
+IsCommand Head = ⊤
+IsCommand (Close epoch) = epoch < 2 ^ 64
+
+-- the laws of the hash function, of the verifiable function and of the signatures, at the provider's keys
+pub record KeepsLaws (accepted verified : List ℕ → List ℕ → List ℕ → Type 0) (key : List ℕ) (provider : Provider) : Type 0 where
+  pub digest_size : (text : List ℕ) → Is32Bytes (provider.hash text)
+  pub value_is_accepted : (name : List ℕ) → accepted provider.vuf_key name (provider.value name)
+  pub value_size : (name : List ℕ) → IsName name → IsSmall (provider.value name)
+  pub signature_verifies : (message : List ℕ) → verified key message (provider.sign message)
+  pub signature_size : (message : List ℕ) → IsSmall (provider.sign message)
+  pub vuf_key_size : Is32Bytes provider.vuf_key
+
+-- the provider of these functions, under its two public keys
+abbrev pub provider_of : (List ℕ → List ℕ) → (List ℕ → List ℕ → List ℕ) → List ℕ → (List ℕ → List ℕ → List ℕ) → List ℕ → Provider
+provider_of digest_of value_of vuf_key signature_of key = record { hash = digest_of; value = value_of vuf_key; vuf_key = vuf_key; sign = signature_of key }

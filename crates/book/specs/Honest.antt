@@ -1,0 +1,131 @@
+-- What an honest provider's users see of a run: one chain of roots, replies that are accepted and state
+-- what the pages have, promises that are kept, and nothing that is evidence (CONIKS, sections 3 and 4).
+use Rattle.std.specs.Prelude.{◌≡◌, ◌≢◌, ◌↔◌, ◌⊎◌, ℕ, ◌<◌, List, [], ◌∷◌, ◌++◌, length, Option, Some, None, All, Contains, option_map}
+use Rattle.rootchain.specs.Bodies.{body_bytes}
+use Rattle.rootchain.specs.Chains.{IsChain, IsHead, Links, Verifies}
+use Rattle.rootchain.specs.Promises.{promise_bytes, IsSignedPromise}
+use Rattle.rootchain.specs.SignedRoots.{IsSignedRoot}
+use Rattle.rootchain.specs.declared.signed_promise.SignedPromise.{SignedPromise}
+use Rattle.rootchain.specs.declared.signed_root.SignedRoot.{SignedRoot}
+use Rattle.proofs.specs.Accepts.{Accepts, HasIndex}
+use Rattle.proofs.specs.Refusals.{IsFirst, Passes}
+use Rattle.proofs.specs.Replies.{Reply as ReplyRead, Spells}
+use Rattle.proofs.specs.declared.refusal.Refusal.TheVariants.{SameIndex}
+use Rattle.book.specs.declared.reply.Reply.{Reply}
+use Rattle.book.specs.declared.reply.Reply.TheVariants as reply
+use Rattle.book.specs.Asked.{Asked, Register, Change, Promise, Lookup, History, Head, Close}
+use Rattle.book.specs.Books.{Binding, Book, Page}
+use Rattle.rootchain.specs.Evidence.{AreEvidence}
+use Rattle.proofs.specs.BrokenPromises.{IsBrokenPromise}
+use Rattle.book.specs.Maps.{at}
+use Rattle.book.specs.Shows.{Provider, index_of, roots, IsReplyOf, IsRootOf}
+use Rattle.book.specs.Watches.{Watch, expected}
+
+-- this reply came to this command
+abbrev pub IsSaid : List Asked → List Reply → Asked → Reply → Type 0
+IsSaid [] replies command answered = ⊥
+IsSaid (asked ∷ more) [] command answered = ⊥
+IsSaid (asked ∷ more) (said ∷ replies) command answered = ((asked ≡ command) × (said ≡ answered)) ⊎ IsSaid more replies command answered
+
+-- the key that a page has at a name, if any
+abbrev pub key_at : Page → List ℕ → Option (List ℕ)
+key_at page name = option_map (λ (binding : Binding). binding.key) (at page.bindings name)
+
+-- the reply tells this signed root
+abbrev pub Tells : Reply → SignedRoot → Type 0
+Tells (reply.Promised signed) root = ⊥
+Tells (reply.Found text) root = ⊥
+Tells (reply.Told told) root = Contains told.items root
+Tells (reply.Last last) root = last ≡ root
+Tells (reply.Refused why) root = ⊥
+
+-- the page is the one that is asked for by this epoch, where 0 asks for the last at its time
+abbrev pub IsAskedBy : ℕ → Page → Type 0
+IsAskedBy epoch page = (epoch ≡ 0) ⊎ (page.epoch ≡ epoch)
+
+-- the command is about this name
+abbrev pub IsAbout : Asked → List ℕ → Type 0
+IsAbout (Register name key) other = name ≡ other
+IsAbout (Change name key) other = name ≡ other
+IsAbout (Promise name) other = name ≡ other
+IsAbout (Lookup name epoch) other = name ≡ other
+IsAbout (History from count) other = ⊥
+IsAbout Head other = ⊥
+IsAbout (Close epoch) other = ⊥
+
+module _ (provider : Provider) where
+  -- no other name of the page has the name's index
+  abbrev pub IsAlone : List ℕ → Page → Type 0
+  IsAlone name page = (entry : List ℕ × Binding) → Contains page.bindings entry → index_of provider entry.0 ≡ index_of provider name → entry.0 ≡ name
+
+  -- no reply to a look-up of a name that its page lacks is of a page that has another name with the name's index
+  abbrev pub IndicesDiffer : List Asked → List Reply → Book → Type 0
+  IndicesDiffer commands replies book = (name : List ℕ) (epoch : ℕ) (text : List ℕ) → IsSaid commands replies (Lookup name epoch) (reply.Found text)
+      → (page : Page) (root : SignedRoot) → IsRootOf provider book page root → at page.bindings name ≡ None → IsReplyOf provider page root.body name (at page.bindings name) text → IsAlone name page
+
+  -- two names that are asked about and have one index are one name
+  abbrev pub UsersDiffer : List Asked → Type 0
+  UsersDiffer commands = (one two : Asked) (name other : List ℕ) → Contains commands one → Contains commands two → IsAbout one name → IsAbout two other
+      → index_of provider name ≡ index_of provider other → name ≡ other
+
+  module _ (accepted verified : List ℕ → List ℕ → List ℕ → Type 0) (key : List ℕ) (after : Book) where
+    -- under the root of the page that was asked for, the text is accepted with what the page has at the
+    -- name, and with nothing else; it has the name's index, and states what is expected exactly where
+    -- the page has it
+    pub record IsAnswer (name : List ℕ) (epoch : ℕ) (text : List ℕ) : Type 0 where
+      pub page : Page
+      pub root : SignedRoot
+      pub is : IsRootOf provider after page root
+      pub asked : IsAskedBy epoch page
+      pub states : (statement : Option (List ℕ)) → Accepts provider.hash accepted root.body name text statement ↔ (statement ≡ key_at page name)
+      pub index : HasIndex provider.hash text (index_of provider name)
+      pub watched : (watch : Watch) → Accepts provider.hash accepted root.body name text (expected watch page.epoch) ↔ (key_at page name ≡ expected watch page.epoch)
+
+    -- the promise is signed over the root of a page, and the next page has its key
+    pub record IsKept (promised : SignedPromise) : Type 0 where
+      pub form : IsSignedPromise promised
+      pub signed : verified key (promise_bytes promised.promise) promised.signature
+      pub page : Page
+      pub root : SignedRoot
+      pub is : IsRootOf provider after page root
+      pub epoch : promised.promise.epoch ≡ root.body.epoch
+      pub root_hash : promised.promise.root_hash ≡ provider.hash (body_bytes root.body)
+      pub index : promised.promise.index ≡ index_of provider promised.promise.name
+      pub next : (next_page : Page) (next_root : SignedRoot) → IsRootOf provider after next_page next_root → next_root.body.previous_epoch ≡ promised.promise.epoch
+          → key_at next_page promised.promise.name ≡ Some promised.promise.key
+
+    -- a reply of a page that has another name with the name's index is refused: the absence is shown by a
+    -- leaf of the very index
+    abbrev pub DoublesAreRefused : List Asked → List Reply → Type 0
+    DoublesAreRefused commands replies = (name : List ℕ) (epoch : ℕ) (text : List ℕ) → IsSaid commands replies (Lookup name epoch) (reply.Found text)
+        → (page : Page) (root : SignedRoot) → IsRootOf provider after page root → IsReplyOf provider page root.body name (at page.bindings name) text
+        → (entry : List ℕ × Binding) → Contains page.bindings entry → index_of provider entry.0 ≡ index_of provider name → entry.0 ≢ name
+        → (told : ReplyRead) × Spells text told × IsFirst (Passes provider.hash accepted root.body name told) SameIndex
+
+    -- what the users see of the commands and replies of a run
+    pub record IsHonest (commands : List Asked) (replies : List Reply) : Type 0 where
+      -- the signed roots of all pages are a chain
+      pub chain : IsChain provider.hash verified (record { key = key; roots = roots provider after })
+      -- each has a spelling
+      pub forms : All IsSignedRoot (roots provider after)
+      -- each root that is told is one of it
+      pub told : (command : Asked) (said : Reply) (root : SignedRoot) → IsSaid commands replies command said → Tells said root → Contains (roots provider after) root
+      -- who took the first of them takes each next one behind the last that was taken
+      pub audited : (front back : List SignedRoot) (root : SignedRoot) → roots provider after ≡ front ++ root ∷ back → 0 < length front
+          → IsChain provider.hash verified (record { key = key; roots = front })
+          × ((head : SignedRoot) × IsHead (record { key = key; roots = front }) head × Verifies verified key root × Links provider.hash head root)
+      -- no two of its roots are evidence
+      pub linear : (one other : SignedRoot) → Contains (roots provider after) one → Contains (roots provider after) other → ¬ AreEvidence provider.hash verified key one other
+      -- each reply to a look-up is accepted, with what the page has
+      pub found : (name : List ℕ) (epoch : ℕ) (text : List ℕ) → IsSaid commands replies (Lookup name epoch) (reply.Found text) → IsAnswer name epoch text
+      -- each promise is kept
+      pub kept : (command : Asked) (promised : SignedPromise) → IsSaid commands replies command (reply.Promised promised) → IsKept promised
+      -- what is found for its name under the next root states its key, at its index
+      pub due : (command : Asked) (promised : SignedPromise) (epoch : ℕ) (text : List ℕ) (root : SignedRoot) (statement : Option (List ℕ))
+          → IsSaid commands replies command (reply.Promised promised) → IsSaid commands replies (Lookup promised.promise.name epoch) (reply.Found text)
+          → root.body.previous_epoch ≡ promised.promise.epoch → Accepts provider.hash accepted root.body promised.promise.name text statement
+          → (statement ≡ Some promised.promise.key) × HasIndex provider.hash text promised.promise.index
+      -- and no promise is shown broken, by whatever reply and root
+      pub unbroken : (command : Asked) (promised : SignedPromise) (name : List ℕ) (epoch : ℕ) (text : List ℕ) (root : SignedRoot)
+          → IsSaid commands replies command (reply.Promised promised) → IsSaid commands replies (Lookup name epoch) (reply.Found text)
+          → ¬ IsBrokenPromise provider.hash verified key accepted promised root text

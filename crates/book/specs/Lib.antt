@@ -1,0 +1,16 @@
+pub mod Answers
+pub mod Asked
+pub mod Books
+pub mod Folds
+pub mod Fresh
+pub mod Honest
+pub mod Keeps
+pub mod Maps
+pub mod Refusals
+pub mod Runs
+pub mod Salted
+pub mod Shows
+pub mod Sound
+pub mod Steps
+pub mod Turns
+pub mod Watches

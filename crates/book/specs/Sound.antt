@@ -1,0 +1,44 @@
+-- What is true of each book of a directory.
+use Rattle.std.specs.Prelude.{◌≡◌, ◌⊎◌, ℕ, ◌<◌, ◌^◌, List, length, All, AllPairs, IsSome}
+use Rattle.std.specs.List.{AllAdjacentBelow}
+use Rattle.std.specs.List.Sorted.{IsStrictlySortedBy}
+use Rattle.std.specs.Map.{keys_of}
+use Rattle.encoding.specs.Bytes.{Is32Bytes}
+use Rattle.encoding.specs.Limits.{IsKeyData, IsName}
+use Rattle.book.specs.Books.{Binding, Book, Page, pages}
+use Rattle.book.specs.Maps.{Map, at, name_cmp}
+
+-- a name and what is bound to it, within their limits
+pub record IsEntry (entry : List ℕ × Binding) : Type 0 where
+  pub name : IsName entry.0
+  pub key : IsKeyData entry.1.key
+  pub salt : Is32Bytes entry.1.salt
+
+-- names ascend, so that none stands twice
+pub record AreBindings (bindings : Map Binding) : Type 0 where
+  pub ascend : IsStrictlySortedBy name_cmp (keys_of bindings)
+  pub entries : All IsEntry bindings
+
+pub record IsPage (page : Page) : Type 0 where
+  pub from_one : 0 < page.epoch
+  pub in_eight_bytes : page.epoch < 2 ^ 64
+  pub nonce : Is32Bytes page.nonce
+  pub bindings : AreBindings page.bindings
+
+-- the later page has all names of this one
+abbrev pub HasNamesOf : Page → Page → Type 0
+HasNamesOf page later = (name : List ℕ) → IsSome (at page.bindings name) → IsSome (at later.bindings name)
+
+-- the last page has the name, or it waits for the next
+abbrev pub IsHeld : Book → List ℕ → Type 0
+IsHeld book name = IsSome (at book.last.bindings name) ⊎ IsSome (at book.pending name)
+
+pub record IsSound (index_of : List ℕ → List ℕ) (book : Book) : Type 0 where
+  -- epochs ascend, and names stay
+  pub ascend : AllPairs (λ earlier later. earlier.epoch < later.epoch) (pages book)
+  pub stay : AllAdjacentBelow HasNamesOf (pages book) (length (pages book))
+  pub pending : AreBindings book.pending
+  pub salt : Is32Bytes book.salt
+  -- names that are held have indices of their own
+  pub apart : (one other : List ℕ) → IsHeld book one → IsHeld book other → index_of one ≡ index_of other → one ≡ other
+  pub pages : All IsPage (pages book)

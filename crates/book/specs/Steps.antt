@@ -1,0 +1,42 @@
+-- One step of a book: what comes of a command, and the book after it.
+use Rattle.std.specs.Prelude.{ℕ, List, Option, Some, None}
+use Rattle.book.specs.declared.refusal.Refusal.{Refusal}
+use Rattle.book.specs.declared.refusal.Refusal.TheVariants.{NoSuchEpoch, NoPromise}
+use Rattle.book.specs.Answers.{Answer, Promised, Found, Told, Last, refusal, with_pending, next_page, with_page, told}
+use Rattle.book.specs.Asked.{Asked, Register, Change, Promise, Lookup, History, Head, Close}
+use Rattle.book.specs.Books.{Binding, Book, Page, page_at}
+use Rattle.book.specs.Maps.{at}
+
+-- what comes of a command
+pub data Outcome : Type 0 where
+  Answers : Answer → Outcome
+  Refuses : Refusal → Outcome
+
+-- the promise of what waits for a name, if something does
+abbrev pub promise_of : List ℕ → Option Binding → Outcome
+promise_of name None = Refuses NoPromise
+promise_of name (Some binding) = Answers (Promised name binding)
+
+-- what a page has at a name, if there is such a page
+abbrev pub found_in : List ℕ → Option Page → Outcome
+found_in name None = Refuses NoSuchEpoch
+found_in name (Some page) = Answers (Found page name (at page.bindings name))
+
+-- what a command does to a book that does not refuse it
+abbrev pub done : Book → Asked → Outcome × Book
+done book (Register name key) = (Answers (Promised name (record { key = key; salt = book.salt })), with_pending book name key)
+done book (Change name key) = (Answers (Promised name (record { key = key; salt = book.salt })), with_pending book name key)
+done book (Promise name) = (promise_of name (at book.pending name), book)
+done book (Lookup name epoch) = (found_in name (page_at book epoch), book)
+done book (History from count) = (Answers (Told (told book from count)), book)
+done book Head = (Answers (Last book.last), book)
+done book (Close epoch) = (Answers (Last (next_page book epoch)), with_page book (next_page book epoch))
+
+-- a refusal leaves the book
+abbrev pub unless_refused : Option Refusal → Book → Asked → Outcome × Book
+unless_refused None book asked = done book asked
+unless_refused (Some why) book asked = (Refuses why, book)
+
+-- what comes of a command, and the book after it; `index_of` gives the index of a name
+abbrev pub step : (List ℕ → List ℕ) → Book → Asked → Outcome × Book
+step index_of book asked = unless_refused (refusal index_of book asked) book asked

@@ -1,0 +1,79 @@
+-- One call of a directory: which replies may come, and what they say of the book and the keeper; and
+-- calls one after another.
+use Rattle.std.specs.Prelude.{◌≡◌, ◌⊎◌, ℕ, List, [], ◌∷◌, Option, Some, None}
+use Rattle.std.specs.List.{AllZip}
+use Rattle.rootchain.specs.declared.signed_root.SignedRoot.{SignedRoot}
+use Rattle.book.specs.declared.record.Record.{Record}
+use Rattle.book.specs.declared.record.Record.TheVariants as record_of_a
+use Rattle.book.specs.declared.refusal.Refusal.{Refusal}
+use Rattle.book.specs.declared.refusal.Refusal.TheVariants.{Memory, KeepFailed}
+use Rattle.book.specs.declared.reply.Reply.{Reply}
+use Rattle.book.specs.declared.reply.Reply.TheVariants as reply
+use Rattle.book.specs.Answers.{Answer, Promised, Found, Told, Last}
+use Rattle.book.specs.Asked.{Asked, Register, Change, Promise, Lookup, History, Head, Close}
+use Rattle.book.specs.Books.{Binding, Book, Page}
+use Rattle.book.specs.Steps.{Outcome, Answers, Refuses, step}
+use Rattle.book.specs.Shows.{Provider, index_of, promise, signed_promise, IsReplyOf, IsRootOf}
+
+-- what is kept of a command before it changes the book
+abbrev pub kept_of : Book → Asked → Option Record
+kept_of book (Register name key) = Some (record_of_a.Register book.salt name key)
+kept_of book (Change name key) = Some (record_of_a.Change book.salt name key)
+kept_of book (Promise name) = None
+kept_of book (Lookup name epoch) = None
+kept_of book (History from count) = None
+kept_of book Head = None
+kept_of book (Close epoch) = Some (record_of_a.Close epoch)
+
+module _ (provider : Provider) where
+  -- the reply shows the answer of a book, as the book is after it
+  abbrev pub Shows : Book → Answer → Reply → Type 0
+  Shows book answer (reply.Promised signed) = (name : List ℕ) × (binding : Binding) × (root : SignedRoot)
+      × (answer ≡ Promised name binding) × IsRootOf provider book book.last root × (signed ≡ signed_promise provider (promise provider root.body name binding))
+  Shows book answer (reply.Found text) = (page : Page) × (name : List ℕ) × (found : Option Binding) × (root : SignedRoot)
+      × (answer ≡ Found page name found) × IsRootOf provider book page root × IsReplyOf provider page root.body name found text
+  Shows book answer (reply.Told told) = (pages : List Page) × (answer ≡ Told pages) × AllZip (IsRootOf provider book) pages told.items
+  Shows book answer (reply.Last root) = (page : Page) × (answer ≡ Last page) × IsRootOf provider book page root
+  Shows book answer (reply.Refused why) = ⊥
+
+  module _ {K : Type 0} (kept failed : K → Record → K → Type 0) where
+    -- the keeper kept the record, where there is one
+    abbrev pub Keeps : K → Option Record → K → Type 0
+    Keeps keeper None after = after ≡ keeper
+    Keeps keeper (Some record_kept) after = kept keeper record_kept after
+
+    -- why a call may refuse: as the step does; where the step does not, for want of memory or since the
+    -- keeper failed, but only a command that has a record to keep
+    abbrev pub Declines : Outcome → Option Record → K → Refusal → K → Type 0
+    Declines (Refuses due) lost keeper why after = (why ≡ due) × (after ≡ keeper)
+    Declines (Answers answer) None keeper why after = ⊥
+    Declines (Answers answer) (Some lost) keeper why after = ((why ≡ Memory) × (after ≡ keeper)) ⊎ ((why ≡ KeepFailed) × failed keeper lost after)
+
+    -- a call: a refusal leaves the book; else the answer and the book after it are the step's, the record
+    -- was kept, and the reply shows the answer
+    abbrev pub Turn : Book → K → Asked → Reply → Book → K → Type 0
+    Turn book keeper asked (reply.Refused why) book_after keeper_after =
+        (book_after ≡ book) × Declines (step (index_of provider) book asked).0 (kept_of book asked) keeper why keeper_after
+    Turn book keeper asked answered book_after keeper_after = (answer : Answer)
+        × (step (index_of provider) book asked ≡ (Answers answer, book_after)) × Keeps keeper (kept_of book asked) keeper_after × Shows book_after answer answered
+
+    -- calls one after another
+    abbrev pub Run : Book → K → List Asked → List Reply → Book → K → Type 0
+    Run book keeper [] [] book_after keeper_after = (book_after ≡ book) × (keeper_after ≡ keeper)
+    Run book keeper (asked ∷ more) (answered ∷ replies) book_after keeper_after = (middle : Book) × (keeper_between : K)
+        × Turn book keeper asked answered middle keeper_between × Run middle keeper_between more replies book_after keeper_after
+    Run book keeper [] (answered ∷ replies) book_after keeper_after = ⊥
+    Run book keeper (asked ∷ more) [] book_after keeper_after = ⊥
+
+  -- the command is answered so, and is one that leaves the book as it is
+  abbrev pub IsRead : Book → Asked → Answer → Type 0
+  IsRead book asked answer = step (index_of provider) book asked ≡ (Answers answer, book)
+
+  -- the command is refused so
+  abbrev pub IsRefused : Book → Asked → Refusal → Type 0
+  IsRefused book asked why = step (index_of provider) book asked ≡ (Refuses why, book)
+
+  -- a call that keeps no record and leaves the book as it is: the reply shows the answer, or is the refusal
+  abbrev pub Reads : Book → Asked → Reply → Type 0
+  Reads book asked (reply.Refused why) = IsRefused book asked why
+  Reads book asked answered = (answer : Answer) × IsRead book asked answer × Shows book answer answered

@@ -1,0 +1,112 @@
+ghost use Rattle.std.specs.Prelude.{◌≡◌, ℕ, ◌<◌, List, [], ◌∷◌, ◌++◌, length, All, AllPairs, Bool};
+ghost use Rattle.std.specs.List.{AllZip};
+ghost use Rattle.encoding.specs.Bytes.{Is32Bytes};
+ghost use Rattle.rand_core.specs.Stream.{fill_bytes, Stream};
+ghost use Rattle.book.specs.Answers.{Answer};
+ghost use Rattle.book.specs.Asked.{Asked, Close};
+ghost use Rattle.rootchain.specs.declared.body.Body.{Body};
+ghost use Rattle.book.specs.Books.{Book, Page, pages};
+ghost use Rattle.book.specs.Folds.{Fate, Tells, folded};
+ghost use Rattle.book.specs.Fresh.{fresh, provider_of, HasSalts, IsCommand, IsEpoch};
+ghost use Rattle.book.specs.Honest.{DoublesAreRefused, IndicesDiffer, IsHonest, UsersDiffer};
+ghost use Rattle.book.specs.Keeps.{fails_next, keeps_next};
+ghost use Rattle.book.specs.Maps.{at, overwritten};
+ghost use Rattle.book.specs.Salted.{salted};
+ghost use Rattle.book.specs.Shows.{index_of, IsReplyOf, Provider};
+ghost use Rattle.book.specs.Sound.{IsSound};
+ghost use Rattle.book.specs.Steps.{Answers, step};
+ghost use Rattle.book.specs.Runs.{IsFirstRun};
+ghost use Rattle.book.specs.Turns.{Run};
+ghost use Rattle.book.specs.declared.reply.Reply.{Reply};
+
+use crate::Keeper;
+use nodehash::NodeHash;
+use sigiface::Signer;
+use vrfiface::Vuf;
+
+/// Whatever is asked of a directory, from its first page on, and whatever is kept of it: the users of an
+/// honest provider see one chain of roots, accept each reply with what the pages have, and have each
+/// promise kept, where no look-up meets another name with its index.
+pub fn honest<H: NodeHash, V: Vuf, S: Signer>()
+    ensures { (vuf : V) (signer : S) (provider : Provider) (commands : List Asked) (replies : List Reply) (after : Book)
+        → provider ≡ provider_of H.digest_of V.value_of (V.public_key vuf) S.signature_of (S.public_key signer)
+        → Is32Bytes (V.public_key vuf)
+        → IsFirstRun provider commands replies after
+        → IndicesDiffer provider commands replies after
+        → IsHonest provider V.accepted S.verified (S.public_key signer) after commands replies }
+{}
+
+/// What a keeper kept of a run is some list of what was kept.
+pub fn keeps_are_listed<K: Keeper>()
+    ensures { (provider : Provider) (book after : Book) (keeper keeper_after : K) (commands : List Asked) (replies : List Reply)
+        → Run provider K.kept K.failed book keeper commands replies after keeper_after
+        → (keeps : List Bool) × Run provider keeps_next fails_next book keeps commands replies after [] }
+{}
+
+/// No look-up of a run from a first page meets another name with its index, where all names that are
+/// asked about have indices of their own.
+pub fn users_have_own_indices()
+    ensures { (provider : Provider) (commands : List Asked) (replies : List Reply) (after : Book)
+        → IsFirstRun provider commands replies after → UsersDiffer provider commands → IndicesDiffer provider commands replies after }
+{}
+
+/// A look-up that meets another name with its index is refused for just that.
+pub fn doubles_are_refused<H: NodeHash, V: Vuf, S: Signer>()
+    ensures { (vuf : V) (signer : S) (provider : Provider) (commands : List Asked) (replies : List Reply) (after : Book)
+        → provider ≡ provider_of H.digest_of V.value_of (V.public_key vuf) S.signature_of (S.public_key signer)
+        → Is32Bytes (V.public_key vuf)
+        → IsFirstRun provider commands replies after
+        → DoublesAreRefused provider V.accepted S.verified (S.public_key signer) after commands replies }
+{}
+
+/// Runs one after another are a run.
+pub fn runs_join<K: Keeper>()
+    ensures { (provider : Provider) (book middle after : Book) (keeper keeper_between keeper_after : K) (commands others : List Asked) (replies answers : List Reply)
+        → Run provider K.kept K.failed book keeper commands replies middle keeper_between
+        → Run provider K.kept K.failed middle keeper_between others answers after keeper_after
+        → Run provider K.kept K.failed book keeper (commands ++ others) (replies ++ answers) after keeper_after }
+{}
+
+/// A run, with whatever keeper, is the fold of the steps of its commands under some fate of each: it
+/// ends in the run's last book, and the replies tell its outcomes.
+pub fn runs_are_folds<K: Keeper>()
+    ensures { (provider : Provider) (book after : Book) (keeper keeper_after : K)
+        → (commands : List Asked) (replies : List Reply)
+        → Run provider K.kept K.failed book keeper commands replies after keeper_after
+        → (fates : List Fate) × (length fates ≡ length commands)
+        × ((folded (index_of provider) book commands fates).1 ≡ after)
+        × AllZip Tells (folded (index_of provider) book commands fates).0 replies }
+{}
+
+/// A close that is not refused makes a page of its epoch, of the last page's map overwritten by what
+/// waited. Every earlier page stays as it was, and nothing waits.
+pub fn closing_overwrites()
+    ensures { (index_of : List ℕ → List ℕ) (book after : Book) (epoch : ℕ) (answer : Answer)
+        → step index_of book (Close epoch) ≡ (Answers answer, after)
+        → (after.last.epoch ≡ epoch)
+        × (after.last.bindings ≡ overwritten book.last.bindings book.pending)
+        × (after.earlier ≡ pages book) × (after.pending ≡ []) }
+{}
+
+/// After a run from a sound book the pages are those before, followed by others, and their epochs
+/// ascend.
+pub fn pages_grow<K: Keeper>()
+    ensures { (provider : Provider) (book after : Book) (keeper keeper_after : K)
+        → (commands : List Asked) (replies : List Reply)
+        → IsSound (index_of provider) book
+        → Run provider K.kept K.failed book keeper commands replies after keeper_after
+        → (more : List Page) × (pages after ≡ pages book ++ more)
+        × AllPairs (λ earlier later. earlier.epoch < later.epoch) (pages after) }
+{}
+
+/// A stream with salts in front gives them first, and then is the stream: so a directory that is opened
+/// again, with the salts that were kept and a new stream, goes on as if it had begun with one.
+pub fn salts_come_first()
+    ensures { (salt : List ℕ) (more : List (List ℕ)) (salts : Stream) → fill_bytes 32 (salted (salt ∷ more) salts) ≡ (salt, salted more salts) }
+{}
+
+/// Each look-up has a reply.
+pub fn replies_exist()
+    ensures { (provider : Provider) → ((text : List ℕ) → Is32Bytes (provider.hash text)) → (page : Page) (body : Body) (name : List ℕ)
+        → (text : List ℕ) × IsReplyOf provider page body name (at page.bindings name) text }
+{}

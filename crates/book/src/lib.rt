@@ -1,0 +1,16 @@
+//! What a key directory means: pages of names with their keys, one an epoch, what it answers to each
+//! command, and what its users see. The directory itself is in `epochs`.
+#![tactic(auto)]
+
+mod command;
+mod keeper;
+pub mod laws;
+mod record;
+mod refusal;
+mod reply;
+
+pub use command::Command;
+pub use keeper::{KeepFailed, Keeper, NoKeeper};
+pub use record::Record;
+pub use refusal::Refusal;
+pub use reply::Reply;

@@ -1,0 +1,89 @@
+ghost use Rattle.std.specs.Prelude.{◌≡◌};
+
+use std::alloc::{AllocError, AllocFailed};
+use thiserror::Error;
+
+/// Why a directory refuses a command. Where several reasons apply, the first of them in this order is
+/// told.
+#[derive(Clone, Copy, Debug, PartialEq, Eq, Error)]
+pub enum Refusal {
+    #[error("the name has no byte, or more than 255")]
+    BadName,
+
+    #[error("the key has no byte, or more than 2,048")]
+    BadKey,
+
+    #[error("the latest page has the name")]
+    NameTaken,
+
+    #[error("the latest page lacks the name")]
+    NoSuchName,
+
+    #[error("an operation on the name waits for the next epoch")]
+    PendingExists,
+
+    #[error("another name has the index of this one")]
+    IndexTaken,
+
+    #[error("there is no such epoch")]
+    NoSuchEpoch,
+
+    #[error("the epoch is not above the latest")]
+    EpochNotLater,
+
+    #[error("no operation on the name waits")]
+    NoPromise,
+
+    #[error("out of memory")]
+    Memory,
+
+    #[error("no root is asked for, or more than 64")]
+    BadRange,
+
+    #[error("the record was not kept")]
+    KeepFailed,
+}
+
+impl Refusal {
+    ghost use Rattle.book.specs.Refusals.{refusal_number};
+
+    /// The number of this refusal.
+    pub fn number(self) -> u8
+        ensures { result ≡ refusal_number self }
+    {
+        match self {
+            Refusal::BadName => 4,
+            Refusal::BadKey => 5,
+            Refusal::NameTaken => 6,
+            Refusal::NoSuchName => 7,
+            Refusal::PendingExists => 8,
+            Refusal::IndexTaken => 9,
+            Refusal::NoSuchEpoch => 10,
+            Refusal::EpochNotLater => 11,
+            Refusal::NoPromise => 13,
+            Refusal::Memory => 14,
+            Refusal::BadRange => 15,
+            Refusal::KeepFailed => 19,
+        }
+    }
+}
+
+impl<T: Drop> From<AllocFailed<T>> for Refusal {
+    ghost use Rattle.book.specs.declared.refusal.Refusal.TheVariants.{Memory};
+
+    ghost from_gives = { λ _ refusal. refusal ≡ Memory };
+
+    fn from(_failed: AllocFailed<T>) -> Refusal {
+        Refusal::Memory
+    }
+}
+
+impl From<AllocError> for Refusal {
+    ghost use Rattle.book.specs.declared.refusal.Refusal.TheVariants.{Memory};
+
+    ghost from_gives = { λ _ refusal. refusal ≡ Memory };
+
+    fn from(_failed: AllocError) -> Refusal {
+        Refusal::Memory
+    }
+}

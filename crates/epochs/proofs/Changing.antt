@@ -1,0 +1,143 @@
+-- What the calls that change a directory rest on.
+use Rattle.std.proofs.Common.{◌≡◌, ℕ, zero, suc, ◌-◌, ◌||◌, List, [], ◌∷◌, length, Bool, true, false, Option, Some, None, refl, sym, ap, subst, inr, ◌∙◌}
+use Rattle.std.specs.Prelude.{is_some, slice_get, slice_index_or, IsSome}
+use Rattle.encoding.specs.Bytes.{Is32Bytes}
+use Rattle.encoding.specs.Limits.{IsKeyData, IsName}
+use Rattle.commit.specs.Commitments.{commitment_bytes}
+use Rattle.prefixtree.specs.Contents.{Contents}
+use Rattle.prefixtree.specs.Placement.{Items, commitment_of, put}
+use Rattle.rand_core.specs.Stream.{Stream, fill_bytes}
+use Rattle.rootchain.specs.Bodies.{body_bytes}
+use Rattle.rootchain.specs.Promises.{promise_bytes}
+use Rattle.rootchain.specs.declared.promise.Promise.{Promise as PromiseMade}
+use Rattle.rootchain.specs.declared.signed_promise.SignedPromise.{SignedPromise}
+use Rattle.rootchain.specs.declared.signed_root.SignedRoot.{SignedRoot}
+use Rattle.book.specs.declared.reply.Reply.TheVariants as reply
+use Rattle.book.specs.Answers.{has_its_index, with_pending, Promised}
+use Rattle.book.specs.Books.{Binding, Book}
+use Rattle.book.specs.Maps.{Map, at}
+use Rattle.book.specs.Shows.{Provider, index_of, placement, IsRootOf}
+use Rattle.book.specs.Sound.{IsHeld}
+use Rattle.book.specs.Turns.{Shows}
+use Rattle.book.proofs.Distinct.{HasName}
+use Rattle.book.proofs.Placed.{placed_none}
+use Rattle.epochs.specs.Histories.{Version}
+use Rattle.epochs.specs.Parts.{Keeps, Parts, last_of, last_root, pending_of, tree_of}
+use Rattle.epochs.specs.Versions.{AllBefore, versions_of, with_version}
+use Rattle.epochs.proofs.Keeping.{book_with_pending, free_untaken, keeps_pending, taken_is, version_of, versions_before, with_waiting}
+use Rattle.epochs.proofs.Placing.{apart-alone}
+use Rattle.epochs.proofs.Parts.{book_of, last_get, last_root_kept, last_tree_kept}
+
+-- what stands at a place
+reached : {X : Type 0} (xs : List X) (k : ℕ) (x y : X) → slice_get xs k ≡ Some x → y ≡ slice_index_or xs k y → y ≡ x
+reached [] k x y there is = absurd cc
+reached (z ∷ xs) zero x y there is = let same : z ≡ x = cc in is ∙ same
+reached (z ∷ xs) (suc k) x y there is = reached xs k x y there is
+
+module _ (provider : Provider) (parts : Parts) (salt : List ℕ) (left : Stream) (keeps : Keeps provider parts (book_of parts salt left)) where
+  module _ (len : ℕ) (long : len ≡ length parts.roots) (root : SignedRoot) (is : root ≡ slice_index_or parts.roots (len - 1) root) where
+    -- the root at the last place
+    pub last_is : root ≡ last_root parts
+    last_is = reached parts.roots (length parts.roots - 1) (last_root parts) root (last_get parts keeps.begun) (subst (λ (n : ℕ). root ≡ slice_index_or parts.roots (n - 1) root) long is)
+
+    pub last_shown : IsRootOf provider (book_of parts salt left) (last_of parts) root
+    last_shown = subst (IsRootOf provider (book_of parts salt left) (last_of parts)) (sym last_is) (last_root_kept provider parts salt left keeps)
+
+    -- a promise over it
+    pub promise_shown : (name index : List ℕ) (binding : Binding) (made : PromiseMade) → index ≡ index_of provider name
+        → made ≡ record { epoch = root.body.epoch; root_hash = parts.root_hash; index = index; name = name; key = binding.key }
+        → Shows provider (book_of parts salt left) (Promised name binding) (reply.Promised (record { promise = made; signature = provider.sign (promise_bytes made) }))
+    promise_shown name index binding made indexed is-made = (name, binding, last_root parts, refl, last_root_kept provider parts salt left keeps, ap signed all)
+      where
+        signed : PromiseMade → SignedPromise
+        signed promise = record { promise = promise; signature = provider.sign (promise_bytes promise) }
+
+        over : SignedRoot → List ℕ → List ℕ → PromiseMade
+        over last hash place = record { epoch = last.body.epoch; root_hash = hash; index = place; name = name; key = binding.key }
+
+        all : made ≡ over (last_root parts) (provider.hash (body_bytes (last_root parts).body)) (index_of provider name)
+        all = is-made ∙ ap (λ (r : SignedRoot). over r parts.root_hash index) last_is ∙ ap (λ (h : List ℕ). over (last_root parts) h index) keeps.root_hash ∙ ap (λ (i : List ℕ). over (last_root parts) (provider.hash (body_bytes (last_root parts).body)) i) indexed
+
+-- parts, with the next salt and the stream left after it
+record Stand : Type 0 where
+  pub parts : Parts
+  pub salt : List ℕ
+  pub left : Stream
+
+some-name : (map : Map Binding) (name : List ℕ) → HasName map name → IsSome (at map name)
+some-name map name has = subst IsSome (sym has.1) refl
+
+module _ (provider : Provider) (parts : Parts) (salt : List ℕ) (left : Stream) (keeps : Keeps provider parts (book_of parts salt left)) (name key : List ℕ)
+    (none : at (pending_of parts) name ≡ None) (free : (other : List ℕ) → IsHeld (book_of parts salt left) other → index_of provider other ≡ index_of provider name → other ≡ name) where
+  -- its index does not wait
+  pub index_free : (index : List ℕ) → index ≡ index_of provider name → commitment_of parts.waiting index ≡ None
+  index_free index is =
+      ap (λ (items : Items). commitment_of items index) keeps.waiting ∙ ap (commitment_of _) is
+      ∙ placed_none provider name (pending_of parts) (apart-alone provider (pending_of parts) name (λ other has. free other (inr (some-name (pending_of parts) other has)))) none
+
+  module _ (len : ℕ) (long : len ≡ length parts.roots) (version : Version) (is : version ≡ record { number = len; binding = record { key = key; salt = salt } }) where
+    is-version : version ≡ version_of provider parts salt left keeps name key none
+    is-version = is ∙ ap (λ (n : ℕ). record { number = n; binding = record { key = key; salt = salt } }) long
+
+    pub later_version : AllBefore version.number (versions_of parts.names name)
+    later_version = subst (λ (n : ℕ). AllBefore n (versions_of parts.names name)) (sym (ap (λ (v : Version). v.number) is-version)) (versions_before provider parts salt left keeps name none)
+
+    -- a binding waits once its version and its item are put in
+    module _ (index commitment next : List ℕ) (rest : Stream) (names : Map (List Version)) (waiting : Items)
+        (indexed : index ≡ index_of provider name) (committed : commitment ≡ provider.hash (commitment_bytes salt name key)) (drawn : (next, rest) ≡ fill_bytes 32 left)
+        (named : names ≡ with_version parts.names name version) (waits : waiting ≡ put parts.waiting index commitment) where
+      abbrev pub parts_with : Parts
+      parts_with = record { names = names; roots = parts.roots; trees = parts.trees; waiting = waiting; root_hash = parts.root_hash }
+
+      abbrev kept-stand : Stand
+      kept-stand = record { parts = with_waiting provider parts salt left keeps name key none; salt = (fill_bytes 32 left).0; left = (fill_bytes 32 left).1 }
+
+      stand-is : record { parts = parts_with; salt = next; left = rest } ≡ kept-stand
+      stand-is = λ i. record { parts = record { names = all-names i; roots = parts.roots; trees = parts.trees; waiting = all-waiting i; root_hash = parts.root_hash }; salt = (drawn i).0; left = (drawn i).1 }
+        where
+          all-names : names ≡ with_version parts.names name (version_of provider parts salt left keeps name key none)
+          all-names = named ∙ ap (with_version parts.names name) is-version
+
+          all-waiting : waiting ≡ put parts.waiting (index_of provider name) (provider.hash (commitment_bytes salt name key))
+          all-waiting = waits ∙ ap (λ (i : List ℕ). put parts.waiting i commitment) indexed ∙ ap (put parts.waiting (index_of provider name)) committed
+
+      pub keeps_accepted : IsName name → IsKeyData key → Is32Bytes next → Keeps provider parts_with (book_of parts_with next rest)
+      keeps_accepted is-name is-key is-salt =
+          subst (λ (stand : Stand). Keeps provider stand.parts (book_of stand.parts stand.salt stand.left)) (sym stand-is)
+          (keeps_pending provider parts salt left keeps name key none is-name is-key (subst Is32Bytes (ap (λ (x : List ℕ × Stream). x.0) drawn) is-salt) free)
+
+      pub book_accepted : book_of parts_with next rest ≡ with_pending (book_of parts salt left) name key
+      book_accepted = ap (λ (stand : Stand). book_of stand.parts stand.salt stand.left) stand-is ∙ book_with_pending provider parts salt left keeps name key none
+
+-- the tree at the last place
+pub last_tree_is : (provider : Provider) (parts : Parts) (salt : List ℕ) (left : Stream) (keeps : Keeps provider parts (book_of parts salt left)) (tree : Contents) (len : ℕ)
+    → len ≡ length parts.trees → tree ≡ slice_index_or parts.trees (len - 1) tree → tree ≡ tree_of provider (last_of parts)
+last_tree_is provider parts salt left keeps tree len long is =
+    reached parts.trees (length parts.trees - 1) (tree_of provider (last_of parts)) tree (last_tree_kept provider parts salt left keeps) (subst (λ (n : ℕ). tree ≡ slice_index_or parts.trees (n - 1) tree) long is)
+
+-- ---- whether an index is taken
+
+module _ (provider : Provider) (parts : Parts) (salt : List ℕ) (left : Stream) (keeps : Keeps provider parts (book_of parts salt left)) (name index : List ℕ)
+    (indexed : index ≡ index_of provider name) (new : at (last_of parts).bindings name ≡ None) (waits : at (pending_of parts) name ≡ None)
+    (tree : Contents) (len : ℕ) (long : len ≡ length parts.trees) (is : tree ≡ slice_index_or parts.trees (len - 1) tree) (shown : Bool) (looked : shown ≡ is_some (commitment_of tree.items index)) where
+  tree-is : tree ≡ tree_of provider (last_of parts)
+  tree-is = last_tree_is provider parts salt left keeps tree len long is
+
+  abbrev other-has : Bool
+  other-has = has_its_index (index_of provider) name (last_of parts).bindings || has_its_index (index_of provider) name (pending_of parts)
+
+  told : (shown || is_some (commitment_of parts.waiting index)) ≡ other-has
+  told =
+      ap (λ (s : Bool). s || is_some (commitment_of parts.waiting index)) (looked ∙ ap (λ (t : Contents). is_some (commitment_of t.items index)) tree-is)
+      ∙ ap (λ (i : List ℕ). is_some (commitment_of (placement provider (last_of parts).bindings) i) || is_some (commitment_of parts.waiting i)) indexed
+      ∙ taken_is provider parts salt left keeps name new waits
+
+  pub taken_shown : shown ≡ true → shown ≡ other-has
+  taken_shown true-is = true-is ∙ sym (ap (λ (s : Bool). s || is_some (commitment_of parts.waiting index)) true-is) ∙ told
+
+  pub taken_waiting : (waiting : Bool) → waiting ≡ is_some (commitment_of parts.waiting index) → shown ≡ false → waiting ≡ other-has
+  taken_waiting waiting told-is false-is = told-is ∙ sym (ap (λ (s : Bool). s || is_some (commitment_of parts.waiting index)) false-is) ∙ told
+
+  pub taken_free : (waiting : Bool) → waiting ≡ is_some (commitment_of parts.waiting index) → shown ≡ false → waiting ≡ false
+      → (other : List ℕ) → IsHeld (book_of parts salt left) other → index_of provider other ≡ index_of provider name → other ≡ name
+  taken_free waiting told-is false-is none = free_untaken provider parts salt left keeps name (sym (taken_waiting waiting told-is false-is) ∙ none)

@@ -1,0 +1,94 @@
+-- From what a private call promises to a turn.
+use Rattle.std.proofs.Common.{◌≡◌, List, ℕ, Option, Some, None, Result, Ok, Err, MatchResult, refl, sym, ap, subst, inl, inr, ◌∙◌}
+use Rattle.rootchain.specs.declared.signed_promise.SignedPromise.{SignedPromise}
+use Rattle.rootchain.specs.declared.signed_root.SignedRoot.{SignedRoot}
+use Rattle.book.specs.declared.record.Record.{Record}
+use Rattle.book.specs.declared.record.Record.TheVariants as record_of_a
+use Rattle.book.specs.declared.refusal.Refusal.{Refusal}
+use Rattle.book.specs.declared.refusal.Refusal.TheVariants.{Memory, KeepFailed}
+use Rattle.book.specs.declared.reply.Reply.{Reply}
+use Rattle.book.specs.declared.reply.Reply.TheVariants as reply
+use Rattle.book.specs.Answers.{Answer, refusal, with_pending, Promised}
+use Rattle.book.specs.Asked.{Asked, Change, Register}
+use Rattle.book.specs.Books.{Book}
+use Rattle.book.specs.Shows.{Provider, index_of}
+use Rattle.book.specs.Turns.{Keeps, Shows, Turn, kept_of}
+use Rattle.book.proofs.Calls.{answers, fails, wants}
+use Rattle.book.proofs.Stepping.{Does}
+use Rattle.epochs.specs.Replied.{last, promised}
+use Rattle.epochs.specs.Versions.{IsUnkept}
+
+module _ (provider : Provider) {K : Type 0} (kept failed : K → Record → K → Type 0) (book done : Book) (keeper : K) (asked : Asked) (answer : Answer) (what : Record)
+    (none : refusal (index_of provider) book asked ≡ None) (does : Does book asked answer done) (recorded : kept_of book asked ≡ Some what) where
+  -- a command that is not kept
+  unkept_turn : (why : Refusal) (after : Book) (keeper_after : K) → after ≡ book → IsUnkept failed keeper what why keeper_after → Turn provider kept failed book keeper asked (reply.Refused why) after keeper_after
+  unkept_turn why after keeper_after same unkept = subst (λ (b : Book). Turn provider kept failed book keeper asked (reply.Refused why) b keeper_after) (sym same) (by unkept)
+    where
+      by : IsUnkept failed keeper what why keeper_after → Turn provider kept failed book keeper asked (reply.Refused why) book keeper_after
+      by (inl (is, stays)) =
+          subst (λ (k : K). Turn provider kept failed book keeper asked (reply.Refused why) book k) (sym stays)
+          (subst (λ (w : Refusal). Turn provider kept failed book keeper asked (reply.Refused w) book keeper) (sym is) (wants provider kept failed book done asked answer none does keeper what recorded))
+      by (inr (is, failing)) =
+          subst (λ (w : Refusal). Turn provider kept failed book keeper asked (reply.Refused w) book keeper_after) (sym is) (fails provider kept failed book done asked answer none does keeper keeper_after what recorded failing)
+
+  -- one that is
+  kept_turn : (said : Reply) (after : Book) (keeper_after : K) → kept keeper what keeper_after → after ≡ done → Shows provider after answer said → Turn provider kept failed book keeper asked said after keeper_after
+  kept_turn said after keeper_after keeps is shows =
+      subst (λ (b : Book). Turn provider kept failed book keeper asked said b keeper_after) (sym is)
+      (answers provider kept failed book done asked answer none does keeper keeper_after said
+      (subst (λ (w : Option Record). Keeps provider kept failed keeper w keeper_after) (sym recorded) keeps)
+      (subst (λ (b : Book). Shows provider b answer said) is shows))
+
+  pub promised_turn : (r : Result SignedPromise Refusal) (after : Book) (keeper_after : K)
+      → MatchResult r (λ promise. kept keeper what keeper_after × (after ≡ done) × Shows provider after answer (promised (Ok promise))) (λ why. (after ≡ book) × IsUnkept failed keeper what why keeper_after)
+      → Turn provider kept failed book keeper asked (promised r) after keeper_after
+  promised_turn (Ok promise) after keeper_after (keeps, is, shows) = kept_turn (reply.Promised promise) after keeper_after keeps is shows
+  promised_turn (Err why) after keeper_after (same, unkept) = unkept_turn why after keeper_after same unkept
+
+  pub last_turn : (r : Result SignedRoot Refusal) (after : Book) (keeper_after : K)
+      → MatchResult r (λ root. kept keeper what keeper_after × (after ≡ done) × Shows provider after answer (last (Ok root))) (λ why. (after ≡ book) × IsUnkept failed keeper what why keeper_after)
+      → Turn provider kept failed book keeper asked (last r) after keeper_after
+  last_turn (Ok root) after keeper_after (keeps, is, shows) = kept_turn (reply.Last root) after keeper_after keeps is shows
+  last_turn (Err why) after keeper_after (same, unkept) = unkept_turn why after keeper_after same unkept
+
+-- ---- a name that begins to wait
+
+record Handed : Type 0 where
+  pub by : Provider
+  pub book : Book
+  pub name : List ℕ
+  pub key : List ℕ
+  pub what : Record
+
+module _ (provider : Provider) {K : Type 0} (kept failed : K → Record → K → Type 0) (book : Book) (keeper : K) (name key : List ℕ) where
+  -- what a call makes known of those that it was handed
+  abbrev Made : Handed → Result SignedPromise Refusal → Book → K → Type 0
+  Made handed r after keeper_after =
+      MatchResult r
+      (λ promise. kept keeper handed.what keeper_after × (after ≡ with_pending handed.book handed.name handed.key)
+      × Shows handed.by after (Promised handed.name (record { key = handed.key; salt = handed.book.salt })) (promised (Ok promise)))
+      (λ why. (after ≡ handed.book) × IsUnkept failed keeper handed.what why keeper_after)
+
+  module _ (by : Provider) (middle : Book) (the_name the_key the_salt : List ℕ) (same_by : by ≡ provider) (same_book : middle ≡ book) (same_name : the_name ≡ name) (same_key : the_key ≡ key) (same_salt : the_salt ≡ book.salt)
+      (r : Result SignedPromise Refusal) (after : Book) (keeper_after : K) where
+    pub registered_turn : refusal (index_of provider) book (Register name key) ≡ None
+        → Made (record { by = by; book = middle; name = the_name; key = the_key; what = record_of_a.Register the_salt the_name the_key }) r after keeper_after
+        → Turn provider kept failed book keeper (Register name key) (promised r) after keeper_after
+    registered_turn none made =
+        promised_turn provider kept failed book (with_pending book name key) keeper (Register name key) (Promised name (record { key = key; salt = book.salt })) (record_of_a.Register book.salt name key)
+        none (refl, refl) refl r after keeper_after (subst (λ (handed : Handed). Made handed r after keeper_after) all made)
+      where
+        all : ◌≡◌ {A = Handed} (record { by = by; book = middle; name = the_name; key = the_key; what = record_of_a.Register the_salt the_name the_key })
+            (record { by = provider; book = book; name = name; key = key; what = record_of_a.Register book.salt name key })
+        all = λ i. record { by = same_by i; book = same_book i; name = same_name i; key = same_key i; what = record_of_a.Register (same_salt i) (same_name i) (same_key i) }
+
+    pub changed_turn : refusal (index_of provider) book (Change name key) ≡ None
+        → Made (record { by = by; book = middle; name = the_name; key = the_key; what = record_of_a.Change the_salt the_name the_key }) r after keeper_after
+        → Turn provider kept failed book keeper (Change name key) (promised r) after keeper_after
+    changed_turn none made =
+        promised_turn provider kept failed book (with_pending book name key) keeper (Change name key) (Promised name (record { key = key; salt = book.salt })) (record_of_a.Change book.salt name key)
+        none (refl, refl) refl r after keeper_after (subst (λ (handed : Handed). Made handed r after keeper_after) all made)
+      where
+        all : ◌≡◌ {A = Handed} (record { by = by; book = middle; name = the_name; key = the_key; what = record_of_a.Change the_salt the_name the_key })
+            (record { by = provider; book = book; name = name; key = key; what = record_of_a.Change book.salt name key })
+        all = λ i. record { by = same_by i; book = same_book i; name = same_name i; key = same_key i; what = record_of_a.Change (same_salt i) (same_name i) (same_key i) }

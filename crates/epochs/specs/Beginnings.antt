@@ -1,0 +1,18 @@
+-- When a directory is not begun.
+use Rattle.std.specs.Prelude.{◌≡◌, ℕ, ◌<◌}
+use Rattle.book.specs.declared.refusal.Refusal.{Refusal}
+use Rattle.book.specs.declared.refusal.Refusal.TheVariants.{BadName, BadKey, NameTaken, NoSuchName, PendingExists, IndexTaken, NoSuchEpoch, EpochNotLater, NoPromise, Memory, BadRange, KeepFailed}
+
+abbrev pub IsBeginRefusal : ℕ → Refusal → Type 0
+IsBeginRefusal epoch BadName = ⊥
+IsBeginRefusal epoch BadKey = ⊥
+IsBeginRefusal epoch NameTaken = ⊥
+IsBeginRefusal epoch NoSuchName = ⊥
+IsBeginRefusal epoch PendingExists = ⊥
+IsBeginRefusal epoch IndexTaken = ⊥
+IsBeginRefusal epoch NoSuchEpoch = ⊥
+IsBeginRefusal epoch EpochNotLater = epoch ≡ 0
+IsBeginRefusal epoch NoPromise = ⊥
+IsBeginRefusal epoch Memory = 0 < epoch
+IsBeginRefusal epoch BadRange = ⊥
+IsBeginRefusal epoch KeepFailed = ⊥

@@ -1,0 +1,33 @@
+-- What a directory's fields stand for.
+use Rattle.std.specs.Prelude.{ℕ, List}
+use Rattle.rand_core.specs.Stream.{Stream}
+use Rattle.epochs.specs.declared.directory.Directory.TheInside.{Inside}
+use Rattle.epochs.specs.Kept.{Kept, book, provider}
+use Rattle.epochs.specs.Parts.{Keeps, Parts, earlier_of, last_of, pending_of}
+
+module _ {H V S R : Type 0} where
+  abbrev pub parts_of : Inside H V S R → Parts
+  parts_of inside = record {
+    names = inside.names;
+    roots = inside.roots.items;
+    trees = inside.trees.items;
+    waiting = inside.waiting.entries;
+    root_hash = inside.root_hash;
+  }
+
+  abbrev pub kept_of : (V → List ℕ) → (S → List ℕ) → (H → ℕ) → Inside H V S R → Kept R
+  kept_of vuf_key key digests inside = record {
+    earlier = earlier_of (parts_of inside);
+    last = last_of (parts_of inside);
+    pending = pending_of (parts_of inside);
+    salt = inside.salt;
+    salts = inside.salts;
+    vuf_key = vuf_key inside.vuf;
+    key = key inside.signer;
+    digests = digests inside.hash;
+  }
+
+  -- the fields keep the book
+  abbrev pub IsKept : (List ℕ → List ℕ) → (List ℕ → List ℕ → List ℕ) → (List ℕ → List ℕ → List ℕ) → (V → List ℕ) → (S → List ℕ) → (H → ℕ) → (R → Stream) → Inside H V S R → Type 0
+  IsKept digest_of value_of signature_of vuf_key key digests stream inside =
+      let kept = kept_of vuf_key key digests inside in Keeps (provider digest_of value_of signature_of kept) (parts_of inside) (book stream kept)

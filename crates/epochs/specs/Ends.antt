@@ -1,0 +1,13 @@
+-- A list as all but its last, and its last.
+use Rattle.std.specs.Prelude.{List, [], ◌∷◌}
+
+-- all but the last
+abbrev pub front : {X : Type 0} → List X → List X
+front [] = []
+front (x ∷ []) = []
+front (x ∷ y ∷ more) = x ∷ front (y ∷ more)
+
+-- the last, or the given one where there is none
+abbrev pub final : {X : Type 0} → X → List X → X
+final none [] = none
+final none (x ∷ more) = final x more

@@ -1,0 +1,50 @@
+-- Names with their versions: in which order they stand, and how one more comes.
+use Rattle.std.specs.Prelude.{◌≡◌, ◌⊎◌, ℕ, ◌<◌, ◌≤◌, List, [], ◌∷◌, ◌++◌}
+use Rattle.std.specs.List.{AllByRecursion}
+use Rattle.std.specs.List.Sorted.{IsStrictlySortedBy}
+use Rattle.std.specs.Map.{keys_of}
+use Rattle.std.specs.Option.{unwrap_or}
+use Rattle.book.specs.declared.record.Record.{Record}
+use Rattle.book.specs.declared.refusal.Refusal.{Refusal}
+use Rattle.book.specs.declared.refusal.Refusal.TheVariants.{Memory, KeepFailed}
+use Rattle.epochs.specs.Histories.{Version}
+use Rattle.book.specs.Maps.{Map, at, name_cmp, put}
+
+-- the versions of a name ascend
+abbrev pub Ascends : List Version → Type 0
+Ascends [] = Unit {0}
+Ascends (version ∷ versions) = AllByRecursion (λ later. version.number < later.number) versions × Ascends versions
+
+-- all versions have smaller numbers
+abbrev pub AllBefore : ℕ → List Version → Type 0
+AllBefore number versions = AllByRecursion (λ version. version.number < number) versions
+
+-- no version has a number above this
+abbrev pub AllWithin : ℕ → List Version → Type 0
+AllWithin number versions = AllByRecursion (λ version. version.number ≤ number) versions
+
+-- the same of the versions of all names
+abbrev pub NamesWithin : ℕ → Map (List Version) → Type 0
+NamesWithin number names = AllByRecursion (λ entry. AllWithin number entry.1) names
+
+-- names ascend, and so do the versions of each
+pub record AreHistories (names : Map (List Version)) : Type 0 where
+  pub names_ascend : IsStrictlySortedBy name_cmp (keys_of names)
+  pub versions_ascend : AllByRecursion (λ entry. Ascends entry.1) names
+
+-- the versions of a name, none where it has none
+abbrev pub versions_of : Map (List Version) → List ℕ → List Version
+versions_of names name = unwrap_or (at names name) []
+
+-- the names with this as the last version of a name
+abbrev pub with_version : Map (List Version) → List ℕ → Version → Map (List Version)
+with_version names name version = put names name (versions_of names name ++ version ∷ [])
+
+-- the entries of a map, each at the bytes of its key
+abbrev pub at_bytes : {K X : Type 0} → (K → List ℕ) → List (K × X) → Map X
+at_bytes bytes [] = []
+at_bytes bytes (entry ∷ entries) = (bytes entry.0, entry.1) ∷ at_bytes bytes entries
+
+-- why a change is not made: memory is wanting, or the keeper failed to keep its record
+abbrev pub IsUnkept : {K : Type 0} → (K → Record → K → Type 0) → K → Record → Refusal → K → Type 0
+IsUnkept failed keeper lost why after = ((why ≡ Memory) × (after ≡ keeper)) ⊎ ((why ≡ KeepFailed) × failed keeper lost after)

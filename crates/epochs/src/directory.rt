@@ -1,0 +1,124 @@
+ghost use Rattle.std.specs.Prelude.{◌≡◌, ◌+◌, ◌<◌, ◌≤◌, IfErr, IfOk};
+ghost use Rattle.book.specs.Fresh.{fresh};
+ghost use Rattle.book.specs.Shows.{index_of, IsRootOf};
+ghost use Rattle.book.specs.Sound.{IsSound};
+ghost use Rattle.epochs.specs.Beginnings.{IsBeginRefusal};
+ghost use Rattle.epochs.specs.Kept.{book, provider};
+
+use crate::names::Names;
+use crate::signing::{next_salt, signed_root};
+use book::Refusal;
+use encoding::{Hash32, Index};
+use nodehash::NodeHash;
+use prefixtree::Tree;
+use rand_core::Rng;
+use rootchain::{Body, SignedRoot};
+use sigiface::Signer;
+use std::alloc::Global;
+use std::collections::BTreeMap;
+use std::marker::Model;
+use vrfiface::Vuf;
+
+mod changing;
+mod reading;
+mod running;
+
+/// The names and keys of a provider, in pages, one an epoch.
+#[derive(Drop)]
+pub struct Directory<H: NodeHash, V: Vuf, S: Signer, R: Rng> {
+    alloc: Global,
+    hash: H,
+    vuf: V,
+    signer: S,
+    salts: R,
+    /// The salt of the next accepted operation.
+    salt: Hash32,
+    names: Names,
+    /// An index and a commitment for each operation that waits for the next page.
+    waiting: BTreeMap<Index, Hash32>,
+    /// The signed root of each page.
+    roots: Vec<SignedRoot>,
+    /// The tree of each page.
+    trees: Vec<Tree<H>>,
+    /// The hash of the last root's body.
+    root_hash: Hash32,
+}
+
+impl<H: NodeHash, V: Vuf, S: Signer, R: Rng> Model for Directory<H, V, S, R> {
+    ghost use Rattle.epochs.specs.Kept.{Kept};
+
+    ghost Value = { Kept R };
+
+    ghost use Rattle.epochs.specs.Directories.{kept_of, IsKept};
+
+    ghost view = { kept_of V.public_key S.public_key H.digests };
+
+    ghost invariant = { IsKept H.digest_of V.value_of S.signature_of V.public_key S.public_key H.digests R.stream };
+}
+
+impl<H: NodeHash, V: Vuf, S: Signer, R: Rng> Directory<H, V, S, R> {
+    /// A directory whose first page has no name. Takes two digests.
+    ///
+    /// # Errors
+    ///
+    /// `EpochNotLater` where the epoch is 0, else `Memory` where memory runs out.
+    pub fn new(
+        alloc: Global,
+        epoch: u64,
+        nonce: Hash32,
+        mut hash: H,
+        vuf: V,
+        signer: S,
+        mut salts: R,
+    ) -> Result<Self, Refusal>
+    where
+        H: Drop,
+        V: Drop,
+        S: Drop,
+        R: Drop,
+        ensures begun { IfOk result (λ directory. (book R.stream directory ≡ fresh epoch nonce (R.stream salts)) × (0 < epoch)) }
+        ensures keys { IfOk result (λ directory. (directory.vuf_key ≡ V.public_key vuf) × (directory.key ≡ S.public_key signer)) }
+        ensures work { IfOk result (λ directory. directory.digests ≤ H.digests hash + 2) }
+        ensures refused { IfErr result (IsBeginRefusal epoch) }
+    {
+        if epoch == 0 {
+            return Err(Refusal::EpochNotLater);
+        }
+        let tree = Tree::new(alloc, &mut hash, nonce)?;
+        let body = Body {
+            epoch,
+            previous_epoch: 0,
+            root: tree.root(),
+            previous_hash: Hash32::new([0; 32]),
+            nonce,
+            vuf_key: vuf.public(),
+        };
+        let mut roots = Vec::new(alloc);
+        roots.push(signed_root(&signer, body))?;
+        let mut trees = Vec::new(alloc);
+        trees.push(tree)?;
+        let root_hash = hash.digest(body.write().bytes());
+        let salt = next_salt(&mut salts);
+        Ok(Directory {
+            alloc,
+            hash,
+            vuf,
+            signer,
+            salts,
+            salt,
+            names: Names::new(alloc),
+            waiting: BTreeMap::new(alloc),
+            roots,
+            trees,
+            root_hash,
+        })
+    }
+
+    /// The latest root.
+    pub fn head(&self) -> &SignedRoot
+        ensures head { IsRootOf (provider H.digest_of V.value_of S.signature_of self.now) (book R.stream self.now) self.now.last result.now }
+        ensures sound { IsSound (index_of (provider H.digest_of V.value_of S.signature_of self.now)) (book R.stream self.now) }
+    {
+        &self.roots[self.roots.len() - 1]
+    }
+}

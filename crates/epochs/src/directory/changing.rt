@@ -1,0 +1,343 @@
+ghost use Rattle.std.specs.Prelude.{◌≡◌, ◌||◌, ℕ, ◌+◌, ◌<◌, ◌≤◌, ◌++◌, ◌∷◌, [], false, List, None, IfOk, MatchResult, Ok, is_some};
+ghost use Rattle.encoding.specs.Limits.{IsKeyData, IsName};
+ghost use Rattle.nodehash.specs.Digests.{one_more};
+ghost use Rattle.prefixtree.specs.Changes.{made_count};
+ghost use Rattle.prefixtree.specs.Placement.{commitment_of, put as put_item};
+ghost use Rattle.book.specs.declared.record.Record.TheVariants as kept_as;
+ghost use Rattle.book.specs.Answers.{has_its_index, next_page, with_page, with_pending, Last, Promised};
+ghost use Rattle.book.specs.Asked.{Change, Close, Register};
+ghost use Rattle.book.specs.Maps.{at, overwritten};
+ghost use Rattle.book.specs.Shows.{index_of as index_by, placement};
+ghost use Rattle.book.specs.Sound.{IsHeld};
+ghost use Rattle.book.specs.Turns.{Shows, Turn};
+ghost use Rattle.epochs.specs.Kept.{book, provider, HasKeysOf};
+ghost use Rattle.epochs.specs.Replied.{last, promised};
+ghost use Rattle.epochs.specs.Versions.{AllBefore, IsUnkept, versions_of, with_version};
+
+use super::Directory;
+use crate::history::Version;
+use crate::names::Names;
+use crate::signing::{hash_of, next_salt, signed_promise, signed_root};
+use book::{Keeper, Record, Refusal};
+use commit::commit;
+use encoding::{Hash32, Index, KeyData, Name};
+use nodehash::NodeHash;
+use prefixtree::{Item, Tree};
+use rand_core::Rng;
+use rootchain::{Body, Promise, SignedPromise, SignedRoot};
+use sigiface::Signer;
+use std::alloc::{AllocError, Global};
+use std::collections::BTreeMap;
+use std::collections::btree_map::Entry;
+use vrfiface::{Vuf, index_of};
+
+impl<H: NodeHash, V: Vuf, S: Signer, R: Rng> Directory<H, V, S, R> {
+    /// Promises to bind a key to a name that has none, from the next epoch on.
+    ///
+    /// # Errors
+    ///
+    /// `BadName`, `BadKey`, `NameTaken`, `PendingExists`, `IndexTaken`, `Memory`, `KeepFailed`: the first
+    /// that applies.
+    pub fn register<K: Keeper>(
+        &mut self,
+        keeper: &mut K,
+        name: &[u8],
+        key: &[u8],
+    ) -> Result<SignedPromise, Refusal>
+        ensures turn { Turn (provider H.digest_of V.value_of S.signature_of self.old) K.kept K.failed (book R.stream self.old) keeper.old
+            (Register name.now key.now) (promised result) (book R.stream self.new) keeper.new }
+        ensures keys { HasKeysOf self.old self.new }
+        ensures work { self.new.digests ≤ self.old.digests + 2 }
+    {
+        let Ok(name) = Name::new(name) else {
+            return Err(Refusal::BadName);
+        };
+        let Ok(key) = KeyData::new(key) else {
+            return Err(Refusal::BadKey);
+        };
+        if self.is_shown(&name) {
+            return Err(Refusal::NameTaken);
+        }
+        if self.is_waiting(&name) {
+            return Err(Refusal::PendingExists);
+        }
+        let index = self.index(&name);
+        if self.is_taken(&name, &index) {
+            return Err(Refusal::IndexTaken);
+        }
+        let what = Record::Register {
+            salt: self.salt,
+            name: name.copied(),
+            key: key.copied(),
+        };
+        self.accept(keeper, &what, index, name, key)
+    }
+
+    /// Promises to bind another key to a name, from the next epoch on.
+    ///
+    /// # Errors
+    ///
+    /// `BadName`, `BadKey`, `NoSuchName`, `PendingExists`, `Memory`, `KeepFailed`: the first that applies.
+    pub fn change<K: Keeper>(
+        &mut self,
+        keeper: &mut K,
+        name: &[u8],
+        key: &[u8],
+    ) -> Result<SignedPromise, Refusal>
+        ensures turn { Turn (provider H.digest_of V.value_of S.signature_of self.old) K.kept K.failed (book R.stream self.old) keeper.old
+            (Change name.now key.now) (promised result) (book R.stream self.new) keeper.new }
+        ensures keys { HasKeysOf self.old self.new }
+        ensures work { self.new.digests ≤ self.old.digests + 2 }
+    {
+        let Ok(name) = Name::new(name) else {
+            return Err(Refusal::BadName);
+        };
+        let Ok(key) = KeyData::new(key) else {
+            return Err(Refusal::BadKey);
+        };
+        if !self.is_shown(&name) {
+            return Err(Refusal::NoSuchName);
+        }
+        if self.is_waiting(&name) {
+            return Err(Refusal::PendingExists);
+        }
+        let index = self.index(&name);
+        let what = Record::Change {
+            salt: self.salt,
+            name: name.copied(),
+            key: key.copied(),
+        };
+        self.accept(keeper, &what, index, name, key)
+    }
+
+    /// Ends the epoch: what waits goes into the page of a new one, whose root is signed.
+    ///
+    /// # Errors
+    ///
+    /// `EpochNotLater`, `Memory`, `KeepFailed`: the first that applies.
+    pub fn close<K: Keeper>(&mut self, keeper: &mut K, epoch: u64) -> Result<SignedRoot, Refusal>
+        ensures turn { Turn (provider H.digest_of V.value_of S.signature_of self.old) K.kept K.failed (book R.stream self.old) keeper.old
+            (Close epoch) (last result) (book R.stream self.new) keeper.new }
+        ensures keys { HasKeysOf self.old self.new }
+        ensures work { let by = provider H.digest_of V.value_of S.signature_of self.old in
+            self.new.digests ≤ self.old.digests + made_count 256 (placement by self.old.last.bindings) (placement by self.old.pending) + 1 }
+    {
+        if epoch <= self.last_epoch() {
+            return Err(Refusal::EpochNotLater);
+        }
+        self.turn_page(keeper, epoch)
+    }
+
+    /// The epoch of the last page.
+    fn last_epoch(&self) -> u64
+        ensures { result ≡ self.now.last.epoch }
+    {
+        self.roots[self.roots.len() - 1].body.epoch
+    }
+
+    /// Adds the page of a later epoch, once its record is kept.
+    fn turn_page<K: Keeper>(&mut self, keeper: &mut K, epoch: u64) -> Result<SignedRoot, Refusal>
+        requires { self.old.last.epoch < epoch }
+        ensures made { MatchResult result
+            (λ root. K.kept keeper.old (kept_as.Close epoch) keeper.new
+            × (book R.stream self.new ≡ with_page (book R.stream self.old) (next_page (book R.stream self.old) epoch))
+            × Shows (provider H.digest_of V.value_of S.signature_of self.old) (book R.stream self.new) (Last (next_page (book R.stream self.old) epoch)) (last (Ok root)))
+            (λ why. (book R.stream self.new ≡ book R.stream self.old) × IsUnkept K.failed keeper.old (kept_as.Close epoch) why keeper.new) }
+        ensures keys { HasKeysOf self.old self.new }
+        ensures work { let by = provider H.digest_of V.value_of S.signature_of self.old in
+            self.new.digests ≤ self.old.digests + made_count 256 (placement by self.old.last.bindings) (placement by self.old.pending) + 1 }
+    {
+        let tree = self.next_tree()?;
+        let last = self.roots[self.roots.len() - 1].body;
+        let body = Body {
+            epoch,
+            previous_epoch: last.epoch,
+            root: tree.root(),
+            previous_hash: self.root_hash,
+            nonce: last.nonce,
+            vuf_key: self.vuf.public(),
+        };
+        let root = signed_root(&self.signer, body);
+        match add_page(
+            &mut self.roots,
+            &mut self.trees,
+            keeper,
+            root.copied(),
+            tree,
+        ) {
+            Ok(()) => {
+                self.root_hash = hash_of(&mut self.hash, &body);
+                self.waiting.clear();
+                Ok(root)
+            }
+            Err(why) => Err(why),
+        }
+    }
+
+    /// The tree of the page to come: the last one with what waits.
+    fn next_tree(&mut self) -> Result<Tree<H>, AllocError>
+        ensures tree { IfOk result (λ tree. tree ≡ record {
+          nonce = self.old.last.nonce;
+          items = placement (provider H.digest_of V.value_of S.signature_of self.old) (overwritten self.old.last.bindings self.old.pending);
+        }) }
+        ensures stays { self.new ≡ record self.old { digests = self.new.digests } }
+        ensures work { let by = provider H.digest_of V.value_of S.signature_of self.old in
+            self.new.digests ≤ self.old.digests + made_count 256 (placement by self.old.last.bindings) (placement by self.old.pending) }
+    {
+        let changes = listed(self.alloc, &self.waiting)?;
+        self.trees[self.trees.len() - 1].with_all(self.alloc, &mut self.hash, &changes)
+    }
+
+    /// Whether the last page has the name.
+    fn is_shown(&self, name: &Name) -> bool
+        ensures { result ≡ is_some (at self.now.last.bindings name.now) }
+    {
+        self.names
+            .shown(name.bytes(), self.roots.len() - 1)
+            .is_some()
+    }
+
+    /// Whether an operation on the name waits.
+    fn is_waiting(&self, name: &Name) -> bool
+        ensures { result ≡ is_some (at self.now.pending name.now) }
+    {
+        self.names.waiting(name.bytes(), self.roots.len()).is_some()
+    }
+
+    /// The index of a name. Takes one digest.
+    pub(super) fn index(&mut self, name: &Name) -> Index
+        ensures value { result ≡ index_by (provider H.digest_of V.value_of S.signature_of self.old) name.now }
+        ensures stays { self.new ≡ record self.old { digests = one_more self.old.digests } }
+    {
+        index_of(&mut self.hash, self.vuf.value(name).bytes())
+    }
+
+    /// Whether another name of the last page, or one that waits, has the index of this name, which is
+    /// neither.
+    fn is_taken(&self, name: &Name, index: &Index) -> bool
+        requires indexed { index.now ≡ index_by (provider H.digest_of V.value_of S.signature_of self.now) name.now }
+        requires new { at self.now.last.bindings name.now ≡ None }
+        requires waits { at self.now.pending name.now ≡ None }
+        ensures taken { let by = index_by (provider H.digest_of V.value_of S.signature_of self.now) in
+            result ≡ (has_its_index by name.now self.now.last.bindings || has_its_index by name.now self.now.pending) }
+        ensures free { let by = index_by (provider H.digest_of V.value_of S.signature_of self.now) in
+            result ≡ false → (other : List ℕ) → IsHeld (book R.stream self.now) other → by other ≡ by name.now → other ≡ name.now }
+    {
+        self.trees[self.trees.len() - 1].get(index).is_some() || self.waiting.contains_key(index)
+    }
+
+    /// Lets the key wait for the next page, once its record is kept. Takes one digest.
+    fn accept<K: Keeper>(
+        &mut self,
+        keeper: &mut K,
+        what: &Record,
+        index: Index,
+        name: Name,
+        key: KeyData,
+    ) -> Result<SignedPromise, Refusal>
+        requires limits { IsName name × IsKeyData key }
+        requires waits { at self.old.pending name ≡ None }
+        requires indexed { index ≡ index_by (provider H.digest_of V.value_of S.signature_of self.old) name }
+        requires free { let by = index_by (provider H.digest_of V.value_of S.signature_of self.old) in
+            (other : List ℕ) → IsHeld (book R.stream self.old) other → by other ≡ by name → other ≡ name }
+        ensures made { MatchResult result
+            (λ promise. K.kept keeper.old what.now keeper.new
+            × (book R.stream self.new ≡ with_pending (book R.stream self.old) name key)
+            × Shows (provider H.digest_of V.value_of S.signature_of self.old) (book R.stream self.new) (Promised name (record { key = key; salt = self.old.salt })) (promised (Ok promise)))
+            (λ why. (book R.stream self.new ≡ book R.stream self.old) × IsUnkept K.failed keeper.old what.now why keeper.new) }
+        ensures keys { HasKeysOf self.old self.new }
+        ensures work { self.new.digests ≤ self.old.digests + 1 }
+    {
+        let commitment = commit(&mut self.hash, &self.salt, &name, &key);
+        let version = Version::new(self.alloc, self.roots.len(), &key, self.salt)?;
+        let_wait(
+            &mut self.names,
+            &mut self.waiting,
+            keeper,
+            what,
+            &name,
+            version,
+            (index, commitment),
+        )?;
+        self.salt = next_salt(&mut self.salts);
+        Ok(self.promised(index, name, key))
+    }
+
+    /// The promise, over the last root, to bind the key to the name.
+    pub(super) fn promised(&self, index: Index, name: Name, key: KeyData) -> SignedPromise
+        requires { index ≡ index_by (provider H.digest_of V.value_of S.signature_of self.now) name }
+        ensures { (salt : List ℕ) → Shows (provider H.digest_of V.value_of S.signature_of self.now) (book R.stream self.now) (Promised name (record { key = key; salt = salt })) (promised (Ok result)) }
+    {
+        let promise = Promise {
+            epoch: self.roots[self.roots.len() - 1].body.epoch,
+            root_hash: self.root_hash,
+            index,
+            name,
+            key,
+        };
+        signed_promise(&self.signer, promise)
+    }
+}
+
+/// Adds a root and its tree, once the record is kept.
+fn add_page<H: NodeHash, K: Keeper>(
+    roots: &mut Vec<SignedRoot>,
+    trees: &mut Vec<Tree<H>>,
+    keeper: &mut K,
+    root: SignedRoot,
+    tree: Tree<H>,
+) -> Result<(), Refusal>
+    ensures { MatchResult result
+        (λ _. K.kept keeper.old (kept_as.Close root.body.epoch) keeper.new
+        × (roots.new.items ≡ roots.old.items ++ root ∷ []) × (trees.new.items ≡ trees.old.items ++ tree ∷ []))
+        (λ why. (roots.new.items ≡ roots.old.items) × (trees.new.items ≡ trees.old.items) × IsUnkept K.failed keeper.old (kept_as.Close root.body.epoch) why keeper.new) }
+{
+    roots.reserve(1)?;
+    trees.reserve(1)?;
+    let epoch = root.body.epoch;
+    if keeper.keep(&Record::Close { epoch }).is_err() {
+        return Err(Refusal::KeepFailed);
+    }
+    roots.push_reserved(root);
+    trees.push_reserved(tree);
+    Ok(())
+}
+
+/// The entries of a map, as a list.
+fn listed(alloc: Global, waiting: &BTreeMap<Index, Hash32>) -> Result<Vec<Item>, AllocError>
+    ensures { IfOk result (λ items. items.items ≡ waiting.now.entries) }
+{
+    let mut items = Vec::with_capacity(alloc, waiting.len())?;
+    for (index, commitment) in waiting {
+        items.push((*index, *commitment))?;
+    }
+    Ok(items)
+}
+
+/// Adds a version to a name, and its item to what waits, once the record is kept.
+fn let_wait<K: Keeper>(
+    names: &mut Names,
+    waiting: &mut BTreeMap<Index, Hash32>,
+    keeper: &mut K,
+    what: &Record,
+    name: &Name,
+    version: Version,
+    item: Item,
+) -> Result<(), Refusal>
+    requires later { AllBefore version.number (versions_of names.old name.now) }
+    requires free { commitment_of waiting.old.entries item.0 ≡ None }
+    ensures { MatchResult result
+        (λ _. K.kept keeper.old what.now keeper.new
+        × (names.new ≡ with_version names.old name.now version)
+        × (waiting.new.entries ≡ put_item waiting.old.entries item.0 item.1))
+        (λ why. (names.new ≡ names.old) × (waiting.new.entries ≡ waiting.old.entries) × IsUnkept K.failed keeper.old what.now why keeper.new) }
+{
+    match waiting.entry(item.0)? {
+        Entry::Vacant(place) => {
+            names.add(keeper, what, name, version)?;
+            place.insert(item.1);
+            Ok(())
+        }
+        Entry::Occupied(_) => unreachable!(),
+    }
+}

@@ -1,0 +1,165 @@
+ghost use Rattle.std.specs.Prelude.{◌≡◌, ℕ, ◌+◌, ◌<◌, ◌≤◌, List, Option, Some, None, IfSome, MatchResult, length, option_and_then, option_map, slice_get};
+ghost use Rattle.std.specs.List.{AllZip};
+ghost use Rattle.proofs.specs.Replies.{reply_bytes};
+ghost use Rattle.proofs.specs.Views.{end_given};
+ghost use Rattle.book.specs.Answers.{Told};
+ghost use Rattle.book.specs.Asked.{History, Lookup, Promise as PromiseOf};
+ghost use Rattle.book.specs.Books.{Page, page_at, pages};
+ghost use Rattle.book.specs.Maps.{at};
+ghost use Rattle.book.specs.Shows.{shown_end, IsRootOf};
+ghost use Rattle.book.specs.Turns.{IsRead, IsRefused, Reads};
+ghost use Rattle.epochs.specs.Kept.{book, provider, HasKeysOf};
+ghost use Rattle.epochs.specs.Replied.{found, promised};
+
+use super::Directory;
+use crate::history::Version;
+use book::Refusal;
+use encoding::{Index, KeyData, Name, ProofText, Small};
+use nodehash::NodeHash;
+use prefixtree::{End as PathEnd, Path};
+use proofs::{End, make};
+use rand_core::Rng;
+use rootchain::{Body, SignedPromise, SignedRoot};
+use sigiface::Signer;
+use vrfiface::{Vuf, index_of};
+
+impl<H: NodeHash, V: Vuf, S: Signer, R: Rng> Directory<H, V, S, R> {
+    /// The promise that waits for a name: the same bytes again.
+    ///
+    /// # Errors
+    ///
+    /// `BadName`, `NoPromise`: the first that applies.
+    pub fn promise(&mut self, name: &[u8]) -> Result<SignedPromise, Refusal>
+        ensures reads { Reads (provider H.digest_of V.value_of S.signature_of self.old) (book R.stream self.old) (PromiseOf name.now) (promised result) }
+        ensures stays { book R.stream self.new ≡ book R.stream self.old }
+        ensures keys { HasKeysOf self.old self.new }
+        ensures work { self.new.digests ≤ self.old.digests + 1 }
+    {
+        let Ok(name) = Name::new(name) else {
+            return Err(Refusal::BadName);
+        };
+        let Some(key) = self.waiting_key(&name) else {
+            return Err(Refusal::NoPromise);
+        };
+        let index = self.index(&name);
+        Ok(self.promised(index, name, key))
+    }
+
+    /// The bytes of a reply to a look-up: what the page of an epoch has at a name. Epoch 0 asks for the
+    /// latest.
+    ///
+    /// # Errors
+    ///
+    /// `BadName`, `NoSuchEpoch`: the first that applies.
+    pub fn lookup(&mut self, name: &[u8], epoch: u64) -> Result<ProofText, Refusal>
+        ensures reads { Reads (provider H.digest_of V.value_of S.signature_of self.old) (book R.stream self.old) (Lookup name.now epoch) (found result) }
+        ensures stays { book R.stream self.new ≡ book R.stream self.old }
+        ensures keys { HasKeysOf self.old self.new }
+        ensures work { self.new.digests ≤ self.old.digests + 1 }
+    {
+        let Ok(name) = Name::new(name) else {
+            return Err(Refusal::BadName);
+        };
+        let Some(page) = self.page(epoch) else {
+            return Err(Refusal::NoSuchEpoch);
+        };
+        let value = self.vuf.value(&name);
+        let index = index_of(&mut self.hash, value.bytes());
+        let path = self.trees[page].path(&index);
+        let found = self.names.shown(name.bytes(), page);
+        Ok(reply_of(&self.roots[page].body, &value, &index, &path, found))
+    }
+
+    /// The first `count` roots of at least the epoch `from`, ascending; fewer, or none, only where there
+    /// are no more.
+    ///
+    /// # Errors
+    ///
+    /// `BadRange` where `count` is 0 or above 64.
+    pub fn history(&self, from: u64, count: u16) -> Result<&[SignedRoot], Refusal>
+        ensures reads { MatchResult result
+            (λ roots. (pages : List Page) × IsRead (provider H.digest_of V.value_of S.signature_of self.now) (book R.stream self.now) (History from count) (Told pages)
+            × AllZip (IsRootOf (provider H.digest_of V.value_of S.signature_of self.now) (book R.stream self.now)) pages roots.now)
+            (λ why. IsRefused (provider H.digest_of V.value_of S.signature_of self.now) (book R.stream self.now) (History from count) why) }
+    {
+        if count == 0 || 64 < count {
+            return Err(Refusal::BadRange);
+        }
+        let start = self.roots.partition_point(|root| root.body.epoch < from);
+        let later = self.roots.split_at(start).1;
+        let end = later.len().min(count as usize);
+        Ok(later.split_at(end).0)
+    }
+
+    /// The key that waits for a name.
+    fn waiting_key(&self, name: &Name) -> Option<KeyData>
+        ensures { result ≡ option_map (λ binding. binding.key) (at self.now.pending name.now) }
+    {
+        match self.names.waiting(name.bytes(), self.roots.len()) {
+            Some(version) => Some(version.key()),
+            None => None,
+        }
+    }
+
+    /// The place of the page of an epoch.
+    fn page(&self, epoch: u64) -> Option<usize>
+        ensures page { page_at (book R.stream self.now) epoch ≡ option_and_then (λ place. slice_get (pages (book R.stream self.now)) place) result }
+        ensures within { IfSome result (λ place. place < length (pages (book R.stream self.now))) }
+    {
+        if epoch == 0 {
+            return Some(self.roots.len() - 1);
+        }
+        match self
+            .roots
+            .binary_search_by_key(&epoch, |root| root.body.epoch)
+        {
+            Ok(place) => Some(place),
+            Err(_) => None,
+        }
+    }
+}
+
+/// The reply under this body, of an index's path, to what was found at the name.
+fn reply_of(
+    body: &Body,
+    value: &Small,
+    index: &Index,
+    path: &Path,
+    found: Option<&Version>,
+) -> ProofText
+    ensures { result ≡ reply_bytes (record { body = body.now; value = value.now; end = shown_end index.now (option_map (λ version. version.now.binding) found.entry) path.now.end; siblings = path.now.siblings.items }) }
+{
+    match found {
+        Some(version) => {
+            let key = version.key();
+            make(body, value, &opened(path.end, version, &key), path)
+        }
+        None => make(body, value, &unopened(path.end, *index), path),
+    }
+}
+
+/// The end of a path, where its leaf is the name's own.
+fn opened<'a>(end: PathEnd, version: &Version, key: &'a KeyData) -> End<'a>
+    requires { key.now ≡ version.now.binding.key }
+    ensures { (index : List ℕ) → end_given result ≡ shown_end index (Some version.now.binding) end }
+{
+    match end {
+        PathEnd::Present(_) => End::Present {
+            salt: version.salt(),
+            key,
+        },
+        PathEnd::Empty => End::Empty,
+        PathEnd::Other(index, commitment) => End::Other { index, commitment },
+    }
+}
+
+/// The end of a path, where a leaf of the index is another name's.
+fn unopened<'a>(end: PathEnd, index: Index) -> End<'a>
+    ensures { end_given result ≡ shown_end index None end }
+{
+    match end {
+        PathEnd::Present(commitment) => End::Other { index, commitment },
+        PathEnd::Empty => End::Empty,
+        PathEnd::Other(index, commitment) => End::Other { index, commitment },
+    }
+}

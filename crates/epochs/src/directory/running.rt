@@ -1,0 +1,110 @@
+ghost use Rattle.std.specs.Prelude.{◌≡◌, ℕ, List, IfOk, OnErr, OnOk, map, take};
+ghost use Rattle.book.specs.declared.reply.Reply.{Reply};
+ghost use Rattle.book.specs.Asked.{asked};
+ghost use Rattle.book.specs.Turns.{Run, Turn};
+ghost use Rattle.epochs.specs.Kept.{book, provider, HasKeysOf};
+ghost use Rattle.epochs.specs.Replied.{IsTold};
+ghost use Rattle.epochs.specs.Replied as replied;
+
+use super::Directory;
+use book::{Command, Keeper, Refusal, Reply};
+use encoding::ProofText;
+use nodehash::NodeHash;
+use rand_core::Rng;
+use rootchain::{SignedPromise, SignedRoot};
+use sigiface::Signer;
+use std::alloc::{AllocError, Global};
+use vrfiface::Vuf;
+
+impl<H: NodeHash, V: Vuf, S: Signer, R: Rng> Directory<H, V, S, R> {
+    /// Answers commands in order.
+    ///
+    /// # Errors
+    ///
+    /// `AllocError` where memory for the replies runs out. The directory then stands after some
+    /// beginning of the list.
+    pub fn run<K: Keeper>(
+        &mut self,
+        keeper: &mut K,
+        commands: &[Command<'_>],
+    ) -> Result<Vec<Reply>, AllocError>
+        ensures ok { IfOk result (λ replies. Run (provider H.digest_of V.value_of S.signature_of self.old) K.kept K.failed
+            (book R.stream self.old) keeper.old (map asked commands.now) replies.items (book R.stream self.new) keeper.new) }
+        ensures err { OnErr result ((replies : List Reply) × (n : ℕ) × Run (provider H.digest_of V.value_of S.signature_of self.old) K.kept K.failed
+            (book R.stream self.old) keeper.old (map asked (take n commands.now)) replies (book R.stream self.new) keeper.new) }
+        ensures keys { HasKeysOf self.old self.new }
+    {
+        let mut replies = Vec::new(self.alloc);
+        for command in commands {
+            replies.reserve(1)?;
+            let reply = self.answer(keeper, command)?;
+            replies.push_reserved(reply);
+        }
+        Ok(replies)
+    }
+
+    /// Answers one command.
+    fn answer<K: Keeper>(
+        &mut self,
+        keeper: &mut K,
+        command: &Command<'_>,
+    ) -> Result<Reply, AllocError>
+        ensures ok { IfOk result (λ reply. Turn (provider H.digest_of V.value_of S.signature_of self.old) K.kept K.failed
+            (book R.stream self.old) keeper.old (asked command.now) reply (book R.stream self.new) keeper.new) }
+        ensures err { OnErr result ((book R.stream self.new ≡ book R.stream self.old) × (keeper.new ≡ keeper.old)) }
+        ensures keys { HasKeysOf self.old self.new }
+    {
+        match *command {
+            Command::Register { name, key } => Ok(promised(self.register(keeper, name, key))),
+            Command::Change { name, key } => Ok(promised(self.change(keeper, name, key))),
+            Command::Promise { name } => Ok(promised(self.promise(name))),
+            Command::Lookup { name, epoch } => Ok(found(self.lookup(name, epoch))),
+            Command::History { from, count } => told(self.alloc, self.history(from, count)),
+            Command::Head => Ok(Reply::Last(self.head().copied())),
+            Command::Close { epoch } => Ok(last(self.close(keeper, epoch))),
+        }
+    }
+}
+
+fn promised(answer: Result<SignedPromise, Refusal>) -> Reply
+    ensures { result ≡ replied.promised answer }
+{
+    match answer {
+        Ok(promise) => Reply::Promised(promise),
+        Err(why) => Reply::Refused(why),
+    }
+}
+
+fn found(answer: Result<ProofText, Refusal>) -> Reply
+    ensures { result ≡ replied.found answer }
+{
+    match answer {
+        Ok(text) => Reply::Found(text),
+        Err(why) => Reply::Refused(why),
+    }
+}
+
+fn last(answer: Result<SignedRoot, Refusal>) -> Reply
+    ensures { result ≡ replied.last answer }
+{
+    match answer {
+        Ok(root) => Reply::Last(root),
+        Err(why) => Reply::Refused(why),
+    }
+}
+
+/// The roots in a list of their own.
+fn told(alloc: Global, answer: Result<&[SignedRoot], Refusal>) -> Result<Reply, AllocError>
+    ensures { IfOk result (IsTold answer.entry) }
+{
+    match answer {
+        Ok(roots) => {
+            let mut told = Vec::with_capacity(alloc, roots.len())?;
+            for root in roots {
+                told.push(root.copied())?;
+            }
+            Ok(Reply::Told(told))
+        }
+        Err(why) => Ok(Reply::Refused(why)),
+    }
+}
