@@ -7,7 +7,6 @@
 
 mod changes;
 mod digests;
-mod epochs;
 mod replies;
 mod steps;
 mod texts;
@@ -20,8 +19,7 @@ use std::env;
 
 const USAGE: &str = "usage: measure digests BYTES COUNT | texts COUNT ROUNDS \
     | tree GROWN MORE DIGESTS | whole ITEMS TIMES DIGESTS \
-    | changes ITEMS CHANGES LISTS ROUNDS DIGESTS | replies SIBLINGS REPLIES ROUNDS DIGESTS \
-    | epochs NAMES CHANGES ROUNDS LOOK_UPS DIGESTS | all";
+    | changes ITEMS CHANGES LISTS ROUNDS DIGESTS | replies SIBLINGS REPLIES ROUNDS DIGESTS | all";
 
 /// The number that this word writes.
 fn number(word: &str) -> Result<usize> {
@@ -69,16 +67,6 @@ fn run(rt: &(impl Print + Input), alloc: Global, program: &str, numbers: &[usize
             };
             replies::measure(rt, alloc, &look_ups)
         }
-        ("epochs", &[names, changes, rounds, look_ups, digests]) => {
-            let wanted = epochs::Epochs {
-                names,
-                changes,
-                rounds,
-                look_ups,
-                digests,
-            };
-            epochs::measure(rt, alloc, &wanted)
-        }
         _ => bail!("{USAGE}"),
     }
 }
@@ -90,8 +78,7 @@ fn run_all(rt: &(impl Print + Input), alloc: Global) -> Result<()> {
     run(rt, alloc, "tree", &[5, 2, 1])?;
     run(rt, alloc, "whole", &[5, 2, 1])?;
     run(rt, alloc, "changes", &[5, 3, 2, 2, 1])?;
-    run(rt, alloc, "replies", &[4, 3, 2, 1])?;
-    run(rt, alloc, "epochs", &[5, 3, 2, 4, 1])
+    run(rt, alloc, "replies", &[4, 3, 2, 1])
 }
 
 fn main(rt: HostRuntime) -> Result<()> {
