@@ -39,7 +39,8 @@ Tells (reply.Told told) root = Contains told.items root
 Tells (reply.Last last) root = last ≡ root
 Tells (reply.Refused why) root = ⊥
 
--- the page is the one that is asked for by this epoch, where 0 asks for the last at its time
+-- the page is the one that is asked for by this epoch; 0 asks for the last at its time, and only the run
+-- says which that was
 abbrev pub IsAskedBy : ℕ → Page → Type 0
 IsAskedBy epoch page = (epoch ≡ 0) ⊎ (page.epoch ≡ epoch)
 

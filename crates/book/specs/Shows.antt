@@ -30,7 +30,8 @@ pub record Provider : Type 0 where
   pub sign : List ℕ → List ℕ
 
 -- the end of a path, opened where the page has the name. A leaf of the name's index that is another
--- name's is told as that very leaf
+-- name's is told as that very leaf. (In a sound book no page has two names of one index, so that the leaf
+-- of a name that the page has is its own.)
 abbrev pub shown_end : List ℕ → Option Binding → PathEnd → End
 shown_end index (Some binding) (path.Present commitment) = Present binding.salt binding.key
 shown_end index None (path.Present commitment) = Other index commitment

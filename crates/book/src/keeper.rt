@@ -28,6 +28,10 @@ pub trait Keeper {
     ghost failed: { Self → Record → Self → Type 0 };
 
     /// Keeps a record.
+    ///
+    /// # Errors
+    ///
+    /// `KeepFailed` where it was not kept. The directory then does not make the change.
     fn keep(&mut self, what: &Record) -> Result<(), KeepFailed>
         ensures { MatchResult result (λ _. kept self.old what.now self.new) (λ _. failed self.old what.now self.new) };
 }

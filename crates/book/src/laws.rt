@@ -24,9 +24,9 @@ use nodehash::NodeHash;
 use sigiface::Signer;
 use vrfiface::Vuf;
 
-/// Whatever is asked of a directory, from its first page on, and whatever is kept of it: the users of an
-/// honest provider see one chain of roots, accept each reply with what the pages have, and have each
-/// promise kept, where no look-up meets another name with its index.
+/// Whatever is asked of a directory, from its first page on, and whatever is kept of it: the users
+/// of an honest provider see one chain of roots, accept each reply with what the pages have, and
+/// have each promise kept, where no look-up meets another name with its index.
 pub fn honest<H: NodeHash, V: Vuf, S: Signer>()
     ensures { (vuf : V) (signer : S) (provider : Provider) (commands : List Asked) (replies : List Reply) (after : Book)
         → provider ≡ provider_of H.digest_of V.value_of (V.public_key vuf) S.signature_of (S.public_key signer)
@@ -36,15 +36,15 @@ pub fn honest<H: NodeHash, V: Vuf, S: Signer>()
         → IsHonest provider V.accepted S.verified (S.public_key signer) after commands replies }
 {}
 
-/// What a keeper kept of a run is some list of what was kept.
+/// A run with any keeper is one with a list that tells of each record whether it was kept.
 pub fn keeps_are_listed<K: Keeper>()
     ensures { (provider : Provider) (book after : Book) (keeper keeper_after : K) (commands : List Asked) (replies : List Reply)
         → Run provider K.kept K.failed book keeper commands replies after keeper_after
         → (keeps : List Bool) × Run provider keeps_next fails_next book keeps commands replies after [] }
 {}
 
-/// No look-up of a run from a first page meets another name with its index, where all names that are
-/// asked about have indices of their own.
+/// No look-up of a run from a first page meets another name with its index, where all names that
+/// are asked about have indices of their own.
 pub fn users_have_own_indices()
     ensures { (provider : Provider) (commands : List Asked) (replies : List Reply) (after : Book)
         → IsFirstRun provider commands replies after → UsersDiffer provider commands → IndicesDiffer provider commands replies after }
@@ -67,8 +67,9 @@ pub fn runs_join<K: Keeper>()
         → Run provider K.kept K.failed book keeper (commands ++ others) (replies ++ answers) after keeper_after }
 {}
 
-/// A run, with whatever keeper, is the fold of the steps of its commands under some fate of each: it
-/// ends in the run's last book, and the replies tell its outcomes.
+/// A run, with whatever keeper, is the fold of the steps of its commands under some fate of each:
+/// it ends in the run's last book, and each reply is the outcome's refusal, or is of its answer's
+/// kind. What a reply shows is in the run.
 pub fn runs_are_folds<K: Keeper>()
     ensures { (provider : Provider) (book after : Book) (keeper keeper_after : K)
         → (commands : List Asked) (replies : List Reply)
@@ -78,8 +79,8 @@ pub fn runs_are_folds<K: Keeper>()
         × AllZip Tells (folded (index_of provider) book commands fates).0 replies }
 {}
 
-/// A close that is not refused makes a page of its epoch, of the last page's map overwritten by what
-/// waited. Every earlier page stays as it was, and nothing waits.
+/// A close that is not refused makes a page of its epoch, of the last page's map overwritten by
+/// what waited. Every earlier page stays as it was, and nothing waits.
 pub fn closing_overwrites()
     ensures { (index_of : List ℕ → List ℕ) (book after : Book) (epoch : ℕ) (answer : Answer)
         → step index_of book (Close epoch) ≡ (Answers answer, after)
@@ -99,8 +100,7 @@ pub fn pages_grow<K: Keeper>()
         × AllPairs (λ earlier later. earlier.epoch < later.epoch) (pages after) }
 {}
 
-/// A stream with salts in front gives them first, and then is the stream: so a directory that is opened
-/// again, with the salts that were kept and a new stream, goes on as if it had begun with one.
+/// A stream with salts in front gives them first, and then is the stream.
 pub fn salts_come_first()
     ensures { (salt : List ℕ) (more : List (List ℕ)) (salts : Stream) → fill_bytes 32 (salted (salt ∷ more) salts) ≡ (salt, salted more salts) }
 {}

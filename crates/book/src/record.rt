@@ -1,25 +1,29 @@
 use encoding::{Hash32, KeyData, Name};
 
-/// What is kept of a directory: how it began, and each accepted command, before the change that it
-/// tells of is made.
+/// What is kept of a directory: how it began, which whoever begins one keeps, and each accepted
+/// command, which the directory has kept before it makes the change.
 #[derive(Debug, Drop)]
 pub enum Record {
+    /// The first epoch, the nonce, and the public keys.
     Start {
         epoch: u64,
         nonce: Hash32,
         signature_key: Hash32,
         vuf_key: Hash32,
     },
+    /// A name that had no key, its key, and the salt of the commitment.
     Register {
         salt: Hash32,
         name: Name,
         key: KeyData,
     },
+    /// A name, its new key, and the salt of the commitment.
     Change {
         salt: Hash32,
         name: Name,
         key: KeyData,
     },
+    /// The epoch of the new page.
     Close {
         epoch: u64,
     },

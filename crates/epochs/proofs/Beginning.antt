@@ -1,12 +1,11 @@
 -- The parts of a directory that begins keep its book.
-use Rattle.std.proofs.Common.{◌≡◌, ℕ, List, [], ◌∷◌, ◌++◌, replicate, ap, refl, subst, sym, ◌∙◌}
+use Rattle.std.proofs.Common.{◌≡◌, ℕ, List, [], ◌∷◌, ◌++◌, replicate, ap, subst, sym, ◌∙◌}
 use Rattle.rand_core.specs.Stream.{Stream}
 use Rattle.encoding.specs.Bytes.{Is32Bytes}
 use Rattle.prefixtree.specs.Contents.{Contents}
 use Rattle.prefixtree.specs.Node.{root_of}
 use Rattle.rootchain.specs.Bodies.{body_bytes}
 use Rattle.rootchain.specs.declared.body.Body.{Body}
-use Rattle.rootchain.specs.declared.signed_root.SignedRoot.{SignedRoot}
 use Rattle.book.specs.Fresh.{IsEpoch}
 use Rattle.book.specs.Shows.{Provider, signed}
 use Rattle.epochs.specs.Parts.{Keeps, Parts}

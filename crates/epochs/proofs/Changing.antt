@@ -1,5 +1,5 @@
 -- What the calls that change a directory rest on.
-use Rattle.std.proofs.Common.{◌≡◌, ℕ, zero, suc, ◌-◌, ◌||◌, List, [], ◌∷◌, length, Bool, true, false, Option, Some, None, refl, sym, ap, subst, inr, ◌∙◌}
+use Rattle.std.proofs.Common.{◌≡◌, ℕ, zero, suc, ◌-◌, ◌||◌, List, [], ◌∷◌, length, Bool, true, false, Some, None, refl, sym, ap, subst, inr, ◌∙◌}
 use Rattle.std.specs.Prelude.{is_some, slice_get, slice_index_or, IsSome}
 use Rattle.encoding.specs.Bytes.{Is32Bytes}
 use Rattle.encoding.specs.Limits.{IsKeyData, IsName}
@@ -14,7 +14,7 @@ use Rattle.rootchain.specs.declared.signed_promise.SignedPromise.{SignedPromise}
 use Rattle.rootchain.specs.declared.signed_root.SignedRoot.{SignedRoot}
 use Rattle.book.specs.declared.reply.Reply.TheVariants as reply
 use Rattle.book.specs.Answers.{has_its_index, with_pending, Promised}
-use Rattle.book.specs.Books.{Binding, Book}
+use Rattle.book.specs.Books.{Binding}
 use Rattle.book.specs.Maps.{Map, at}
 use Rattle.book.specs.Shows.{Provider, index_of, placement, IsRootOf}
 use Rattle.book.specs.Sound.{IsHeld}

@@ -14,7 +14,7 @@ use Rattle.book.specs.Books.{Book, Page}
 use Rattle.book.specs.Maps.{overwritten}
 use Rattle.book.specs.Shows.{Provider, placement, IsRootOf}
 use Rattle.book.specs.Turns.{Shows}
-use Rattle.epochs.specs.Parts.{Keeps, Parts, last_of, last_root, pending_of, tree_of}
+use Rattle.epochs.specs.Parts.{Keeps, Parts, last_of, last_root, pending_of}
 use Rattle.epochs.proofs.Changing.{last_is, last_tree_is}
 use Rattle.epochs.proofs.Keeping.{body_after, book_with_page, items_of_page, items_with, keeps_page, root_of_page, with_root}
 use Rattle.epochs.proofs.Parts.{book_of}

@@ -57,7 +57,7 @@ impl<H: NodeHash, V: Vuf, S: Signer, R: Rng> Model for Directory<H, V, S, R> {
 }
 
 impl<H: NodeHash, V: Vuf, S: Signer, R: Rng> Directory<H, V, S, R> {
-    /// A directory whose first page has no name. Takes two digests.
+    /// A directory whose first page has no name. Takes at most two digests.
     ///
     /// # Errors
     ///

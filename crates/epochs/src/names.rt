@@ -69,8 +69,8 @@ impl Names {
     ///
     /// # Errors
     ///
-    /// `Memory` if memory runs out, and `KeepFailed` if the record was not kept. The names then stay
-    /// as they were.
+    /// `Memory` if memory runs out, and `KeepFailed` if the record was not kept. The names then
+    /// stay as they were.
     pub(crate) fn add<K: Keeper>(
         &mut self,
         keeper: &mut K,
@@ -106,7 +106,8 @@ fn put_kept<K: Keeper>(
         (λ why. (histories.new.entries ≡ histories.old.entries) × IsUnkept K.failed keeper.old what.now why keeper.new) }
 {
     // The history is put in first, since memory may be wanting for it, and taken out again if the
-    // record is not kept. (An entry that is let go would do, but nothing says what it leaves.)
+    // record is not kept. (A vacant entry would do, but nothing says what the map is once the entry
+    // is dropped with its key.)
     histories.insert(owned(alloc, name)?, history)?;
     let Ok(()) = keeper.keep(what) else {
         let _ = histories.remove(name.bytes());

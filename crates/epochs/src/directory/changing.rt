@@ -36,8 +36,8 @@ impl<H: NodeHash, V: Vuf, S: Signer, R: Rng> Directory<H, V, S, R> {
     ///
     /// # Errors
     ///
-    /// `BadName`, `BadKey`, `NameTaken`, `PendingExists`, `IndexTaken`, `Memory`, `KeepFailed`: the first
-    /// that applies.
+    /// `BadName`, `BadKey`, `NameTaken`, `PendingExists`, `IndexTaken`, `Memory`, `KeepFailed`: the
+    /// first that applies.
     pub fn register<K: Keeper>(
         &mut self,
         keeper: &mut K,
@@ -77,7 +77,8 @@ impl<H: NodeHash, V: Vuf, S: Signer, R: Rng> Directory<H, V, S, R> {
     ///
     /// # Errors
     ///
-    /// `BadName`, `BadKey`, `NoSuchName`, `PendingExists`, `Memory`, `KeepFailed`: the first that applies.
+    /// `BadName`, `BadKey`, `NoSuchName`, `PendingExists`, `Memory`, `KeepFailed`: the first that
+    /// applies.
     pub fn change<K: Keeper>(
         &mut self,
         keeper: &mut K,
@@ -212,8 +213,8 @@ impl<H: NodeHash, V: Vuf, S: Signer, R: Rng> Directory<H, V, S, R> {
         index_of(&mut self.hash, self.vuf.value(name).bytes())
     }
 
-    /// Whether another name of the last page, or one that waits, has the index of this name, which is
-    /// neither.
+    /// Whether another name of the last page, or one that waits, has the index of this name, which
+    /// is neither.
     fn is_taken(&self, name: &Name, index: &Index) -> bool
         requires indexed { index.now ≡ index_by (provider H.digest_of V.value_of S.signature_of self.now) name.now }
         requires new { at self.now.last.bindings name.now ≡ None }

@@ -24,7 +24,7 @@ use sigiface::Signer;
 use vrfiface::{Vuf, index_of};
 
 impl<H: NodeHash, V: Vuf, S: Signer, R: Rng> Directory<H, V, S, R> {
-    /// The promise that waits for a name: the same bytes again.
+    /// The promise that waits for a name: the same bytes as when it was made.
     ///
     /// # Errors
     ///
@@ -45,8 +45,11 @@ impl<H: NodeHash, V: Vuf, S: Signer, R: Rng> Directory<H, V, S, R> {
         Ok(self.promised(index, name, key))
     }
 
-    /// The bytes of a reply to a look-up: what the page of an epoch has at a name. Epoch 0 asks for the
-    /// latest.
+    /// The bytes of a reply to a look-up: what the page of an epoch has at a name. Epoch 0 asks for
+    /// the latest.
+    ///
+    /// Where the page lacks the name and another of its names has the same index, the reply ends
+    /// with that name's leaf, and who checks it refuses it.
     ///
     /// # Errors
     ///
@@ -70,8 +73,8 @@ impl<H: NodeHash, V: Vuf, S: Signer, R: Rng> Directory<H, V, S, R> {
         Ok(reply_of(&self.roots[page].body, &value, &index, &path, found))
     }
 
-    /// The first `count` roots of at least the epoch `from`, ascending; fewer, or none, only where there
-    /// are no more.
+    /// The first `count` roots of at least the epoch `from`, ascending; fewer, or none, only where
+    /// there are no more.
     ///
     /// # Errors
     ///

@@ -17,12 +17,13 @@ use std::alloc::{AllocError, Global};
 use vrfiface::Vuf;
 
 impl<H: NodeHash, V: Vuf, S: Signer, R: Rng> Directory<H, V, S, R> {
-    /// Answers commands in order.
+    /// Answers commands in order. The reply to a command that is refused, also for want of memory,
+    /// is its refusal, and the next ones follow.
     ///
     /// # Errors
     ///
     /// `AllocError` where memory for the replies runs out. The directory then stands after some
-    /// beginning of the list.
+    /// beginning of the list, and the replies to it are lost.
     pub fn run<K: Keeper>(
         &mut self,
         keeper: &mut K,

@@ -287,7 +287,7 @@ fn order_of(number: u32, epoch: u64) -> Order {
     let [kind, first, second, _] = number.to_be_bytes();
     let name = chosen(&NAME_LENGTHS, first >> 3);
     let key = chosen(&KEY_LENGTHS, second >> 3);
-    // From 0 to 2 above the latest epoch.
+    // From 125 below the latest epoch, or 0, to 2 above it.
     let near = epoch
         .saturating_add(2)
         .saturating_sub(u64::from(second >> 1));

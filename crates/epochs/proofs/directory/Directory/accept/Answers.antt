@@ -1,4 +1,4 @@
-use Rattle.std.proofs.Common.{refl, rules}
+use Rattle.std.proofs.Common.{rules}
 use Rattle.epochs.specs.Directories.{parts_of}
 use Rattle.epochs.proofs.Changing.{book_accepted, index_free, keeps_accepted, later_version}
 use Rattle.epochs.proofs.directory.Directory.accept.Goals as goal

@@ -1,4 +1,4 @@
-use Rattle.std.proofs.Common.{ap, rules, sym, ◌∙◌}
+use Rattle.std.proofs.Common.{ap, rules, ◌∙◌}
 use Rattle.epochs.specs.Kept.{book, provider, Kept}
 use Rattle.epochs.proofs.Turned.{changed_turn}
 use Rattle.epochs.proofs.directory.Directory.change.Goals as goal

@@ -1,9 +1,7 @@
 use Rattle.std.proofs.Common.{refl, rules}
 use Rattle.book.specs.declared.record.Record.TheVariants as kept_as
-use Rattle.book.specs.declared.refusal.Refusal.TheVariants.{EpochNotLater}
 use Rattle.book.specs.Answers.{next_page, with_page, Last}
 use Rattle.book.specs.Asked.{Close}
-use Rattle.book.proofs.Calls.{refuses}
 use Rattle.epochs.specs.Kept.{book, provider}
 use Rattle.epochs.proofs.Turned.{last_turn}
 use Rattle.epochs.proofs.directory.Directory.close.Goals as goal

@@ -1,6 +1,4 @@
-use Rattle.std.proofs.Common.{Ok, Err, Result, IfOk, ◌≡◌, ◌∙◌, ap, rules}
-use Rattle.std.specs.declared.alloc.AllocError.{AllocError}
-use Rattle.prefixtree.specs.Contents.{Contents}
+use Rattle.std.proofs.Common.{◌∙◌, rules}
 use Rattle.epochs.specs.Directories.{parts_of}
 use Rattle.epochs.proofs.Closing.{next_tree_ok}
 use Rattle.epochs.proofs.Parts.{waiting_is_placement}

@@ -1,6 +1,5 @@
-use Rattle.std.proofs.Common.{◌≡◌, ◌∙◌, [], List, map, take, refl, subst, sym}
+use Rattle.std.proofs.Common.{◌∙◌, map, take, refl}
 use Rattle.std.proofs.lemmas.List.{take_all}
-use Rattle.book.specs.declared.reply.Reply.{Reply}
 use Rattle.book.specs.Asked.{asked}
 use Rattle.epochs.specs.Kept.{book, provider}
 use Rattle.epochs.proofs.Running.{run_next, run_stays, so_anyway}

@@ -1,7 +1,6 @@
-use Rattle.std.proofs.Common.{◌≡◌, ℕ, List, ap, refl, rules, subst, sym, ◌<◌, ◌∙◌, ◌++◌, ◌∷◌, []}
+use Rattle.std.proofs.Common.{ap, rules, subst, sym, ◌<◌, ◌∙◌}
 use Rattle.prefixtree.specs.Contents.{Contents}
 use Rattle.rootchain.specs.declared.body.Body.{Body}
-use Rattle.rootchain.specs.declared.signed_root.SignedRoot.{SignedRoot}
 use Rattle.book.specs.Maps.{overwritten}
 use Rattle.book.specs.Shows.{Provider, placement}
 use Rattle.epochs.specs.Directories.{parts_of}

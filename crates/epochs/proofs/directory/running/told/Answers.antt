@@ -1,4 +1,4 @@
-use Rattle.std.proofs.Common.{◌≡◌, ◌∙◌, rules}
+use Rattle.std.proofs.Common.{◌∙◌}
 use Rattle.std.proofs.lemmas.List.{take_all, take_more}
 use Rattle.epochs.proofs.directory.running.told.Goals as goal
 
