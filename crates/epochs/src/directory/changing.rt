@@ -159,6 +159,7 @@ impl<H: NodeHash, V: Vuf, S: Signer, R: Rng> Directory<H, V, S, R> {
             vuf_key: self.vuf.public(),
         };
         let root = signed_root(&self.signer, body);
+        // A `?` would hide the refusal behind its conversion, and the proof needs it.
         match add_page(
             &mut self.roots,
             &mut self.trees,
