@@ -2,7 +2,7 @@
 """Times the built programs and prints the tables of the scripts beside it. docs/SPEED.md says what
 the columns mean.
 
-usage: bench/bench.py root|tree|changes|replies, at the top of the repository
+usage: bench/bench.py root|tree|changes|replies|epochs, at the top of the repository
 
 BEFORE, if it is set, is the top of another clone, in which directoryd and measure are built. `root`
 then times the programs of both, in turn.
@@ -45,6 +45,10 @@ CHANGE_ROUNDS = {1: (500, 40), 10: (50, 40), 1_000: (1, 100), 100_000: (1, 6)}
 SIBLINGS, REPLY_RUNS = (10, 20, 256), 10
 # How many replies are measured, and about how many digests the checks of a run take.
 REPLIES, CHECK_DIGESTS = 1_000, 800_000
+# How often each size of a directory is measured; in a run the epochs with changes, the keys changed
+# in each, and the look-ups.
+EPOCH_RUNS = {1_000: 10, 10_000: 10, 100_000: 5, 1_000_000: 3}
+EPOCH_ROUNDS, EPOCH_CHANGES, EPOCH_LOOK_UPS = 10, 1_000, 10_000
 
 
 class Spread:
@@ -455,10 +459,114 @@ def replies(_folder):
     table(title, [*head, "value, us", "a digest, ns"], rows)
 
 
+def index_of_name(number):
+    """The index of a name of `measure epochs`."""
+    spread = number * 0x9E3779B97F4A7C15 % 2**64
+    name = spread.to_bytes(8, "big") + number.to_bytes(8, "big")
+    value = hashlib.sha256(b"V" + bytes([2] * 32) + name).digest()
+    return int.from_bytes(hashlib.sha256(value).digest(), "big")
+
+
+def changed_nodes(indices, changed, low, high, prefix=0, level=0):
+    """The nodes at and below a prefix of `level` bits, which sorted indices[low:high] have, that lie
+    on the way of one of the sorted `changed`."""
+    if not changed:
+        return 0
+    if high - low < 2:
+        return 1
+    one = prefix | 1 << (255 - level)
+    middle, split = bisect.bisect_left(indices, one, low, high), bisect.bisect_left(changed, one)
+    return (
+        1
+        + changed_nodes(indices, changed[:split], low, middle, prefix, level + 1)
+        + changed_nodes(indices, changed[split:], middle, high, one, level + 1)
+    )
+
+
+def level_of(indices, index):
+    """The level of the leaf of an index among sorted indices."""
+    place = bisect.bisect_left(indices, index)
+    near = [indices[k] for k in (place - 1, place + 1) if 0 <= k < len(indices)]
+    return max((257 - (index ^ other).bit_length() for other in near), default=0)
+
+
+def numbers_of_round(size, number, count):
+    """The numbers of the names of a round, as `measure epochs` takes them."""
+    step = max(1, size // count)
+    return [(number + k * step) % size for k in range(count)]
+
+
+def epoch_rows(size):
+    """The rows of one size: registrations; changes; closings; look-ups."""
+    by_number = [index_of_name(number) for number in range(size)]
+    indices = sorted(by_number)
+    closed = []
+    for number in range(EPOCH_ROUNDS):
+        numbers = numbers_of_round(size, number, EPOCH_CHANGES)
+        changed = sorted({by_number[number] for number in numbers})
+        # Beside the nodes, the hash of the root's body, and the signature.
+        closed.append(changed_nodes(indices, changed, 0, size) + 2)
+    looked_up = [by_number[number] for number in numbers_of_round(size, 0, EPOCH_LOOK_UPS)]
+    told = sum(249 + 32 * level_of(indices, index) for index in looked_up)
+
+    digests, registered, changes, closings, latest, old = [], [], [], [], [], []
+    bytes_a_name, bytes_a_change = [], []
+    words = ["epochs", size, EPOCH_CHANGES, EPOCH_ROUNDS, EPOCH_LOOK_UPS, DIGESTS]
+    for _ in range(EPOCH_RUNS[size]):
+        _, (before, names, first, *middle, at_head, at_old, after) = steps(
+            3 * EPOCH_ROUNDS + 6, *words
+        )
+        if [at_head.number, at_old.number] != [told, told]:
+            sys.exit(f"epochs: {at_head.number}, {at_old.number} bytes, and {told} was wanted")
+        digests += [before.seconds, after.seconds]
+        registered.append(names.seconds)
+        bytes_a_name.append((names.memory + first.memory) / size)
+        for k in range(EPOCH_ROUNDS):
+            _, changed, close = middle[3 * k : 3 * k + 3]
+            changes.append(changed.seconds)
+            closings.append(close.seconds / closed[k])
+            bytes_a_change.append((changed.memory + close.memory) / EPOCH_CHANGES)
+        latest.append(at_head.seconds)
+        old.append(at_old.seconds)
+    digest = min(digests) / DIGESTS
+    # A digest for the index and one for the commitment, and the stand-ins' for value and signature.
+    rows = []
+    of_names = (registered, size, bytes_a_name)
+    for taken, count, kept in (of_names, (changes, EPOCH_CHANGES, bytes_a_change)):
+        spread = Spread(taken, count)
+        ratio = f"{spread.least / (4 * digest):.2f}"
+        kept = f"{statistics.median(kept):.0f}"
+        rows.append([f"{size:,}", "4", *spread.cells(1e6, 2), ratio, kept])
+    # The rounds take different numbers of digests, so that the times are those of one digest.
+    spread, each = Spread(closings), statistics.mean(closed)
+    ratio = f"{spread.least / digest:.2f}"
+    rows.append([f"{size:,}", f"{each:.0f}", *spread.cells(1e3 * each, 2), ratio])
+    levels = statistics.mean(level_of(indices, index) for index in looked_up)
+    row = [f"{size:,}", f"{levels:.2f}"]
+    for taken in (latest, old):
+        spread = Spread(taken, EPOCH_LOOK_UPS)
+        ratio = f"{spread.least / (2 * digest):.2f}"
+        row += [f"{1 / spread.least:,.0f}", *spread.cells(1e6, 2), ratio]
+    rows.append([*row, f"{digest * 1e9:.0f}"])
+    return rows
+
+
+def epochs(_folder):
+    registered, changed, closed, looked_up = zip(*(epoch_rows(size) for size in EPOCH_RUNS))
+    spread = ["least", "median", "greatest", "ratio"]
+    head = ["names", "digests", *spread]
+    table("a registration, microseconds", [*head, "bytes a name"], registered)
+    table("a change, microseconds", [*head, "bytes kept"], changed)
+    table(f"the closing of {EPOCH_CHANGES:,} changes, milliseconds", head, closed)
+    head = ["names", "levels", "head/s", *spread, "old/s", *spread, "a digest, ns"]
+    table("look-ups at the head and at an old epoch, microseconds", head, looked_up)
+
+
 def main(which):
     with tempfile.TemporaryDirectory() as folder:
         print_machine()
-        {"root": root, "tree": tree, "changes": changes, "replies": replies}[which](folder)
+        of = {"root": root, "tree": tree, "changes": changes, "replies": replies, "epochs": epochs}
+        of[which](folder)
     print(f"\nload at the end {os.getloadavg()[0]:.2f}")
 
 

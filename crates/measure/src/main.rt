@@ -7,6 +7,7 @@
 
 mod changes;
 mod digests;
+mod epochs;
 mod replies;
 mod steps;
 mod texts;
@@ -19,7 +20,8 @@ use std::env;
 
 const USAGE: &str = "usage: measure digests BYTES COUNT | texts COUNT ROUNDS \
     | tree GROWN MORE DIGESTS | whole ITEMS TIMES DIGESTS \
-    | changes ITEMS CHANGES LISTS ROUNDS DIGESTS | replies SIBLINGS REPLIES ROUNDS DIGESTS | all";
+    | changes ITEMS CHANGES LISTS ROUNDS DIGESTS | replies SIBLINGS REPLIES ROUNDS DIGESTS \
+    | epochs NAMES CHANGES ROUNDS LOOK_UPS DIGESTS | all";
 
 /// The number that this word writes.
 fn number(word: &str) -> Result<usize> {
@@ -67,6 +69,16 @@ fn run(rt: &(impl Print + Input), alloc: Global, program: &str, numbers: &[usize
             };
             replies::measure(rt, alloc, &look_ups)
         }
+        ("epochs", &[names, changes, rounds, look_ups, digests]) => {
+            let wanted = epochs::Epochs {
+                names,
+                changes,
+                rounds,
+                look_ups,
+                digests,
+            };
+            epochs::measure(rt, alloc, &wanted)
+        }
         _ => bail!("{USAGE}"),
     }
 }
@@ -78,7 +90,8 @@ fn run_all(rt: &(impl Print + Input), alloc: Global) -> Result<()> {
     run(rt, alloc, "tree", &[5, 2, 1])?;
     run(rt, alloc, "whole", &[5, 2, 1])?;
     run(rt, alloc, "changes", &[5, 3, 2, 2, 1])?;
-    run(rt, alloc, "replies", &[4, 3, 2, 1])
+    run(rt, alloc, "replies", &[4, 3, 2, 1])?;
+    run(rt, alloc, "epochs", &[5, 3, 2, 4, 1])
 }
 
 fn main(rt: HostRuntime) -> Result<()> {

@@ -1,0 +1,14 @@
+#!/usr/bin/env bash
+# Measures a directory of 1,000, 10,000, 100,000 and 1,000,000 names of 16 bytes with keys of 32:
+# registrations, changes, the closing of 1,000 changes, and look-ups at the head and at an old epoch.
+#
+#   bench/epochs.sh
+#
+# Needs the kit (`rt` on the PATH) and Python 3, on Linux. Proves and builds the program first.
+# docs/SPEED.md says what the columns mean. The status is 0 unless something could not be measured.
+set -euo pipefail
+cd "$(dirname "$0")/.."
+. bench/build.sh
+
+build measure
+python3 bench/bench.py epochs
