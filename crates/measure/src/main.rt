@@ -7,7 +7,7 @@
 
 mod changes;
 mod digests;
-mod epochs;
+mod directory;
 mod replies;
 mod steps;
 mod texts;
@@ -70,14 +70,14 @@ fn run(rt: &(impl Print + Input), alloc: Global, program: &str, numbers: &[usize
             replies::measure(rt, alloc, &look_ups)
         }
         ("epochs", &[names, changes, rounds, look_ups, digests]) => {
-            let wanted = epochs::Epochs {
+            let wanted = directory::Epochs {
                 names,
                 changes,
                 rounds,
                 look_ups,
                 digests,
             };
-            epochs::measure(rt, alloc, &wanted)
+            directory::measure(rt, alloc, &wanted)
         }
         _ => bail!("{USAGE}"),
     }
