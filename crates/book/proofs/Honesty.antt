@@ -173,8 +173,9 @@ module _ (provider : Provider) where
           watched = λ watch. (λ accepts. sym (forth (expected watch s.page.epoch) accepts), λ same. back (expected watch s.page.epoch) (sym same));
         }
 
-    kept : (promised : SignedPromise) → SeenPromise provider after promised → IsKept provider accepted verified key after promised
-    kept promised s = subst (IsKept provider accepted verified key after) (sym s.same) (record {
+    kept : (command : Asked) (promised : SignedPromise) → SeenPromise provider after command promised → IsKept provider accepted verified key after command promised
+    kept command promised s = subst (IsKept provider accepted verified key after command) (sym s.same) (record {
+      asked = s.by;
       form = ((
         (omega (arith, (is-sealed s.page s.root s.is).form.0.0), (is-sealed s.page s.root s.is).form.1, laws.digest_size (body_bytes s.root.body), laws.digest_size (provider.value s.name), s.named, s.keyed),
         laws.signature_size (promise_bytes (promise provider s.root.body s.name s.binding)),
@@ -190,9 +191,9 @@ module _ (provider : Provider) where
     })
 
     -- a promise that is kept is not broken by a reply that is right
-    unbroken : (promised : SignedPromise) (name : List ℕ) (epoch : ℕ) (text : List ℕ) (root : SignedRoot) → IsKept provider accepted verified key after promised → (s : SeenFound provider after name epoch text)
+    unbroken : (command : Asked) (promised : SignedPromise) (name : List ℕ) (epoch : ℕ) (text : List ℕ) (root : SignedRoot) → IsKept provider accepted verified key after command promised → (s : SeenFound provider after name epoch text)
         → Alone provider name s.page.bindings → IsBrokenPromise provider.hash verified key accepted promised root text → ⊥
-    unbroken promised name epoch text root k s alone b =
+    unbroken command promised name epoch text root k s alone b =
         let r = right name epoch text s alone in
         let own : b.passes.0 ≡ r.reply = one_reply text b.passes.0 r.reply b.passes.1 r.spells in
         let body : root.body ≡ s.root.body = sym b.passes.2.of_body ∙ ap (λ (x : Spelled). x.body) own ∙ r.of_body in
@@ -208,10 +209,10 @@ module _ (provider : Provider) where
         ∙ r.states ∙ ap (key_at s.page) (sym same) ∙ has)
 
     -- what is found for the name of a promise under the next root
-    is-due : (promised : SignedPromise) (epoch : ℕ) (text : List ℕ) (root : SignedRoot) (statement : Option (List ℕ)) → IsKept provider accepted verified key after promised
+    is-due : (command : Asked) (promised : SignedPromise) (epoch : ℕ) (text : List ℕ) (root : SignedRoot) (statement : Option (List ℕ)) → IsKept provider accepted verified key after command promised
         → (s : SeenFound provider after promised.promise.name epoch text) → Alone provider promised.promise.name s.page.bindings → root.body.previous_epoch ≡ promised.promise.epoch
         → Accepts provider.hash accepted root.body promised.promise.name text statement → (statement ≡ Some promised.promise.key) × HasIndex provider.hash text promised.promise.index
-    is-due promised epoch text root statement k s alone behind accepts =
+    is-due command promised epoch text root statement k s alone behind accepts =
         let r = right promised.promise.name epoch text s alone in
         let own : accepts.0 ≡ r.reply = one_reply text accepts.0 r.reply accepts.1 r.spells in
         let body : root.body ≡ s.root.body = sym accepts.2.of_body ∙ ap (λ (x : Spelled). x.body) own ∙ r.of_body in
@@ -231,14 +232,14 @@ module _ (provider : Provider) where
       told = λ command said root is tells. told command said root (shown command said is) tells;
       linear = λ one other is also evidence. no-clash provider 0 (replicate 32 0) (pages after) sound.climb one other is also evidence.2;
       found = λ name epoch text is. let s = found name epoch text is in answer name epoch text s (alone name epoch text is s);
-      kept = λ command promised is. kept promised (shown command (reply.Promised promised) is);
+      kept = λ command promised is. kept command promised (shown command (reply.Promised promised) is);
       audited = λ front back root is more. (front-chain provider.hash verified key front root back (subst IsRoots is whole) more, next-root provider.hash verified key front root back (subst IsRoots is whole) more);
       due = λ command promised epoch text root statement is also behind accepts.
           let s = found promised.promise.name epoch text also in
-          is-due promised epoch text root statement (kept promised (shown command (reply.Promised promised) is)) s (alone promised.promise.name epoch text also s) behind accepts;
+          is-due command promised epoch text root statement (kept command promised (shown command (reply.Promised promised) is)) s (alone promised.promise.name epoch text also s) behind accepts;
       unbroken = λ command promised name epoch text root is also broken.
           let s = found name epoch text also in
-          unbroken promised name epoch text root (kept promised (shown command (reply.Promised promised) is)) s (alone name epoch text also s) broken;
+          unbroken command promised name epoch text root (kept command promised (shown command (reply.Promised promised) is)) s (alone name epoch text also s) broken;
     }
       where
         whole : IsRoots (roots provider after)

@@ -14,7 +14,7 @@ use Rattle.book.specs.Answers.{Answer, has_its_index, is_within, Promised, Found
 use Rattle.book.specs.Asked.{Asked, Register, Change, Promise, Lookup, History, Head, Close}
 use Rattle.book.specs.Books.{Binding, Book, Page, page_at, pages}
 use Rattle.book.specs.Fresh.{IsCommand}
-use Rattle.book.specs.Honest.{IsAskedBy, IsSaid}
+use Rattle.book.specs.Honest.{IsAskedBy, IsPromisedBy, IsSaid}
 use Rattle.book.specs.Maps.{at}
 use Rattle.book.specs.Shows.{Provider, Sealed, index_of, promise, sealed_behind, signed_promise, IsReplyOf, IsRootOf}
 use Rattle.book.specs.Turns.{Shows, Turn, Run}
@@ -50,7 +50,7 @@ module _ (provider : Provider) where
   -- what a command's answer says of the book after it
   record Answered (book after : Book) (asked : Asked) (answer : Answer) : Type 0 where
     pub goes : Goes provider book after
-    pub promised : (name : List ℕ) (binding : Binding) → answer ≡ Promised name binding → IsPromisedIn after name binding
+    pub promised : (name : List ℕ) (binding : Binding) → answer ≡ Promised name binding → IsPromisedIn after name binding × IsPromisedBy asked name binding.key
     pub found : (name : List ℕ) (epoch : ℕ) → asked ≡ Lookup name epoch → (page : Page) (other : List ℕ) (binding : Option Binding) → answer ≡ Found page other binding → (other ≡ name) × IsName name × IsAskedBy epoch page × (binding ≡ at page.bindings name)
 
   abbrev taken : Book → List ℕ → Bool
@@ -61,9 +61,9 @@ module _ (provider : Provider) where
       let e = found-entry (λ entry. IsName entry.0 × IsBinding entry.1) book.pending name binding found sound.pending in
       record { holds = holds-now provider book name binding sound found; named = subst IsName e.2 e.1.0; keyed = subst IsBinding e.3 e.1.1 }
 
-  pends : (book : Book) (asked : Asked) (name key : List ℕ) → IsSound book → IsName name → IsKeyData key → at book.pending name ≡ None
+  pends : (book : Book) (asked : Asked) (name key : List ℕ) → IsPromisedBy asked name key → IsSound book → IsName name → IsKeyData key → at book.pending name ≡ None
       → Answered book (with_pending book name key) asked (Promised name (record { key = key; salt = book.salt }))
-  pends book asked name key sound named keyed none = record {
+  pends book asked name key by sound named keyed none = record {
     goes = goes;
     promised = λ other binding same. holds other binding same;
     found = λ other epoch is page named binding same. absurd cc;
@@ -75,12 +75,14 @@ module _ (provider : Provider) where
       goes : Goes provider book (with_pending book name key)
       goes = goes-pending provider book name key sound named keyed none
 
-      holds : (other : List ℕ) (binding : Binding) → Promised name own ≡ Promised other binding → IsPromisedIn (with_pending book name key) other binding
+      holds : (other : List ℕ) (binding : Binding) → Promised name own ≡ Promised other binding → IsPromisedIn (with_pending book name key) other binding × IsPromisedBy asked other binding.key
       holds other binding same =
           let n : name ≡ other = cc in
-          let b : own ≡ binding = cc in
-          promised-now (with_pending book name key) other binding goes.sound
-          (ap (at (with_pending book name key).pending) (sym n) ∙ at_put_same name own book.pending ∙ ap (λ (x : Binding). Some x) b)
+          let b : own ≡ binding = cc in (
+            promised-now (with_pending book name key) other binding goes.sound
+            (ap (at (with_pending book name key).pending) (sym n) ∙ at_put_same name own book.pending ∙ ap (λ (x : Binding). Some x) b),
+            subst (IsPromisedBy asked other) (ap (λ (x : Binding). x.key) b) (subst (λ (x : List ℕ). IsPromisedBy asked x key) n by),
+          )
 
   answered : (book after : Book) (asked : Asked) (answer : Answer) → IsSound book → IsCommand asked → refusal (index_of provider) book asked ≡ None → Does book asked answer after → Answered book after asked answer
   answered book after (Register name key) answer sound are none does =
@@ -88,13 +90,13 @@ module _ (provider : Provider) where
       ((is_some (at book.last.bindings name), NameTaken) ∷ (is_some (at book.pending name), PendingExists) ∷ (taken book name, IndexTaken) ∷ []) none in
       let two = two-passed (is_some (at book.last.bindings name)) (is_some (at book.pending name)) NameTaken PendingExists ((taken book name, IndexTaken) ∷ []) one.2 in
       subst (λ (b : Book). Answered book b (Register name key) answer) (sym does.1) (subst (Answered book (with_pending book name key) (Register name key)) (sym does.0)
-      (pends book (Register name key) name key sound (is-name name one.0 are.0) (is-key key one.1 are.1) (not-there (at book.pending name) two.1)))
+      (pends book (Register name key) name key (refl, refl) sound (is-name name one.0 are.0) (is-key key one.1 are.1) (not-there (at book.pending name) two.1)))
   answered book after (Change name key) answer sound are none does =
       let one = two-passed (not (is_within 1 255 name)) (not (is_within 1 2048 key)) BadName BadKey
       ((is_none (at book.last.bindings name), NoSuchName) ∷ (is_some (at book.pending name), PendingExists) ∷ []) none in
       let two = two-passed (is_none (at book.last.bindings name)) (is_some (at book.pending name)) NoSuchName PendingExists [] one.2 in
       subst (λ (b : Book). Answered book b (Change name key) answer) (sym does.1) (subst (Answered book (with_pending book name key) (Change name key)) (sym does.0)
-      (pends book (Change name key) name key sound (is-name name one.0 are.0) (is-key key one.1 are.1) (not-there (at book.pending name) two.1)))
+      (pends book (Change name key) name key (refl, refl) sound (is-name name one.0 are.0) (is-key key one.1 are.1) (not-there (at book.pending name) two.1)))
   answered book after (Promise name) answer sound are none does =
       subst (λ (b : Book). Answered book b (Promise name) answer) (sym does.3) (record {
         goes = goes-nowhere provider book sound;
@@ -102,7 +104,7 @@ module _ (provider : Provider) where
             let e : Promised name does.0 ≡ Promised other binding = sym does.2 ∙ same in
             let n : name ≡ other = cc in
             let b : does.0 ≡ binding = cc in
-            promised-now book other binding sound (ap (at book.pending) (sym n) ∙ does.1 ∙ ap (λ (x : Binding). Some x) b);
+            (promised-now book other binding sound (ap (at book.pending) (sym n) ∙ does.1 ∙ ap (λ (x : Binding). Some x) b), sym n);
         found = λ other epoch is page named binding same. absurd cc;
       })
   answered book after (Lookup name epoch) answer sound are none does =
@@ -145,13 +147,14 @@ module _ (provider : Provider) where
 
   -- ---- what is seen of a reply
 
-  pub record SeenPromise (after : Book) (promised : SignedPromise) : Type 0 where
+  pub record SeenPromise (after : Book) (asked : Asked) (promised : SignedPromise) : Type 0 where
     pub page : Page
     pub root : SignedRoot
     pub name : List ℕ
     pub binding : Binding
     pub is : IsRootOf provider after page root
     pub same : promised ≡ signed_promise provider (promise provider root.body name binding)
+    pub by : IsPromisedBy asked name binding.key
     pub holds : Holds provider after name binding.key root.body.epoch
     pub named : IsName name
     pub keyed : IsKeyData binding.key
@@ -165,7 +168,7 @@ module _ (provider : Provider) where
     pub answer : IsReplyOf provider page root.body name (at page.bindings name) text
 
   abbrev pub Seen : Book → Asked → Reply → Type 0
-  Seen after asked (reply.Promised promised) = SeenPromise after promised
+  Seen after asked (reply.Promised promised) = SeenPromise after asked promised
   Seen after asked (reply.Found text) = (name : List ℕ) (epoch : ℕ) → asked ≡ Lookup name epoch → SeenFound after name epoch text
   Seen after asked (reply.Told told) = (root : SignedRoot) → Contains told.items root → (page : Page) × IsRootOf provider after page root
   Seen after asked (reply.Last root) = (page : Page) × IsRootOf provider after page root
@@ -179,9 +182,10 @@ module _ (provider : Provider) where
     binding = shows.1;
     is = shows.4;
     same = shows.5;
-    holds = subst (Holds provider after shows.0 shows.1.key) (sym (root-epoch provider 0 _ (pages after) _ shows.4)) (a.promised shows.0 shows.1 shows.3).holds;
-    named = (a.promised shows.0 shows.1 shows.3).named;
-    keyed = (a.promised shows.0 shows.1 shows.3).keyed;
+    by = (a.promised shows.0 shows.1 shows.3).1;
+    holds = subst (Holds provider after shows.0 shows.1.key) (sym (root-epoch provider 0 _ (pages after) _ shows.4)) (a.promised shows.0 shows.1 shows.3).0.holds;
+    named = (a.promised shows.0 shows.1 shows.3).0.named;
+    keyed = (a.promised shows.0 shows.1 shows.3).0.keyed;
   }
   seen book after asked answer (reply.Found text) a shows = λ name epoch is.
       let f = a.found name epoch is shows.0 shows.1 shows.2 shows.4 in
@@ -198,6 +202,7 @@ module _ (provider : Provider) where
     binding = s.binding;
     is = goes.later s.page s.root s.is;
     same = s.same;
+    by = s.by;
     holds = goes.holds s.name s.binding.key s.root.body.epoch s.holds;
     named = s.named;
     keyed = s.keyed;

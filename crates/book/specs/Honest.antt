@@ -54,6 +54,17 @@ IsAbout (History from count) other = ⊥
 IsAbout Head other = ⊥
 IsAbout (Close epoch) other = ⊥
 
+-- a promise that answers the command is for this name and key: the command's name, and its key where it
+-- brings one
+abbrev pub IsPromisedBy : Asked → List ℕ → List ℕ → Type 0
+IsPromisedBy (Register name key) for bound = (for ≡ name) × (bound ≡ key)
+IsPromisedBy (Change name key) for bound = (for ≡ name) × (bound ≡ key)
+IsPromisedBy (Promise name) for bound = for ≡ name
+IsPromisedBy (Lookup name epoch) for bound = ⊥
+IsPromisedBy (History from count) for bound = ⊥
+IsPromisedBy Head for bound = ⊥
+IsPromisedBy (Close epoch) for bound = ⊥
+
 module _ (provider : Provider) where
   -- no other name of the page has the name's index
   abbrev pub IsAlone : List ℕ → Page → Type 0
@@ -82,8 +93,9 @@ module _ (provider : Provider) where
       pub index : HasIndex provider.hash text (index_of provider name)
       pub watched : (watch : Watch) → Accepts provider.hash accepted root.body name text (expected watch page.epoch) ↔ (key_at page name ≡ expected watch page.epoch)
 
-    -- the promise is signed over the root of a page, and the next page has its key
-    pub record IsKept (promised : SignedPromise) : Type 0 where
+    -- the promise is what the command asks for, signed over the root of a page, and the next page has its key
+    pub record IsKept (command : Asked) (promised : SignedPromise) : Type 0 where
+      pub asked : IsPromisedBy command promised.promise.name promised.promise.key
       pub form : IsSignedPromise promised
       pub signed : verified key (promise_bytes promised.promise) promised.signature
       pub page : Page
@@ -120,7 +132,7 @@ module _ (provider : Provider) where
       -- each reply to a look-up is accepted, with what the page has
       pub found : (name : List ℕ) (epoch : ℕ) (text : List ℕ) → IsSaid commands replies (Lookup name epoch) (reply.Found text) → IsAnswer name epoch text
       -- each promise is kept
-      pub kept : (command : Asked) (promised : SignedPromise) → IsSaid commands replies command (reply.Promised promised) → IsKept promised
+      pub kept : (command : Asked) (promised : SignedPromise) → IsSaid commands replies command (reply.Promised promised) → IsKept command promised
       -- what is found for its name under the next root states its key, at its index
       pub due : (command : Asked) (promised : SignedPromise) (epoch : ℕ) (text : List ℕ) (root : SignedRoot) (statement : Option (List ℕ))
           → IsSaid commands replies command (reply.Promised promised) → IsSaid commands replies (Lookup promised.promise.name epoch) (reply.Found text)

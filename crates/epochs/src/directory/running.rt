@@ -1,6 +1,10 @@
-ghost use Rattle.std.specs.Prelude.{◌≡◌, ℕ, List, IfOk, OnErr, OnOk, map, take};
+ghost use Rattle.std.specs.Prelude.{◌≡◌, ◌<◌, ◌^◌, ℕ, List, IfOk, OnErr, OnOk, map, take};
+ghost use Rattle.encoding.specs.Bytes.{IsBytes};
+ghost use Rattle.rand_core.specs.Stream.{Stream};
 ghost use Rattle.book.specs.declared.reply.Reply.{Reply};
 ghost use Rattle.book.specs.Asked.{asked};
+ghost use Rattle.book.specs.Fresh.{fresh, IsCommand};
+ghost use Rattle.book.specs.Honest.{IndicesDiffer, IsHonest};
 ghost use Rattle.book.specs.Turns.{Run, Turn};
 ghost use Rattle.epochs.specs.Kept.{book, provider, HasKeysOf};
 ghost use Rattle.epochs.specs.Replied.{IsTold};
@@ -33,14 +37,20 @@ impl<H: NodeHash, V: Vuf, S: Signer, R: Rng> Directory<H, V, S, R> {
             (book R.stream self.old) keeper.old (map asked commands.now) replies.items (book R.stream self.new) keeper.new) }
         ensures err { OnErr result ((replies : List Reply) × (n : ℕ) × Run (provider H.digest_of V.value_of S.signature_of self.old) K.kept K.failed
             (book R.stream self.old) keeper.old (map asked (take n commands.now)) replies (book R.stream self.new) keeper.new) }
+        ensures honest { IfOk result (λ replies. (epoch : ℕ) (nonce : List ℕ) (salts : Stream) → book R.stream self.old ≡ fresh epoch nonce salts
+            → IndicesDiffer (provider H.digest_of V.value_of S.signature_of self.old) (map asked commands.now) replies.items (book R.stream self.new)
+            → IsHonest (provider H.digest_of V.value_of S.signature_of self.old) V.accepted S.verified (self.old).key (book R.stream self.new) (map asked commands.now) replies.items) }
         ensures keys { HasKeysOf self.old self.new }
     {
         let mut replies = Vec::new(self.alloc);
         for command in commands {
             replies.reserve(1)?;
+            is_command(command);
             let reply = self.answer(keeper, command)?;
             replies.push_reserved(reply);
         }
+        // What these two ensure: the book is sound, and a public key has 32 bytes.
+        self.head().body.vuf_key.bytes();
         Ok(replies)
     }
 
@@ -66,6 +76,31 @@ impl<H: NodeHash, V: Vuf, S: Signer, R: Rng> Directory<H, V, S, R> {
         }
     }
 }
+
+/// What the type of a command says of it; it does nothing.
+fn is_command(command: &Command<'_>)
+    ensures { IsCommand (asked command.now) }
+{
+    match *command {
+        Command::Register { name, key } | Command::Change { name, key } => {
+            are_bytes(name);
+            are_bytes(key);
+        }
+        Command::Promise { name } | Command::Lookup { name, .. } => are_bytes(name),
+        Command::History { .. } | Command::Head => {}
+        Command::Close { epoch } => is_epoch(epoch),
+    }
+}
+
+/// What the type of a slice of bytes says of it.
+fn are_bytes(bytes: &[u8])
+    ensures { IsBytes bytes.now }
+{}
+
+/// What the type of an epoch says of it.
+fn is_epoch(epoch: u64)
+    ensures { epoch < 2 ^ 64 }
+{}
 
 fn promised(answer: Result<SignedPromise, Refusal>) -> Reply
     ensures { result ≡ replied.promised answer }

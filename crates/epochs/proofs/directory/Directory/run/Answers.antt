@@ -1,18 +1,24 @@
-use Rattle.std.proofs.Common.{◌∙◌, map, take, refl}
+use Rattle.std.proofs.Common.{◌≡◌, ◌∙◌, map, take, refl, subst}
 use Rattle.std.proofs.lemmas.List.{take_all}
+use Rattle.std.proofs.lemmas.List.Elements.{All-map, All-more, All-nil}
+use Rattle.encoding.specs.Bytes.{Is32Bytes}
 use Rattle.book.specs.Asked.{asked}
+use Rattle.book.specs.Fresh.{IsCommand, KeepsLaws}
+use Rattle.book.specs.Shows.{Provider, index_of}
+use Rattle.book.specs.Sound.{IsSound}
 use Rattle.epochs.specs.Kept.{book, provider}
-use Rattle.epochs.proofs.Running.{run_next, run_stays, so_anyway}
+use Rattle.epochs.proofs.Honest.{root_key, seen_honest}
+use Rattle.epochs.proofs.Running.{run_next, run_stays, same_provider, so_anyway}
 use Rattle.epochs.proofs.directory.Directory.run.Goals as goal
 
 pub loop-command-init : goal.loop-command-init
-loop-command-init g c = rw c.new-replies.ensures.items ((refl, refl), (refl, refl))
+loop-command-init g c = rw c.new-replies.ensures.items (((refl, refl), (refl, refl)), All-nil (λ command. IsCommand (asked command)))
 
 pub returns-in_err-reserve-clause-err : goal.returns-in_err-reserve-clause-err
-returns-in_err-reserve-clause-err g c = so_anyway c.from_residual.result (c.loop-command.replies.items, c.loop-command.command-index, c.loop-command.invariant.0)
+returns-in_err-reserve-clause-err g c = so_anyway c.from_residual.result (c.loop-command.replies.items, c.loop-command.command-index, c.loop-command.invariant.0.0)
 
 pub returns-in_err-reserve-clause-keys : goal.returns-in_err-reserve-clause-keys
-returns-in_err-reserve-clause-keys g c = c.loop-command.invariant.1
+returns-in_err-reserve-clause-keys g c = c.loop-command.invariant.0.1
 
 pub returns-in_err-reply-clause-err : goal.returns-in_err-reply-clause-err
 returns-in_err-reply-clause-err g c =
@@ -23,21 +29,50 @@ returns-in_err-reply-clause-err g c =
       run_stays (provider g.H.NodeHash.digest_of g.V.Vuf.value_of g.S.Signer.signature_of c.args.self.now) g.K.Keeper.kept g.K.Keeper.failed
           (map asked (take c.loop-command.command-index c.args.commands.now)) c.loop-command.replies.items (book g.R.Rng.stream c.args.self.now)
           (book g.R.Rng.stream c.loop-command.self) (book g.R.Rng.stream c.answer.new.self) c.args.keeper.now c.loop-command.keeper c.answer.new.keeper
-          stands.0 stands.1 c.loop-command.invariant.0,
+          stands.0 stands.1 c.loop-command.invariant.0.0,
     )
 
 pub returns-in_err-reply-clause-keys : goal.returns-in_err-reply-clause-keys
-returns-in_err-reply-clause-keys g c = (c.answer.ensures.keys.0 ∙ c.loop-command.invariant.1.0, c.answer.ensures.keys.1 ∙ c.loop-command.invariant.1.1)
+returns-in_err-reply-clause-keys g c = (c.answer.ensures.keys.0 ∙ c.loop-command.invariant.0.1.0, c.answer.ensures.keys.1 ∙ c.loop-command.invariant.0.1.1)
 
 pub loop-command-preserved : goal.loop-command-preserved
-loop-command-preserved g c =
-    run_next g.H.NodeHash.digest_of g.V.Vuf.value_of g.S.Signer.signature_of g.R.Rng.stream g.K.Keeper.kept g.K.Keeper.failed
-    c.args.self.now c.loop-command.self c.answer.new.self c.args.keeper.now c.loop-command.keeper c.answer.new.keeper
-    c.args.commands.now c.loop-command.command-index _ c.loop-command.replies.items c.push_reserved.new.self.items _
-    c.loop-command-test.true (cc (c.push_reserved.ensures.items, c.in_ok-reserve.ensures.items)) c.loop-command.invariant c.in_ok-reply.ensures.ok c.answer.ensures.keys
+loop-command-preserved g c = (
+  run_next g.H.NodeHash.digest_of g.V.Vuf.value_of g.S.Signer.signature_of g.R.Rng.stream g.K.Keeper.kept g.K.Keeper.failed
+  c.args.self.now c.loop-command.self c.answer.new.self c.args.keeper.now c.loop-command.keeper c.answer.new.keeper
+  c.args.commands.now c.loop-command.command-index _ c.loop-command.replies.items c.push_reserved.new.self.items _
+  c.loop-command-test.true (cc (c.push_reserved.ensures.items, c.in_ok-reserve.ensures.items)) c.loop-command.invariant.0 c.in_ok-reply.ensures.ok c.answer.ensures.keys,
+  All-more (λ command. IsCommand (asked command)) c.args.commands.now c.loop-command.command-index _ c.loop-command-test.true c.loop-command.invariant.1 c.is_command.ensures,
+)
 
 pub returns-clause-ok : goal.returns-clause-ok
-returns-clause-ok g c = rw (take_all _ _ c.loop-command-test.false) at c.loop-command.invariant.0
+returns-clause-ok g c = rw (take_all _ _ c.loop-command-test.false) at c.loop-command.invariant.0.0
 
 pub returns-clause-keys : goal.returns-clause-keys
-returns-clause-keys g c = c.loop-command.invariant.1
+returns-clause-keys g c = c.loop-command.invariant.0.1
+
+pub returns-clause-honest : goal.returns-clause-honest
+returns-clause-honest g c =
+    seen_honest (provider g.H.NodeHash.digest_of g.V.Vuf.value_of g.S.Signer.signature_of c.args.self.now) g.V.VufCheck.accepted g.S.Verifier.verified c.args.self.now.key laws
+    g.K.Keeper.kept g.K.Keeper.failed (book g.R.Rng.stream c.args.self.now) (book g.R.Rng.stream c.loop-command.self) c.args.keeper.now c.loop-command.keeper
+    (map asked c.args.commands.now) c.loop-command.replies.items (rw (← c.self.view_is) c.self.invariant.sound) sound
+    (All-map IsCommand asked c.args.commands.now (rw (take_all _ _ c.loop-command-test.false) at c.loop-command.invariant.1))
+    (rw (take_all _ _ c.loop-command-test.false) at c.loop-command.invariant.0.0)
+  where
+    same : provider g.H.NodeHash.digest_of g.V.Vuf.value_of g.S.Signer.signature_of c.loop-command.self ≡ provider g.H.NodeHash.digest_of g.V.Vuf.value_of g.S.Signer.signature_of c.args.self.now
+    same = same_provider g.H.NodeHash.digest_of g.V.Vuf.value_of g.S.Signer.signature_of g.R.Rng.stream g.K.Keeper.kept g.K.Keeper.failed c.args.self.now c.loop-command.self c.loop-command.invariant.0.1
+
+    sound : IsSound (index_of (provider g.H.NodeHash.digest_of g.V.Vuf.value_of g.S.Signer.signature_of c.args.self.now)) (book g.R.Rng.stream c.loop-command.self)
+    sound = subst (λ (p : Provider). IsSound (index_of p) (book g.R.Rng.stream c.loop-command.self)) same c.head.ensures.sound
+
+    size : Is32Bytes c.args.self.now.vuf_key
+    size = subst Is32Bytes (root_key (provider g.H.NodeHash.digest_of g.V.Vuf.value_of g.S.Signer.signature_of c.loop-command.self) (book g.R.Rng.stream c.loop-command.self) c.loop-command.self.last c.head.result.now c.head.ensures.head ∙ c.loop-command.invariant.0.1.0) c.bytes.ensures.size
+
+    laws : KeepsLaws g.V.VufCheck.accepted g.S.Verifier.verified c.args.self.now.key (provider g.H.NodeHash.digest_of g.V.Vuf.value_of g.S.Signer.signature_of c.args.self.now)
+    laws = record {
+      digest_size = g.met.H.NodeHash.digest_size;
+      value_is_accepted = rw (← c.self.view_is) (g.met.V.Vuf.value_is_accepted c.self.inside.vuf);
+      value_size = g.met.V.Vuf.value_size c.args.self.now.vuf_key;
+      signature_verifies = rw (← c.self.view_is) (g.met.S.Signer.signature_verifies c.self.inside.signer);
+      signature_size = g.met.S.Signer.signature_size c.args.self.now.key;
+      vuf_key_size = size;
+    }
