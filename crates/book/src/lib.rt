@@ -1,5 +1,16 @@
 //! What a key directory means: pages of names with their keys, one an epoch, what it answers to
 //! each command, and what its users see. The directory itself is in `epochs`.
+//!
+//! Whoever keeps what a directory does is its [`Keeper`]:
+//!
+//! ```
+//! fn keep(&mut self, what: &Record) -> Result<(), KeepFailed> {
+//!     match what {
+//!         Record::Register { salt, name, key } => ..,
+//!         Record::Close { epoch } => ..,
+//!     }
+//! }
+//! ```
 #![tactic(auto)]
 
 mod command;

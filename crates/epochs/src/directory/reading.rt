@@ -23,6 +23,9 @@ use rootchain::{Body, SignedPromise, SignedRoot};
 use sigiface::Signer;
 use vrfiface::{Vuf, index_of};
 
+/// The most roots that one history has.
+const MOST_ROOTS: u16 = 64;
+
 impl<H: NodeHash, V: Vuf, S: Signer, R: Rng> Directory<H, V, S, R> {
     /// The promise that waits for a name: the same bytes as when it was made.
     ///
@@ -85,7 +88,7 @@ impl<H: NodeHash, V: Vuf, S: Signer, R: Rng> Directory<H, V, S, R> {
             × AllZip (IsRootOf (provider H.digest_of V.value_of S.signature_of self.now) (book R.stream self.now)) pages roots.now)
             (λ why. IsRefused (provider H.digest_of V.value_of S.signature_of self.now) (book R.stream self.now) (History from count) why) }
     {
-        if count == 0 || 64 < count {
+        if count == 0 || MOST_ROOTS < count {
             return Err(Refusal::BadRange);
         }
         let start = self.roots.partition_point(|root| root.body.epoch < from);

@@ -217,3 +217,36 @@ fn records_of_accepted_commands(rt: HostRuntime) -> Result<(), Fail> {
     assert_eq!(rt; opened(old.bytes()), Some(first));
     Ok(())
 }
+
+#[test]
+fn run_goes_on_behind_a_lost_record(rt: HostRuntime) -> Result<(), Fail> {
+    let mut directory = started(rt.alloc())?;
+    let keeper = &mut keeper_that_fails_at(2);
+    let register_b = Command::Register {
+        name: b"b",
+        key: b"l",
+    };
+    let commands = [
+        Command::Register {
+            name: b"a",
+            key: b"k",
+        },
+        register_b,
+        Command::Promise { name: b"b" },
+        register_b,
+        Command::Close { epoch: 2 },
+    ];
+    let replies = directory.run(keeper, &commands)?;
+    let mut numbers = [0; 5];
+    for (number, reply) in numbers.iter_mut().zip(replies.iter()) {
+        match reply {
+            Reply::Refused(Refusal::Memory) => return Err(AllocError)?,
+            Reply::Refused(why) => *number = why.number(),
+            _ => {}
+        }
+    }
+    assert_eq!(rt; replies.len(), 5);
+    assert_eq!(rt; numbers, [0, 19, 13, 0, 0]);
+    assert_eq!(rt; directory.head().body.epoch, 2);
+    Ok(())
+}
