@@ -1,12 +1,11 @@
 -- What the users see of a run from a first page, as the law of honest runs has it.
-use Rattle.std.proofs.Common.{◌≡◌, ℕ, List, [], ◌∷◌, All, Contains, map, replicate, refl, subst, arith, inl, inr}
+use Rattle.std.proofs.Common.{◌≡◌, ℕ, List, [], ◌∷◌, All, Contains, replicate, refl, subst, arith, inl, inr}
 use Rattle.rand_core.specs.Stream.{Stream}
-use Rattle.encoding.specs.Bytes.{Is32Bytes}
 use Rattle.book.specs.declared.record.Record.{Record}
 use Rattle.book.specs.declared.reply.Reply.{Reply}
 use Rattle.book.specs.Asked.{Asked}
 use Rattle.book.specs.Books.{Book, Page, pages}
-use Rattle.book.specs.Fresh.{fresh, HasSalts, IsCommand, IsEpoch, KeepsLaws}
+use Rattle.book.specs.Fresh.{fresh, HasSalts, IsCommand, KeepsLaws}
 use Rattle.book.specs.Honest.{IndicesDiffer, IsHonest}
 use Rattle.book.specs.Shows.{Provider, Sealed, index_of, sealed_behind, IsRootOf}
 use Rattle.book.specs.Sound.{IsPage, IsSound}
