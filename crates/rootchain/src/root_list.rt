@@ -104,10 +104,11 @@ fn pass_roots(count: usize, cursor: &mut Cursor<'_>) -> Result<(), Fault>
     Ok(())
 }
 
-/// How many bytes the list of these roots has.
+/// How many bytes the list of these roots has. At most 25,858.
 pub fn list_len(roots: &[SignedRoot]) -> usize
     requires few { length roots.now ≤ 64 }
-    ensures { result ≡ length (root_list_bytes roots.now) }
+    ensures value { result ≡ length (root_list_bytes roots.now) }
+    ensures most { result ≤ 25858 }
 {
     let mut len = 2;
     for root in roots {

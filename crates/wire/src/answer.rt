@@ -1,4 +1,5 @@
 ghost use Rattle.std.specs.Prelude.{◌≡◌, ◌+◌, ◌≤◌, ◌++◌, length, OnOk, OnErr, IsOk, vec_len, vec_capacity};
+ghost use Rattle.rootchain.specs.RootLists.{root_list_bytes};
 ghost use Rattle.wire.specs.Frames.{frame_bytes};
 ghost use Rattle.wire.specs.Responses.{answer_frame, HasFewRoots};
 
@@ -68,6 +69,10 @@ fn append_text(output: &mut Vec<u8>, kind: u8, text: &[u8]) -> Result<(), AllocE
 
 /// Appends the frame of a list of roots.
 fn append_roots(output: &mut Vec<u8>, roots: &[SignedRoot]) -> Result<(), AllocError>
+    requires { length roots.now ≤ 64 }
+    ensures ok { OnOk result (output.new.items ≡ output.old.items ++ frame_bytes (record { kind = 131; body = root_list_bytes roots.now })) }
+    ensures err { OnErr result (output.new.items ≡ output.old.items) }
+    ensures room { vec_len output.old + 25863 ≤ vec_capacity output.old → IsOk result }
 {
     begin_frame(output, ROOTS, list_len(roots))?;
     write_list(roots, output)

@@ -3,6 +3,7 @@ ghost use Rattle.byteorder.specs.Endian.{big_bytes};
 ghost use Rattle.wire.specs.Frames.{frame_bytes, frame_size};
 ghost use Rattle.wire.specs.Requests.{read_request, request_frame, request_seen, GivesRequest, ReadsRequest};
 
+use crate::frame::MAX_FRAME_LEN;
 use crate::ReadRefusal;
 use crate::writing::append_frame;
 use byteorder::{BigEndian, ByteOrder};
@@ -53,7 +54,7 @@ impl<'a> Request<'a> {
     /// # Errors
     ///
     /// `BadKind` if no request is of the kind, else `BadBody` if the body does not spell one.
-    #[tactic(auto, using(crate::proofs::Requests::reads_none, crate::proofs::Requests::reads_more, crate::proofs::Requests::no_kind))]
+    #[tactic(auto, using(crate::proofs::Requests::reads_none, crate::proofs::Requests::reads_more, crate::proofs::Requests::is_unknown))]
     pub fn read(kind: u8, body: &'a [u8]) -> Result<Request<'a>, ReadRefusal>
         ensures { ReadsRequest kind body.entry.now result }
     {
@@ -71,15 +72,15 @@ impl<'a> Request<'a> {
     pub fn fits(&self) -> bool
         ensures { IsTrue result ↔ (frame_size (request_frame (request_seen self.now)) ≤ 65536) }
     {
-        let (fixed, counted) = match self {
-            Request::Register { name, key } | Request::Change { name, key } => (4, name.len().saturating_add(key.len())),
-            Request::Promise { name } => (2, name.len()),
-            Request::Lookup { name, .. } => (10, name.len()),
-            Request::History { .. } => (10, 0),
-            Request::Head => (0, 0),
-            Request::Close { .. } => (40, 0),
-        };
-        counted < crate::MAX_FRAME_LEN - fixed
+        match self {
+            Request::Register { name, key } | Request::Change { name, key } => {
+                name.len().saturating_add(key.len()) < MAX_FRAME_LEN - 4
+            }
+            Request::Promise { name } => name.len() < MAX_FRAME_LEN - 2,
+            Request::Lookup { name, .. } => name.len() < MAX_FRAME_LEN - 10,
+            Request::History { .. } | Request::Head => true,
+            Request::Close { token, .. } => token.bytes().len() < MAX_FRAME_LEN - 8,
+        }
     }
 
     /// Appends the request's frame. An `Err` appends nothing, and is not returned where there is room.

@@ -1,3 +1,4 @@
+ghost use Rattle.std.specs.Prelude.{◌≡◌, ◌≢◌, ℕ, ◌∷◌, [], MatchOption};
 ghost use Rattle.wire.specs.Responses.{ReadsResponse};
 
 use crate::ReadRefusal;
@@ -46,11 +47,21 @@ impl<'a> Response<'a> {
                 Ok(root) => Ok(Response::Root(root)),
                 Err(_) => Err(ReadRefusal::BadBody),
             },
-            REFUSED => match body {
-                [code] => Ok(Response::Refused(*code)),
-                _ => Err(ReadRefusal::BadBody),
+            REFUSED => match only_byte(body) {
+                Some(code) => Ok(Response::Refused(code)),
+                None => Err(ReadRefusal::BadBody),
             },
             _ => Err(ReadRefusal::BadKind),
         }
+    }
+}
+
+/// The byte of a body that has one alone.
+fn only_byte(body: &[u8]) -> Option<u8>
+    ensures { MatchOption result ((code : ℕ) → body.now ≢ code ∷ []) (λ code. body.now ≡ code ∷ []) }
+{
+    match body {
+        [code] => Some(*code),
+        _ => None,
     }
 }

@@ -4,4 +4,4 @@ use Rattle.rootchain.specs.SignedRoots.{signed_root_bytes}
 use Rattle.rootchain.proofs.root_list.list_len.Given as goal
 
 abbrev pub invariant-loop-root : goal.invariant-loop-root
-invariant-loop-root l = (l.len ≡ 2 + length (flat_map signed_root_bytes (take l.root-index l.roots))) × (l.len ≤ 2 + 2400 * l.root-index)
+invariant-loop-root l = (l.len ≡ 2 + length (flat_map signed_root_bytes (take l.root-index l.roots))) × (l.len ≤ 2 + 404 * l.root-index)
