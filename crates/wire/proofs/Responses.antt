@@ -1,7 +1,8 @@
 -- A body that spells nothing of the form of its kind is no response.
 use Rattle.std.proofs.Common.{◌≡◌, ◌≢◌, ℕ, List, [], ◌∷◌, ◌++◌, Result, Err, refl, sym, ap, ◌∙◌, arith}
 use Rattle.std.proofs.lemmas.List.{append-nil}
-use Rattle.encoding.specs.Fields.{Spells}
+use Rattle.encoding.specs.Fields.{IsField, Spells}
+use Rattle.encoding.specs.Reading.{Reading}
 use Rattle.encoding.proofs.Fields.{one_spelling}
 use Rattle.proofs.specs.declared.refusal.Refusal.{Refusal as ReplyRefusal}
 use Rattle.proofs.specs.declared.refusal.Refusal.TheVariants.{Malformed, Trailing, OtherRoot, BadVuf, SameIndex, OtherPrefix, PathMismatch}
@@ -12,9 +13,11 @@ use Rattle.proofs.proofs.Replies.{reply_field}
 use Rattle.rootchain.specs.declared.body.Body.{Body}
 use Rattle.rootchain.specs.declared.signed_promise.SignedPromise.{SignedPromise}
 use Rattle.rootchain.specs.declared.signed_root.SignedRoot.{SignedRoot}
-use Rattle.rootchain.specs.Promises.{signed_promise_bytes, IsSignedPromise}
-use Rattle.rootchain.specs.RootLists.{root_list_bytes, IsRootList}
-use Rattle.rootchain.specs.SignedRoots.{signed_root_bytes, IsSignedRoot}
+use Rattle.rootchain.specs.Promises.{read_signed_promise, signed_promise_bytes, IsSignedPromise}
+use Rattle.rootchain.specs.Readable.{signed_promise_field, signed_root_field}
+use Rattle.rootchain.specs.RootLists.{read_root_list, root_list_bytes, IsRootList}
+use Rattle.rootchain.specs.SignedRoots.{read_signed_root, signed_root_bytes, IsSignedRoot}
+use Rattle.rootchain.proofs.RootLists.{root_list_field}
 use Rattle.wire.specs.Responses.{Responded, Promise, Proof, Roots, Root, Refused, response_kind, Responds, IsResponseKind}
 
 -- some value of each type, so that some response is of each kind
@@ -89,3 +92,19 @@ no_code kind body is none = ((Refused 0, sym is), no)
     no (Roots x) r = absurd (omega (arith, is, r.0))
     no (Root x) r = absurd (omega (arith, is, r.0))
     no (Refused x) r = none x r.1.0
+
+-- ---- one response
+
+-- bytes spell at most one value of a form
+one_value : {A : Type 0} (f : List ℕ → Reading A) (s : A → List ℕ) (P : A → Type 0) → IsField f s P → (bytes : List ℕ) (x y : A) → Spells s P bytes x → Spells s P bytes y → x ≡ y
+one_value f s P field bytes x y one two =
+    (one_spelling f s P field x y [] [] one.1 two.1 (append-nil (s x) ∙ sym one.0 ∙ two.0 ∙ sym (append-nil (s y)))).0
+
+pub one_response : (kind : ℕ) (body : List ℕ) (responded other : Responded) → Responds kind body responded → Responds kind body other → responded ≡ other
+one_response kind body (Promise x) (Promise y) one two =
+    ap (λ (z : SignedPromise). Promise z) (one_value read_signed_promise signed_promise_bytes IsSignedPromise signed_promise_field body x y one.1 two.1)
+one_response kind body (Proof x) (Proof y) one two = ap (λ (z : Reply). Proof z) (one_value read_reply reply_bytes IsReply reply_field body x y one.1 two.1)
+one_response kind body (Roots x) (Roots y) one two = ap (λ (z : List SignedRoot). Roots z) (one_value read_root_list root_list_bytes IsRootList root_list_field body x y one.1 two.1)
+one_response kind body (Root x) (Root y) one two = ap (λ (z : SignedRoot). Root z) (one_value read_signed_root signed_root_bytes IsSignedRoot signed_root_field body x y one.1 two.1)
+one_response kind body (Refused x) (Refused y) one two = ap (λ (z : ℕ). Refused z) (let same : x ∷ [] ≡ y ∷ [] = sym one.1.0 ∙ two.1.0 in cc)
+one_response kind body first second one two = absurd (omega (arith, one.0, two.0))
