@@ -118,3 +118,48 @@ fn drop_front(buffer: &mut Vec<u8>, count: usize)
     buffer.copy_within(count.., 0);
     buffer.truncate(left);
 }
+
+#[cfg(test)]
+mod tests {
+    use super::*;
+    use std::alloc::AllocError;
+    use std::process::Abort;
+    use std::test::Fail;
+
+    /// Feeds many frames of so many bytes in pieces of so many, and compares the room that is left.
+    fn keeps_little_room(
+        rt: &impl Abort,
+        alloc: Global,
+        frame: &[u8],
+        size: usize,
+    ) -> Result<(), FeedRefusal> {
+        let mut feed = Feed::new(alloc);
+        for _ in 0..20 {
+            for piece in frame.chunks(size) {
+                feed.feed(piece)?;
+            }
+            assert!(rt; matches!(feed.next(), Next::Frame(9, _)));
+            assert!(rt; matches!(feed.next(), Next::Wait));
+        }
+        let longest = frame.len().wrapping_add(size.min(frame.len()));
+        assert!(rt; feed.buffer.capacity() <= longest.wrapping_mul(2), "pieces of {size}");
+        Ok(())
+    }
+
+    #[test]
+    fn drained_feed_keeps_little_room(rt: HostRuntime) -> Result<(), Fail> {
+        for count in [0, 1, 10, 1000, 65_535] {
+            let mut frame = Vec::new(rt.alloc());
+            let [_, first, second, third] = (1 + count as u32).to_be_bytes();
+            frame.extend_from_slice(&[0, first, second, third, 9])?;
+            frame.resize(5 + count, 7)?;
+            for size in [1, 3, 16, 4096, 100_000] {
+                let kept = keeps_little_room(&rt, rt.alloc(), frame.as_slice(), size);
+                if kept.is_err() {
+                    return Err(AllocError)?;
+                }
+            }
+        }
+        Ok(())
+    }
+}

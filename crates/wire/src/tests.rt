@@ -76,43 +76,19 @@ fn requested(
 #[test]
 fn requests(rt: HostRuntime) -> Result<(), Fail> {
     let token = Hash32::new(rising(0x20));
-    for (request, text) in [
-        (
-            Request::Register {
-                name: b"a",
-                key: b"k",
-            },
-            "000000070100016100016b",
-        ),
-        (
-            Request::Change {
-                name: b"",
-                key: b"key",
-            },
-            "0000000802000000036b6579",
-        ),
+    for (request, text) in &[
+        (Request::Register { name: b"a", key: b"k" }, "000000070100016100016b"),
+        (Request::Change { name: b"", key: b"key" }, "0000000802000000036b6579"),
         (Request::Promise { name: b"a" }, "0000000403000161"),
-        (
-            Request::Lookup {
-                epoch: 9,
-                name: b"ab",
-            },
-            "0000000d04000000000000000900026162",
-        ),
-        (
-            Request::History {
-                from: u64::MAX,
-                count: 64,
-            },
-            "0000000b05ffffffffffffffff0040",
-        ),
+        (Request::Lookup { epoch: 9, name: b"ab" }, "0000000d04000000000000000900026162"),
+        (Request::History { from: u64::MAX, count: 64 }, "0000000b05ffffffffffffffff0040"),
         (Request::Head, "0000000106"),
         (
             Request::Close { token, epoch: 2 },
             "0000002907202122232425262728292a2b2c2d2e2f303132333435363738393a3b3c3d3e3f0000000000000002",
         ),
     ] {
-        requested(&rt, rt.alloc(), &request, text)?;
+        requested(&rt, rt.alloc(), request, text)?;
     }
     Ok(())
 }
