@@ -48,7 +48,12 @@ REPLIES, CHECK_DIGESTS = 1_000, 800_000
 # How often each size of a directory is measured; in a run the epochs with changes, the keys changed
 # in each, and the look-ups.
 EPOCH_RUNS = {1_000: 10, 10_000: 10, 100_000: 5, 1_000_000: 3}
-EPOCH_ROUNDS, EPOCH_CHANGES, EPOCH_LOOK_UPS = 10, 1_000, 10_000
+EPOCH_ROUNDS, EPOCH_CHANGES, EPOCH_LOOK_UPS = 100, 1_000, 100_000
+# The last epochs, over which the memory that changes keep is measured. The first ones take memory
+# that the C library kept from the registrations.
+EPOCHS_OF_MEMORY = 40
+# With how many digests one by one a change and its share of the closing are compared.
+CHANGE_DIGESTS = 24
 
 
 class Spread:
@@ -468,8 +473,8 @@ def index_of_name(number):
 
 
 def changed_nodes(indices, changed, low, high, prefix=0, level=0):
-    """The nodes at and below a prefix of `level` bits, which sorted indices[low:high] have, that lie
-    on the way of one of the sorted `changed`."""
+    """The nodes at and below a prefix of `level` bits, which sorted indices[low:high] have, that
+    lie on the way of one of the sorted `changed`."""
     if not changed:
         return 0
     if high - low < 2:
@@ -496,59 +501,80 @@ def numbers_of_round(size, number, count):
     return [(number + k * step) % size for k in range(count)]
 
 
+def digests_of_closings(by_number, indices):
+    """The digests of the closing of each round."""
+    digests = []
+    for number in range(EPOCH_ROUNDS):
+        numbers = numbers_of_round(len(indices), number, EPOCH_CHANGES)
+        changed = sorted({by_number[number] for number in numbers})
+        # Beside the nodes, the hash of the root's body, and the signature.
+        digests.append(changed_nodes(indices, changed, 0, len(indices)) + 2)
+    return digests
+
+
+class EpochRun:
+    """The times of one run of `measure epochs` on so many names, and the bytes that it keeps."""
+
+    def __init__(self, size, told):
+        words = ["epochs", size, EPOCH_CHANGES, EPOCH_ROUNDS, EPOCH_LOOK_UPS, DIGESTS]
+        _, run_steps = steps(3 * EPOCH_ROUNDS + 6, *words)
+        before, names, first, *rounds, at_head, at_old, after = run_steps
+        if [at_head.number, at_old.number] != [told, told]:
+            sys.exit(f"epochs: {at_head.number}, {at_old.number} bytes, and {told} was wanted")
+        self.digests = [before.seconds, after.seconds]
+        self.registrations = names.seconds
+        self.changes = [step.seconds for step in rounds[1::3]]
+        self.closings = [step.seconds for step in rounds[2::3]]
+        self.at_head, self.at_old = at_head.seconds, at_old.seconds
+        last = rounds[-3 * EPOCHS_OF_MEMORY :]
+        self.bytes_a_name = (names.memory + first.memory) / size
+        self.bytes_a_change = sum(step.memory for step in last) / EPOCHS_OF_MEMORY / EPOCH_CHANGES
+
+
+def operation_row(size, spread, digest, kept):
+    """The row of registrations or of changes."""
+    # A digest for the index and one for the commitment, and the stand-ins' for value and signature.
+    ratio = spread.least / (4 * digest)
+    kept = statistics.median(kept)
+    return [f"{size:,}", "4", *spread.cells(1e6, 2), f"{ratio:.2f}", f"{kept:.0f}"]
+
+
+def closing_row(size, done, digests, digest, change):
+    """The row of closings, which take so many digests. A change by itself has the least time
+    `change`."""
+    # The rounds take different numbers of digests, so that the times are those of one digest.
+    spread = Spread([time / count for run in done for time, count in zip(run.closings, digests)])
+    each = statistics.mean(digests)
+    whole = change + spread.least * each / EPOCH_CHANGES
+    ratio, part = spread.least / digest, whole / (CHANGE_DIGESTS * digest)
+    row = [f"{size:,}", f"{each:.0f}", *spread.cells(1e3 * each, 2), f"{ratio:.2f}"]
+    return [*row, f"{whole * 1e6:.2f}", f"{part:.2f}"]
+
+
 def epoch_rows(size):
     """The rows of one size: registrations; changes; closings; look-ups."""
     by_number = [index_of_name(number) for number in range(size)]
     indices = sorted(by_number)
-    closed = []
-    for number in range(EPOCH_ROUNDS):
-        numbers = numbers_of_round(size, number, EPOCH_CHANGES)
-        changed = sorted({by_number[number] for number in numbers})
-        # Beside the nodes, the hash of the root's body, and the signature.
-        closed.append(changed_nodes(indices, changed, 0, size) + 2)
+    closed = digests_of_closings(by_number, indices)
     looked_up = [by_number[number] for number in numbers_of_round(size, 0, EPOCH_LOOK_UPS)]
-    told = sum(249 + 32 * level_of(indices, index) for index in looked_up)
+    levels = [level_of(indices, index) for index in looked_up]
+    told = sum(249 + 32 * level for level in levels)
 
-    digests, registered, changes, closings, latest, old = [], [], [], [], [], []
-    bytes_a_name, bytes_a_change = [], []
-    words = ["epochs", size, EPOCH_CHANGES, EPOCH_ROUNDS, EPOCH_LOOK_UPS, DIGESTS]
-    for _ in range(EPOCH_RUNS[size]):
-        _, (before, names, first, *middle, at_head, at_old, after) = steps(
-            3 * EPOCH_ROUNDS + 6, *words
-        )
-        if [at_head.number, at_old.number] != [told, told]:
-            sys.exit(f"epochs: {at_head.number}, {at_old.number} bytes, and {told} was wanted")
-        digests += [before.seconds, after.seconds]
-        registered.append(names.seconds)
-        bytes_a_name.append((names.memory + first.memory) / size)
-        for k in range(EPOCH_ROUNDS):
-            _, changed, close = middle[3 * k : 3 * k + 3]
-            changes.append(changed.seconds)
-            closings.append(close.seconds / closed[k])
-            bytes_a_change.append((changed.memory + close.memory) / EPOCH_CHANGES)
-        latest.append(at_head.seconds)
-        old.append(at_old.seconds)
-    digest = min(digests) / DIGESTS
-    # A digest for the index and one for the commitment, and the stand-ins' for value and signature.
-    rows = []
-    of_names = (registered, size, bytes_a_name)
-    for taken, count, kept in (of_names, (changes, EPOCH_CHANGES, bytes_a_change)):
-        spread = Spread(taken, count)
-        ratio = f"{spread.least / (4 * digest):.2f}"
-        kept = f"{statistics.median(kept):.0f}"
-        rows.append([f"{size:,}", "4", *spread.cells(1e6, 2), ratio, kept])
-    # The rounds take different numbers of digests, so that the times are those of one digest.
-    spread, each = Spread(closings), statistics.mean(closed)
-    ratio = f"{spread.least / digest:.2f}"
-    rows.append([f"{size:,}", f"{each:.0f}", *spread.cells(1e3 * each, 2), ratio])
-    levels = statistics.mean(level_of(indices, index) for index in looked_up)
-    row = [f"{size:,}", f"{levels:.2f}"]
-    for taken in (latest, old):
-        spread = Spread(taken, EPOCH_LOOK_UPS)
-        ratio = f"{spread.least / (2 * digest):.2f}"
-        row += [f"{1 / spread.least:,.0f}", *spread.cells(1e6, 2), ratio]
-    rows.append([*row, f"{digest * 1e9:.0f}"])
-    return rows
+    done = [EpochRun(size, told) for _ in range(EPOCH_RUNS[size])]
+    digest = min(time for run in done for time in run.digests) / DIGESTS
+    registration = Spread([run.registrations for run in done], size)
+    change = Spread([time for run in done for time in run.changes], EPOCH_CHANGES)
+    look_ups = [f"{size:,}", f"{statistics.mean(levels):.2f}"]
+    for times in ([run.at_head for run in done], [run.at_old for run in done]):
+        spread = Spread(times, EPOCH_LOOK_UPS)
+        ratio = spread.least / (2 * digest)
+        look_ups += [f"{1 / spread.least:,.0f}", *spread.cells(1e6, 2), f"{ratio:.2f}"]
+    return [
+        operation_row(size, registration, digest, [run.bytes_a_name for run in done]),
+        operation_row(size, change, digest, [run.bytes_a_change for run in done]),
+        closing_row(size, done, closed, digest, change.least),
+        [*look_ups, f"{digest * 1e9:.0f}"],
+    ]
 
 
 def epochs(_folder):
@@ -557,7 +583,8 @@ def epochs(_folder):
     head = ["names", "digests", *spread]
     table("a registration, microseconds", [*head, "bytes a name"], registered)
     table("a change, microseconds", [*head, "bytes kept"], changed)
-    table(f"the closing of {EPOCH_CHANGES:,} changes, milliseconds", head, closed)
+    title = f"the closing of {EPOCH_CHANGES:,} changes, milliseconds; a change with its share of it"
+    table(title, [*head, "a change, us", f"of {CHANGE_DIGESTS} digests"], closed)
     head = ["names", "levels", "head/s", *spread, "old/s", *spread, "a digest, ns"]
     table("look-ups at the head and at an old epoch, microseconds", head, looked_up)
 
