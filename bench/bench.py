@@ -45,13 +45,14 @@ CHANGE_ROUNDS = {1: (500, 40), 10: (50, 40), 1_000: (1, 100), 100_000: (1, 6)}
 SIBLINGS, REPLY_RUNS = (10, 20, 256), 10
 # How many replies are measured, and about how many digests the checks of a run take.
 REPLIES, CHECK_DIGESTS = 1_000, 800_000
-# How often each size of a directory is measured; in a run the epochs with changes, the keys changed
-# in each, and the look-ups.
-EPOCH_RUNS = {1_000: 10, 10_000: 10, 100_000: 5, 1_000_000: 3}
-EPOCH_ROUNDS, EPOCH_CHANGES, EPOCH_LOOK_UPS = 100, 1_000, 100_000
-# The last epochs, over which the memory that changes keep is measured. The first ones take memory
-# that the C library kept from the registrations.
-EPOCHS_OF_MEMORY = 40
+# How often each size of a directory is measured. In a run: the epochs with changes, the changes of
+# each, the look-ups of a step, and the steps of look-ups.
+EPOCH_RUNS = {1_000: 10, 10_000: 10, 100_000: 10, 1_000_000: 5}
+EPOCH_ROUNDS, EPOCH_CHANGES = 100, 1_000
+EPOCH_LOOK_UPS, LOOK_UP_ROUNDS = 10_000, 10
+# The last epochs of a run, in which the memory that a change keeps is measured. The first ones use
+# memory that was free again after the registrations.
+LATE_ROUNDS = 40
 # With how many digests one by one a change and its share of the closing are compared.
 CHANGE_DIGESTS = 24
 
@@ -512,81 +513,100 @@ def digests_of_closings(by_number, indices):
     return digests
 
 
-class EpochRun:
-    """The times of one run of `measure epochs` on so many names, and the bytes that it keeps."""
-
-    def __init__(self, size, told):
-        words = ["epochs", size, EPOCH_CHANGES, EPOCH_ROUNDS, EPOCH_LOOK_UPS, DIGESTS]
-        _, run_steps = steps(3 * EPOCH_ROUNDS + 6, *words)
-        before, names, first, *rounds, at_head, at_old, after = run_steps
-        if [at_head.number, at_old.number] != [told, told]:
-            sys.exit(f"epochs: {at_head.number}, {at_old.number} bytes, and {told} was wanted")
-        self.digests = [before.seconds, after.seconds]
-        self.registrations = names.seconds
-        self.changes = [step.seconds for step in rounds[1::3]]
-        self.closings = [step.seconds for step in rounds[2::3]]
-        self.at_head, self.at_old = at_head.seconds, at_old.seconds
-        last = rounds[-3 * EPOCHS_OF_MEMORY :]
-        self.bytes_a_name = (names.memory + first.memory) / size
-        self.bytes_a_change = sum(step.memory for step in last) / EPOCHS_OF_MEMORY / EPOCH_CHANGES
+def levels_of_look_ups(by_number, indices):
+    """The levels of the paths of each step of look-ups."""
+    levels = []
+    for number in range(LOOK_UP_ROUNDS):
+        numbers = numbers_of_round(len(indices), number, EPOCH_LOOK_UPS)
+        levels.append([level_of(indices, by_number[number]) for number in numbers])
+    return levels
 
 
-def operation_row(size, spread, digest, kept):
-    """The row of registrations or of changes."""
-    # A digest for the index and one for the commitment, and the stand-ins' for value and signature.
-    ratio = spread.least / (4 * digest)
-    kept = statistics.median(kept)
-    return [f"{size:,}", "4", *spread.cells(1e6, 2), f"{ratio:.2f}", f"{kept:.0f}"]
+class Epochs:
+    """The runs of `measure epochs` on so many names: their times, and the bytes that they keep."""
 
+    def __init__(self, size):
+        by_number = [index_of_name(number) for number in range(size)]
+        indices = sorted(by_number)
+        self.size = size
+        self.closed = digests_of_closings(by_number, indices)
+        self.levels = levels_of_look_ups(by_number, indices)
+        self.digests, self.registrations, self.changes, self.closings = [], [], [], []
+        self.at_head, self.at_old, self.bytes_a_name, self.bytes_a_change = [], [], [], []
+        for _ in range(EPOCH_RUNS[size]):
+            self.run()
 
-def closing_row(size, done, digests, digest, change):
-    """The row of closings, which take so many digests. A change by itself has the least time
-    `change`."""
-    # The rounds take different numbers of digests, so that the times are those of one digest.
-    spread = Spread([time / count for run in done for time, count in zip(run.closings, digests)])
-    each = statistics.mean(digests)
-    whole = change + spread.least * each / EPOCH_CHANGES
-    ratio, part = spread.least / digest, whole / (CHANGE_DIGESTS * digest)
-    row = [f"{size:,}", f"{each:.0f}", *spread.cells(1e3 * each, 2), f"{ratio:.2f}"]
-    return [*row, f"{whole * 1e6:.2f}", f"{part:.2f}"]
+    def run(self):
+        words = [EPOCH_CHANGES, EPOCH_ROUNDS, EPOCH_LOOK_UPS, LOOK_UP_ROUNDS, DIGESTS]
+        count = 4 + 3 * EPOCH_ROUNDS + 2 * LOOK_UP_ROUNDS
+        _, (before, names, first, *middle, after) = steps(count, "epochs", self.size, *words)
+        rounds, look_ups = middle[: 3 * EPOCH_ROUNDS], middle[3 * EPOCH_ROUNDS :]
+        told = [sum(249 + 32 * level for level in step) for step in self.levels]
+        if [step.number for step in look_ups] != told + told:
+            sys.exit(f"epochs: {[step.number for step in look_ups]} bytes, and {told} was wanted")
+        self.digests += [before.seconds, after.seconds]
+        self.registrations.append(names.seconds)
+        self.changes += [step.seconds for step in rounds[1::3]]
+        self.closings += [step.seconds for step in rounds[2::3]]
+        self.at_head += [step.seconds for step in look_ups[:LOOK_UP_ROUNDS]]
+        self.at_old += [step.seconds for step in look_ups[LOOK_UP_ROUNDS:]]
+        late = sum(step.memory for step in rounds[-3 * LATE_ROUNDS :])
+        self.bytes_a_name.append((names.memory + first.memory) / self.size)
+        self.bytes_a_change.append(late / (LATE_ROUNDS * EPOCH_CHANGES))
 
+    def operation_row(self, times, kept, digest):
+        """The row of registrations or of changes."""
+        # One for the index, one for the commitment, and the stand-ins' for value and signature.
+        digests = 4
+        ratio, kept = times.least / (digests * digest), statistics.median(kept)
+        row = [f"{self.size:,}", f"{digests}", *times.cells(1e6, 2)]
+        return [*row, f"{ratio:.2f}", f"{kept:.0f}"]
 
-def epoch_rows(size):
-    """The rows of one size: registrations; changes; closings; look-ups."""
-    by_number = [index_of_name(number) for number in range(size)]
-    indices = sorted(by_number)
-    closed = digests_of_closings(by_number, indices)
-    looked_up = [by_number[number] for number in numbers_of_round(size, 0, EPOCH_LOOK_UPS)]
-    levels = [level_of(indices, index) for index in looked_up]
-    told = sum(249 + 32 * level for level in levels)
+    def registration_row(self, digest):
+        return self.operation_row(Spread(self.registrations, self.size), self.bytes_a_name, digest)
 
-    done = [EpochRun(size, told) for _ in range(EPOCH_RUNS[size])]
-    digest = min(time for run in done for time in run.digests) / DIGESTS
-    registration = Spread([run.registrations for run in done], size)
-    change = Spread([time for run in done for time in run.changes], EPOCH_CHANGES)
-    look_ups = [f"{size:,}", f"{statistics.mean(levels):.2f}"]
-    for times in ([run.at_head for run in done], [run.at_old for run in done]):
-        spread = Spread(times, EPOCH_LOOK_UPS)
-        ratio = spread.least / (2 * digest)
-        look_ups += [f"{1 / spread.least:,.0f}", *spread.cells(1e6, 2), f"{ratio:.2f}"]
-    return [
-        operation_row(size, registration, digest, [run.bytes_a_name for run in done]),
-        operation_row(size, change, digest, [run.bytes_a_change for run in done]),
-        closing_row(size, done, closed, digest, change.least),
-        [*look_ups, f"{digest * 1e9:.0f}"],
-    ]
+    def change_row(self, digest):
+        return self.operation_row(Spread(self.changes, EPOCH_CHANGES), self.bytes_a_change, digest)
+
+    def closing_row(self, digest):
+        # The rounds take different numbers of digests, so that the times are those of one digest.
+        closed = self.closed * EPOCH_RUNS[self.size]
+        times = Spread([time / count for time, count in zip(self.closings, closed)])
+        each, ratio = statistics.mean(self.closed), times.least / digest
+        both = [sum(pair) for pair in zip(self.changes, self.closings)]
+        change = Spread(both, EPOCH_CHANGES).least
+        row = [f"{self.size:,}", f"{each:.0f}", *times.cells(1e3 * each, 2), f"{ratio:.2f}"]
+        return [*row, f"{change * 1e6:.2f}", f"{change / (CHANGE_DIGESTS * digest):.2f}"]
+
+    def look_up_row(self, digest):
+        # One for the index, and the stand-in's for the value.
+        digests = 2
+        levels = statistics.mean(level for step in self.levels for level in step)
+        row = [f"{self.size:,}", f"{levels:.2f}", f"{digests}"]
+        for kept in (self.at_head, self.at_old):
+            times = Spread(kept, EPOCH_LOOK_UPS)
+            ratio = times.least / (digests * digest)
+            row += [f"{1 / times.least:,.0f}", *times.cells(1e6, 2), f"{ratio:.2f}"]
+        return row
 
 
 def epochs(_folder):
-    registered, changed, closed, looked_up = zip(*(epoch_rows(size) for size in EPOCH_RUNS))
+    sizes = [Epochs(size) for size in EPOCH_RUNS]
+    digests = Spread([time for each in sizes for time in each.digests], DIGESTS)
+    digest = digests.least
+    print_digest(LEAF, digests)
     spread = ["least", "median", "greatest", "ratio"]
     head = ["names", "digests", *spread]
-    table("a registration, microseconds", [*head, "bytes a name"], registered)
-    table("a change, microseconds", [*head, "bytes kept"], changed)
+    rows = [each.registration_row(digest) for each in sizes]
+    table("a registration, microseconds", [*head, "bytes a name"], rows)
+    rows = [each.change_row(digest) for each in sizes]
+    table("a change, microseconds", [*head, "bytes kept"], rows)
     title = f"the closing of {EPOCH_CHANGES:,} changes, milliseconds; a change with its share of it"
-    table(title, [*head, "a change, us", f"of {CHANGE_DIGESTS} digests"], closed)
-    head = ["names", "levels", "head/s", *spread, "old/s", *spread, "a digest, ns"]
-    table("look-ups at the head and at an old epoch, microseconds", head, looked_up)
+    rows = [each.closing_row(digest) for each in sizes]
+    table(title, [*head, "a change, us", f"of {CHANGE_DIGESTS} digests"], rows)
+    head = ["names", "levels", "digests", "head/s", *spread, "old/s", *spread]
+    rows = [each.look_up_row(digest) for each in sizes]
+    table("look-ups at the head and at an old epoch, microseconds", head, rows)
 
 
 def main(which):
