@@ -1,4 +1,4 @@
-ghost use Rattle.std.specs.Prelude.{◌≡◌, ◌↔◌, ◌++◌, ◌≤◌, length, drop, IsTrue, OnErr, OnOk, IsErrOf};
+ghost use Rattle.std.specs.Prelude.{◌≡◌, ◌↔◌, ◌++◌, ◌<◌, ◌≤◌, length, drop, IsTrue, OnErr, OnOk, IsErrOf};
 ghost use Rattle.wire.specs.Streams.{Held, Rest, Failed, with_more, Waits};
 
 use crate::FeedRefusal;
@@ -132,7 +132,9 @@ mod tests {
         alloc: Global,
         frame: &[u8],
         size: usize,
-    ) -> Result<(), FeedRefusal> {
+    ) -> Result<(), FeedRefusal>
+        requires { 0 < size }
+    {
         let mut feed = Feed::new(alloc);
         for _ in 0..20 {
             for piece in frame.chunks(size) {
