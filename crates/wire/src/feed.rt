@@ -86,6 +86,7 @@ impl Feed {
     }
 
     /// Takes the next frame, if it is whole, and lends it.
+    // The clause says that the answer, and the feed once the loan has ended, are as `Gives` has them.
     pub fn next(&mut self) -> Next<'_>
         ensures* gives { sem 𝓛 (follows_so the_row the_row self.entry.ghost_name none (λ _ _. ⊤) (λ held. Gives self.old result held)) }
     {
