@@ -220,9 +220,7 @@ fn proofs(rt: HostRuntime) -> Result<(), Fail> {
     let text = format!(in rt.alloc(); "0000009982{ROOT_BODY}000176020000")?;
     let mut proof = ProofText::new();
     proof.push_slice(root_body().write().bytes());
-    for byte in [0, 1, b'v', 2, 0, 0] {
-        proof.push(byte);
-    }
+    proof.push_slice(&[0, 1, b'v', 2, 0, 0]);
     let frame = answered(&rt, rt.alloc(), &Answer::Proof(&proof), text.as_str())?;
     let read = Response::read(0x82, body(&frame));
     assert!(rt; matches!(read, Ok(Response::Proof(view)) if view.siblings().is_empty()));
@@ -262,6 +260,7 @@ fn longest_answer(rt: HostRuntime) -> Result<(), Fail> {
     for _ in 0..64 {
         roots.push(root.copied())?;
     }
+    assert_eq!(rt; roots.len(), 64);
     let mut output = Vec::new(rt.alloc());
     Answer::Roots(roots.as_slice()).write(&mut output)?;
     assert_eq!(rt; output.len(), MAX_ANSWER_LEN);
