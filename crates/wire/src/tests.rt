@@ -61,7 +61,9 @@ fn requested(
     assert_eq!(rt; output, frame, "{request:?}");
     let kind = frame.as_slice().get(4).copied().unwrap_or(0);
     let read = Request::read(kind, body(&frame));
-    let Ok(read) = read else { panic!(rt; "the value is one of its form") };
+    let Ok(read) = read else {
+        panic!(rt; "the value is one of its form")
+    };
     let mut again = Vec::new(alloc);
     assert!(rt; read.fits());
     read.write(&mut again)?;
@@ -80,11 +82,35 @@ fn requested(
 fn requests(rt: HostRuntime) -> Result<(), Fail> {
     let token = Hash32::new(rising(0x20));
     for (request, text) in &[
-        (Request::Register { name: b"a", key: b"k" }, "000000070100016100016b"),
-        (Request::Change { name: b"", key: b"key" }, "0000000802000000036b6579"),
+        (
+            Request::Register {
+                name: b"a",
+                key: b"k",
+            },
+            "000000070100016100016b",
+        ),
+        (
+            Request::Change {
+                name: b"",
+                key: b"key",
+            },
+            "0000000802000000036b6579",
+        ),
         (Request::Promise { name: b"a" }, "0000000403000161"),
-        (Request::Lookup { epoch: 9, name: b"ab" }, "0000000d04000000000000000900026162"),
-        (Request::History { from: u64::MAX, count: 64 }, "0000000b05ffffffffffffffff0040"),
+        (
+            Request::Lookup {
+                epoch: 9,
+                name: b"ab",
+            },
+            "0000000d04000000000000000900026162",
+        ),
+        (
+            Request::History {
+                from: u64::MAX,
+                count: 64,
+            },
+            "0000000b05ffffffffffffffff0040",
+        ),
         (Request::Head, "0000000106"),
         (
             Request::Close { token, epoch: 2 },
@@ -220,9 +246,7 @@ fn proofs(rt: HostRuntime) -> Result<(), Fail> {
     let text = format!(in rt.alloc(); "0000009982{ROOT_BODY}000176020000")?;
     let mut proof = ProofText::new();
     proof.push_slice(root_body().write().bytes());
-    for byte in [0, 1, b'v', 2, 0, 0] {
-        proof.push(byte);
-    }
+    proof.push_slice(&[0, 1, b'v', 2, 0, 0]);
     let frame = answered(&rt, rt.alloc(), &Answer::Proof(&proof), text.as_str())?;
     let read = Response::read(0x82, body(&frame));
     assert!(rt; matches!(read, Ok(Response::Proof(view)) if view.siblings().is_empty()));
@@ -262,6 +286,7 @@ fn longest_answer(rt: HostRuntime) -> Result<(), Fail> {
     for _ in 0..64 {
         roots.push(root.copied())?;
     }
+    assert_eq!(rt; roots.len(), 64);
     let mut output = Vec::new(rt.alloc());
     Answer::Roots(roots.as_slice()).write(&mut output)?;
     assert_eq!(rt; output.len(), MAX_ANSWER_LEN);
