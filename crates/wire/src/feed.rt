@@ -145,7 +145,10 @@ mod tests {
             assert!(rt; matches!(feed.next(), Next::Wait));
         }
         let longest = frame.len().wrapping_add(size.min(frame.len()));
-        assert!(rt; feed.buffer.capacity() <= longest.wrapping_mul(2), "pieces of {size}");
+        assert!(rt;
+            feed.buffer.capacity() <= longest.wrapping_mul(2),
+            "pieces of {size}"
+        );
         Ok(())
     }
 

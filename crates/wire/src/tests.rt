@@ -61,7 +61,9 @@ fn requested(
     assert_eq!(rt; output, frame, "{request:?}");
     let kind = frame.as_slice().get(4).copied().unwrap_or(0);
     let read = Request::read(kind, body(&frame));
-    let Ok(read) = read else { panic!(rt; "the value is one of its form") };
+    let Ok(read) = read else {
+        panic!(rt; "the value is one of its form")
+    };
     let mut again = Vec::new(alloc);
     assert!(rt; read.fits());
     read.write(&mut again)?;
@@ -80,11 +82,35 @@ fn requested(
 fn requests(rt: HostRuntime) -> Result<(), Fail> {
     let token = Hash32::new(rising(0x20));
     for (request, text) in &[
-        (Request::Register { name: b"a", key: b"k" }, "000000070100016100016b"),
-        (Request::Change { name: b"", key: b"key" }, "0000000802000000036b6579"),
+        (
+            Request::Register {
+                name: b"a",
+                key: b"k",
+            },
+            "000000070100016100016b",
+        ),
+        (
+            Request::Change {
+                name: b"",
+                key: b"key",
+            },
+            "0000000802000000036b6579",
+        ),
         (Request::Promise { name: b"a" }, "0000000403000161"),
-        (Request::Lookup { epoch: 9, name: b"ab" }, "0000000d04000000000000000900026162"),
-        (Request::History { from: u64::MAX, count: 64 }, "0000000b05ffffffffffffffff0040"),
+        (
+            Request::Lookup {
+                epoch: 9,
+                name: b"ab",
+            },
+            "0000000d04000000000000000900026162",
+        ),
+        (
+            Request::History {
+                from: u64::MAX,
+                count: 64,
+            },
+            "0000000b05ffffffffffffffff0040",
+        ),
         (Request::Head, "0000000106"),
         (
             Request::Close { token, epoch: 2 },

@@ -130,7 +130,11 @@ fn takes_all(rt: &impl Abort, feed: &mut Feed, first: u16, most: usize) -> u16 {
         let length = number % 40;
         let wanted = [length as u8; 40];
         assert_eq!(rt; kind, 5, "frame {number}");
-        assert_eq!(rt; Some(body), wanted.get(..usize::from(length)), "frame {number}");
+        assert_eq!(rt;
+            Some(body),
+            wanted.get(..usize::from(length)),
+            "frame {number}"
+        );
         number = number.wrapping_add(1);
     }
     number
