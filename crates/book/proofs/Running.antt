@@ -80,7 +80,7 @@ module _ (provider : Provider) where
           let n : name ≡ other = cc in
           let b : own ≡ binding = cc in (
             promised-now (with_pending book name key) other binding goes.sound
-            (ap (at (with_pending book name key).pending) (sym n) ∙ at_put_same name own book.pending ∙ ap (λ (x : Binding). Some x) b),
+                (ap (at (with_pending book name key).pending) (sym n) ∙ at_put_same name own book.pending ∙ ap (λ (x : Binding). Some x) b),
             subst (IsPromisedBy asked other) (ap (λ (x : Binding). x.key) b) (subst (λ (x : List ℕ). IsPromisedBy asked x key) n by),
           )
 

@@ -127,24 +127,29 @@ mod tests {
     use std::process::Abort;
     use std::test::Fail;
 
-    /// Feeds many frames of so many bytes in pieces of so many, and compares the room that is left.
+    /// Feeds a stream in pieces of so many bytes, takes the frames of each piece, and compares the room
+    /// that is left with what its longest frame and piece may leave.
     fn keeps_little_room(
         rt: &impl Abort,
         alloc: Global,
-        frame: &[u8],
+        stream: &[u8],
+        frame: usize,
         size: usize,
     ) -> Result<(), FeedRefusal>
         requires { 0 < size }
     {
         let mut feed = Feed::new(alloc);
-        for _ in 0..20 {
-            for piece in frame.chunks(size) {
-                feed.feed(piece)?;
+        let mut taken = 0_usize;
+        for piece in stream.chunks(size) {
+            feed.feed(piece)?;
+            for _ in 0..FRAMES {
+                if matches!(feed.next(), Next::Frame(9, _)) {
+                    taken = taken.wrapping_add(1);
+                }
             }
-            assert!(rt; matches!(feed.next(), Next::Frame(9, _)));
-            assert!(rt; matches!(feed.next(), Next::Wait));
         }
-        let longest = frame.len().wrapping_add(size.min(frame.len()));
+        assert_eq!(rt; taken, FRAMES);
+        let longest = frame.wrapping_add(size.min(stream.len()));
         assert!(rt;
             feed.buffer.capacity() <= longest.wrapping_mul(2),
             "pieces of {size}"
@@ -152,17 +157,27 @@ mod tests {
         Ok(())
     }
 
+    /// The frames of a stream.
+    const FRAMES: usize = 8;
+
     #[test]
     fn drained_feed_keeps_little_room(rt: HostRuntime) -> Result<(), Fail> {
         for count in [0, 1, 10, 1000, 65_535] {
-            let mut frame = Vec::new(rt.alloc());
             let [_, first, second, third] = (1 + count as u32).to_be_bytes();
-            frame.extend_from_slice(&[0, first, second, third, 9])?;
-            frame.resize(5 + count, 7)?;
+            let mut stream = Vec::new(rt.alloc());
+            for _ in 0..FRAMES {
+                stream.extend_from_slice(&[0, first, second, third, 9])?;
+                for _ in 0..count {
+                    stream.push(7)?;
+                }
+            }
             for size in [1, 3, 16, 4096, 100_000] {
-                let kept = keeps_little_room(&rt, rt.alloc(), frame.as_slice(), size);
-                if kept.is_err() {
-                    return Err(AllocError)?;
+                match keeps_little_room(&rt, rt.alloc(), stream.as_slice(), 5 + count, size) {
+                    Ok(()) => {}
+                    Err(refusal) => {
+                        assert_eq!(rt; refusal, FeedRefusal::Memory);
+                        return Err(AllocError)?;
+                    }
                 }
             }
         }

@@ -47,7 +47,7 @@ fn body(frame: &Vec<u8>) -> &[u8] {
     frame.as_slice().get(5..).unwrap_or(&[])
 }
 
-/// A request is spelled so, and read from there; a body of one byte more or less is none.
+/// A request is spelled so, and read from there; a body of one byte more or less spells none.
 fn requested(
     rt: &impl Abort,
     alloc: Global,

@@ -1,26 +1,32 @@
-//! Calls that memory is refused to leave nothing behind, and answer as ever when they are asked
+//! A call to which memory is refused leaves nothing behind, and answers as ever when it is made
 //! again. `scripts/fail_alloc.sh` refuses each allocation in turn.
 
 use super::*;
 
+/// Feeds a piece, once more where memory was refused.
+fn fed_again(feed: &mut Feed, piece: &[u8]) -> Result<(), FeedRefusal> {
+    match feed.feed(piece) {
+        Err(FeedRefusal::Memory) => feed.feed(piece),
+        answer => answer,
+    }
+}
+
+// Each piece ends in the next frame, and the frames grow: so the feed closes up and grows at once.
 #[test]
 fn refused_piece_leaves_the_feed(rt: HostRuntime) -> Result<(), Fail> {
     let mut feed = Feed::new(rt.alloc());
-    for _ in 0..100 {
-        let piece = [0, 0, 0, 2, 5, 1, 0, 0, 0, 2, 5];
-        let mut answer = feed.feed(&piece);
-        if answer == Err(FeedRefusal::Memory) {
-            answer = feed.feed(&piece);
-        }
-        assert_eq!(rt; answer, Ok(()));
-        assert!(rt; matches!(feed.next(), Next::Frame(5, [1])));
-        assert!(rt; matches!(feed.next(), Next::Wait));
-        let mut answer = feed.feed(&[1]);
-        if answer == Err(FeedRefusal::Memory) {
-            answer = feed.feed(&[1]);
-        }
-        assert_eq!(rt; answer, Ok(()));
-        assert!(rt; matches!(feed.next(), Next::Frame(5, [1])));
+    assert_eq!(rt; fed_again(&mut feed, &[0, 0]), Ok(()));
+    for length in 0..200_usize {
+        let mut piece = [7; 205];
+        piece[..3].copy_from_slice(&[0, length as u8 + 1, 5]);
+        piece[length + 3] = 0;
+        piece[length + 4] = 0;
+        assert_eq!(rt; fed_again(&mut feed, &piece[..length + 5]), Ok(()));
+        let Next::Frame(kind, body) = feed.next() else {
+            panic!(rt; "the frame is whole")
+        };
+        assert_eq!(rt; (kind, body.len()), (5, length));
+        assert!(rt; body.iter().all(|byte| *byte == 7));
         assert!(rt; matches!(feed.next(), Next::Wait));
     }
     Ok(())

@@ -62,6 +62,26 @@ fn three_heads_in_one_piece_and_one_byte_a_piece(rt: HostRuntime) -> Result<(), 
     Ok(())
 }
 
+/// What reading the next frame of the feed as a request refuses, if it does.
+fn next_refusal(rt: &impl Abort, feed: &mut Feed) -> Option<ReadRefusal> {
+    let Next::Frame(kind, body) = feed.next() else {
+        panic!(rt; "the frame is whole")
+    };
+    Request::read(kind, body).err()
+}
+
+#[test]
+fn stream_goes_on_behind_a_refused_frame(rt: HostRuntime) -> Result<(), Fail> {
+    let mut feed = Feed::new(rt.alloc());
+    let frames = [0, 0, 0, 1, 9, 0, 0, 0, 2, 6, 0, 0, 0, 0, 1, 6];
+    fed(&rt, &mut feed, &frames)?;
+    assert_eq!(rt; next_refusal(&rt, &mut feed), Some(ReadRefusal::BadKind));
+    assert_eq!(rt; next_refusal(&rt, &mut feed), Some(ReadRefusal::BadBody));
+    assert_eq!(rt; next_refusal(&rt, &mut feed), None);
+    assert!(rt; matches!(feed.next(), Next::Wait));
+    Ok(())
+}
+
 /// The stream is one Head frame and then fails for good.
 fn fails(rt: &impl Abort, alloc: Global, length: [u8; 4]) -> Result<(), AllocError> {
     let mut feed = Feed::new(alloc);

@@ -38,9 +38,9 @@ returns-in_err-reply-clause-keys g c = (c.answer.ensures.keys.0 ∙ c.loop-comma
 pub loop-command-preserved : goal.loop-command-preserved
 loop-command-preserved g c = (
   run_next g.H.NodeHash.digest_of g.V.Vuf.value_of g.S.Signer.signature_of g.R.Rng.stream g.K.Keeper.kept g.K.Keeper.failed
-  c.args.self.now c.loop-command.self c.answer.new.self c.args.keeper.now c.loop-command.keeper c.answer.new.keeper
-  c.args.commands.now c.loop-command.command-index _ c.loop-command.replies.items c.push_reserved.new.self.items _
-  c.loop-command-test.true (cc (c.push_reserved.ensures.items, c.in_ok-reserve.ensures.items)) c.loop-command.invariant.0 c.in_ok-reply.ensures.ok c.answer.ensures.keys,
+      c.args.self.now c.loop-command.self c.answer.new.self c.args.keeper.now c.loop-command.keeper c.answer.new.keeper
+      c.args.commands.now c.loop-command.command-index _ c.loop-command.replies.items c.push_reserved.new.self.items _
+      c.loop-command-test.true (cc (c.push_reserved.ensures.items, c.in_ok-reserve.ensures.items)) c.loop-command.invariant.0 c.in_ok-reply.ensures.ok c.answer.ensures.keys,
   All-more (λ command. IsCommand (asked command)) c.args.commands.now c.loop-command.command-index _ c.loop-command-test.true c.loop-command.invariant.1 c.is_command.ensures,
 )
 
