@@ -67,7 +67,10 @@ fn next_refusal(rt: &impl Abort, feed: &mut Feed) -> Option<ReadRefusal> {
     let Next::Frame(kind, body) = feed.next() else {
         panic!(rt; "the frame is whole")
     };
-    Request::read(kind, body).err()
+    match Request::read(kind, body) {
+        Ok(_) => None,
+        Err(refusal) => Some(refusal),
+    }
 }
 
 #[test]
