@@ -1,12 +1,12 @@
 -- A list of roots is read exactly where one is spelled, and each of its roots can be taken.
-use Rattle.std.proofs.Common.{◌≡◌, ℕ, zero, suc, ◌^◌, ◌<◌, ◌≤◌, true, leb, List, [], ◌∷◌, ◌++◌, length, Result, Ok, Err, refl, sym, ap, subst, ◌∙◌, arith}
+use Rattle.std.proofs.Common.{◌≡◌, ℕ, zero, suc, ◌^◌, ◌<◌, ◌≤◌, true, leb, List, [], ◌∷◌, length, Result, Ok, Err, refl, sym, ap, subst, ◌∙◌, arith}
 use Rattle.std.specs.List.{flat_map, AllByRecursion}
 use Rattle.std.proofs.lemmas.Bool.{and_parts, leb-true, le-leb}
 use Rattle.encoding.specs.declared.fault.Fault.{Fault}
 use Rattle.encoding.specs.Bytes.{IsBytes}
 use Rattle.encoding.specs.Endian.{big_bytes}
 use Rattle.encoding.specs.Fields.{IsField, Spells}
-use Rattle.encoding.specs.Reading.{Reading, ◌>>=◌, is_within, read_list, read_number, read_where}
+use Rattle.encoding.specs.Reading.{◌>>=◌, is_within, read_list, read_number}
 use Rattle.encoding.proofs.Fields.{allowed_field, list_field, numbers_field, ok_is, tested_field, then_field, whole-read, whole-refused, whole-spelled}
 use Rattle.rootchain.specs.declared.signed_root.SignedRoot.{SignedRoot}
 use Rattle.rootchain.specs.Readable.{signed_root_field}

@@ -1,5 +1,5 @@
 -- A body that spells nothing of the form of its kind is no response.
-use Rattle.std.proofs.Common.{◌≡◌, ◌≢◌, ℕ, List, [], ◌∷◌, ◌++◌, Result, Err, refl, sym, ap, ◌∙◌, arith}
+use Rattle.std.proofs.Common.{◌≡◌, ◌≢◌, ℕ, List, [], ◌∷◌, ◌++◌, Err, sym, ap, ◌∙◌, arith}
 use Rattle.std.proofs.lemmas.List.{append-nil}
 use Rattle.encoding.specs.Fields.{IsField, Spells}
 use Rattle.encoding.specs.Reading.{Reading}
@@ -18,7 +18,7 @@ use Rattle.rootchain.specs.Readable.{signed_promise_field, signed_root_field}
 use Rattle.rootchain.specs.RootLists.{read_root_list, root_list_bytes, IsRootList}
 use Rattle.rootchain.specs.SignedRoots.{read_signed_root, signed_root_bytes, IsSignedRoot}
 use Rattle.rootchain.proofs.RootLists.{root_list_field}
-use Rattle.wire.specs.Responses.{Responded, Promise, Proof, Roots, Root, Refused, response_kind, Responds, IsResponseKind}
+use Rattle.wire.specs.Responses.{Responded, Promise, Proof, Roots, Root, Refused, Responds, IsResponseKind}
 
 -- some value of each type, so that some response is of each kind
 some_body : Body

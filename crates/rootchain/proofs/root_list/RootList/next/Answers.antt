@@ -1,4 +1,4 @@
-use Rattle.std.proofs.Common.{rules, arith, ◌≡◌, ℕ, ◌∷◌, List, [], ◌-◌, Ok, sym, ap, subst, ◌∙◌}
+use Rattle.std.proofs.Common.{arith, ◌≡◌, ℕ, ◌∷◌, List, [], ◌-◌, sym, ap, subst, ◌∙◌}
 use Rattle.encoding.proofs.Fields.{ok_is, refused_read}
 use Rattle.rootchain.specs.declared.signed_root.SignedRoot.{SignedRoot}
 use Rattle.rootchain.specs.RootLists.{listed, IsListed}
