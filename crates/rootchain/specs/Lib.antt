@@ -4,6 +4,7 @@ pub mod Evidence
 pub mod Promises
 pub mod Readable
 pub mod Refusals
+pub mod RootLists
 pub mod SignedRoots
 pub use Rattle.encoding.specs.Forms
 pub use Rattle.encoding.specs.Reading

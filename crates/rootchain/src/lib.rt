@@ -19,6 +19,7 @@ mod chain;
 mod laws;
 mod promise;
 mod refusal;
+mod root_list;
 mod signed_promise;
 mod signed_root;
 mod whole;
@@ -26,10 +27,11 @@ mod whole;
 pub use body::Body;
 pub use chain::Chain;
 pub use laws::{
-    body_is_read, epochs_ascend, promise_is_read, signed_promise_is_read, signed_root_is_read,
+    body_is_read, epochs_ascend, promise_is_read, root_list_is_read, signed_promise_is_read, signed_root_is_read,
 };
 pub use promise::Promise;
 pub use refusal::Refusal;
+pub use root_list::{MAX_ROOTS, RootList, list_len, write_list};
 pub use signed_promise::SignedPromise;
 pub use signed_root::SignedRoot;
 

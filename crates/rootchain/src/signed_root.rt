@@ -28,10 +28,11 @@ impl SignedRoot {
         whole(bytes)
     }
 
-    /// The bytes: the 146 of the body, then the signature behind its length.
+    /// The bytes: the 146 of the body, then the signature behind its length. At most 404.
     pub fn write(&self) -> Text
         ensures value { result ≡ signed_root_bytes self.now }
         ensures len { length result ≡ 148 + length self.now.signature }
+        ensures most { length result ≤ 404 }
         ensures form { IsWellFormed self.now.body → IsSignedRoot self.now }
     {
         let mut text = self.body.write();

@@ -1,0 +1,42 @@
+-- Frames: a kind and a body behind their number in four bytes (the form is the profile's).
+use Rattle.std.specs.Prelude.{ℕ, ◌+◌, ◌-◌, ◌≤◌, ◌<◌, List, [], ◌∷◌, ◌++◌, length}
+use Rattle.encoding.specs.Bytes.{IsBytes}
+use Rattle.encoding.specs.Endian.{big_bytes}
+use Rattle.encoding.specs.Reading.{Reading, is_within, read_as, read_both, read_byte, read_bytes, read_number, read_then, read_where}
+
+pub record Frame : Type 0 where
+  pub kind : ℕ
+  pub body : List ℕ
+
+-- the number of bytes of kind and body
+abbrev pub frame_size : Frame → ℕ
+frame_size frame = 1 + length frame.body
+
+-- what stands before a body of so many bytes
+abbrev pub frame_head : ℕ → ℕ → List ℕ
+frame_head kind count = big_bytes 4 (1 + count) ++ (kind ∷ [])
+
+-- that number in four bytes, the kind and the body
+abbrev pub frame_bytes : Frame → List ℕ
+frame_bytes frame = big_bytes 4 (frame_size frame) ++ (frame.kind ∷ frame.body)
+
+-- what a frame may hold: kind and body have 1 to 65,536 bytes
+abbrev pub IsFrame : Frame → Type 0
+IsFrame frame = (frame_size frame ≤ 65536) × (frame.kind < 256) × IsBytes frame.body
+
+-- ---- reading
+
+abbrev pub frame_of : ℕ × List ℕ → Frame
+frame_of parts = record { kind = parts.0; body = parts.1 }
+
+-- a kind and a body of so many bytes
+abbrev pub read_framed : ℕ → List ℕ → Reading Frame
+read_framed size = read_as frame_of (read_both read_byte (read_bytes (size - 1)))
+
+-- the number of a frame's bytes: OutOfRange where it is none from 1 to 65,536
+abbrev pub read_size : List ℕ → Reading ℕ
+read_size = read_where (is_within 1 65536) (read_number 4)
+
+-- a frame: Short where it is not whole yet, OutOfRange where its number of bytes may not be
+unfoldable pub read_frame : List ℕ → Reading Frame
+read_frame = read_then read_size read_framed

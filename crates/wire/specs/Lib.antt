@@ -1,0 +1,7 @@
+pub mod Frames
+pub mod FrameViews
+pub mod Laws
+pub mod Refusals
+pub mod Requests
+pub mod Responses
+pub mod Streams

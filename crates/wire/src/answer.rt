@@ -1,0 +1,79 @@
+ghost use Rattle.std.specs.Prelude.{◌≡◌, ◌+◌, ◌≤◌, ◌++◌, length, OnOk, OnErr, IsOk, vec_len, vec_capacity};
+ghost use Rattle.rootchain.specs.RootLists.{root_list_bytes};
+ghost use Rattle.wire.specs.Frames.{frame_bytes};
+ghost use Rattle.wire.specs.Responses.{answer_frame, HasFewRoots};
+
+use crate::writing::begin_frame;
+use encoding::ProofText;
+use rootchain::{SignedPromise, SignedRoot, list_len, write_list};
+use std::alloc::AllocError;
+
+/// The most bytes that the frame of an answer has: 64 roots with the longest signatures.
+pub const MAX_ANSWER_LEN: usize = 25863;
+
+/// The kind bytes of responses.
+pub(crate) const PROMISE: u8 = 129;
+
+pub(crate) const PROOF: u8 = 130;
+
+pub(crate) const ROOTS: u8 = 131;
+
+pub(crate) const ROOT: u8 = 132;
+
+pub(crate) const REFUSED: u8 = 255;
+
+/// A response that is to be written, whose parts lie where the directory has them.
+#[derive(Debug, Drop)]
+pub enum Answer<'a> {
+    /// The promise to bind a key to a name in the next epoch.
+    Promise(&'a SignedPromise),
+    /// The bytes of the reply to a look-up.
+    Proof(&'a ProofText),
+    /// Signed roots, at most 64.
+    Roots(&'a [SignedRoot]),
+    /// A signed root.
+    Root(&'a SignedRoot),
+    /// The number of the reason why the request is refused.
+    Refused(u8),
+}
+
+impl Answer<'_> {
+    /// Appends the frame of the response. An `Err` appends nothing, and is not returned where there
+    /// is room for the longest.
+    pub fn write(&self, output: &mut Vec<u8>) -> Result<(), AllocError>
+        requires { HasFewRoots self.now }
+        ensures ok { OnOk result (output.new.items ≡ output.old.items ++ frame_bytes (answer_frame self.now)) }
+        ensures err { OnErr result (output.new.items ≡ output.old.items) }
+        ensures room { vec_len output.old + 25863 ≤ vec_capacity output.old → IsOk result }
+    {
+        match self {
+            Answer::Promise(promise) => append_text(output, PROMISE, promise.write().bytes()),
+            Answer::Proof(text) => append_text(output, PROOF, text.bytes()),
+            Answer::Roots(roots) => append_roots(output, roots),
+            Answer::Root(root) => append_text(output, ROOT, root.write().bytes()),
+            Answer::Refused(code) => append_text(output, REFUSED, &[*code]),
+        }
+    }
+}
+
+/// Appends a frame with this body.
+fn append_text(output: &mut Vec<u8>, kind: u8, text: &[u8]) -> Result<(), AllocError>
+    requires { length text.now ≤ 10700 }
+    ensures ok { OnOk result (output.new.items ≡ output.old.items ++ frame_bytes (record { kind = kind; body = text.now })) }
+    ensures err { OnErr result (output.new.items ≡ output.old.items) }
+    ensures room { vec_len output.old + 5 + length text.now ≤ vec_capacity output.old → IsOk result }
+{
+    begin_frame(output, kind, text.len())?;
+    output.extend_from_slice(text)
+}
+
+/// Appends the frame of a list of roots.
+fn append_roots(output: &mut Vec<u8>, roots: &[SignedRoot]) -> Result<(), AllocError>
+    requires { length roots.now ≤ 64 }
+    ensures ok { OnOk result (output.new.items ≡ output.old.items ++ frame_bytes (record { kind = 131; body = root_list_bytes roots.now })) }
+    ensures err { OnErr result (output.new.items ≡ output.old.items) }
+    ensures room { vec_len output.old + 25863 ≤ vec_capacity output.old → IsOk result }
+{
+    begin_frame(output, ROOTS, list_len(roots))?;
+    write_list(roots, output)
+}

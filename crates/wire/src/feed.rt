@@ -1,0 +1,120 @@
+ghost use Rattle.std.specs.Prelude.{◌≡◌, ◌↔◌, ◌++◌, ◌≤◌, length, drop, IsTrue, OnErr, OnOk, IsErrOf};
+ghost use Rattle.wire.specs.Streams.{Held, Rest, Failed, with_more, Waits};
+
+use crate::FeedRefusal;
+use crate::frame::{Front, front_of};
+use std::alloc::Global;
+use std::marker::Model;
+
+/// What a feed has next.
+#[derive(Debug, Drop)]
+pub enum Next<'a> {
+    /// A whole frame: its kind and its body.
+    Frame(u8, &'a [u8]),
+    /// Less than a frame.
+    Wait,
+    /// A length that no frame has. A feed that failed stays so.
+    Failed,
+}
+
+/// A stream that comes in pieces: its bytes after the last frame that was taken. They stand in the
+/// buffer from a place on, which alone moves when a frame is taken.
+#[derive(Drop)]
+pub struct Feed {
+    buffer: Vec<u8>,
+    from: usize,
+    failed: bool,
+}
+
+impl Model for Feed {
+    ghost use Rattle.std.specs.Prelude.{drop, length, ◌≤◌, if◌then◌else◌};
+    ghost use Rattle.wire.specs.Streams.{Held, Rest, Failed};
+
+    ghost Value = { Held };
+
+    ghost view = { λ feed. if feed.failed then Failed else Rest (drop feed.from feed.buffer.items) };
+
+    ghost invariant = { λ feed. feed.from ≤ length feed.buffer.items };
+}
+
+impl Feed {
+    ghost use Rattle.std.specs.Borrow.{sem, follows_so};
+    ghost use mathlib.Core.Option.{none};
+    ghost use Rattle.std.specs.Prelude.{⊤, []};
+    ghost use Rattle.wire.specs.Streams.{Gives};
+    ghost use Rattle.wire.specs.contracts.feed.Feed.{the_row};
+
+    /// A stream of which nothing has come.
+    pub fn new(alloc: Global) -> Feed
+        ensures { result ≡ Rest [] }
+    {
+        Feed {
+            buffer: Vec::new(alloc),
+            from: 0,
+            failed: false,
+        }
+    }
+
+    /// Takes the next piece of the stream.
+    ///
+    /// # Errors
+    ///
+    /// `BadFrame` if the stream failed, else `Memory` if memory runs out. The feed then stays as it
+    /// was.
+    pub fn feed(&mut self, piece: &[u8]) -> Result<(), FeedRefusal>
+        ensures ok { OnOk result (self.new ≡ with_more self.old piece.now) }
+        ensures err { OnErr result (self.new ≡ self.old) }
+        ensures failed { IsErrOf result FeedRefusal.BadFrame ↔ (self.old ≡ Failed) }
+    {
+        if self.failed {
+            return Err(FeedRefusal::BadFrame);
+        }
+        drop_front(&mut self.buffer, self.from);
+        self.from = 0;
+        self.buffer.extend_from_slice(piece)?;
+        Ok(())
+    }
+
+    /// Whether `next` would not return `Wait`.
+    pub fn ready(&self) -> bool
+        ensures { IsTrue result ↔ (¬ Waits self.now) }
+    {
+        if self.failed {
+            return true;
+        }
+        !matches!(front_of(&self.buffer[self.from..]), Front::Short)
+    }
+
+    /// Takes the next frame, if it is whole, and lends it.
+    pub fn next(&mut self) -> Next<'_>
+        ensures* gives { sem 𝓛 (follows_so the_row the_row self.entry.ghost_name none (λ _ _. ⊤) (λ held. Gives self.old result held)) }
+    {
+        if self.failed {
+            return Next::Failed;
+        }
+        match front_of(&self.buffer[self.from..]) {
+            Front::Whole(frame) => {
+                self.from = self.from + 5 + frame.body.len();
+                Next::Frame(frame.kind, frame.body)
+            }
+            Front::Short => Next::Wait,
+            Front::Bad => {
+                self.failed = true;
+                Next::Failed
+            }
+        }
+    }
+}
+
+/// The first `count` bytes go, and the others move to the front. Nothing moves where none go.
+fn drop_front(buffer: &mut Vec<u8>, count: usize)
+    requires { count ≤ length buffer.old.items }
+    ensures { buffer.new.items ≡ drop count buffer.old.items }
+{
+    if count == 0 {
+        return;
+    }
+    let left = buffer.len() - count;
+    buffer.copy_within(count.., 0);
+    buffer.truncate(left);
+}

@@ -1,0 +1,59 @@
+ghost use Rattle.encoding.specs.Reading.{Gives};
+ghost use Rattle.wire.specs.Frames.{read_frame};
+ghost use Rattle.wire.specs.FrameViews.{frame_seen, BeginsWith};
+
+use encoding::{Cursor, Fault};
+
+/// The most bytes that the kind and the body of a frame have.
+pub const MAX_FRAME_LEN: usize = 65536;
+
+/// A frame where it lies in the bytes of a stream.
+#[derive(Drop)]
+pub(crate) struct FrameView<'a> {
+    pub(crate) kind: u8,
+    pub(crate) body: &'a [u8],
+}
+
+/// The frame at the front of the bytes.
+#[tactic(auto, unfolding(crate::specs::Frames::read_frame))]
+fn read_frame<'a>(cursor: &mut Cursor<'a>) -> Result<FrameView<'a>, Fault>
+    ensures { Gives frame_seen result cursor.new (read_frame cursor.old) }
+{
+    let size = cursor.u32()? as usize;
+    if size < 1 || MAX_FRAME_LEN < size {
+        return Err(Fault::OutOfRange);
+    }
+    Ok(FrameView {
+        kind: cursor.u8()?,
+        body: cursor.take(size - 1)?,
+    })
+}
+
+/// What the bytes of a stream begin with.
+#[derive(Drop)]
+pub(crate) enum Front<'a> {
+    /// A frame that is whole.
+    Whole(FrameView<'a>),
+    /// Less than a frame.
+    Short,
+    /// A number of bytes that no frame has.
+    Bad,
+}
+
+/// What these bytes begin with.
+#[tactic(auto, using(crate::proofs::Faults::begins_with_whole, crate::proofs::Faults::is_bad))]
+pub(crate) fn front_of<'a>(bytes: &'a [u8]) -> Front<'a>
+    ensures { BeginsWith bytes.entry.now result }
+{
+    let mut cursor = Cursor::new(bytes);
+    match read_frame(&mut cursor) {
+        Ok(frame) => Front::Whole(frame),
+        Err(fault) => {
+            if fault == Fault::Short {
+                Front::Short
+            } else {
+                Front::Bad
+            }
+        }
+    }
+}

@@ -1,0 +1,38 @@
+//! Frames on a stream that comes in pieces, and the requests and responses that they carry.
+//!
+//! Callers can rely on this: where a stream is cut does not matter, reading accepts exactly the forms,
+//! and a frame that is written into reserved room is written whole.
+//!
+//! ```
+//! let mut feed = Feed::new(alloc);
+//! feed.feed(piece)?;
+//! while let Next::Frame(kind, body) = feed.next() {
+//!     let request = Request::read(kind, body)?;
+//!     // .. the reply of the directory
+//!     Answer::Promise(&promise).write(&mut output)?;
+//! }
+//! ```
+#![tactic(auto)]
+
+mod answer;
+mod feed;
+mod frame;
+mod laws;
+mod refusal;
+mod request;
+mod response;
+mod writing;
+
+pub use answer::{Answer, MAX_ANSWER_LEN};
+pub use feed::{Feed, Next};
+pub use frame::MAX_FRAME_LEN;
+pub use laws::{
+    body_spells_one_request, body_spells_one_response, cutting_does_not_matter, frames_are_read,
+    messages_are_computed, stream_splits_once,
+};
+pub use refusal::{FeedRefusal, ReadRefusal};
+pub use request::Request;
+pub use response::Response;
+
+#[cfg(test)]
+mod tests;

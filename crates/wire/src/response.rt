@@ -1,0 +1,67 @@
+ghost use Rattle.std.specs.Prelude.{◌≡◌, ◌≢◌, ℕ, ◌∷◌, [], MatchOption};
+ghost use Rattle.wire.specs.Responses.{ReadsResponse};
+
+use crate::ReadRefusal;
+use crate::answer::{PROMISE, PROOF, REFUSED, ROOT, ROOTS};
+use proofs::ReplyView;
+use rootchain::{RootList, SignedPromise, SignedRoot};
+
+/// What a directory responds, read from the body of a frame.
+#[derive(Drop)]
+pub enum Response<'a> {
+    /// The promise to bind a key to a name in the next epoch.
+    Promise(SignedPromise),
+    /// The reply to a look-up.
+    Proof(ReplyView<'a>),
+    /// Signed roots.
+    Roots(RootList<'a>),
+    /// A signed root.
+    Root(SignedRoot),
+    /// The number of the reason why the request is refused.
+    Refused(u8),
+}
+
+impl<'a> Response<'a> {
+    /// The response that a frame of this kind with this body is.
+    ///
+    /// # Errors
+    ///
+    /// `BadKind` if no response is of the kind, else `BadBody` if the body does not spell one.
+    pub fn read(kind: u8, body: &'a [u8]) -> Result<Response<'a>, ReadRefusal>
+        ensures { ReadsResponse kind body.entry.now result }
+    {
+        match kind {
+            PROMISE => match SignedPromise::read(body) {
+                Ok(promise) => Ok(Response::Promise(promise)),
+                Err(_) => Err(ReadRefusal::BadBody),
+            },
+            PROOF => match ReplyView::read(body) {
+                Ok(proof) => Ok(Response::Proof(proof)),
+                Err(_) => Err(ReadRefusal::BadBody),
+            },
+            ROOTS => match RootList::read(body) {
+                Ok(roots) => Ok(Response::Roots(roots)),
+                Err(_) => Err(ReadRefusal::BadBody),
+            },
+            ROOT => match SignedRoot::read(body) {
+                Ok(root) => Ok(Response::Root(root)),
+                Err(_) => Err(ReadRefusal::BadBody),
+            },
+            REFUSED => match only_byte(body) {
+                Some(code) => Ok(Response::Refused(code)),
+                None => Err(ReadRefusal::BadBody),
+            },
+            _ => Err(ReadRefusal::BadKind),
+        }
+    }
+}
+
+/// The byte of a body that has one alone.
+fn only_byte(body: &[u8]) -> Option<u8>
+    ensures { MatchOption result ((code : ℕ) → body.now ≢ code ∷ []) (λ code. body.now ≡ code ∷ []) }
+{
+    match body {
+        [code] => Some(*code),
+        _ => None,
+    }
+}

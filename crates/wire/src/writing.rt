@@ -1,0 +1,46 @@
+ghost use Rattle.std.specs.Prelude.{◌≡◌, ◌+◌, ◌<◌, ◌≤◌, ◌++◌, length, OnOk, OnErr, IsOk, vec_len, vec_capacity};
+ghost use Rattle.wire.specs.Frames.{frame_bytes, frame_head};
+
+use byteorder::{BigEndian, ByteOrder};
+use std::alloc::AllocError;
+
+/// Reserves the room of a frame, and appends what stands before its body. An `Err` appends nothing,
+/// and is not returned where there is room.
+pub(crate) fn begin_frame(output: &mut Vec<u8>, kind: u8, body_len: usize) -> Result<(), AllocError>
+    requires { body_len < 65536 }
+    ensures ok { OnOk result (output.new.items ≡ output.old.items ++ frame_head kind body_len) }
+    ensures reserved { OnOk result (vec_len output.new + body_len ≤ vec_capacity output.new) }
+    ensures err { OnErr result (output.new.items ≡ output.old.items) }
+    ensures room { vec_len output.old + 5 + body_len ≤ vec_capacity output.old → IsOk result }
+{
+    output.reserve(5 + body_len)?;
+    let mut head = [0; 4];
+    BigEndian::write_u32(&mut head, (1 + body_len) as u32);
+    output.extend_from_slice(&head)?;
+    output.push(kind)?;
+    Ok(())
+}
+
+/// Appends a frame, whose body comes in four parts. An `Err` appends nothing, and is not returned
+/// where there is room.
+pub(crate) fn append_frame(
+    output: &mut Vec<u8>,
+    kind: u8,
+    front: &[u8],
+    name: &[u8],
+    middle: &[u8],
+    key: &[u8],
+) -> Result<(), AllocError>
+    requires { length front.now + length name.now + length middle.now + length key.now < 65536 }
+    ensures ok { OnOk result (output.new.items ≡ output.old.items
+        ++ frame_bytes (record { kind = kind; body = front.now ++ (name.now ++ (middle.now ++ key.now)) })) }
+    ensures err { OnErr result (output.new.items ≡ output.old.items) }
+    ensures room { vec_len output.old + 5 + (length front.now + length name.now + length middle.now + length key.now) ≤ vec_capacity output.old → IsOk result }
+{
+    begin_frame(output, kind, front.len() + name.len() + middle.len() + key.len())?;
+    output.extend_from_slice(front)?;
+    output.extend_from_slice(name)?;
+    output.extend_from_slice(middle)?;
+    output.extend_from_slice(key)?;
+    Ok(())
+}
