@@ -241,3 +241,35 @@ for user in [b"alice", b"dave", b"heidi"]:
 
 for name, text in replies:
     print(f"reply to {name}: {len(text)} bytes, sha256 {hashlib.sha256(text).hexdigest()}")
+
+
+# Frames: the length of kind and body in four bytes, the kind and the body.
+def frame(kind, body):
+    return (1 + len(body)).to_bytes(4, "big") + bytes([kind]) + body
+
+
+def epoch(number):
+    return number.to_bytes(8, "big")
+
+
+frame_root_body = b"R\x01" + epoch(7) + epoch(3) + run(0x20) + run(0x40) + run(0x60) + run(0x80)
+frame_root = frame_root_body + counted(b"s")
+frame_promise = b"P\x01" + epoch(7) + run(0x20) + run(0x40) + counted(b"a") + counted(b"k")
+frames = [
+    ("register", 1, counted(b"a") + counted(b"k")),
+    ("change", 2, counted(b"") + counted(b"key")),
+    ("promise", 3, counted(b"a")),
+    ("look-up", 4, epoch(9) + counted(b"ab")),
+    ("history", 5, epoch(2**64 - 1) + (64).to_bytes(2, "big")),
+    ("head", 6, b""),
+    ("close", 7, run(0x20) + epoch(2)),
+    ("promise", 0x81, frame_promise + counted(b"s")),
+    ("proof", 0x82, frame_root_body + counted(b"v") + b"\x02" + bytes(2)),
+    ("roots", 0x83, (2).to_bytes(2, "big") + frame_root + frame_root),
+    ("root", 0x84, frame_root),
+    ("refused", 0xFF, bytes([14])),
+]
+for name, kind, body in frames:
+    print(f"frame of kind {kind:02x}, {name}: {frame(kind, body).hex()}")
+longest_roots = (64).to_bytes(2, "big") + (frame_root_body + counted(bytes(256))) * 64
+print(f"frame of 64 roots: {len(frame(0x83, longest_roots))} bytes")

@@ -111,7 +111,7 @@ split_once stream (f ∷ fs) [] rest left one two =
     absurd (no_frame_in left f (flat_map frame_bytes fs ++ rest) one.1.0 (sym two.0 ∙ one.0 ∙ append_assoc (frame_bytes f) (flat_map frame_bytes fs) rest) two.2)
 split_once stream (f ∷ fs) (g ∷ gs) rest left one two =
     let same = one_spelling read_frame frame_bytes IsFrame frame_field f g (flat_map frame_bytes fs ++ rest) (flat_map frame_bytes gs ++ left) one.1.0 two.1.0
-        (sym (append_assoc (frame_bytes f) (flat_map frame_bytes fs) rest) ∙ sym one.0 ∙ two.0 ∙ append_assoc (frame_bytes g) (flat_map frame_bytes gs) left) in
+    (sym (append_assoc (frame_bytes f) (flat_map frame_bytes fs) rest) ∙ sym one.0 ∙ two.0 ∙ append_assoc (frame_bytes g) (flat_map frame_bytes gs) left) in
     let more = split_once (flat_map frame_bytes fs ++ rest) fs gs rest left (refl, one.1.1, one.2) (same.1, two.1.1, two.2) in
     (cc (same.0, more.0), more.1)
 
@@ -120,10 +120,12 @@ split_once stream (f ∷ fs) (g ∷ gs) rest left one two =
 -- a frame in front, and what the rest of the stream spells
 frame_first : (stream left : List ℕ) (frame : Frame) (messages : List Message) (held : Held) → stream ≡ frame_bytes frame ++ left → IsFrame frame
     → Spells left messages held → Spells stream (Whole frame ∷ messages) held
-frame_first stream left frame messages held e is (frames, rest, splits, how) =
-    (frame ∷ frames, rest,
-      (e ∙ ap (λ (w : List ℕ). frame_bytes frame ++ w) splits.0 ∙ sym (append_assoc (frame_bytes frame) (flat_map frame_bytes frames) rest), (is, splits.1), splits.2),
-      ending how)
+frame_first stream left frame messages held e is (frames, rest, splits, how) = (
+  frame ∷ frames,
+  rest,
+  (e ∙ ap (λ (w : List ℕ). frame_bytes frame ++ w) splits.0 ∙ sym (append_assoc (frame_bytes frame) (flat_map frame_bytes frames) rest), (is, splits.1), splits.2),
+  ending how,
+)
   where
     ending : (BeginsFrame rest × (messages ≡ whole_messages frames []) × (held ≡ Rest rest)) ⊎ (HasBadLength rest × (messages ≡ whole_messages frames (BadFrame ∷ [])) × (held ≡ Failed))
         → (BeginsFrame rest × (Whole frame ∷ messages ≡ whole_messages (frame ∷ frames) []) × (held ≡ Rest rest)) ⊎ (HasBadLength rest × (Whole frame ∷ messages ≡ whole_messages (frame ∷ frames) (BadFrame ∷ [])) × (held ≡ Failed))

@@ -1,7 +1,7 @@
 ghost use Rattle.std.specs.Prelude.{◌≡◌};
 
-use std::alloc::AllocError;
 use encoding::Fault;
+use std::alloc::AllocError;
 use thiserror::Error;
 
 /// Why a piece of a stream is not taken.

@@ -3,8 +3,8 @@ ghost use Rattle.byteorder.specs.Endian.{big_bytes};
 ghost use Rattle.wire.specs.Frames.{frame_bytes, frame_size};
 ghost use Rattle.wire.specs.Requests.{read_request, request_frame, request_seen, GivesRequest, ReadsRequest};
 
-use crate::frame::MAX_FRAME_LEN;
 use crate::ReadRefusal;
+use crate::frame::MAX_FRAME_LEN;
 use crate::writing::append_frame;
 use byteorder::{BigEndian, ByteOrder};
 use encoding::{Cursor, FixedText, Hash32};
@@ -91,9 +91,30 @@ impl<'a> Request<'a> {
         ensures room { vec_len output.old + 4 + frame_size (request_frame (request_seen self.now)) ≤ vec_capacity output.old → IsOk result }
     {
         match self {
-            Request::Register { name, key } => append_frame(output, REGISTER, &length_bytes(name), name, &length_bytes(key), key),
-            Request::Change { name, key } => append_frame(output, CHANGE, &length_bytes(name), name, &length_bytes(key), key),
-            Request::Promise { name } => append_frame(output, PROMISE, &length_bytes(name), name, &[], &[]),
+            Request::Register { name, key } => append_frame(
+                output,
+                REGISTER,
+                &length_bytes(name),
+                name,
+                &length_bytes(key),
+                key,
+            ),
+            Request::Change { name, key } => append_frame(
+                output,
+                CHANGE,
+                &length_bytes(name),
+                name,
+                &length_bytes(key),
+                key,
+            ),
+            Request::Promise { name } => append_frame(
+                output,
+                PROMISE,
+                &length_bytes(name),
+                name,
+                &[],
+                &[],
+            ),
             Request::Lookup { epoch, name } => {
                 let mut front = FixedText::<10>::new();
                 front.push_u64(*epoch);

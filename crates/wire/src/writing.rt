@@ -37,7 +37,11 @@ pub(crate) fn append_frame(
     ensures err { OnErr result (output.new.items ≡ output.old.items) }
     ensures room { vec_len output.old + 5 + (length front.now + length name.now + length middle.now + length key.now) ≤ vec_capacity output.old → IsOk result }
 {
-    begin_frame(output, kind, front.len() + name.len() + middle.len() + key.len())?;
+    begin_frame(
+        output,
+        kind,
+        front.len() + name.len() + middle.len() + key.len(),
+    )?;
     output.extend_from_slice(front)?;
     output.extend_from_slice(name)?;
     output.extend_from_slice(middle)?;
