@@ -1,5 +1,5 @@
 -- What an event does, and the messages that it brings.
-use Rattle.std.specs.Prelude.{◌≡◌, ◌⊎◌, ℕ, List, [], ◌++◌, Bool, true, false, Some, None, Result, Ok, Err, ⊤}
+use Rattle.std.specs.Prelude.{◌≡◌, ◌⊎◌, ℕ, List, [], ◌∷◌, ◌++◌, Bool, true, false, Some, None, Result, Ok, Err, ⊤}
 use Rattle.std.specs.Ordering.{nat_cmp}
 use Rattle.std.specs.BTreeMap.{is_at, insert_entry}
 use Rattle.std.specs.Map.{remove_entry, set_value}
@@ -41,6 +41,18 @@ module _ {S : Type 0} (answers : S → Frame → List ℕ → S → Type 0) wher
   Happens before it output (Err TooManySessions) after grown = (due before.sessions it ≡ Some TooManySessions) × (after ≡ before) × (grown ≡ output)
   Happens before it output (Err SessionOpen) after grown = (due before.sessions it ≡ Some SessionOpen) × (after ≡ before) × (grown ≡ output)
   Happens before it output (Err NoSession) after grown = (due before.sessions it ≡ Some NoSession) × (after ≡ before) × (grown ≡ output)
+
+  -- an event that is refused does nothing and brings no message; another one does what it does
+  abbrev pub Passes : Hubbed S → Happening → List Exchange → Hubbed S → Type 0
+  Passes before it exchanges after =
+      ((refusal : HubRefusal) × (due before.sessions it ≡ Some refusal) × (exchanges ≡ []) × (after ≡ before))
+      ⊎ ((due before.sessions it ≡ None) × Does before it exchanges after)
+
+  -- what is done of events where memory was wanting: nothing, or a first part of the first one
+  abbrev pub IsPart : Hubbed S → List Happening → Hubbed S → Type 0
+  IsPart before [] after = after ≡ before
+  IsPart before (it ∷ more) after = (after ≡ before)
+      ⊎ ((session : ℕ) × (piece : List ℕ) × (exchanges : List Exchange) × (it ≡ Bytes session piece) × Answered before session piece false exchanges after)
 
   -- what a piece does where its session is looked for: there is none, or it alone hears
   abbrev pub HearsAt : Hubbed S → ℕ → List ℕ → List ℕ → Result (Unit {0}) HubRefusal → Hubbed S → List ℕ → Type 0

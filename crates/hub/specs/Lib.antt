@@ -4,3 +4,4 @@ pub mod Exchanges
 pub mod Happenings
 pub mod Outputs
 pub mod Refusals
+pub mod Runs

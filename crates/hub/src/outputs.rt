@@ -1,9 +1,15 @@
-ghost use Rattle.std.specs.Prelude.{◌≡◌, ◌==◌, ◌++◌, ◌∷◌, ℕ, [], List, Some, OnOk, IfOk, if◌then◌else◌};
-ghost use Rattle.hub.specs.Outputs.{appended, output_at};
+ghost use Rattle.std.specs.Prelude.{◌≡◌, ◌++◌, [], ℕ, map, IfOk, OnOk};
+ghost use Rattle.std.specs.List.Sorted.{IsStrictlySortedBy};
+ghost use Rattle.std.specs.Map.{keys_of};
+ghost use Rattle.std.specs.Option.{option_map};
+ghost use Rattle.std.specs.Ordering.{nat_cmp};
+ghost use Rattle.hub.specs.Events.{at};
+ghost use Rattle.hub.specs.Outputs.{pair_seen, Appends};
 
 use std::alloc::{AllocError, Global};
 use std::collections::BTreeMap;
 use std::marker::Model;
+use wire::Feed;
 
 /// What one session is told.
 #[derive(Drop)]
@@ -53,19 +59,26 @@ impl Model for Outputs {
 }
 
 impl Outputs {
-    /// No outputs.
-    pub(crate) fn new(alloc: Global) -> Outputs
-        ensures { result ≡ [] }
+    /// An empty output for each of these sessions.
+    pub(crate) fn of_sessions(
+        alloc: Global,
+        sessions: &BTreeMap<u32, Feed>,
+    ) -> Result<Outputs, AllocError>
+        ensures { IfOk result (λ outputs. (session : ℕ) → at outputs session ≡ option_map (λ _. []) (at sessions.now.entries session)) }
     {
-        Outputs {
+        let mut outputs = Outputs {
             alloc,
             map: BTreeMap::new(alloc),
+        };
+        for (session, _) in sessions {
+            outputs.append(*session, &[])?;
         }
+        Ok(outputs)
     }
 
     /// Appends to the output of a session, which begins here if there is none.
     pub(crate) fn append(&mut self, session: u32, bytes: &[u8]) -> Result<(), AllocError>
-        ensures { OnOk result ((n : ℕ) → output_at self.new n ≡ (if session == n then Some (appended (output_at self.old n) bytes.now) else output_at self.old n)) }
+        ensures { OnOk result (Appends self.old session bytes.now self.new) }
     {
         match self.map.get_mut(&session) {
             Some(output) => output.append(bytes),
@@ -78,7 +91,10 @@ impl Outputs {
     }
 
     /// The outputs as a list, ascending by the numbers of their sessions.
-    pub(crate) fn into_pairs(self) -> Result<Vec<(u32, Vec<u8>)>, AllocError> {
+    pub(crate) fn into_pairs(self) -> Result<Vec<(u32, Vec<u8>)>, AllocError>
+        ensures outputs { IfOk result (λ pairs. map pair_seen pairs.items ≡ self) }
+        ensures ascend { IsStrictlySortedBy nat_cmp (keys_of self) }
+    {
         let mut pairs = Vec::with_capacity(self.alloc, self.map.len())?;
         for (session, output) in self.map {
             pairs.push((session, output.bytes))?;

@@ -1,6 +1,9 @@
-ghost use Rattle.std.specs.Prelude.{◌≡◌, ◌↔◌, ◌∷◌, [], IfOk, IsTrue, List, map, OnErr, OnOk};
-ghost use Rattle.hub.specs.Events.{seen, Bytes as AreBytes, End as IsEnd, Open as IsOpen};
-ghost use Rattle.hub.specs.Happenings.{Happens, HearsAt, WantsMemory};
+ghost use Rattle.std.specs.Prelude.{◌≡◌, ◌⊎◌, ◌∷◌, [], List, map, IfOk, OnErr, OnOk};
+ghost use Rattle.hub.specs.Events.{due, number, seen, Bytes as AreBytes, End as IsEnd, Open as IsOpen};
+ghost use Rattle.hub.specs.Exchanges.{Exchange, replies};
+ghost use Rattle.hub.specs.Happenings.{Happens, HearsAt, IsPart, Passes};
+ghost use Rattle.hub.specs.Outputs.{pair_seen, AppendsUnless};
+ghost use Rattle.hub.specs.Runs.{each, fresh, AreOutputs, Begins, Line, Runs, Stops};
 
 use crate::desk::Desk;
 use crate::drain::hear;
@@ -94,11 +97,13 @@ impl<D: Service + Drop> Hub<D> {
     ///
     /// `AllocError` if memory runs out, in an event or for what is returned. The run stops there,
     /// and the outputs so far are lost.
-    pub fn run(&mut self, events: &[Event<'_>]) -> Result<Vec<(u32, Vec<u8>)>, AllocError> {
-        let mut outputs = Outputs::new(self.alloc);
-        for session in self.sessions.keys() {
-            outputs.append(*session, &[])?;
-        }
+    pub fn run(&mut self, events: &[Event<'_>]) -> Result<Vec<(u32, Vec<u8>)>, AllocError>
+        ensures ok { IfOk result (λ outputs. (lines : List Line) × Runs D.answers self.old (map seen events.now) lines self.new
+            × AreOutputs (each fresh (self.old).sessions) (map seen events.now) lines (map pair_seen outputs.items)) }
+        ensures err { OnErr result (Stops D.answers self.old (map seen events.now) self.new) }
+        ensures begun { OnErr result (Begins D.answers self.old (map seen events.now) (self.new).service) }
+    {
+        let mut outputs = Outputs::of_sessions(self.alloc, &self.sessions)?;
         let mut output = Vec::new(self.alloc);
         for event in events {
             self.event_into(event, &mut output, &mut outputs)?;
@@ -112,7 +117,12 @@ impl<D: Service + Drop> Hub<D> {
         event: &Event<'_>,
         output: &mut Vec<u8>,
         outputs: &mut Outputs,
-    ) -> Result<(), AllocError> {
+    ) -> Result<(), AllocError>
+        ensures ok { OnOk result ((exchanges : List Exchange) × Passes D.answers self.old (seen event.now) exchanges self.new
+            × AppendsUnless (due (self.old).sessions (seen event.now)) outputs.old (number (seen event.now)) (replies exchanges) outputs.new) }
+        ensures err { OnErr result (((exchanges : List Exchange) × Passes D.answers self.old (seen event.now) exchanges self.new)
+            ⊎ IsPart D.answers self.old (seen event.now ∷ []) self.new) }
+    {
         output.clear();
         match self.event(event, output) {
             Ok(()) => outputs.append(event.session(), output),

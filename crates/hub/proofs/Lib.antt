@@ -1,0 +1,10 @@
+pub mod Entries
+pub mod Exchanging
+pub mod Fronts
+pub mod Hearing
+pub mod Others
+pub mod Outputting
+pub mod Running
+pub mod Steps
+pub mod Stopping
+pub mod Streaming
