@@ -1,3 +1,4 @@
+pub mod Desking
 pub mod Entries
 pub mod Exchanging
 pub mod Fronts

@@ -1,6 +1,10 @@
-ghost use Rattle.std.specs.Prelude.{◌≡◌, ◌+◌, ◌≤◌, ◌++◌, ℕ, List, vec_len, vec_capacity};
-ghost use Rattle.hub.specs.Desks.{Serves};
+ghost use Rattle.std.specs.Prelude.{◌≡◌, ◌+◌, ◌≤◌, ◌++◌, ℕ, List, length, IfOk, vec_len, vec_capacity};
+ghost use Rattle.book.specs.declared.reply.Reply.{Reply};
+ghost use Rattle.epochs.specs.Replied.{found, last, promised, IsTold};
+ghost use Rattle.wire.specs.Frames.{frame_bytes};
 ghost use Rattle.wire.specs.Requests.{request_seen};
+ghost use Rattle.wire.specs.Responses.{answer_frame, HasFewRoots};
+ghost use Rattle.hub.specs.Desks.{reply_frame, Serves};
 
 use crate::Service;
 use crate::drain::write_refused;
@@ -87,36 +91,53 @@ impl<H: NodeHash, V: Vuf, S: Signer, R: Rng, K: Keeper> Service for Desk<H, V, S
     }
 }
 
-/// Writes a frame into room that is there.
-fn write(answer: &Answer<'_>, output: &mut Vec<u8>) {
+/// Appends a frame, into room that is there.
+fn write(answer: &Answer<'_>, output: &mut Vec<u8>)
+    requires few { HasFewRoots answer.now }
+    requires room { vec_len output.old + 25863 ≤ vec_capacity output.old }
+    ensures { output.new.items ≡ output.old.items ++ frame_bytes (answer_frame answer.now) }
+{
     let written = answer.write(output).is_ok();
     prove!(written);
 }
 
-fn write_promise(answer: Result<SignedPromise, Refusal>, output: &mut Vec<u8>) {
+fn write_promise(answer: Result<SignedPromise, Refusal>, output: &mut Vec<u8>)
+    requires { vec_len output.old + 25863 ≤ vec_capacity output.old }
+    ensures { output.new.items ≡ output.old.items ++ frame_bytes (reply_frame (promised answer)) }
+{
     match answer {
         Ok(promise) => write(&Answer::Promise(&promise), output),
         Err(why) => write_refused(why.number(), output),
     }
 }
 
-fn write_proof(answer: Result<ProofText, Refusal>, output: &mut Vec<u8>) {
+fn write_proof(answer: Result<ProofText, Refusal>, output: &mut Vec<u8>)
+    requires { vec_len output.old + 25863 ≤ vec_capacity output.old }
+    ensures { output.new.items ≡ output.old.items ++ frame_bytes (reply_frame (found answer)) }
+{
     match answer {
         Ok(text) => write(&Answer::Proof(&text), output),
         Err(why) => write_refused(why.number(), output),
     }
 }
 
-fn write_root(answer: Result<SignedRoot, Refusal>, output: &mut Vec<u8>) {
+fn write_roots(answer: Result<&[SignedRoot], Refusal>, output: &mut Vec<u8>)
+    requires few { IfOk answer (λ roots. length roots.now ≤ 64) }
+    requires room { vec_len output.old + 25863 ≤ vec_capacity output.old }
+    ensures { (told : Reply) → IsTold answer.entry told → output.new.items ≡ output.old.items ++ frame_bytes (reply_frame told) }
+{
     match answer {
-        Ok(root) => write(&Answer::Root(&root), output),
+        Ok(roots) => write(&Answer::Roots(roots), output),
         Err(why) => write_refused(why.number(), output),
     }
 }
 
-fn write_roots(answer: Result<&[SignedRoot], Refusal>, output: &mut Vec<u8>) {
+fn write_root(answer: Result<SignedRoot, Refusal>, output: &mut Vec<u8>)
+    requires { vec_len output.old + 25863 ≤ vec_capacity output.old }
+    ensures { output.new.items ≡ output.old.items ++ frame_bytes (reply_frame (last answer)) }
+{
     match answer {
-        Ok(roots) => write(&Answer::Roots(roots), output),
+        Ok(root) => write(&Answer::Root(&root), output),
         Err(why) => write_refused(why.number(), output),
     }
 }
