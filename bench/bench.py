@@ -45,10 +45,16 @@ CHANGE_ROUNDS = {1: (500, 40), 10: (50, 40), 1_000: (1, 100), 100_000: (1, 6)}
 SIBLINGS, REPLY_RUNS = (10, 20, 256), 10
 # How many replies are measured, and about how many digests the checks of a run take.
 REPLIES, CHECK_DIGESTS = 1_000, 800_000
-# How often each size of a directory is measured; in a run the epochs with changes, the keys changed
-# in each, and the look-ups.
-EPOCH_RUNS = {1_000: 10, 10_000: 10, 100_000: 5, 1_000_000: 3}
-EPOCH_ROUNDS, EPOCH_CHANGES, EPOCH_LOOK_UPS = 10, 1_000, 10_000
+# How often each size of a directory is measured. In a run: the epochs with changes, the changes of
+# each, the look-ups of a step, and the steps of look-ups.
+EPOCH_RUNS = {1_000: 10, 10_000: 10, 100_000: 10, 1_000_000: 5}
+EPOCH_ROUNDS, EPOCH_CHANGES = 100, 1_000
+EPOCH_LOOK_UPS, LOOK_UP_ROUNDS = 10_000, 10
+# The last epochs of a run, in which the memory that a change keeps is measured. The first ones use
+# memory that was free again after the registrations.
+LATE_ROUNDS = 40
+# With how many digests one by one a change and its share of the closing are compared.
+CHANGE_DIGESTS = 24
 
 
 class Spread:
@@ -468,8 +474,8 @@ def index_of_name(number):
 
 
 def changed_nodes(indices, changed, low, high, prefix=0, level=0):
-    """The nodes at and below a prefix of `level` bits, which sorted indices[low:high] have, that lie
-    on the way of one of the sorted `changed`."""
+    """The nodes at and below a prefix of `level` bits, which sorted indices[low:high] have, that
+    lie on the way of one of the sorted `changed`."""
     if not changed:
         return 0
     if high - low < 2:
@@ -496,70 +502,111 @@ def numbers_of_round(size, number, count):
     return [(number + k * step) % size for k in range(count)]
 
 
-def epoch_rows(size):
-    """The rows of one size: registrations; changes; closings; look-ups."""
-    by_number = [index_of_name(number) for number in range(size)]
-    indices = sorted(by_number)
-    closed = []
+def digests_of_closings(by_number, indices):
+    """The digests of the closing of each round."""
+    digests = []
     for number in range(EPOCH_ROUNDS):
-        numbers = numbers_of_round(size, number, EPOCH_CHANGES)
+        numbers = numbers_of_round(len(indices), number, EPOCH_CHANGES)
         changed = sorted({by_number[number] for number in numbers})
         # Beside the nodes, the hash of the root's body, and the signature.
-        closed.append(changed_nodes(indices, changed, 0, size) + 2)
-    looked_up = [by_number[number] for number in numbers_of_round(size, 0, EPOCH_LOOK_UPS)]
-    told = sum(249 + 32 * level_of(indices, index) for index in looked_up)
+        digests.append(changed_nodes(indices, changed, 0, len(indices)) + 2)
+    return digests
 
-    digests, registered, changes, closings, latest, old = [], [], [], [], [], []
-    bytes_a_name, bytes_a_change = [], []
-    words = ["epochs", size, EPOCH_CHANGES, EPOCH_ROUNDS, EPOCH_LOOK_UPS, DIGESTS]
-    for _ in range(EPOCH_RUNS[size]):
-        _, (before, names, first, *middle, at_head, at_old, after) = steps(
-            3 * EPOCH_ROUNDS + 6, *words
-        )
-        if [at_head.number, at_old.number] != [told, told]:
-            sys.exit(f"epochs: {at_head.number}, {at_old.number} bytes, and {told} was wanted")
-        digests += [before.seconds, after.seconds]
-        registered.append(names.seconds)
-        bytes_a_name.append((names.memory + first.memory) / size)
-        for k in range(EPOCH_ROUNDS):
-            _, changed, close = middle[3 * k : 3 * k + 3]
-            changes.append(changed.seconds)
-            closings.append(close.seconds / closed[k])
-            bytes_a_change.append((changed.memory + close.memory) / EPOCH_CHANGES)
-        latest.append(at_head.seconds)
-        old.append(at_old.seconds)
-    digest = min(digests) / DIGESTS
-    # A digest for the index and one for the commitment, and the stand-ins' for value and signature.
-    rows = []
-    of_names = (registered, size, bytes_a_name)
-    for taken, count, kept in (of_names, (changes, EPOCH_CHANGES, bytes_a_change)):
-        spread = Spread(taken, count)
-        ratio = f"{spread.least / (4 * digest):.2f}"
-        kept = f"{statistics.median(kept):.0f}"
-        rows.append([f"{size:,}", "4", *spread.cells(1e6, 2), ratio, kept])
-    # The rounds take different numbers of digests, so that the times are those of one digest.
-    spread, each = Spread(closings), statistics.mean(closed)
-    ratio = f"{spread.least / digest:.2f}"
-    rows.append([f"{size:,}", f"{each:.0f}", *spread.cells(1e3 * each, 2), ratio])
-    levels = statistics.mean(level_of(indices, index) for index in looked_up)
-    row = [f"{size:,}", f"{levels:.2f}"]
-    for taken in (latest, old):
-        spread = Spread(taken, EPOCH_LOOK_UPS)
-        ratio = f"{spread.least / (2 * digest):.2f}"
-        row += [f"{1 / spread.least:,.0f}", *spread.cells(1e6, 2), ratio]
-    rows.append([*row, f"{digest * 1e9:.0f}"])
-    return rows
+
+def levels_of_look_ups(by_number, indices):
+    """The levels of the paths of each step of look-ups."""
+    levels = []
+    for number in range(LOOK_UP_ROUNDS):
+        numbers = numbers_of_round(len(indices), number, EPOCH_LOOK_UPS)
+        levels.append([level_of(indices, by_number[number]) for number in numbers])
+    return levels
+
+
+class Epochs:
+    """The runs of `measure epochs` on so many names: their times, and the bytes that they keep."""
+
+    def __init__(self, size):
+        by_number = [index_of_name(number) for number in range(size)]
+        indices = sorted(by_number)
+        self.size = size
+        self.closed = digests_of_closings(by_number, indices)
+        self.levels = levels_of_look_ups(by_number, indices)
+        self.digests, self.registrations, self.changes, self.closings = [], [], [], []
+        self.at_head, self.at_old, self.bytes_a_name, self.bytes_a_change = [], [], [], []
+        for _ in range(EPOCH_RUNS[size]):
+            self.run()
+
+    def run(self):
+        words = [EPOCH_CHANGES, EPOCH_ROUNDS, EPOCH_LOOK_UPS, LOOK_UP_ROUNDS, DIGESTS]
+        count = 4 + 3 * EPOCH_ROUNDS + 2 * LOOK_UP_ROUNDS
+        _, (before, names, first, *middle, after) = steps(count, "epochs", self.size, *words)
+        rounds, look_ups = middle[: 3 * EPOCH_ROUNDS], middle[3 * EPOCH_ROUNDS :]
+        told = [sum(249 + 32 * level for level in step) for step in self.levels]
+        if [step.number for step in look_ups] != told + told:
+            sys.exit(f"epochs: {[step.number for step in look_ups]} bytes, and {told} was wanted")
+        self.digests += [before.seconds, after.seconds]
+        self.registrations.append(names.seconds)
+        self.changes += [step.seconds for step in rounds[1::3]]
+        self.closings += [step.seconds for step in rounds[2::3]]
+        self.at_head += [step.seconds for step in look_ups[:LOOK_UP_ROUNDS]]
+        self.at_old += [step.seconds for step in look_ups[LOOK_UP_ROUNDS:]]
+        late = sum(step.memory for step in rounds[-3 * LATE_ROUNDS :])
+        self.bytes_a_name.append((names.memory + first.memory) / self.size)
+        self.bytes_a_change.append(late / (LATE_ROUNDS * EPOCH_CHANGES))
+
+    def operation_row(self, times, kept, digest):
+        """The row of registrations or of changes."""
+        # One for the index, one for the commitment, and the stand-ins' for value and signature.
+        digests = 4
+        ratio, kept = times.least / (digests * digest), statistics.median(kept)
+        row = [f"{self.size:,}", f"{digests}", *times.cells(1e6, 2)]
+        return [*row, f"{ratio:.2f}", f"{kept:.0f}"]
+
+    def registration_row(self, digest):
+        return self.operation_row(Spread(self.registrations, self.size), self.bytes_a_name, digest)
+
+    def change_row(self, digest):
+        return self.operation_row(Spread(self.changes, EPOCH_CHANGES), self.bytes_a_change, digest)
+
+    def closing_row(self, digest):
+        # The rounds take different numbers of digests, so that the times are those of one digest.
+        closed = self.closed * EPOCH_RUNS[self.size]
+        times = Spread([time / count for time, count in zip(self.closings, closed)])
+        each, ratio = statistics.mean(self.closed), times.least / digest
+        both = [sum(pair) for pair in zip(self.changes, self.closings)]
+        change = Spread(both, EPOCH_CHANGES).least
+        row = [f"{self.size:,}", f"{each:.0f}", *times.cells(1e3 * each, 2), f"{ratio:.2f}"]
+        return [*row, f"{change * 1e6:.2f}", f"{change / (CHANGE_DIGESTS * digest):.2f}"]
+
+    def look_up_row(self, digest):
+        # One for the index, and the stand-in's for the value.
+        digests = 2
+        levels = statistics.mean(level for step in self.levels for level in step)
+        row = [f"{self.size:,}", f"{levels:.2f}", f"{digests}"]
+        for kept in (self.at_head, self.at_old):
+            times = Spread(kept, EPOCH_LOOK_UPS)
+            ratio = times.least / (digests * digest)
+            row += [f"{1 / times.least:,.0f}", *times.cells(1e6, 2), f"{ratio:.2f}"]
+        return row
 
 
 def epochs(_folder):
-    registered, changed, closed, looked_up = zip(*(epoch_rows(size) for size in EPOCH_RUNS))
+    sizes = [Epochs(size) for size in EPOCH_RUNS]
+    digests = Spread([time for each in sizes for time in each.digests], DIGESTS)
+    digest = digests.least
+    print_digest(LEAF, digests)
     spread = ["least", "median", "greatest", "ratio"]
     head = ["names", "digests", *spread]
-    table("a registration, microseconds", [*head, "bytes a name"], registered)
-    table("a change, microseconds", [*head, "bytes kept"], changed)
-    table(f"the closing of {EPOCH_CHANGES:,} changes, milliseconds", head, closed)
-    head = ["names", "levels", "head/s", *spread, "old/s", *spread, "a digest, ns"]
-    table("look-ups at the head and at an old epoch, microseconds", head, looked_up)
+    rows = [each.registration_row(digest) for each in sizes]
+    table("a registration, microseconds", [*head, "bytes a name"], rows)
+    rows = [each.change_row(digest) for each in sizes]
+    table("a change, microseconds", [*head, "bytes kept"], rows)
+    title = f"the closing of {EPOCH_CHANGES:,} changes, milliseconds; a change with its share of it"
+    rows = [each.closing_row(digest) for each in sizes]
+    table(title, [*head, "a change, us", f"of {CHANGE_DIGESTS} digests"], rows)
+    head = ["names", "levels", "digests", "head/s", *spread, "old/s", *spread]
+    rows = [each.look_up_row(digest) for each in sizes]
+    table("look-ups at the head and at an old epoch, microseconds", head, rows)
 
 
 def main(which):

@@ -22,8 +22,10 @@ pub(crate) struct Epochs {
     pub(crate) changes: usize,
     /// The later epochs.
     pub(crate) rounds: usize,
-    /// The look-ups at the head, and as many at an old epoch.
+    /// The look-ups of a step.
     pub(crate) look_ups: usize,
+    /// The steps of look-ups at the head, and as many at an old epoch.
+    pub(crate) look_up_rounds: usize,
     /// The digests that are timed before and after.
     pub(crate) digests: usize,
 }
@@ -115,6 +117,21 @@ fn numbers_of_round(
     Ok(numbers)
 }
 
+/// The steps of look-ups in the page of an epoch, each of other names.
+fn look_up_rounds(
+    rt: &(impl Print + Input),
+    alloc: Global,
+    directory: &mut Provided,
+    wanted: &Epochs,
+    epoch: u64,
+) -> Result<()> {
+    for round in 0..wanted.look_up_rounds {
+        let numbers = numbers_of_round(alloc, wanted, round, wanted.look_ups)?;
+        end_step(rt, alloc, look_up_all(directory, &numbers, epoch)?)?;
+    }
+    Ok(())
+}
+
 /// The steps: digests; the names registered; the epoch closed; in each round its numbers made,
 /// some keys changed, and the epoch closed; look-ups at the head; look-ups of the same names at the
 /// first epoch with names; digests again.
@@ -129,7 +146,6 @@ pub(crate) fn measure(rt: &(impl Print + Input), alloc: Global, wanted: &Epochs)
         KeyedSign::new(Hash32::new([1; 32])),
         ChaCha20Rng::from_seed([0; 32]),
     )?;
-    let looked_up = numbers_of_round(alloc, wanted, 0, wanted.look_ups)?;
 
     end_step(rt, alloc, 0)?;
     end_step(rt, alloc, take_digests(&mut text, wanted.digests))?;
@@ -142,8 +158,8 @@ pub(crate) fn measure(rt: &(impl Print + Input), alloc: Global, wanted: &Epochs)
         end_step(rt, alloc, change_all(&mut directory, &numbers, epoch)?)?;
         end_step(rt, alloc, close(&mut directory, epoch)?)?;
     }
-    end_step(rt, alloc, look_up_all(&mut directory, &looked_up, 0)?)?;
-    end_step(rt, alloc, look_up_all(&mut directory, &looked_up, FIRST)?)?;
+    look_up_rounds(rt, alloc, &mut directory, wanted, 0)?;
+    look_up_rounds(rt, alloc, &mut directory, wanted, FIRST)?;
     end_step(rt, alloc, take_digests(&mut text, wanted.digests))?;
     Ok(())
 }

@@ -21,7 +21,7 @@ use std::env;
 const USAGE: &str = "usage: measure digests BYTES COUNT | texts COUNT ROUNDS \
     | tree GROWN MORE DIGESTS | whole ITEMS TIMES DIGESTS \
     | changes ITEMS CHANGES LISTS ROUNDS DIGESTS | replies SIBLINGS REPLIES ROUNDS DIGESTS \
-    | epochs NAMES CHANGES ROUNDS LOOK_UPS DIGESTS | all";
+    | epochs NAMES CHANGES ROUNDS LOOK_UPS LOOK_UP_ROUNDS DIGESTS | all";
 
 /// The number that this word writes.
 fn number(word: &str) -> Result<usize> {
@@ -69,12 +69,13 @@ fn run(rt: &(impl Print + Input), alloc: Global, program: &str, numbers: &[usize
             };
             replies::measure(rt, alloc, &look_ups)
         }
-        ("epochs", &[names, changes, rounds, look_ups, digests]) => {
+        ("epochs", &[names, changes, rounds, look_ups, look_up_rounds, digests]) => {
             let wanted = directory::Epochs {
                 names,
                 changes,
                 rounds,
                 look_ups,
+                look_up_rounds,
                 digests,
             };
             directory::measure(rt, alloc, &wanted)
@@ -91,7 +92,7 @@ fn run_all(rt: &(impl Print + Input), alloc: Global) -> Result<()> {
     run(rt, alloc, "whole", &[5, 2, 1])?;
     run(rt, alloc, "changes", &[5, 3, 2, 2, 1])?;
     run(rt, alloc, "replies", &[4, 3, 2, 1])?;
-    run(rt, alloc, "epochs", &[5, 3, 2, 4, 1])
+    run(rt, alloc, "epochs", &[5, 3, 2, 4, 2, 1])
 }
 
 fn main(rt: HostRuntime) -> Result<()> {

@@ -133,7 +133,9 @@ listed_some count left bytes same is =
     let all : u.0.0 ∷ v.0.0 ≡ listed (suc left) bytes = ap (λ (z : List SignedRoot × List ℕ). z.0) e in
     let rest : listed left u.0.1 ≡ v.0.0 = ap roots_of v.1 in
     let R : ℕ → Type 0 = λ n. listed n bytes ≡ u.0.0 ∷ listed left u.0.1 in (
-      u.0.0, u.0.1, u.1,
+      u.0.0,
+      u.0.1,
+      u.1,
       (omega (arith, is.0, same), v.1 ∙ ap (λ (z : List SignedRoot). Ok (z, v.0.1)) (sym rest) ∙ ap (λ (z : List ℕ). Ok (listed left u.0.1, z)) over),
       subst R (sym same) (sym all ∙ ap (λ (z : List SignedRoot). u.0.0 ∷ z) (sym rest)),
     )

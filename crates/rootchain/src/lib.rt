@@ -27,7 +27,8 @@ mod whole;
 pub use body::Body;
 pub use chain::Chain;
 pub use laws::{
-    body_is_read, epochs_ascend, promise_is_read, root_list_is_read, signed_promise_is_read, signed_root_is_read,
+    body_is_read, epochs_ascend, promise_is_read, root_list_is_read, signed_promise_is_read,
+    signed_root_is_read,
 };
 pub use promise::Promise;
 pub use refusal::Refusal;

@@ -1,4 +1,4 @@
-ghost use Rattle.std.specs.Prelude.{◌≡◌, ◌↔◌, ◌++◌, ◌≤◌, length, drop, IsTrue, OnErr, OnOk, IsErrOf};
+ghost use Rattle.std.specs.Prelude.{◌≡◌, ◌↔◌, ◌++◌, ◌<◌, ◌≤◌, length, drop, IsTrue, OnErr, OnOk, IsErrOf};
 ghost use Rattle.wire.specs.Streams.{Held, Rest, Failed, with_more, Waits};
 
 use crate::FeedRefusal;
@@ -86,6 +86,7 @@ impl Feed {
     }
 
     /// Takes the next frame, if it is whole, and lends it.
+    // The clause says that the answer, and the feed once the loan has ended, are as `Gives` has them.
     pub fn next(&mut self) -> Next<'_>
         ensures* gives { sem 𝓛 (follows_so the_row the_row self.entry.ghost_name none (λ _ _. ⊤) (λ held. Gives self.old result held)) }
     {
@@ -117,4 +118,54 @@ fn drop_front(buffer: &mut Vec<u8>, count: usize)
     let left = buffer.len() - count;
     buffer.copy_within(count.., 0);
     buffer.truncate(left);
+}
+
+#[cfg(test)]
+mod tests {
+    use super::*;
+    use std::alloc::AllocError;
+    use std::process::Abort;
+    use std::test::Fail;
+
+    /// Feeds many frames of so many bytes in pieces of so many, and compares the room that is left.
+    fn keeps_little_room(
+        rt: &impl Abort,
+        alloc: Global,
+        frame: &[u8],
+        size: usize,
+    ) -> Result<(), FeedRefusal>
+        requires { 0 < size }
+    {
+        let mut feed = Feed::new(alloc);
+        for _ in 0..20 {
+            for piece in frame.chunks(size) {
+                feed.feed(piece)?;
+            }
+            assert!(rt; matches!(feed.next(), Next::Frame(9, _)));
+            assert!(rt; matches!(feed.next(), Next::Wait));
+        }
+        let longest = frame.len().wrapping_add(size.min(frame.len()));
+        assert!(rt;
+            feed.buffer.capacity() <= longest.wrapping_mul(2),
+            "pieces of {size}"
+        );
+        Ok(())
+    }
+
+    #[test]
+    fn drained_feed_keeps_little_room(rt: HostRuntime) -> Result<(), Fail> {
+        for count in [0, 1, 10, 1000, 65_535] {
+            let mut frame = Vec::new(rt.alloc());
+            let [_, first, second, third] = (1 + count as u32).to_be_bytes();
+            frame.extend_from_slice(&[0, first, second, third, 9])?;
+            frame.resize(5 + count, 7)?;
+            for size in [1, 3, 16, 4096, 100_000] {
+                let kept = keeps_little_room(&rt, rt.alloc(), frame.as_slice(), size);
+                if kept.is_err() {
+                    return Err(AllocError)?;
+                }
+            }
+        }
+        Ok(())
+    }
 }

@@ -7,9 +7,11 @@
 //! let mut feed = Feed::new(alloc);
 //! feed.feed(piece)?;
 //! while let Next::Frame(kind, body) = feed.next() {
-//!     let request = Request::read(kind, body)?;
-//!     // .. the reply of the directory
-//!     Answer::Promise(&promise).write(&mut output)?;
+//!     match Request::read(kind, body) {
+//!         Ok(Request::Head) => Answer::Root(directory.head()).write(&mut output)?,
+//!         // .. the other requests
+//!         Err(why) => Answer::Refused(why.number()).write(&mut output)?,
+//!     }
 //! }
 //! ```
 #![tactic(auto)]

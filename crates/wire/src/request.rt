@@ -79,6 +79,7 @@ impl<'a> Request<'a> {
             Request::Promise { name } => name.len() < MAX_FRAME_LEN - 2,
             Request::Lookup { name, .. } => name.len() < MAX_FRAME_LEN - 10,
             Request::History { .. } | Request::Head => true,
+            // Always so: a token has 32 bytes, which its `bytes` ensures.
             Request::Close { token, .. } => token.bytes().len() < MAX_FRAME_LEN - 8,
         }
     }

@@ -1,6 +1,8 @@
 //! What no clause says: the bytes of each kind of frame, which `scripts/known_answers.py` prints, and
 //! streams as they come.
 
+ghost use Rattle.wire.specs.Responses.{HasFewRoots};
+
 use super::*;
 use encoding::{Hash32, Index, KeyData, Name, ProofText, Small};
 use rootchain::{Body, Promise, SignedPromise, SignedRoot};
@@ -59,8 +61,11 @@ fn requested(
     assert_eq!(rt; output, frame, "{request:?}");
     let kind = frame.as_slice().get(4).copied().unwrap_or(0);
     let read = Request::read(kind, body(&frame));
-    let Ok(read) = read else { unreachable!(rt) };
+    let Ok(read) = read else {
+        panic!(rt; "the value is one of its form")
+    };
     let mut again = Vec::new(alloc);
+    assert!(rt; read.fits());
     read.write(&mut again)?;
     assert_eq!(rt; again, frame, "{request:?}");
     output.push(0)?;
@@ -76,7 +81,7 @@ fn requested(
 #[test]
 fn requests(rt: HostRuntime) -> Result<(), Fail> {
     let token = Hash32::new(rising(0x20));
-    for (request, text) in [
+    for (request, text) in &[
         (
             Request::Register {
                 name: b"a",
@@ -112,7 +117,7 @@ fn requests(rt: HostRuntime) -> Result<(), Fail> {
             "0000002907202122232425262728292a2b2c2d2e2f303132333435363738393a3b3c3d3e3f0000000000000002",
         ),
     ] {
-        requested(&rt, rt.alloc(), &request, text)?;
+        requested(&rt, rt.alloc(), request, text)?;
     }
     Ok(())
 }
@@ -195,7 +200,9 @@ fn answered(
     alloc: Global,
     answer: &Answer<'_>,
     text: &str,
-) -> Result<Vec<u8>, AllocError> {
+) -> Result<Vec<u8>, AllocError>
+    requires { HasFewRoots answer.now }
+{
     let frame = bytes(alloc, text)?;
     let mut output = Vec::new(alloc);
     answer.write(&mut output)?;
@@ -212,7 +219,7 @@ fn answered(
 #[test]
 fn promises_roots_and_refusals(rt: HostRuntime) -> Result<(), Fail> {
     let Ok(promise) = signed_promise() else {
-        unreachable!(rt)
+        panic!(rt; "the value is one of its form")
     };
     let text =
         "000000548150010000000000000007202122232425262728292a2b2c2d2e2f303132333435363738393a3b3c3d3e3f404142434445464748494a4b4c4d4e4f505152535455565758595a5b5c5d5e5f00016100016b000173";
@@ -221,7 +228,7 @@ fn promises_roots_and_refusals(rt: HostRuntime) -> Result<(), Fail> {
     assert!(rt; matches!(read, Ok(Response::Promise(read)) if read == promise));
 
     let Ok(root) = signed_root(b"s") else {
-        unreachable!(rt)
+        panic!(rt; "the value is one of its form")
     };
     let text = format!(in rt.alloc(); "0000009684{ROOT_BODY}000173")?;
     let frame = answered(&rt, rt.alloc(), &Answer::Root(&root), text.as_str())?;
@@ -239,9 +246,7 @@ fn proofs(rt: HostRuntime) -> Result<(), Fail> {
     let text = format!(in rt.alloc(); "0000009982{ROOT_BODY}000176020000")?;
     let mut proof = ProofText::new();
     proof.push_slice(root_body().write().bytes());
-    for byte in [0, 1, b'v', 2, 0, 0] {
-        proof.push(byte);
-    }
+    proof.push_slice(&[0, 1, b'v', 2, 0, 0]);
     let frame = answered(&rt, rt.alloc(), &Answer::Proof(&proof), text.as_str())?;
     let read = Response::read(0x82, body(&frame));
     assert!(rt; matches!(read, Ok(Response::Proof(view)) if view.siblings().is_empty()));
@@ -251,7 +256,7 @@ fn proofs(rt: HostRuntime) -> Result<(), Fail> {
 #[test]
 fn root_lists(rt: HostRuntime) -> Result<(), Fail> {
     let Ok(root) = signed_root(b"s") else {
-        unreachable!(rt)
+        panic!(rt; "the value is one of its form")
     };
     let roots = vec![in rt.alloc(); root.copied(), root.copied()]?;
     let text = format!(in rt.alloc(); "0000012d830002{ROOT_BODY}000173{ROOT_BODY}000173")?;
@@ -263,7 +268,7 @@ fn root_lists(rt: HostRuntime) -> Result<(), Fail> {
     )?;
     let read = Response::read(0x83, body(&frame));
     let Ok(Response::Roots(mut list)) = read else {
-        unreachable!(rt)
+        panic!(rt; "the value is one of its form")
     };
     assert_eq!(rt; list.len(), 2);
     assert_eq!(rt; list.next(), Some(root.copied()));
@@ -275,12 +280,13 @@ fn root_lists(rt: HostRuntime) -> Result<(), Fail> {
 #[test]
 fn longest_answer(rt: HostRuntime) -> Result<(), Fail> {
     let Ok(root) = signed_root(&[0; 256]) else {
-        unreachable!(rt)
+        panic!(rt; "the value is one of its form")
     };
     let mut roots = Vec::new(rt.alloc());
     for _ in 0..64 {
         roots.push(root.copied())?;
     }
+    assert_eq!(rt; roots.len(), 64);
     let mut output = Vec::new(rt.alloc());
     Answer::Roots(roots.as_slice()).write(&mut output)?;
     assert_eq!(rt; output.len(), MAX_ANSWER_LEN);

@@ -1,5 +1,7 @@
 //! Streams as they come: cut anywhere, and with bad lengths.
 
+ghost use Rattle.std.specs.Prelude.{◌<◌};
+
 use super::*;
 
 /// Feeds a piece, or ends the test if memory runs out.
@@ -22,7 +24,7 @@ fn registration_cut_in_two(rt: HostRuntime) -> Result<(), Fail> {
     fed(&rt, &mut feed, &[0x61, 0, 1, 0x6b])?;
     assert!(rt; feed.ready());
     let Next::Frame(kind, body) = feed.next() else {
-        unreachable!(rt)
+        panic!(rt; "the frame is whole")
     };
     let read = Request::read(kind, body);
     assert!(rt;
@@ -99,7 +101,7 @@ fn longest_frame(rt: HostRuntime) -> Result<(), Fail> {
     assert!(rt; matches!(feed.next(), Next::Wait));
     fed(&rt, &mut feed, &[8])?;
     let Next::Frame(kind, body) = feed.next() else {
-        unreachable!(rt)
+        panic!(rt; "the frame is whole")
     };
     assert_eq!(rt; (kind, body.len(), body.last()), (9, 65_535, Some(&8)));
     Ok(())
@@ -118,27 +120,50 @@ fn many_frames(alloc: Global) -> Result<Vec<u8>, AllocError> {
     Ok(stream)
 }
 
+/// Takes all frames that are whole, of which the first has this number. Returns the next number.
+fn takes_all(rt: &impl Abort, feed: &mut Feed, first: u16, most: usize) -> u16 {
+    let mut number = first;
+    for _ in 0..most {
+        let Next::Frame(kind, body) = feed.next() else {
+            return number;
+        };
+        let length = number % 40;
+        let wanted = [length as u8; 40];
+        assert_eq!(rt; kind, 5, "frame {number}");
+        assert_eq!(rt;
+            Some(body),
+            wanted.get(..usize::from(length)),
+            "frame {number}"
+        );
+        number = number.wrapping_add(1);
+    }
+    number
+}
+
+/// Feeds the frames in pieces of this size.
+fn feeds_pieces(
+    rt: &impl Abort,
+    alloc: Global,
+    stream: &[u8],
+    size: usize,
+) -> Result<(), AllocError>
+    requires { 0 < size }
+{
+    let mut feed = Feed::new(alloc);
+    let mut number = 0;
+    for piece in stream.chunks(size) {
+        fed(rt, &mut feed, piece)?;
+        number = takes_all(rt, &mut feed, number, 401);
+    }
+    assert_eq!(rt; number, 400, "pieces of {size}");
+    Ok(())
+}
+
 #[test]
 fn hundreds_of_frames_however_they_are_cut(rt: HostRuntime) -> Result<(), Fail> {
     let stream = many_frames(rt.alloc())?;
     for size in [1, 2, 3, 7, 64, 1000, 100_000] {
-        let mut feed = Feed::new(rt.alloc());
-        let mut number = 0_usize;
-        for piece in stream.as_slice().chunks(size) {
-            fed(&rt, &mut feed, piece)?;
-            while let Next::Frame(kind, body) = feed.next() {
-                assert_eq!(rt; kind, 5);
-                assert_eq!(rt;
-                    body.len(),
-                    number % 40,
-                    "frame {number} in pieces of {size}"
-                );
-                assert!(rt; body.iter().all(|byte| usize::from(*byte) == number % 40));
-                number = number.wrapping_add(1);
-            }
-        }
-        assert_eq!(rt; number, 400, "pieces of {size}");
-        assert!(rt; matches!(feed.next(), Next::Wait));
+        feeds_pieces(&rt, rt.alloc(), stream.as_slice(), size)?;
     }
     Ok(())
 }

@@ -17,7 +17,7 @@ pub loop-preserved : goal.loop-preserved
 loop-preserved c = (
   omega (arith, c.loop-test.true),
   roots_step c.args.count c.args.cursor.now (c.args.count - c.loop.counter) (c.args.count - (c.loop.counter + 1)) c.loop.cursor _ _
-  (omega (arith, c.loop-test.true)) c.in_ok-read_from.ensures.read c.loop.invariant.1,
+      (omega (arith, c.loop-test.true)) c.in_ok-read_from.ensures.read c.loop.invariant.1,
 )
 
 pub returns : goal.returns
