@@ -1,0 +1,11 @@
+pub mod Desking
+pub mod Entries
+pub mod Exchanging
+pub mod Fronts
+pub mod Hearing
+pub mod Others
+pub mod Outputting
+pub mod Running
+pub mod Steps
+pub mod Stopping
+pub mod Streaming

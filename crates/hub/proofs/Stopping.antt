@@ -1,0 +1,110 @@
+-- Runs that stop where memory is wanting.
+use Rattle.std.proofs.Common.{◌≡◌, ℕ, suc, ◌<◌, List, [], ◌∷◌, ◌++◌, get_or, length, map, take, drop, drop-cons, true, false, Option, Some, None, Result, Ok, Err, refl, sym, ap, subst, ◌∙◌, append_assoc, inl, inr, ◌⊎◌}
+use Rattle.std.specs.Prelude.{OnErr}
+use Rattle.std.proofs.lemmas.List.{append-nil, map-append, take-append-drop}
+use Rattle.wire.specs.Frames.{Frame}
+use Rattle.wire.specs.Streams.{Message}
+use Rattle.hub.specs.declared.refusal.HubRefusal.{HubRefusal}
+use Rattle.hub.specs.declared.refusal.HubRefusal.TheVariants.{TooManySessions, SessionOpen, NoSession, Memory}
+use Rattle.hub.specs.Events.{BySession, Bytes, Happening, Hubbed, due, number}
+use Rattle.hub.specs.Exchanges.{Exchange, replies}
+use Rattle.hub.specs.Happenings.{Answered, Happens, IsPart, Passes, WantsMemory}
+use Rattle.hub.specs.Outputs.{Appends, AppendsUnless}
+use Rattle.hub.specs.Runs.{Line, Streams, after_event, after_events, asked, brought, commands, each, fresh, unless_refused, AllAnswered, Begins, Runs, Stops}
+use Rattle.hub.proofs.Running.{answered_append, asked_lines, commands_append, of_session, run_more, RunsSo}
+use Rattle.hub.proofs.Steps.{bytes_begins, lines, messages_of, IsTold}
+
+pub any_err : {T E : Type 0} (r : Result T E) (P : Type 0) → P → OnErr r P
+any_err (Ok done) P p = tt
+any_err (Err e) P p = p
+
+module _ {S : Type 0} (answers : S → Frame → List ℕ → S → Type 0) where
+  pub stopped : {X : Type 0} (f : X → Happening) (before between after : Hubbed S) (events : List X) (k : ℕ) (d : X) → k < length events
+      → ((ls : List Line) × RunsSo answers before (map f (take k events)) ls between)
+      → ((xs : List Exchange) × Passes answers between (f (get_or events k d)) xs after) ⊎ IsPart answers between (f (get_or events k d) ∷ []) after
+      → Stops answers before (map f events) after
+  stopped {X} f before between after events k d low (ls, run) came = by came
+    where
+      one : List Happening
+      one = map f (take k events)
+      it : Happening
+      it = f (get_or events k d)
+      rest : List Happening
+      rest = map f (drop (suc k) events)
+      split : map f events ≡ one ++ it ∷ rest
+      split = ap (map f) (sym (take-append-drop k events) ∙ ap (λ t. take k events ++ t) (drop-cons events k d low)) ∙ map-append f (take k events) (get_or events k d ∷ drop (suc k) events)
+      part_after : (events : List Happening) → IsPart answers after events after
+      part_after [] = refl
+      part_after (other ∷ more) = inl refl
+      by : ((xs : List Exchange) × Passes answers between it xs after) ⊎ IsPart answers between (it ∷ []) after → Stops answers before (map f events) after
+      by (inl (xs, passes)) =
+          let more = run_more answers before one ls between it xs after run passes in
+          (one ++ it ∷ [], rest, ls ++ lines (number it) xs, after, split ∙ sym (append_assoc one (it ∷ []) rest), more.0, part_after rest)
+      by (inr part) = (one, it ∷ rest, ls, between, split, run.0, part)
+
+  -- the messages of a run are the first of a longer one
+  pub runs_begin : (before between : Hubbed S) (done rest events : List Happening) (ls : List Line) → events ≡ done ++ rest → Runs answers before done ls between → Begins answers before events between.service
+  runs_begin before between done rest events ls split run =
+      let start : Streams = each fresh before.sessions in (
+        ls,
+        commands (after_events start done) rest,
+        ap (commands start) split ∙ commands_append start done rest ∙ ap (λ (t : List (ℕ × Message)). t ++ commands (after_events start done) rest) (sym run.messages),
+        run.answered,
+      )
+
+  -- and so are those of a run and a first part of a piece
+  piece_begins : (before between after : Hubbed S) (done rest events : List Happening) (ls : List Line) (session : ℕ) (piece : List ℕ) (xs : List Exchange) → events ≡ done ++ Bytes session piece ∷ rest
+      → RunsSo answers before done ls between → Answered answers between session piece false xs after → Begins answers before events after.service
+  piece_begins before between after done rest events ls session piece xs split (run, all) answered =
+      let start : Streams = each fresh before.sessions in
+      let streams : Streams = after_events start done in
+      let it : Happening = Bytes session piece in
+      let t = bytes_begins answers between after streams session piece false xs (run.left, all) answered in
+      let later : List (ℕ × Message) = of_session it t.0 ++ commands (after_event streams it) rest in
+      let bring : brought streams it ≡ messages_of xs ++ t.0 = rw t.3 t.1 in
+      let first : commands streams (it ∷ rest) ≡ map asked (lines session xs) ++ later =
+          ap (λ (m : List Message). of_session it m ++ commands (after_event streams it) rest) bring
+          ∙ ap (λ (m : List (ℕ × Message)). m ++ commands (after_event streams it) rest) (map-append (λ message. (session, message)) (messages_of xs) t.0)
+          ∙ append_assoc (of_session it (messages_of xs)) (of_session it t.0) (commands (after_event streams it) rest)
+          ∙ ap (λ (m : List (ℕ × Message)). m ++ later) (sym (asked_lines it xs))
+      in (
+        ls ++ lines session xs,
+        later,
+        ap (commands start) split ∙ commands_append start done (it ∷ rest)
+            ∙ ap (λ (m : List (ℕ × Message)). m ++ commands streams (it ∷ rest)) (sym run.messages)
+            ∙ ap (λ (m : List (ℕ × Message)). map asked ls ++ m) first
+            ∙ sym (append_assoc (map asked ls) (map asked (lines session xs)) later)
+            ∙ ap (λ (m : List (ℕ × Message)). m ++ later) (sym (map-append asked ls (lines session xs))),
+        answered_append answers before.service ls between.service (lines session xs) after.service run.answered t.2,
+      )
+
+  pub begun : {X : Type 0} (f : X → Happening) (before between after : Hubbed S) (events : List X) (k : ℕ) (d : X) → k < length events
+      → ((ls : List Line) × RunsSo answers before (map f (take k events)) ls between)
+      → ((xs : List Exchange) × Passes answers between (f (get_or events k d)) xs after) ⊎ IsPart answers between (f (get_or events k d) ∷ []) after
+      → Begins answers before (map f events) after.service
+  begun {X} f before between after events k d low (ls, run) came = by came
+    where
+      one : List Happening
+      one = map f (take k events)
+      it : Happening
+      it = f (get_or events k d)
+      rest : List Happening
+      rest = map f (drop (suc k) events)
+      split : map f events ≡ one ++ it ∷ rest
+      split = ap (map f) (sym (take-append-drop k events) ∙ ap (λ t. take k events ++ t) (drop-cons events k d low)) ∙ map-append f (take k events) (get_or events k d ∷ drop (suc k) events)
+      by : ((xs : List Exchange) × Passes answers between it xs after) ⊎ IsPart answers between (it ∷ []) after → Begins answers before (map f events) after.service
+      by (inl (xs, passes)) =
+          let more = run_more answers before one ls between it xs after run passes in
+          runs_begin before after (one ++ it ∷ []) rest (map f events) (ls ++ lines (number it) xs) (split ∙ sym (append_assoc one (it ∷ []) rest)) more.0
+      by (inr (inl same)) = subst (λ (h : Hubbed S). Begins answers before (map f events) h.service) (sym same) (runs_begin before between one (it ∷ rest) (map f events) ls split run.0)
+      by (inr (inr (session, piece, xs, is, answered))) =
+          piece_begins before between after one rest (map f events) ls session piece xs (split ∙ ap (λ (e : Happening). one ++ e ∷ rest) is) run answered
+
+  -- nothing was done
+  pub stopped_first : (before : Hubbed S) (events : List Happening) → Runs answers before [] [] before → Stops answers before events before
+  stopped_first before [] run = ([], [], [], before, refl, run, refl)
+  stopped_first before (it ∷ more) run = ([], it ∷ more, [], before, refl, run, inl refl)
+
+  -- all was done
+  pub stopped_last : (before after : Hubbed S) (events : List Happening) (ls : List Line) → Runs answers before events ls after → Stops answers before events after
+  stopped_last before after events ls run = (events, [], ls, after, sym (append-nil events), run, refl)

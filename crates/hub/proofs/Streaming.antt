@@ -1,0 +1,73 @@
+-- The messages of a stream, and of what it is with more.
+use Rattle.std.proofs.Common.{◌≡◌, ℕ, zero, suc, ◌+◌, ◌-◌, ◌<◌, ◌≤◌, List, [], ◌∷◌, ◌++◌, length, Ok, Err, Option, Some, None, refl, sym, ap, subst, ◌∙◌, arith}
+use Rattle.std.proofs.lemmas.List.{append-nil}
+use Rattle.wire.specs.Frames.{read_frame}
+use Rattle.wire.specs.Streams.{Held, Message, Rest, Failed, Whole, BadFrame, after_first, first_by, first_message, held_size, messages, messages_within, with_more, IsSpent, Takes, Tells}
+use Rattle.hub.proofs.Fronts.{bad_more, frame_less, frame_more}
+
+-- what is taken is taken also where more follows
+takes_more : (held : Held) (message : Message) (after : Held) (more : List ℕ) → Takes held message after → Takes (with_more held more) message (with_more after more)
+takes_more (Rest bytes) (Whole frame) after more (left, e, same) = (left ++ more, frame_more bytes more frame left e, ap (λ (x : Held). with_more x more) same)
+takes_more (Rest bytes) BadFrame after more (e, same) = (bad_more bytes more e, ap (λ (x : Held). with_more x more) same)
+takes_more Failed message after more taken = absurd taken
+
+pub tells_more : (held : Held) (told : List Message) (after : Held) (more : List ℕ) → Tells held told after → Tells (with_more held more) told (with_more after more)
+tells_more held [] after more e = ap (λ (x : Held). with_more x more) e
+tells_more held (message ∷ rest) after more (between, one, later) =
+    (with_more between more, takes_more held message between more one, tells_more between rest after more later)
+
+pub tells_append : (held : Held) (told : List Message) (between : Held) (more : List Message) (after : Held) → Tells held told between → Tells between more after → Tells held (told ++ more) after
+tells_append held [] between more after e later = subst (λ (x : Held). Tells x more after) e later
+tells_append held (message ∷ rest) between more after (next, one, two) later = (next, one, tells_append next rest between more after two later)
+
+-- a message takes of what is held
+takes_less : (held : Held) (message : Message) (after : Held) → Takes held message after → held_size after < held_size held
+takes_less (Rest bytes) (Whole frame) after (left, e, same) = omega (arith, ap held_size same, frame_less bytes frame left e)
+takes_less (Rest bytes) BadFrame after (e, same) = omega (arith, ap held_size same)
+takes_less Failed message after taken = absurd taken
+
+pub tells_few : (held : Held) (told : List Message) (after : Held) → Tells held told after → length told + held_size after ≤ held_size held
+tells_few held [] after e = omega (arith, ap held_size e)
+tells_few held (message ∷ more) after (between, one, rest) = omega (arith, takes_less held message between one, tells_few between more after rest)
+
+takes_first : (held : Held) (message : Message) (after : Held) → Takes held message after → first_message held ≡ Some (message, after)
+takes_first (Rest bytes) (Whole frame) after (left, e, same) = ap first_by e ∙ ap (λ (x : Held). Some (Whole frame, x)) (sym same)
+takes_first (Rest bytes) BadFrame after (e, same) = ap first_by e ∙ ap (λ (x : Held). Some (BadFrame, x)) (sym same)
+takes_first Failed message after taken = absurd taken
+
+spent_first : (held : Held) → IsSpent held → first_message held ≡ None
+spent_first (Rest bytes) e = ap first_by e
+spent_first Failed spent = refl
+
+-- what is computed begins with what was told
+pub told_within : (held : Held) (told : List Message) (after : Held) (count : ℕ) → Tells held told after
+    → messages_within (length told + count) held ≡ (told ++ (messages_within count after).0, (messages_within count after).1)
+told_within held [] after count e = ap (λ (n : ℕ). messages_within n held) (omega arith) ∙ ap (messages_within count) (sym e)
+told_within held (message ∷ more) after count (between, one, rest) =
+    let size : length (message ∷ more) + count ≡ suc (length more + count) = omega arith in
+    ap (λ (n : ℕ). messages_within n held) size
+    ∙ ap (λ (first : Option (Message × Held)). after_first held first (messages_within (length more + count))) (takes_first held message between one)
+    ∙ ap (λ (later : List Message × Held). (message ∷ later.0, later.1)) (told_within between more after count rest)
+
+pub spent_within : (held : Held) (count : ℕ) → IsSpent held → messages_within count held ≡ ([], held)
+spent_within held zero spent = refl
+spent_within held (suc count) spent = ap (λ (first : Option (Message × Held)). after_first held first (messages_within count)) (spent_first held spent)
+
+-- all that is held begins with what was told of it
+pub told_of : (held : Held) (told : List Message) (after : Held) → Tells held told after
+    → (count : ℕ) × (messages held ≡ (told ++ (messages_within count after).0, (messages_within count after).1))
+told_of held told after tells =
+    let few = tells_few held told after tells in
+    let size : length told + (held_size held - length told) ≡ held_size held = omega (arith, few) in
+    (held_size held - length told, ap (λ (n : ℕ). messages_within n held) (sym size) ∙ told_within held told after (held_size held - length told) tells)
+
+-- what is told to the end is all that is held
+pub told_all : (held : Held) (told : List Message) (after : Held) → Tells held told after → IsSpent after → messages held ≡ (told, after)
+told_all held told after tells spent =
+    let t = told_of held told after tells in
+    t.1 ∙ ap (λ (later : List Message × Held). (told ++ later.0, later.1)) (spent_within after t.0 spent) ∙ ap (λ (all : List Message). (all, after)) (append-nil told)
+
+-- what is left behind what was told
+pub left_within : (held : Held) (told : List Message) (after : Held) → Tells held told after → (messages_within (length told) held).1 ≡ after
+left_within held told after tells =
+    ap (λ (n : ℕ). (messages_within n held).1) (omega arith) ∙ ap (λ (all : List Message × Held). all.1) (told_within held told after 0 tells)

@@ -1,0 +1,70 @@
+-- What is answered to a frame at a desk: a directory, its keeper, and the token of its operator.
+use Rattle.std.specs.Prelude.{◌≡◌, ℕ, List, Option, Some, None, Result, Ok, Err, if◌then◌else◌}
+use Rattle.std.specs.Str.{bytes_eq}
+use Rattle.rand_core.specs.Stream.{Stream}
+use Rattle.book.specs.declared.record.Record.{Record}
+use Rattle.book.specs.declared.reply.Reply.{Reply}
+use Rattle.book.specs.declared.reply.Reply.TheVariants as reply
+use Rattle.book.specs.Asked.{Asked, Register, Change, Promise, Lookup, History, Head, Close}
+use Rattle.book.specs.Refusals.{refusal_number}
+use Rattle.book.specs.Turns.{Turn}
+use Rattle.epochs.specs.Kept.{Kept, book, provider, HasKeysOf}
+use Rattle.wire.specs.declared.refusal.ReadRefusal.{ReadRefusal}
+use Rattle.wire.specs.declared.refusal.ReadRefusal.TheVariants.{BadKind, BadBody}
+use Rattle.wire.specs.Frames.{Frame, frame_bytes}
+use Rattle.wire.specs.Refusals.{read_refusal_number}
+use Rattle.wire.specs.Requests.{Asks, IsRequestKind}
+use Rattle.wire.specs.Requests as request
+use Rattle.wire.specs.Responses as response
+use Rattle.wire.specs.Responses.{response_frame}
+use Rattle.hub.specs.Exchanges.{refused_frame}
+
+pub record Desked (R K : Type 0) : Type 0 where
+  pub directory : Kept R
+  pub keeper : K
+  pub token : List ℕ
+
+-- the request that a frame is, or why it is none
+abbrev pub IsRead : Frame → Result request.Asked ReadRefusal → Type 0
+IsRead frame (Ok requested) = Asks frame.kind frame.body requested
+IsRead frame (Err BadKind) = ¬ IsRequestKind frame.kind
+IsRead frame (Err BadBody) = IsRequestKind frame.kind × ((requested : request.Asked) → ¬ Asks frame.kind frame.body requested)
+
+-- what a request asks of the directory: closing only with the operator's token
+abbrev pub command : List ℕ → request.Asked → Option Asked
+command token (request.Register name key) = Some (Register name key)
+command token (request.Change name key) = Some (Change name key)
+command token (request.Promise name) = Some (Promise name)
+command token (request.Lookup epoch name) = Some (Lookup name epoch)
+command token (request.History from count) = Some (History from count)
+command token request.Head = Some Head
+command token (request.Close given epoch) = if bytes_eq given token then Some (Close epoch) else None
+
+-- the frame of a reply; that of a look-up has the reply's own bytes
+abbrev pub reply_frame : Reply → Frame
+reply_frame (reply.Promised signed) = response_frame (response.Promise signed)
+reply_frame (reply.Found text) = record { kind = 130; body = text }
+reply_frame (reply.Told told) = response_frame (response.Roots told.items)
+reply_frame (reply.Last root) = response_frame (response.Root root)
+reply_frame (reply.Refused why) = response_frame (response.Refused (refusal_number why))
+
+module _ {R K : Type 0} (digest_of : List ℕ → List ℕ) (value_of signature_of : List ℕ → List ℕ → List ℕ) (stream : R → Stream) (kept failed : K → Record → K → Type 0) where
+  -- the directory takes the turn of a command, and the frame of its reply is told; whoever closes an epoch
+  -- without the token is not the operator
+  abbrev pub Commanded : Desked R K → Option Asked → List ℕ → Desked R K → Type 0
+  Commanded before None text after = (text ≡ refused_frame 12) × (after ≡ before)
+  Commanded before (Some asked) text after = (told : Reply)
+      × Turn (provider digest_of value_of signature_of before.directory) kept failed (book stream before.directory) before.keeper asked told (book stream after.directory) after.keeper
+      × (text ≡ frame_bytes (reply_frame told)) × HasKeysOf before.directory after.directory × (after.token ≡ before.token)
+
+  -- a request is served
+  abbrev pub Serves : Desked R K → request.Asked → List ℕ → Desked R K → Type 0
+  Serves before requested text after = Commanded before (command before.token requested) text after
+
+  -- what was read is served, or refused
+  abbrev pub Told : Desked R K → Result request.Asked ReadRefusal → List ℕ → Desked R K → Type 0
+  Told before (Ok requested) text after = Serves before requested text after
+  Told before (Err refusal) text after = (text ≡ refused_frame (read_refusal_number refusal)) × (after ≡ before)
+
+  abbrev pub DeskAnswers : Desked R K → Frame → List ℕ → Desked R K → Type 0
+  DeskAnswers before frame text after = (read : Result request.Asked ReadRefusal) × IsRead frame read × Told before read text after

@@ -1,0 +1,45 @@
+-- Events of sessions, and when one is refused.
+use Rattle.std.specs.Prelude.{ℕ, List, Option, Some, None, nat_le, is_some, length, if◌then◌else◌}
+use Rattle.std.specs.Ordering.{nat_cmp}
+use Rattle.std.specs.BTreeMap.{is_at}
+use Rattle.std.specs.Map.{lookup}
+use Rattle.wire.specs.Streams.{Held}
+use Rattle.hub.specs.declared.event.Event.{Event}
+use Rattle.hub.specs.declared.event.Event.TheVariants as event
+use Rattle.hub.specs.declared.refusal.HubRefusal.{HubRefusal}
+use Rattle.hub.specs.declared.refusal.HubRefusal.TheVariants.{TooManySessions, SessionOpen, NoSession}
+
+-- an event, without where its bytes lie
+pub data Happening : Type 0 where
+  Open : ℕ → Happening
+  Bytes : ℕ → List ℕ → Happening
+  End : ℕ → Happening
+
+abbrev pub seen : Event → Happening
+seen (event.Open session) = Open session
+seen (event.Bytes session piece) = Bytes session piece.now
+seen (event.End session) = End session
+
+-- the number of its session
+abbrev pub number : Happening → ℕ
+number (Open session) = session
+number (Bytes session piece) = session
+number (End session) = session
+
+-- what is kept of each open session, in order of their numbers
+abbrev pub BySession : Type 0 → Type 0
+BySession X = List (ℕ × X)
+
+abbrev pub at : {X : Type 0} → BySession X → ℕ → Option X
+at sessions session = lookup (is_at (nat_cmp session)) sessions
+
+-- the refusal that is due, if one is but for want of memory: at most 1,024 sessions are open
+abbrev pub due : {X : Type 0} → BySession X → Happening → Option HubRefusal
+due sessions (Open session) = if nat_le 1024 (length sessions) then Some TooManySessions else (if is_some (at sessions session) then Some SessionOpen else None)
+due sessions (Bytes session piece) = if is_some (at sessions session) then None else Some NoSession
+due sessions (End session) = if is_some (at sessions session) then None else Some NoSession
+
+-- what contracts see of a hub: the service, and what the stream of each open session holds
+pub record Hubbed (S : Type 0) : Type 0 where
+  pub service : S
+  pub sessions : BySession Held

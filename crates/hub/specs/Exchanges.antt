@@ -1,0 +1,55 @@
+-- Messages of one session, each answered.
+use Rattle.std.specs.Prelude.{◌≡◌, ℕ, List, [], ◌∷◌, ◌++◌, Bool, true, false, Result, Ok, Err}
+use Rattle.std.specs.declared.alloc.AllocError.{AllocError}
+use Rattle.wire.specs.Frames.{Frame, frame_bytes}
+use Rattle.wire.specs.Responses.{response_frame, Refused}
+use Rattle.wire.specs.Streams.{Held, Message, Whole, BadFrame, with_more, IsSpent, Takes}
+use Rattle.hub.specs.declared.refusal.HubRefusal.{HubRefusal}
+use Rattle.hub.specs.declared.refusal.HubRefusal.TheVariants.{TooManySessions, SessionOpen, NoSession, Memory}
+
+-- a message, and the bytes of its reply
+pub record Exchange : Type 0 where
+  pub message : Message
+  pub reply : List ℕ
+
+-- the replies, joined
+abbrev pub replies : List Exchange → List ℕ
+replies [] = []
+replies (exchange ∷ more) = exchange.reply ++ replies more
+
+abbrev pub refused_frame : ℕ → List ℕ
+refused_frame code = frame_bytes (response_frame (Refused code))
+
+module _ {S : Type 0} (answers : S → Frame → List ℕ → S → Type 0) where
+  -- the reply to a message; a length that no frame has is refused
+  abbrev pub Replies : S → Message → List ℕ → S → Type 0
+  Replies service (Whole frame) reply after = answers service frame reply after
+  Replies service BadFrame reply after = (reply ≡ refused_frame 1) × (after ≡ service)
+
+  -- messages taken from what a session holds, each answered at its place
+  abbrev pub Exchanges : S → Held → List Exchange → S → Held → Type 0
+  Exchanges service held [] service_after after = (service_after ≡ service) × (after ≡ held)
+  Exchanges service held (exchange ∷ more) service_after after = (middle : S) × (between : Held)
+      × Takes held exchange.message between × Replies service exchange.message exchange.reply middle × Exchanges middle between more service_after after
+
+  -- some messages are answered: all that are held, unless memory was wanting
+  abbrev pub Drained : S → Held → List ℕ → Result (Unit {0}) AllocError → S → Held → List ℕ → Type 0
+  Drained service held before (Ok done) service_after after output =
+      (exchanges : List Exchange) × Exchanges service held exchanges service_after after × IsSpent after × (output ≡ before ++ replies exchanges)
+  Drained service held before (Err wanting) service_after after output =
+      (exchanges : List Exchange) × Exchanges service held exchanges service_after after × (output ≡ before ++ replies exchanges)
+
+  -- what is so where memory was wanting: nothing was done, or the piece was taken and the rest waits
+  abbrev pub Wants : S → Held → List ℕ → List ℕ → Bool → S → Held → List ℕ → Type 0
+  Wants service held piece before false service_after after output = (service_after ≡ service) × (after ≡ held) × (output ≡ before)
+  Wants service held piece before true service_after after output =
+      (exchanges : List Exchange) × Exchanges service (with_more held piece) exchanges service_after after × (output ≡ before ++ replies exchanges)
+
+  -- a piece is taken and all its messages are answered, unless memory was wanting
+  abbrev pub Hears : S → Held → List ℕ → List ℕ → Result (Unit {0}) HubRefusal → S → Held → List ℕ → Type 0
+  Hears service held piece before (Ok done) service_after after output =
+      (exchanges : List Exchange) × Exchanges service (with_more held piece) exchanges service_after after × IsSpent after × (output ≡ before ++ replies exchanges)
+  Hears service held piece before (Err (Memory taken)) service_after after output = Wants service held piece before taken service_after after output
+  Hears service held piece before (Err TooManySessions) service_after after output = ⊥
+  Hears service held piece before (Err SessionOpen) service_after after output = ⊥
+  Hears service held piece before (Err NoSession) service_after after output = ⊥

@@ -1,0 +1,143 @@
+ghost use Rattle.std.specs.Prelude.{◌≡◌, ◌+◌, ◌≤◌, ◌++◌, ℕ, List, length, IfOk, vec_len, vec_capacity};
+ghost use Rattle.book.specs.declared.reply.Reply.{Reply};
+ghost use Rattle.epochs.specs.Replied.{found, last, promised, IsTold};
+ghost use Rattle.wire.specs.Frames.{frame_bytes};
+ghost use Rattle.wire.specs.Requests.{request_seen};
+ghost use Rattle.wire.specs.Responses.{answer_frame, HasFewRoots};
+ghost use Rattle.hub.specs.Desks.{reply_frame, Serves};
+
+use crate::Service;
+use crate::drain::write_refused;
+use book::{Keeper, Refusal};
+use encoding::{Hash32, ProofText};
+use epochs::Directory;
+use nodehash::NodeHash;
+use rand_core::Rng;
+use rootchain::{SignedPromise, SignedRoot};
+use sigiface::Signer;
+use std::marker::Model;
+use vrfiface::Vuf;
+use wire::{Answer, Request};
+
+/// A directory with its keeper and the token of its operator, who alone may close an epoch.
+#[derive(Drop)]
+pub struct Desk<H: NodeHash, V: Vuf, S: Signer, R: Rng, K: Keeper> {
+    directory: Directory<H, V, S, R>,
+    keeper: K,
+    token: Hash32,
+}
+
+impl<H: NodeHash, V: Vuf, S: Signer, R: Rng, K: Keeper> Model for Desk<H, V, S, R, K> {
+    ghost use Rattle.hub.specs.Desks.{Desked};
+
+    ghost Value = { Desked R K };
+
+    ghost view = { λ desk. record { directory = desk.directory; keeper = desk.keeper; token = desk.token } };
+}
+
+impl<H: NodeHash, V: Vuf, S: Signer, R: Rng, K: Keeper> Desk<H, V, S, R, K> {
+    /// A desk at which this directory answers.
+    pub fn new(directory: Directory<H, V, S, R>, keeper: K, token: Hash32) -> Self
+        ensures { result ≡ record { directory = directory; keeper = keeper; token = token } }
+    {
+        Desk {
+            directory,
+            keeper,
+            token,
+        }
+    }
+
+    /// Answers a request by one call of the directory, and writes the reply.
+    fn serve(&mut self, request: &Request<'_>, output: &mut Vec<u8>)
+        requires { vec_len output.old + 25863 ≤ vec_capacity output.old }
+        ensures { (reply : List ℕ) × Serves H.digest_of V.value_of S.signature_of R.stream K.kept K.failed self.old (request_seen request.now) reply self.new
+            × (output.new.items ≡ output.old.items ++ reply) }
+    {
+        match request {
+            Request::Register { name, key } => {
+                write_promise(self.directory.register(&mut self.keeper, name, key), output)
+            }
+            Request::Change { name, key } => {
+                write_promise(self.directory.change(&mut self.keeper, name, key), output)
+            }
+            Request::Promise { name } => write_promise(self.directory.promise(name), output),
+            Request::Lookup { epoch, name } => {
+                write_proof(self.directory.lookup(name, *epoch), output)
+            }
+            Request::History { from, count } => {
+                write_roots(self.directory.history(*from, *count), output)
+            }
+            Request::Head => write(&Answer::Root(self.directory.head()), output),
+            Request::Close { token, epoch } => {
+                if *token != self.token {
+                    return write_refused(12, output);
+                }
+                write_root(self.directory.close(&mut self.keeper, *epoch), output)
+            }
+        }
+    }
+}
+
+impl<H: NodeHash, V: Vuf, S: Signer, R: Rng, K: Keeper> Service for Desk<H, V, S, R, K> {
+    ghost use Rattle.hub.specs.Desks.{DeskAnswers};
+
+    ghost answers = { DeskAnswers H.digest_of V.value_of S.signature_of R.stream K.kept K.failed };
+
+    fn answer(&mut self, kind: u8, body: &[u8], output: &mut Vec<u8>) {
+        match Request::read(kind, body) {
+            Ok(request) => self.serve(&request, output),
+            Err(refusal) => write_refused(refusal.number(), output),
+        }
+    }
+}
+
+/// Appends a frame, into room that is there.
+fn write(answer: &Answer<'_>, output: &mut Vec<u8>)
+    requires few { HasFewRoots answer.now }
+    requires room { vec_len output.old + 25863 ≤ vec_capacity output.old }
+    ensures { output.new.items ≡ output.old.items ++ frame_bytes (answer_frame answer.now) }
+{
+    let written = answer.write(output).is_ok();
+    prove!(written);
+}
+
+fn write_promise(answer: Result<SignedPromise, Refusal>, output: &mut Vec<u8>)
+    requires { vec_len output.old + 25863 ≤ vec_capacity output.old }
+    ensures { output.new.items ≡ output.old.items ++ frame_bytes (reply_frame (promised answer)) }
+{
+    match answer {
+        Ok(promise) => write(&Answer::Promise(&promise), output),
+        Err(why) => write_refused(why.number(), output),
+    }
+}
+
+fn write_proof(answer: Result<ProofText, Refusal>, output: &mut Vec<u8>)
+    requires { vec_len output.old + 25863 ≤ vec_capacity output.old }
+    ensures { output.new.items ≡ output.old.items ++ frame_bytes (reply_frame (found answer)) }
+{
+    match answer {
+        Ok(text) => write(&Answer::Proof(&text), output),
+        Err(why) => write_refused(why.number(), output),
+    }
+}
+
+fn write_roots(answer: Result<&[SignedRoot], Refusal>, output: &mut Vec<u8>)
+    requires few { IfOk answer (λ roots. length roots.now ≤ 64) }
+    requires room { vec_len output.old + 25863 ≤ vec_capacity output.old }
+    ensures { (told : Reply) → IsTold answer.entry told → output.new.items ≡ output.old.items ++ frame_bytes (reply_frame told) }
+{
+    match answer {
+        Ok(roots) => write(&Answer::Roots(roots), output),
+        Err(why) => write_refused(why.number(), output),
+    }
+}
+
+fn write_root(answer: Result<SignedRoot, Refusal>, output: &mut Vec<u8>)
+    requires { vec_len output.old + 25863 ≤ vec_capacity output.old }
+    ensures { output.new.items ≡ output.old.items ++ frame_bytes (reply_frame (last answer)) }
+{
+    match answer {
+        Ok(root) => write(&Answer::Root(&root), output),
+        Err(why) => write_refused(why.number(), output),
+    }
+}

@@ -1,0 +1,24 @@
+ghost use Rattle.std.specs.Prelude.{◌≡◌};
+ghost use Rattle.hub.specs.Events.{number, seen};
+
+/// What happens to a session.
+#[derive(Clone, Copy, Debug)]
+pub enum Event<'a> {
+    /// The session begins.
+    Open(u32),
+    /// The next piece of the session's stream comes.
+    Bytes(u32, &'a [u8]),
+    /// The session ends, and what its stream holds goes.
+    End(u32),
+}
+
+impl Event<'_> {
+    /// The number of the session.
+    pub(crate) fn session(&self) -> u32
+        ensures { result ≡ number (seen self.now) }
+    {
+        match self {
+            Event::Open(session) | Event::Bytes(session, _) | Event::End(session) => *session,
+        }
+    }
+}

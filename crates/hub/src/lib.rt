@@ -1,0 +1,31 @@
+//! Sessions that ask one directory, each by a stream of its own that comes in pieces.
+//!
+//! Callers can rely on this: each message of a session is answered once, in its own session, as the
+//! directory stands after all messages before it; and where a stream is cut does not matter.
+//!
+//! ```
+//! let mut hub = Hub::new(alloc, directory, keeper, token);
+//! hub.event(&Event::Open(7), &mut output)?;
+//! hub.event(&Event::Bytes(7, piece), &mut output)?;
+//! hub.event(&Event::End(7), &mut output)?;
+//! ```
+#![tactic(auto)]
+
+mod desk;
+mod drain;
+mod event;
+
+mod outputs;
+mod refusal;
+mod service;
+mod sessions;
+
+pub use desk::Desk;
+pub use event::Event;
+
+pub use refusal::HubRefusal;
+pub use service::Service;
+pub use sessions::Hub;
+
+#[cfg(test)]
+mod tests;

@@ -1,0 +1,14 @@
+ghost use Rattle.std.specs.Prelude.{◌≡◌, ◌+◌, ◌≤◌, ◌++◌, List, ℕ, vec_len, vec_capacity};
+ghost use Rattle.wire.specs.Frames.{Frame};
+
+/// What answers the frames of sessions, one at a time.
+pub trait Service {
+    // The service before, a frame, the bytes of the reply, and the service after.
+    ghost answers: { Self → Frame → List ℕ → Self → Type 0 };
+
+    /// Answers a frame, into room for the longest reply.
+    fn answer(&mut self, kind: u8, body: &[u8], output: &mut Vec<u8>)
+        requires { vec_len output.old + 25863 ≤ vec_capacity output.old }
+        ensures { (reply : List ℕ) × answers self.old (record { kind = kind; body = body.now }) reply self.new
+            × (output.new.items ≡ output.old.items ++ reply) };
+}

@@ -1,0 +1,183 @@
+ghost use Rattle.std.specs.Prelude.{◌≡◌, ◌⊎◌, ◌∷◌, [], List, map, IfOk, OnErr, OnOk};
+ghost use Rattle.hub.specs.Events.{due, number, seen, Bytes as AreBytes, End as IsEnd, Open as IsOpen};
+ghost use Rattle.hub.specs.Exchanges.{Exchange, replies};
+ghost use Rattle.hub.specs.Happenings.{Happens, HearsAt, IsPart, Passes};
+ghost use Rattle.hub.specs.Outputs.{pair_seen, AppendsUnless};
+ghost use Rattle.hub.specs.Runs.{each, fresh, AreOutputs, Begins, Line, Runs, Stops};
+
+use crate::desk::Desk;
+use crate::drain::hear;
+use crate::outputs::Outputs;
+use crate::{Event, HubRefusal, Service};
+use book::Keeper;
+use encoding::Hash32;
+use epochs::Directory;
+use nodehash::NodeHash;
+use rand_core::Rng;
+use sigiface::Signer;
+use std::alloc::{AllocError, Global};
+use std::collections::BTreeMap;
+use std::marker::Model;
+use vrfiface::Vuf;
+use wire::Feed;
+
+/// The most sessions that are open at once.
+const MAX_SESSIONS: usize = 1024;
+
+/// A service, and the sessions that are open, each with what its stream holds.
+#[derive(Drop)]
+pub struct Hub<D: Service + Drop> {
+    alloc: Global,
+    service: D,
+    sessions: BTreeMap<u32, Feed>,
+}
+
+impl<D: Service + Drop> Model for Hub<D> {
+    ghost use Rattle.hub.specs.Events.{Hubbed};
+
+    ghost Value = { Hubbed D };
+
+    ghost view = { λ hub. record { service = hub.service; sessions = hub.sessions.entries } };
+}
+
+impl<H, V, S, R, K> Hub<Desk<H, V, S, R, K>>
+where
+    H: NodeHash + Drop,
+    V: Vuf + Drop,
+    S: Signer + Drop,
+    R: Rng + Drop,
+    K: Keeper + Drop,
+{
+    /// A hub of a directory, without a session. Records are kept by the keeper, and whoever closes
+    /// an epoch has to show the token.
+    pub fn new(
+        alloc: Global,
+        directory: Directory<H, V, S, R>,
+        keeper: K,
+        token: Hash32,
+    ) -> Self
+        ensures { result ≡ record { service = record { directory = directory; keeper = keeper; token = token }; sessions = [] } }
+    {
+        Hub::over(alloc, Desk::new(directory, keeper, token))
+    }
+}
+
+impl<D: Service + Drop> Hub<D> {
+    /// A hub of any service, without a session.
+    pub fn over(alloc: Global, service: D) -> Self
+        ensures { result ≡ record { service = service; sessions = [] } }
+    {
+        Hub {
+            alloc,
+            service,
+            sessions: BTreeMap::new(alloc),
+        }
+    }
+
+    /// Handles one event, and appends the frames of the replies to the messages that it brings.
+    ///
+    /// # Errors
+    ///
+    /// `TooManySessions`, `SessionOpen`, `NoSession`: the first that applies, and nothing is done.
+    /// Else `Memory` if memory runs out.
+    pub fn event(&mut self, event: &Event<'_>, output: &mut Vec<u8>) -> Result<(), HubRefusal>
+        ensures { Happens D.answers self.old (seen event.now) output.old.items result self.new output.new.items }
+    {
+        match event {
+            Event::Open(session) => self.open(*session, output),
+            Event::Bytes(session, piece) => self.bytes(*session, piece, output),
+            Event::End(session) => self.end(*session, output),
+        }
+    }
+
+    /// Handles events in order, of which a refused one does nothing. Returns the output of each
+    /// session that was open or is opened, by their numbers.
+    ///
+    /// # Errors
+    ///
+    /// `AllocError` if memory runs out, in an event or for what is returned. The run stops there,
+    /// and the outputs so far are lost.
+    pub fn run(&mut self, events: &[Event<'_>]) -> Result<Vec<(u32, Vec<u8>)>, AllocError>
+        ensures ok { IfOk result (λ outputs. (lines : List Line) × Runs D.answers self.old (map seen events.now) lines self.new
+            × AreOutputs (each fresh (self.old).sessions) (map seen events.now) lines (map pair_seen outputs.items)) }
+        ensures err { OnErr result (Stops D.answers self.old (map seen events.now) self.new) }
+        ensures begun { OnErr result (Begins D.answers self.old (map seen events.now) (self.new).service) }
+    {
+        let mut outputs = Outputs::of_sessions(self.alloc, &self.sessions)?;
+        let mut output = Vec::new(self.alloc);
+        for event in events {
+            self.event_into(event, &mut output, &mut outputs)?;
+        }
+        outputs.into_pairs()
+    }
+
+    /// Handles one event of a run, and adds its output to that of its session.
+    fn event_into(
+        &mut self,
+        event: &Event<'_>,
+        output: &mut Vec<u8>,
+        outputs: &mut Outputs,
+    ) -> Result<(), AllocError>
+        ensures ok { OnOk result ((exchanges : List Exchange) × Passes D.answers self.old (seen event.now) exchanges self.new
+            × AppendsUnless (due (self.old).sessions (seen event.now)) outputs.old (number (seen event.now)) (replies exchanges) outputs.new) }
+        ensures err { OnErr result (((exchanges : List Exchange) × Passes D.answers self.old (seen event.now) exchanges self.new)
+            ⊎ IsPart D.answers self.old (seen event.now ∷ []) self.new) }
+    {
+        output.clear();
+        match self.event(event, output) {
+            Ok(()) => outputs.append(event.session(), output),
+            Err(HubRefusal::Memory { .. }) => Err(AllocError),
+            Err(_) => Ok(()),
+        }
+    }
+
+    fn open(&mut self, session: u32, output: &Vec<u8>) -> Result<(), HubRefusal>
+        ensures { Happens D.answers self.old (IsOpen session) output.now.items result self.new output.now.items }
+    {
+        if self.sessions.len() >= MAX_SESSIONS {
+            return Err(HubRefusal::TooManySessions);
+        }
+        if self.sessions.contains_key(&session) {
+            return Err(HubRefusal::SessionOpen);
+        }
+        match self.sessions.insert(session, Feed::new(self.alloc)) {
+            Ok(_) => Ok(()),
+            Err(_) => Err(HubRefusal::Memory { taken: false }),
+        }
+    }
+
+    fn end(&mut self, session: u32, output: &Vec<u8>) -> Result<(), HubRefusal>
+        ensures { Happens D.answers self.old (IsEnd session) output.now.items result self.new output.now.items }
+    {
+        match self.sessions.remove(&session) {
+            Some(_) => Ok(()),
+            None => Err(HubRefusal::NoSession),
+        }
+    }
+
+    fn bytes(
+        &mut self,
+        session: u32,
+        piece: &[u8],
+        output: &mut Vec<u8>,
+    ) -> Result<(), HubRefusal>
+        ensures { Happens D.answers self.old (AreBytes session piece.now) output.old.items result self.new output.new.items }
+    {
+        self.piece(session, piece, output)
+    }
+
+    /// Takes a piece, where its session is found.
+    fn piece(
+        &mut self,
+        session: u32,
+        piece: &[u8],
+        output: &mut Vec<u8>,
+    ) -> Result<(), HubRefusal>
+        ensures { HearsAt D.answers self.old session piece.now output.old.items result self.new output.new.items }
+    {
+        let Some(feed) = self.sessions.get_mut(&session) else {
+            return Err(HubRefusal::NoSession);
+        };
+        hear(&mut self.service, feed, piece, output)
+    }
+}
