@@ -102,6 +102,7 @@ module _ {R K : Type 0} (digest_of : List ℕ → List ℕ) (value_of signature_
     where
       the_reply : Reply → Result Reply (Unit {0})
       the_reply said = Ok said
+
       by : (answer : Result (Bor (List SignedRoot)) Refusal) → IfOk answer (λ roots. length roots.now ≤ 64) → (said : Reply) × IsTold answer said
       by (Ok roots) few = let all = listed any roots.now few in (reply.Told all.0, all.1)
       by (Err why) few = (reply.Refused why, refl)

@@ -80,8 +80,7 @@ both_front {A} {B} f g first second bytes x e =
     let two = second u.0.1 v.0 v.1 in
     let made : (A × B) × List ℕ = ((u.0.0, v.0.0), v.0.1) in
     subst (λ (w : (A × B) × List ℕ). (front : List ℕ) × (bytes ≡ front ++ w.1) × ((more : List ℕ) → read_both f g (front ++ more) ≡ Ok (w.0, more)))
-    (ok_is made x v.2)
-    (
+    (ok_is made x v.2) (
       one.0 ++ two.0,
       one.1 ∙ ap (λ (t : List ℕ). one.0 ++ t) two.1 ∙ sym (append_assoc one.0 two.0 v.0.1),
       λ more. ap (read_both f g) (append_assoc one.0 two.0 more) ∙ rw (one.2 (two.0 ++ more), two.2 more) refl,

@@ -125,6 +125,7 @@ module _ (streams : Streams) (events : List Happening) (ls : List Line) (it : Ha
       opens n =
           open_more streams events it n ∙ ap (λ (m : Streams). is_open_once streams events n || is_some (at m n)) stays
           ∙ or_less (is_open_once streams events n) (is_some (at (after_events streams events) n)) (open_last streams events n)
+
       tells : (n : ℕ) → told n (ls ++ lines (number it) xs) ≡ told n ls
       tells n = ap (λ (ys : List Exchange). told n (ls ++ lines (number it) ys)) none ∙ ap (told n) (append-nil ls)
 
@@ -134,14 +135,17 @@ module _ (streams : Streams) (events : List Happening) (ls : List Line) (it : Ha
     where
       now : Streams
       now = after_events streams events
+
       next : after_event now it ≡ changed now it
       next = rw fine refl
+
       at_each : (n : ℕ) → (at after n ≡ cond (is_open_once streams (events ++ it ∷ []) n) (Some (told n (ls ++ lines (number it) xs))) None)
           × (is_open_once streams (events ++ it ∷ []) n ≡ false → told n (ls ++ lines (number it) xs) ≡ [])
       at_each n = by_test (number it == n) refl
         where
           opens : is_open_once streams (events ++ it ∷ []) n ≡ (is_open_once streams events n || is_some (at (changed now it) n))
           opens = open_more streams events it n ∙ ap (λ (m : Streams). is_open_once streams events n || is_some (at m n)) next
+
           by_test : (b : Bool) → (number it == n) ≡ b
               → (at after n ≡ cond (is_open_once streams (events ++ it ∷ []) n) (Some (told n (ls ++ lines (number it) xs))) None)
               × (is_open_once streams (events ++ it ∷ []) n ≡ false → told n (ls ++ lines (number it) xs) ≡ [])
@@ -157,8 +161,8 @@ module _ (streams : Streams) (events : List Happening) (ls : List Line) (it : Ha
               )
           by_test false e =
               let opened : is_open_once streams (events ++ it ∷ []) n ≡ is_open_once streams events n =
-                  opens ∙ ap (λ (found : Option Stream). is_open_once streams events n || is_some found) (other_stays now it n (eqb-false (number it) n e))
-                  ∙ or_less (is_open_once streams events n) (is_some (at now n)) (open_last streams events n)
+              opens ∙ ap (λ (found : Option Stream). is_open_once streams events n || is_some found) (other_stays now it n (eqb-false (number it) n e))
+              ∙ or_less (is_open_once streams events n) (is_some (at now n)) (open_last streams events n)
               in
               let tells : told n (ls ++ lines (number it) xs) ≡ told n ls = told_more n (number it) ls xs ∙ ap (λ (b : Bool). told n ls ++ cond b (replies xs) []) e ∙ append-nil (told n ls) in (
                 appends n ∙ ap (λ (b : Bool). cond b (Some (appended (at before n) (replies xs))) (at before n)) e ∙ so.0 n
@@ -196,7 +200,7 @@ module _ {S : Type 0} (answers : S → Frame → List ℕ → S → Type 0) wher
       let same = due_same middle.sessions (after_events streams events) it match in
       let all = run_more answers before events ls middle it xs after run passes in
       let outputs = outputs_more streams events ls it xs old new so (passes_so middle after (after_events streams events) it xs match passes)
-              (subst (λ (found : Option HubRefusal). AppendsUnless found old (number it) (replies xs) new) same appends) in
+      (subst (λ (found : Option HubRefusal). AppendsUnless found old (number it) (replies xs) new) same appends) in
       subst (λ (m : List Happening). RanSo before m after new) (sym is) (ls ++ lines (number it) xs, all, outputs)
 
 pub are_outputs : (streams : Streams) (events : List Happening) (ls : List Line) (outputs pairs : BySession (List ℕ)) → OutputsSo streams events ls outputs → pairs ≡ outputs → IsStrictlySortedBy nat_cmp (keys_of outputs)
@@ -235,6 +239,7 @@ one_completed {X} before after entry rest all so appends n = by_test (entry.0 ==
     both true None found = refl
     both true (Some text) found = ap (λ (t : List ℕ). Some t) (append-nil text)
     both false old found = refl
+
     by_test : (b : Bool) → (entry.0 == n) ≡ b → or_else (at after n) (option_map (λ _. []) (at rest n)) ≡ option_map (λ _. []) (at all n)
     by_test b e =
         ap (λ (found : Option (List ℕ)). or_else found (option_map (λ _. []) (at rest n))) (appends n ∙ ap (λ (c : Bool). cond c (Some (appended (at before n) [])) (at before n)) e)

@@ -27,15 +27,20 @@ module _ {S : Type 0} (answers : S → Frame → List ℕ → S → Type 0) wher
     where
       one : List Happening
       one = map f (take k events)
+
       it : Happening
       it = f (get_or events k d)
+
       rest : List Happening
       rest = map f (drop (suc k) events)
+
       split : map f events ≡ one ++ it ∷ rest
       split = ap (map f) (sym (take-append-drop k events) ∙ ap (λ t. take k events ++ t) (drop-cons events k d low)) ∙ map-append f (take k events) (get_or events k d ∷ drop (suc k) events)
+
       part_after : (events : List Happening) → IsPart answers after events after
       part_after [] = refl
       part_after (other ∷ more) = inl refl
+
       by : ((xs : List Exchange) × Passes answers between it xs after) ⊎ IsPart answers between (it ∷ []) after → Stops answers before (map f events) after
       by (inl (xs, passes)) =
           let more = run_more answers before one ls between it xs after run passes in
@@ -63,10 +68,10 @@ module _ {S : Type 0} (answers : S → Frame → List ℕ → S → Type 0) wher
       let later : List (ℕ × Message) = of_session it t.0 ++ commands (after_event streams it) rest in
       let bring : brought streams it ≡ messages_of xs ++ t.0 = rw t.3 t.1 in
       let first : commands streams (it ∷ rest) ≡ map asked (lines session xs) ++ later =
-          ap (λ (m : List Message). of_session it m ++ commands (after_event streams it) rest) bring
-          ∙ ap (λ (m : List (ℕ × Message)). m ++ commands (after_event streams it) rest) (map-append (λ message. (session, message)) (messages_of xs) t.0)
-          ∙ append_assoc (of_session it (messages_of xs)) (of_session it t.0) (commands (after_event streams it) rest)
-          ∙ ap (λ (m : List (ℕ × Message)). m ++ later) (sym (asked_lines it xs))
+      ap (λ (m : List Message). of_session it m ++ commands (after_event streams it) rest) bring
+      ∙ ap (λ (m : List (ℕ × Message)). m ++ commands (after_event streams it) rest) (map-append (λ message. (session, message)) (messages_of xs) t.0)
+      ∙ append_assoc (of_session it (messages_of xs)) (of_session it t.0) (commands (after_event streams it) rest)
+      ∙ ap (λ (m : List (ℕ × Message)). m ++ later) (sym (asked_lines it xs))
       in (
         ls ++ lines session xs,
         later,
@@ -86,12 +91,16 @@ module _ {S : Type 0} (answers : S → Frame → List ℕ → S → Type 0) wher
     where
       one : List Happening
       one = map f (take k events)
+
       it : Happening
       it = f (get_or events k d)
+
       rest : List Happening
       rest = map f (drop (suc k) events)
+
       split : map f events ≡ one ++ it ∷ rest
       split = ap (map f) (sym (take-append-drop k events) ∙ ap (λ t. take k events ++ t) (drop-cons events k d low)) ∙ map-append f (take k events) (get_or events k d ∷ drop (suc k) events)
+
       by : ((xs : List Exchange) × Passes answers between it xs after) ⊎ IsPart answers between (it ∷ []) after → Begins answers before (map f events) after.service
       by (inl (xs, passes)) =
           let more = run_more answers before one ls between it xs after run passes in

@@ -14,7 +14,6 @@
 mod desk;
 mod drain;
 mod event;
-
 mod outputs;
 mod refusal;
 mod service;
@@ -22,7 +21,6 @@ mod sessions;
 
 pub use desk::Desk;
 pub use event::Event;
-
 pub use refusal::HubRefusal;
 pub use service::Service;
 pub use sessions::Hub;

@@ -50,12 +50,7 @@ where
 {
     /// A hub of a directory, without a session. Records are kept by the keeper, and whoever closes
     /// an epoch has to show the token.
-    pub fn new(
-        alloc: Global,
-        directory: Directory<H, V, S, R>,
-        keeper: K,
-        token: Hash32,
-    ) -> Self
+    pub fn new(alloc: Global, directory: Directory<H, V, S, R>, keeper: K, token: Hash32) -> Self
         ensures { result ≡ record { service = record { directory = directory; keeper = keeper; token = token }; sessions = [] } }
     {
         Hub::over(alloc, Desk::new(directory, keeper, token))
@@ -155,24 +150,14 @@ impl<D: Service + Drop> Hub<D> {
         }
     }
 
-    fn bytes(
-        &mut self,
-        session: u32,
-        piece: &[u8],
-        output: &mut Vec<u8>,
-    ) -> Result<(), HubRefusal>
+    fn bytes(&mut self, session: u32, piece: &[u8], output: &mut Vec<u8>) -> Result<(), HubRefusal>
         ensures { Happens D.answers self.old (AreBytes session piece.now) output.old.items result self.new output.new.items }
     {
         self.piece(session, piece, output)
     }
 
     /// Takes a piece, where its session is found.
-    fn piece(
-        &mut self,
-        session: u32,
-        piece: &[u8],
-        output: &mut Vec<u8>,
-    ) -> Result<(), HubRefusal>
+    fn piece(&mut self, session: u32, piece: &[u8], output: &mut Vec<u8>) -> Result<(), HubRefusal>
         ensures { HearsAt D.answers self.old session piece.now output.old.items result self.new output.new.items }
     {
         let Some(feed) = self.sessions.get_mut(&session) else {

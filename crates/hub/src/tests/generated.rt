@@ -20,7 +20,10 @@ struct Numbers(u64);
 impl Numbers {
     /// A number below this one, or 0.
     fn below(&mut self, end: usize) -> usize {
-        self.0 = self.0.wrapping_mul(6364136223846793005).wrapping_add(1442695040888963407);
+        self.0 = self
+            .0
+            .wrapping_mul(6364136223846793005)
+            .wrapping_add(1442695040888963407);
         ((self.0 >> 33) as usize).checked_rem(end).unwrap_or(0)
     }
 
@@ -209,7 +212,8 @@ impl Talk {
         if numbers.below(2) == 0 {
             let message = some_message(numbers, directory.head().body.epoch.saturating_add(1));
             let frame = frame(alloc, &message)?;
-            let (now, later) = frame.split_at(numbers.below(frame.len()));
+            let end = numbers.below(frame.len()).min(frame.len());
+            let (now, later) = frame.split_at(end);
             piece.extend_from_slice(now)?;
             self.begun = Some((Vec::from_slice(alloc, later)?, message));
         }

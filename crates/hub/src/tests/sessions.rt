@@ -25,7 +25,8 @@ fn compare(rt: &impl Abort, alloc: Global, rows: &[Row]) -> Result<(), AllocErro
 }
 
 /// A close of this epoch, with the operator's token.
-const CLOSE_2: &str = "000000290700000000000000000000000000000000000000000000000000000000000000000000000000000002";
+const CLOSE_2: &str =
+    "000000290700000000000000000000000000000000000000000000000000000000000000000000000000000002";
 
 #[test]
 fn registration_cut_in_two_around_another_sessions_close(rt: HostRuntime) -> Result<(), Fail> {
@@ -104,11 +105,27 @@ fn only_the_operator_closes(rt: HostRuntime) -> Result<(), Fail> {
         rt.alloc(),
         &[
             // The last byte of the token differs, then the first.
-            (1, "000000290700000000000000000000000000000000000000000000000000000000000000010000000000000002", "refused 12|"),
-            (1, "000000290701000000000000000000000000000000000000000000000000000000000000000000000000000002", "refused 12|"),
+            (
+                1,
+                "000000290700000000000000000000000000000000000000000000000000000000000000010000000000000002",
+                "refused 12|",
+            ),
+            (
+                1,
+                "000000290701000000000000000000000000000000000000000000000000000000000000000000000000000002",
+                "refused 12|",
+            ),
             // The token is tested before the epoch.
-            (1, "000000290700000000000000000000000000000000000000000000000000000000000000010000000000000001", "refused 12|"),
-            (1, "000000290700000000000000000000000000000000000000000000000000000000000000000000000000000001", "refused 11|"),
+            (
+                1,
+                "000000290700000000000000000000000000000000000000000000000000000000000000010000000000000001",
+                "refused 12|",
+            ),
+            (
+                1,
+                "000000290700000000000000000000000000000000000000000000000000000000000000000000000000000001",
+                "refused 11|",
+            ),
             (1, CLOSE_2, "root 2 after 1|"),
             (1, CLOSE_2, "refused 11|"),
         ],
@@ -137,10 +154,7 @@ fn the_directorys_refusals_are_told(rt: HostRuntime) -> Result<(), Fail> {
 }
 
 /// The outputs of a run, tried once more where memory was refused.
-fn run_all(
-    alloc: Global,
-    events: &[Event<'_>],
-) -> Result<Vec<(u32, Vec<u8>)>, AllocError> {
+fn run_all(alloc: Global, events: &[Event<'_>]) -> Result<Vec<(u32, Vec<u8>)>, AllocError> {
     match started(alloc)?.run(events) {
         Ok(outputs) => Ok(outputs),
         Err(_) => started(alloc)?.run(events),
