@@ -90,7 +90,10 @@ fn told(alloc: Global, output: &[u8]) -> Result<String, AllocError> {
         return Err(AllocError);
     }
     let mut told = String::new(alloc);
-    while let Next::Frame(kind, body) = feed.next() {
+    for _ in 0..output.len() {
+        let Next::Frame(kind, body) = feed.next() else {
+            break;
+        };
         let line = line(alloc, kind, body)?;
         told = format!(in alloc; "{told}{line}|")?;
     }
