@@ -1,5 +1,5 @@
 -- What a desk answers is a turn of its directory.
-use Rattle.std.proofs.Common.{◌≡◌, ℕ, ◌<◌, ◌≤◌, ◌&&◌, List, ◌++◌, Bool, true, false, cond, not, length, take, filter, Option, Some, None, Result, Ok, Err, IfOk, MatchResult, Bor, Global, min, refl, sym, ap, subst, ◌∙◌, arith, lit≤}
+use Rattle.std.proofs.Common.{◌≡◌, ℕ, ◌≤◌, ◌&&◌, List, ◌++◌, Bool, true, false, cond, not, length, filter, Option, Some, None, Result, Ok, Err, IfOk, MatchResult, Bor, Global, min, refl, sym, ap, subst, ◌∙◌, arith}
 use Rattle.std.proofs.lemmas.Bool.{and_parts, leb-true}
 use Rattle.std.proofs.lemmas.List.{length-take}
 use Rattle.std.proofs.lemmas.Slice.Zip.{AllZip-long}
@@ -13,12 +13,12 @@ use Rattle.book.specs.declared.refusal.Refusal.{Refusal}
 use Rattle.book.specs.declared.refusal.Refusal.TheVariants.{BadRange}
 use Rattle.book.specs.declared.reply.Reply.{Reply}
 use Rattle.book.specs.declared.reply.Reply.TheVariants as reply
-use Rattle.book.specs.Answers.{Answer, Told as ToldPages, told}
+use Rattle.book.specs.Answers.{Told as ToldPages, told}
 use Rattle.book.specs.Asked.{Asked, Close, Head, History}
 use Rattle.book.specs.Books.{Book, Page}
 use Rattle.book.specs.Books.{pages as pages_of}
 use Rattle.book.specs.Shows.{Provider, IsRootOf, index_of}
-use Rattle.book.specs.Steps.{Outcome, Answers, Refuses, done, unless_refused, step}
+use Rattle.book.specs.Steps.{Outcome, Answers, Refuses, unless_refused, step}
 use Rattle.book.specs.Turns.{IsRead as IsAnswered, IsRefused, Reads, Turn, kept_of}
 use Rattle.epochs.specs.Kept.{Kept, HasKeysOf, book as book_kept, provider as provider_kept}
 use Rattle.epochs.specs.Replied.{IsTold}
@@ -27,7 +27,7 @@ use Rattle.wire.specs.declared.refusal.ReadRefusal.{ReadRefusal}
 use Rattle.wire.specs.declared.refusal.ReadRefusal.TheVariants.{BadKind, BadBody}
 use Rattle.wire.specs.Frames.{frame_bytes}
 use Rattle.wire.specs.Requests.{ReadsRequest}
-use Rattle.hub.specs.Desks.{reply_frame, Commanded, Desked, IsRead}
+use Rattle.hub.specs.Desks.{reply_frame, Commanded, IsRead}
 
 pub read_refused : (kind : ℕ) (body : List ℕ) (why : ReadRefusal) → ReadsRequest kind body (Err why) → IsRead (record { kind = kind; body = body }) (Err why)
 read_refused kind body BadKind h = h

@@ -15,12 +15,12 @@ use Rattle.std.specs.Map.{keys_of, lookup}
 use Rattle.wire.specs.Frames.{Frame}
 use Rattle.wire.specs.Streams.{Held, Rest}
 use Rattle.hub.specs.declared.refusal.HubRefusal.{HubRefusal}
-use Rattle.hub.specs.declared.refusal.HubRefusal.TheVariants.{TooManySessions, SessionOpen, NoSession}
+use Rattle.hub.specs.declared.refusal.HubRefusal.TheVariants.{NoSession}
 use Rattle.hub.specs.Events.{BySession, Happening, Open, Bytes, End, Hubbed, at, due, number}
 use Rattle.hub.specs.Happenings.{Passes}
 use Rattle.hub.specs.Exchanges.{Exchange, replies}
 use Rattle.hub.specs.Outputs.{appended, Appends, AppendsUnless}
-use Rattle.hub.specs.Runs.{Line, Stream, Streams, after_event, after_events, changed, each, fresh, is_open_once, told, unless_refused, with_piece, AreOutputs}
+use Rattle.hub.specs.Runs.{Line, Stream, Streams, after_event, after_events, changed, each, fresh, is_open_once, told, with_piece, AreOutputs}
 use Rattle.hub.proofs.Entries.{is_some_each}
 use Rattle.hub.proofs.Others.{insert_other, remove_other, set_other}
 use Rattle.hub.proofs.Running.{open_last, open_more, run_more, told_more, RunsSo}

@@ -1,15 +1,13 @@
 -- A run with one event more.
-use Rattle.std.proofs.Common.{◌≡◌, ◌≢◌, ℕ, suc, ◌<◌, List, [], ◌∷◌, ◌++◌, ◌||◌, Bool, true, false, cond, drop, get_or, length, map, take, Option, Some, None, refl, sym, ap, subst, ◌∙◌, append_assoc, inl, inr, ◌⊎◌}
-use Rattle.std.proofs.lemmas.Bool.{eqb-true, eqb-false}
+use Rattle.std.proofs.Common.{◌≡◌, ℕ, List, [], ◌∷◌, ◌++◌, ◌||◌, Bool, true, false, cond, map, Some, None, refl, sym, ap, subst, ◌∙◌, append_assoc, inl, inr}
 use Rattle.std.proofs.lemmas.List.{append-nil, map-append}
 use Rattle.std.specs.Prelude.{◌==◌, is_some}
 use Rattle.wire.specs.Frames.{Frame}
-use Rattle.wire.specs.Streams.{Held, Message, Rest}
-use Rattle.hub.specs.declared.refusal.HubRefusal.{HubRefusal}
-use Rattle.hub.specs.Events.{BySession, Happening, Hubbed, at, due, number}
-use Rattle.hub.specs.Exchanges.{Exchange, Replies, replies}
+use Rattle.wire.specs.Streams.{Message}
+use Rattle.hub.specs.Events.{Happening, Hubbed, at, due, number}
+use Rattle.hub.specs.Exchanges.{Exchange, replies}
 use Rattle.hub.specs.Happenings.{Passes}
-use Rattle.hub.specs.Runs.{Line, Streams, after_event, after_events, asked, brought, changed, commands, completed_by, each, fresh, is_open_once, rest_of, told, unless_refused, AllAnswered, Runs}
+use Rattle.hub.specs.Runs.{Line, Streams, after_event, after_events, asked, brought, commands, each, fresh, is_open_once, rest_of, told, AllAnswered, Runs}
 use Rattle.hub.proofs.Entries.{AllAt}
 use Rattle.hub.proofs.Steps.{lines, messages_of, all_fresh, does_changes, due_same, each_fresh, IsTold}
 

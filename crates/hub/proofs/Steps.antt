@@ -1,5 +1,5 @@
 -- What an event does to what sessions hold is what it does to their streams.
-use Rattle.std.proofs.Common.{◌≡◌, ℕ, List, [], ◌∷◌, ◌++◌, Bool, true, false, length, drop, map, Option, Some, None, refl, sym, ap, subst, ◌∙◌, append_assoc, inl, inr}
+use Rattle.std.proofs.Common.{◌≡◌, ℕ, List, [], ◌∷◌, ◌++◌, Bool, true, length, drop, map, Option, Some, None, refl, sym, ap, subst, ◌∙◌, append_assoc}
 use Rattle.std.proofs.Math.Seq.{drop-append_seam}
 use Rattle.std.specs.Option.{option_map}
 use Rattle.std.specs.Ordering.{nat_cmp}
@@ -7,11 +7,10 @@ use Rattle.std.specs.BTreeMap.{is_at, insert_entry}
 use Rattle.std.specs.Map.{remove_entry, set_value}
 use Rattle.wire.specs.Frames.{Frame}
 use Rattle.wire.specs.Streams.{Held, Message, Rest, messages, messages_within, with_more, IsSpent, Tells}
-use Rattle.hub.specs.declared.refusal.HubRefusal.{HubRefusal}
 use Rattle.hub.specs.Events.{BySession, Happening, Open, Bytes, End, Hubbed, at, due, number}
 use Rattle.hub.specs.Exchanges.{Exchange, Exchanges}
 use Rattle.hub.specs.Happenings.{Answered, Does}
-use Rattle.hub.specs.Runs.{Line, Stream, Streams, after_event, brought, changed, completed, completed_by, each, fresh, rest_of, unless_refused, with_piece, AllAnswered}
+use Rattle.hub.specs.Runs.{Line, Stream, Streams, changed, completed, completed_by, each, fresh, rest_of, with_piece, AllAnswered}
 use Rattle.hub.proofs.Entries.{due_each, insert_each, lookup_each, remove_each, set_each, all_found, all_inserted, all_removed, all_set, AllAt}
 use Rattle.hub.proofs.Streaming.{left_within, tells_append, tells_more, told_all, told_of}
 

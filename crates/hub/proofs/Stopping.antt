@@ -1,18 +1,15 @@
 -- Runs that stop where memory is wanting.
-use Rattle.std.proofs.Common.{◌≡◌, ℕ, suc, ◌<◌, List, [], ◌∷◌, ◌++◌, get_or, length, map, take, drop, drop-cons, true, false, Option, Some, None, Result, Ok, Err, refl, sym, ap, subst, ◌∙◌, append_assoc, inl, inr, ◌⊎◌}
+use Rattle.std.proofs.Common.{◌≡◌, ℕ, suc, ◌<◌, List, [], ◌∷◌, ◌++◌, get_or, length, map, take, drop, drop-cons, false, Result, Ok, Err, refl, sym, ap, subst, ◌∙◌, append_assoc, inl, inr, ◌⊎◌}
 use Rattle.std.specs.Prelude.{OnErr}
 use Rattle.std.proofs.lemmas.List.{append-nil, map-append, take-append-drop}
 use Rattle.wire.specs.Frames.{Frame}
 use Rattle.wire.specs.Streams.{Message}
-use Rattle.hub.specs.declared.refusal.HubRefusal.{HubRefusal}
-use Rattle.hub.specs.declared.refusal.HubRefusal.TheVariants.{TooManySessions, SessionOpen, NoSession, Memory}
-use Rattle.hub.specs.Events.{BySession, Bytes, Happening, Hubbed, due, number}
-use Rattle.hub.specs.Exchanges.{Exchange, replies}
-use Rattle.hub.specs.Happenings.{Answered, Happens, IsPart, Passes, WantsMemory}
-use Rattle.hub.specs.Outputs.{Appends, AppendsUnless}
-use Rattle.hub.specs.Runs.{Line, Streams, after_event, after_events, asked, brought, commands, each, fresh, unless_refused, AllAnswered, Begins, Runs, Stops}
+use Rattle.hub.specs.Events.{Bytes, Happening, Hubbed, number}
+use Rattle.hub.specs.Exchanges.{Exchange}
+use Rattle.hub.specs.Happenings.{Answered, IsPart, Passes}
+use Rattle.hub.specs.Runs.{Line, Streams, after_event, after_events, asked, brought, commands, each, fresh, Begins, Runs, Stops}
 use Rattle.hub.proofs.Running.{answered_append, asked_lines, commands_append, of_session, run_more, RunsSo}
-use Rattle.hub.proofs.Steps.{bytes_begins, lines, messages_of, IsTold}
+use Rattle.hub.proofs.Steps.{bytes_begins, lines, messages_of}
 
 pub any_err : {T E : Type 0} (r : Result T E) (P : Type 0) → P → OnErr r P
 any_err (Ok done) P p = tt

@@ -1,7 +1,6 @@
 -- The messages of a stream, and of what it is with more.
-use Rattle.std.proofs.Common.{◌≡◌, ℕ, zero, suc, ◌+◌, ◌-◌, ◌<◌, ◌≤◌, List, [], ◌∷◌, ◌++◌, length, Ok, Err, Option, Some, None, refl, sym, ap, subst, ◌∙◌, arith}
+use Rattle.std.proofs.Common.{◌≡◌, ℕ, zero, suc, ◌+◌, ◌-◌, ◌<◌, ◌≤◌, List, [], ◌∷◌, ◌++◌, length, Option, Some, None, refl, sym, ap, subst, ◌∙◌, arith}
 use Rattle.std.proofs.lemmas.List.{append-nil}
-use Rattle.wire.specs.Frames.{read_frame}
 use Rattle.wire.specs.Streams.{Held, Message, Rest, Failed, Whole, BadFrame, after_first, first_by, first_message, held_size, messages, messages_within, with_more, IsSpent, Takes, Tells}
 use Rattle.hub.proofs.Fronts.{bad_more, frame_less, frame_more}
 

@@ -1,5 +1,4 @@
-use Rattle.std.proofs.Common.{Err, Ok, ap, refl, ◌∙◌}
-use Rattle.wire.specs.Refusals.{read_refusal_number}
+use Rattle.std.proofs.Common.{Err, Ok, ap, refl}
 use Rattle.wire.specs.Requests.{request_seen}
 use Rattle.hub.specs.Exchanges.{refused_frame}
 use Rattle.hub.proofs.Desking.{read_refused}

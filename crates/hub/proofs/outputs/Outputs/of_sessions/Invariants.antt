@@ -1,4 +1,4 @@
-use Rattle.std.proofs.Common.{◌≡◌, ℕ, List, []}
+use Rattle.std.proofs.Common.{◌≡◌, ℕ, []}
 use Rattle.std.specs.Option.{option_map}
 use Rattle.hub.specs.Events.{at}
 use Rattle.hub.proofs.Outputting.{or_else}
