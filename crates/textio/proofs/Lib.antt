@@ -2,3 +2,4 @@ pub mod Writing
 pub mod InLine
 pub mod Steps
 pub mod NextLine
+pub mod Reading

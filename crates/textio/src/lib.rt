@@ -18,6 +18,7 @@
 
 mod devices;
 mod digits;
+mod input;
 mod line;
 mod output;
 mod program_fault;
@@ -25,6 +26,7 @@ mod stream_fault;
 
 pub use devices::{CutReader, CutWriter};
 pub use digits::{HASH_DIGITS, HASH_SIZE, hex_digits, hex32, option_hex32};
+pub use input::read_some;
 pub use line::next_line;
 pub use output::write_text;
 pub use program_fault::ProgramFault;

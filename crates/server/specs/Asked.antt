@@ -1,0 +1,24 @@
+-- What a server is asked.
+use Rattle.std.specs.Prelude.{ℕ, List, Option, option_map}
+use Rattle.std.specs.NonZero.{non_zero_u64_get}
+use Rattle.server.specs.declared.order.DirectoryOrder.{DirectoryOrder}
+
+-- the values of an order: the texts of the keys and of the token, the epoch of the first page, and the
+-- nonce's text where one is given
+pub record Asked : Type 0 where
+  pub sign_key : List ℕ
+  pub vuf_key : List ℕ
+  pub salt_key : List ℕ
+  pub token : List ℕ
+  pub epoch : ℕ
+  pub nonce : Option (List ℕ)
+
+abbrev pub values_of : DirectoryOrder → Asked
+values_of order = record {
+  sign_key = order.sign_key.now;
+  vuf_key = order.vuf_key.now;
+  salt_key = order.salt_key.now;
+  token = order.token.now;
+  epoch = non_zero_u64_get order.epoch;
+  nonce = option_map (λ text. text.now) order.nonce;
+}

@@ -1,0 +1,28 @@
+use std::num::NonZeroU64;
+
+/// A directory that begins with the program. The texts are those of the command line.
+#[derive(Clone, Copy, Debug)]
+pub struct DirectoryOrder<'a> {
+    /// The key of signatures, 64 hexadecimal digits; so are the other keys and the token.
+    pub sign_key: &'a str,
+    /// The key of the verifiable function.
+    pub vuf_key: &'a str,
+    /// The key of the salt stream.
+    pub salt_key: &'a str,
+    /// The token of the operator, who alone may close an epoch.
+    pub token: &'a str,
+    /// The epoch of the first page.
+    pub epoch: NonZeroU64,
+    /// The nonce of the trees, 64 hexadecimal digits; zeros where none is given.
+    pub nonce: Option<&'a str>,
+}
+
+/// A directory that answers connections.
+#[derive(Clone, Copy, Debug)]
+pub struct ListenOrder<'a> {
+    pub directory: DirectoryOrder<'a>,
+    /// How many connections are answered; 0 for no end.
+    pub count: u64,
+    /// The address to listen on, such as `127.0.0.1:7000`.
+    pub address: &'a str,
+}
