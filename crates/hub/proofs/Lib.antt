@@ -3,6 +3,7 @@ pub mod Entries
 pub mod Exchanging
 pub mod Fronts
 pub mod Hearing
+pub mod Joining
 pub mod Others
 pub mod Outputting
 pub mod Running

@@ -5,7 +5,7 @@ use Rattle.wire.specs.Streams.{Held, Message, Rest, Failed, Whole, BadFrame, aft
 use Rattle.hub.proofs.Fronts.{bad_more, frame_less, frame_more}
 
 -- what is taken is taken also where more follows
-takes_more : (held : Held) (message : Message) (after : Held) (more : List ℕ) → Takes held message after → Takes (with_more held more) message (with_more after more)
+pub takes_more : (held : Held) (message : Message) (after : Held) (more : List ℕ) → Takes held message after → Takes (with_more held more) message (with_more after more)
 takes_more (Rest bytes) (Whole frame) after more (left, e, same) = (left ++ more, frame_more bytes more frame left e, ap (λ (x : Held). with_more x more) same)
 takes_more (Rest bytes) BadFrame after more (e, same) = (bad_more bytes more e, ap (λ (x : Held). with_more x more) same)
 takes_more Failed message after more taken = absurd taken

@@ -18,6 +18,12 @@ WantsMemory (Err TooManySessions) = ⊥
 WantsMemory (Err SessionOpen) = ⊥
 WantsMemory (Err NoSession) = ⊥
 
+-- the event may want memory: all but the end of a session
+abbrev pub MayWant : Happening → Type 0
+MayWant (Open session) = ⊤
+MayWant (Bytes session piece) = ⊤
+MayWant (End session) = ⊥
+
 module _ {S : Type 0} (answers : S → Frame → List ℕ → S → Type 0) where
   -- a session takes a piece, and whole messages are answered: all, or a first part; others wait
   abbrev pub Answered : Hubbed S → ℕ → List ℕ → Bool → List Exchange → Hubbed S → Type 0
@@ -35,7 +41,7 @@ module _ {S : Type 0} (answers : S → Frame → List ℕ → S → Type 0) wher
   -- first part of the messages is answered, and the others wait.
   abbrev pub Happens : Hubbed S → Happening → List ℕ → Result (Unit {0}) HubRefusal → Hubbed S → List ℕ → Type 0
   Happens before it output (Ok done) after grown = (due before.sessions it ≡ None) × (exchanges : List Exchange) × Does before it exchanges after × (grown ≡ output ++ replies exchanges)
-  Happens before it output (Err (Memory false)) after grown = (due before.sessions it ≡ None) × (after ≡ before) × (grown ≡ output)
+  Happens before it output (Err (Memory false)) after grown = MayWant it × (due before.sessions it ≡ None) × (after ≡ before) × (grown ≡ output)
   Happens before it output (Err (Memory true)) after grown = (session : ℕ) × (piece : List ℕ) × (exchanges : List Exchange) × (it ≡ Bytes session piece)
       × Answered before session piece false exchanges after × (grown ≡ output ++ replies exchanges)
   Happens before it output (Err TooManySessions) after grown = (due before.sessions it ≡ Some TooManySessions) × (after ≡ before) × (grown ≡ output)

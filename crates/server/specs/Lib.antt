@@ -1,1 +1,4 @@
 pub mod Asked
+pub mod Faults
+pub mod Pieces
+pub mod Serving

@@ -1,0 +1,148 @@
+-- A session that is served, piece by piece.
+use Rattle.std.proofs.Common.{◌≡◌, ℕ, List, [], ◌∷◌, ◌++◌, Option, Some, Ok, Err, refl, sym, ap, subst, ◌∙◌, append_assoc, append-nil}
+use Rattle.std.specs.Ordering.{nat_cmp}
+use Rattle.std.specs.BTreeMap.{is_at}
+use Rattle.std.specs.Map.{set_value}
+use Rattle.std.specs.Io.KnownBytes.{Appends, Consumes, IsAtEnd, Keeps}
+use Rattle.std.proofs.KnownBytes.{Appends-nil, Appends-trans, Consumes-kept, Consumes-nil, Consumes-trans}
+use Rattle.std.proofs.lemmas.Map.Steps.{set_value_same}
+use Rattle.textio.specs.Output.{WritesBeginning, WritesBut}
+use Rattle.wire.specs.Frames.{Frame, read_frame}
+use Rattle.wire.specs.Streams.{Held, Message, Rest, messages_within, with_more, IsSpent}
+use Rattle.hub.specs.Events.{BySession, Hubbed, at}
+use Rattle.hub.specs.Exchanges.{Exchange, Exchanges, replies}
+use Rattle.hub.proofs.Joining.{exchanges_joined, replies_append}
+use Rattle.hub.proofs.Others.{set_found}
+use Rattle.hub.proofs.Steps.{exchanges_tell}
+use Rattle.hub.proofs.Streaming.{told_all, told_of}
+use Rattle.server.specs.declared.fault.ServeFault.{ServeFault}
+use Rattle.server.specs.declared.fault.ServeFault.TheVariants.{CannotRead, CannotWrite, OutOfMemory}
+use Rattle.server.specs.Pieces.{AnswersPiece, Goes}
+use Rattle.server.specs.Serving.{messages_of, AllReplied, Answers, AnswersFirst, Serves}
+use Rattle.server.proofs.Opened.{set_twice}
+
+spent-none : IsSpent (Rest [])
+unfolding read_frame
+spent-none = refl
+
+-- ---- what is written
+
+but_after : (old mid new : Option (List ℕ)) (text more rest : List ℕ) → Appends old mid text → WritesBut mid new more rest → WritesBut old new (text ++ more) rest
+but_after old mid new text more rest wrote (front, split, appended) = (
+  text ++ front,
+  ap (λ (t : List ℕ). text ++ t) split ∙ sym (append_assoc text front rest),
+  Appends-trans old mid new text front wrote appended,
+)
+
+beginning_after : (old mid new : Option (List ℕ)) (text more : List ℕ) → Appends old mid text → WritesBeginning mid new more → WritesBeginning old new (text ++ more)
+beginning_after old mid new text more wrote (rest, some, but) = (rest, some, but_after old mid new text more rest wrote but)
+
+module _ {S : Type 0} (answers : S → Frame → List ℕ → S → Type 0) where
+  -- ---- messages
+
+  all_replied : (s : S) (h : Held) (xs : List Exchange) (t : S) (left : Held) → Exchanges answers s h xs t left → AllReplied answers s xs t
+  all_replied s h [] t left (same, held) = same
+  all_replied s h (x ∷ xs) t left (middle, between, takes, replied, rest) = (middle, replied, all_replied middle between xs t left rest)
+
+  whole : (s : S) (bytes : List ℕ) (xs : List Exchange) (t : S) (left : Held) → Exchanges answers s (Rest bytes) xs t left → IsSpent left → Answers answers s bytes xs t
+  whole s bytes xs t left exchanged spent = (
+    ap (λ (m : List Message × Held). m.0) (told_all (Rest bytes) (messages_of xs) left (exchanges_tell answers s (Rest bytes) xs t left exchanged) spent),
+    all_replied s (Rest bytes) xs t left exchanged,
+  )
+
+  first : (s : S) (bytes : List ℕ) (xs : List Exchange) (t : S) (left : Held) → Exchanges answers s (Rest bytes) xs t left → AnswersFirst answers s bytes xs t
+  first s bytes xs t left exchanged =
+      let told = told_of (Rest bytes) (messages_of xs) left (exchanges_tell answers s (Rest bytes) xs t left exchanged) in (
+        (messages_within told.0 left).0,
+        ap (λ (m : List Message × Held). m.0) told.1,
+        all_replied s (Rest bytes) xs t left exchanged,
+      )
+
+  -- ---- midway
+
+  -- what was read so far is answered, and the replies are written
+  abbrev pub Midway : BySession Held → ℕ → S → Option (List ℕ) → Option (List ℕ) → Hubbed S → Option (List ℕ) → Option (List ℕ) → Type 0
+  Midway opened session service input written now left text = (bytes : List ℕ) × (exchanges : List Exchange) × (held : Held)
+      × Exchanges answers service (Rest bytes) exchanges now.service held × IsSpent held
+      × (at now.sessions session ≡ Some held) × (now.sessions ≡ set_value (is_at (nat_cmp session)) opened held)
+      × Consumes input left bytes × Appends written text (replies exchanges)
+
+  pub begun : (session : ℕ) (now : Hubbed S) (input written : Option (List ℕ)) → at now.sessions session ≡ Some (Rest [])
+      → Midway now.sessions session now.service input written now input written
+  begun session now input written here =
+      ([], [], Rest [], (refl, refl), spent-none, here, sym (set_value_same (is_at (nat_cmp session)) now.sessions (Rest []) here), Consumes-nil input, Appends-nil written)
+
+  module _ (opened : BySession Held) (session : ℕ) (service : S) (input written : Option (List ℕ)) (before : Hubbed S) (left text : Option (List ℕ)) where
+    -- where the session is and what it is afterwards
+    abbrev IsLeft : Hubbed S → Type 0
+    IsLeft now = (kept : Held) × (now.sessions ≡ set_value (is_at (nat_cmp session)) opened kept)
+
+    pub is_left : Midway opened session service input written before left text → IsLeft before
+    is_left (bytes, xs, held, exchanged, spent, here, set, eaten, wrote) = (held, set)
+
+    pub ended : Midway opened session service input written before left text → (rest : Option (List ℕ)) → Consumes left rest [] → IsAtEnd rest
+        → Serves answers service input written (Ok tt) before.service rest text
+    ended (bytes, xs, held, exchanged, spent, here, set, eaten, wrote) rest none over =
+        (bytes ++ [], xs, Consumes-trans input left rest bytes [] eaten none, over, subst (λ (b : List ℕ). Answers answers service b xs before.service) (sym (append-nil bytes)) (whole service bytes xs before.service held exchanged spent), wrote)
+
+    pub unread : Midway opened session service input written before left text → (rest : Option (List ℕ)) → Keeps left rest
+        → Serves answers service input written (Err CannotRead) before.service rest text
+    unread (bytes, xs, held, exchanged, spent, here, set, eaten, wrote) rest kept =
+        (bytes, xs, Consumes-kept input left rest bytes eaten kept, whole service bytes xs before.service held exchanged spent, wrote)
+
+    -- ---- a piece more
+
+    module _ (piece : List ℕ) (rest : Option (List ℕ)) (took : Consumes left rest piece) (after : Hubbed S) (told : Option (List ℕ)) where
+      -- the messages of all bytes
+      joined : (midway : Midway opened session service input written before left text) (held : Held) (ys : List Exchange) (last : Held) → at before.sessions session ≡ Some held
+          → Exchanges answers before.service (with_more held piece) ys after.service last
+          → Exchanges answers service (Rest (midway.0 ++ piece)) (midway.1 ++ ys) after.service last
+      joined (bytes, xs, now, exchanged, spent, here, set, eaten, wrote) held ys last there more =
+          let same : now ≡ held = (let e : Some now ≡ Some held = sym here ∙ there in cc) in
+          exchanges_joined answers service (Rest []) bytes piece xs ys before.service after.service now last exchanged
+            (subst (λ (h : Held). Exchanges answers before.service (with_more h piece) ys after.service last) (sym same) more)
+
+      kept_by : (midway : Midway opened session service input written before left text) (last : Held) → after.sessions ≡ set_value (is_at (nat_cmp session)) before.sessions last
+          → after.sessions ≡ set_value (is_at (nat_cmp session)) opened last
+      kept_by (bytes, xs, now, exchanged, spent, here, set, eaten, wrote) last put =
+          put ∙ ap (λ (m : BySession Held). set_value (is_at (nat_cmp session)) m last) set ∙ set_twice (is_at (nat_cmp session)) opened now last
+
+      pub gone_on : Midway opened session service input written before left text → AnswersPiece answers before session piece text (Ok tt) after told
+          → Midway opened session service input written after rest told
+      gone_on midway (held, ys, last, (there, put, more), spent, wrote) = (
+        midway.0 ++ piece,
+        midway.1 ++ ys,
+        last,
+        joined midway held ys last there more,
+        spent,
+        ap (λ (m : BySession Held). at m session) put ∙ set_found (is_at (nat_cmp session)) before.sessions last held there,
+        kept_by midway last put,
+        Consumes-trans input left rest midway.0 piece midway.7 took,
+        subst (Appends written told) (sym (replies_append midway.1 ys)) (Appends-trans written text told (replies midway.1) (replies ys) midway.8 wrote),
+      )
+
+      -- less is written, or fewer messages are answered
+      pub faulted : Midway opened session service input written before left text → (fault : ServeFault) → AnswersPiece answers before session piece text (Err fault) after told
+          → Serves answers service input written (Err fault) after.service rest told × IsLeft after
+      faulted midway CannotRead wrong = absurd wrong
+      faulted midway CannotWrite (held, ys, last, (there, put, more), spent, wrote) = (
+        (
+          midway.0 ++ piece,
+          midway.1 ++ ys,
+          Consumes-trans input left rest midway.0 piece midway.7 took,
+          whole service (midway.0 ++ piece) (midway.1 ++ ys) after.service last (joined midway held ys last there more) spent,
+          subst (WritesBeginning written told) (sym (replies_append midway.1 ys)) (beginning_after written text told (replies midway.1) (replies ys) midway.8 wrote),
+        ),
+        (last, kept_by midway last put),
+      )
+      faulted midway OutOfMemory (held, ys, last, kept, unwritten, there, put, more, wrote) = (
+        (
+          midway.0 ++ piece,
+          midway.1 ++ ys,
+          unwritten,
+          Consumes-trans input left rest midway.0 piece midway.7 took,
+          first service (midway.0 ++ piece) (midway.1 ++ ys) after.service last (joined midway held ys last there more),
+          subst (λ (t : List ℕ). WritesBut written told t unwritten) (sym (replies_append midway.1 ys)) (but_after written text told (replies midway.1) (replies ys) unwritten midway.8 wrote),
+        ),
+        (kept, kept_by midway kept put),
+      )

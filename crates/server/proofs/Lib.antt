@@ -1,0 +1,3 @@
+pub mod Conversing
+pub mod Heard
+pub mod Opened

@@ -1,0 +1,17 @@
+-- Faults of a session as those of a program.
+use Rattle.textio.specs.declared.stream_fault.StreamFault.{StreamFault}
+use Rattle.textio.specs.declared.stream_fault.StreamFault.TheVariants as stream
+use Rattle.textio.specs.declared.program_fault.ProgramFault.{ProgramFault}
+use Rattle.textio.specs.declared.program_fault.ProgramFault.TheVariants as program
+use Rattle.server.specs.declared.fault.ServeFault.{ServeFault}
+use Rattle.server.specs.declared.fault.ServeFault.TheVariants.{CannotRead, CannotWrite, OutOfMemory}
+
+abbrev pub of_stream : StreamFault → ServeFault
+of_stream stream.CannotRead = CannotRead
+of_stream stream.CannotWrite = CannotWrite
+
+-- what a program says of a session that could not be served to its end
+abbrev pub of_serving : ServeFault → ProgramFault
+of_serving CannotRead = program.CannotRead
+of_serving CannotWrite = program.CannotWrite
+of_serving OutOfMemory = program.OutOfMemory

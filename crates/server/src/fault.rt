@@ -1,0 +1,42 @@
+use textio::{ProgramFault, StreamFault};
+use thiserror::Error;
+
+/// Why a session is served no further.
+#[derive(Clone, Copy, Debug, PartialEq, Eq, Error)]
+pub enum ServeFault {
+    #[error("cannot read")]
+    CannotRead,
+    #[error("cannot write")]
+    CannotWrite,
+    #[error("out of memory")]
+    OutOfMemory,
+}
+
+impl From<StreamFault> for ServeFault {
+    ghost use Rattle.std.specs.Prelude.{◌≡◌};
+    ghost use Rattle.server.specs.Faults.{of_stream};
+
+    ghost from_gives = { λ given fault. fault ≡ of_stream given };
+
+    fn from(given: StreamFault) -> Self {
+        match given {
+            StreamFault::CannotRead => ServeFault::CannotRead,
+            StreamFault::CannotWrite => ServeFault::CannotWrite,
+        }
+    }
+}
+
+impl From<ServeFault> for ProgramFault {
+    ghost use Rattle.std.specs.Prelude.{◌≡◌};
+    ghost use Rattle.server.specs.Faults.{of_serving};
+
+    ghost from_gives = { λ given fault. fault ≡ of_serving given };
+
+    fn from(given: ServeFault) -> Self {
+        match given {
+            ServeFault::CannotRead => ProgramFault::CannotRead,
+            ServeFault::CannotWrite => ProgramFault::CannotWrite,
+            ServeFault::OutOfMemory => ProgramFault::OutOfMemory,
+        }
+    }
+}

@@ -1,0 +1,94 @@
+// One session of a hub, from a reader to a writer: a piece is read, heard, and its replies are written,
+// and so on to the end of the input.
+ghost use Rattle.std.specs.Prelude.{◌≡◌, [], Some, None};
+ghost use Rattle.std.specs.Ordering.{nat_cmp};
+ghost use Rattle.std.specs.BTreeMap.{is_at};
+ghost use Rattle.std.specs.Map.{set_value};
+ghost use Rattle.hub.specs.Events.{at, due, Bytes as AreBytes, Open as IsOpen};
+ghost use Rattle.wire.specs.Streams.{Held, Rest};
+ghost use Rattle.server.specs.Pieces.{AnswersPiece};
+ghost use Rattle.server.specs.Serving.{Serves};
+
+use crate::ServeFault;
+use hub::{Event, Hub, Service};
+use std::alloc::Global;
+use std::io::{Read, Write};
+use textio::{read_some, write_text};
+
+/// The most bytes that are read at once.
+const PIECE_SIZE: usize = 4096;
+
+/// Has a piece heard in its session, and writes the replies. Where memory was wanting, those to the
+/// messages that were answered are written too.
+fn answer_piece<S: Service + Drop, W: Write>(
+    alloc: Global,
+    hub: &mut Hub<S>,
+    session: u32,
+    piece: &[u8],
+    writer: &mut W,
+) -> Result<(), ServeFault>
+    requires { due hub.old.sessions (AreBytes session piece.now) ≡ None }
+    ensures { AnswersPiece S.answers hub.old session piece.now (W.contents writer.old) result hub.new (W.contents writer.new) }
+{
+    let mut output = Vec::new(alloc);
+    let heard = hub.event(&Event::Bytes(session, piece), &mut output);
+    let written = write_text(writer, &output);
+    if heard.is_err() {
+        return Err(ServeFault::OutOfMemory);
+    }
+    written?;
+    Ok(())
+}
+
+/// Reads to the end, answers each message of the session, and writes the replies.
+fn converse<S: Service + Drop, R: Read, W: Write>(
+    alloc: Global,
+    hub: &mut Hub<S>,
+    session: u32,
+    reader: &mut R,
+    writer: &mut W,
+) -> Result<(), ServeFault>
+    requires { at hub.old.sessions session ≡ Some (Rest []) }
+    ensures keeps { (kept : Held) × (hub.new.sessions ≡ set_value (is_at (nat_cmp session)) hub.old.sessions kept) }
+    ensures serves { Serves S.answers hub.old.service (R.remaining reader.old) (W.contents writer.old) result
+        hub.new.service (R.remaining reader.new) (W.contents writer.new) }
+{
+    let mut room = [0; PIECE_SIZE];
+    // Every loop of Rattle has an end: this one's is past any input.
+    for _ in 0..u64::MAX {
+        let count = read_some(reader, &mut room)?;
+        if count == 0 {
+            return Ok(());
+        }
+        answer_piece(alloc, hub, session, &room[..count], writer)?;
+    }
+    Err(ServeFault::CannotRead)
+}
+
+/// Opens the session, answers all that the reader gives, in pieces of at most 4,096 bytes, and ends
+/// the session, whatever comes.
+///
+/// # Errors
+///
+/// `CannotRead` and `CannotWrite` where a read or a write failed; `OutOfMemory`. What was written is
+/// then a beginning of the session's output.
+pub fn serve<S: Service + Drop, R: Read, W: Write>(
+    alloc: Global,
+    hub: &mut Hub<S>,
+    session: u32,
+    reader: &mut R,
+    writer: &mut W,
+) -> Result<(), ServeFault>
+    requires { due hub.old.sessions (IsOpen session) ≡ None }
+    ensures serves { Serves S.answers hub.old.service (R.remaining reader.old) (W.contents writer.old) result
+        hub.new.service (R.remaining reader.new) (W.contents writer.new) }
+    ensures ended { hub.new.sessions ≡ hub.old.sessions }
+{
+    let mut nothing = Vec::new(alloc);
+    if hub.event(&Event::Open(session), &mut nothing).is_err() {
+        return Err(ServeFault::OutOfMemory);
+    }
+    let outcome = converse(alloc, hub, session, reader, writer);
+    let _ended = hub.event(&Event::End(session), &mut nothing);
+    outcome
+}
