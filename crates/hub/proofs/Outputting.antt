@@ -53,7 +53,7 @@ not_here m n differ = apart m n differ m (is_here m)
 -- ---- which sessions are open
 
 -- what was put in is found
-insert_found : {X : Type 0} (entries : BySession X) (n : ℕ) (x : X) → at (insert_entry nat_cmp entries n x) n ≡ Some x
+pub insert_found : {X : Type 0} (entries : BySession X) (n : ℕ) (x : X) → at (insert_entry nat_cmp entries n x) n ≡ Some x
 insert_found [] n x = rw (is_here n) refl
 insert_found {X} (entry ∷ more) n x = by_order (nat_cmp n entry.0) refl (insert_found more n x)
   where

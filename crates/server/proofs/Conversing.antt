@@ -58,6 +58,17 @@ module _ {S : Type 0} (answers : S → Frame → List ℕ → S → Type 0) wher
         all_replied s (Rest bytes) xs t left exchanged,
       )
 
+  pub nothing_served : (before after : Hubbed S) (input written : Option (List ℕ)) → after ≡ before
+      → Serves answers before.service input written (Err OutOfMemory) after.service input written
+  nothing_served before after input written same = (
+    [],
+    [],
+    [],
+    Consumes-nil input,
+    first before.service [] [] after.service (Rest []) (ap (λ (h : Hubbed S). h.service) same, refl),
+    ([], refl, Appends-nil written),
+  )
+
   -- ---- midway
 
   -- what was read so far is answered, and the replies are written

@@ -1,5 +1,5 @@
 -- What a piece does to its session, as the hub says it.
-use Rattle.std.proofs.Common.{◌≡◌, ℕ, List, [], true, false, Option, Some, None, Result, Ok, Err, IsOk, OnErr, refl, sym, ap, subst, ◌∙◌}
+use Rattle.std.proofs.Common.{◌≡◌, ℕ, List, [], ◌++◌, true, false, cond, Option, Some, None, Result, Ok, Err, IsErr, IsOk, IfErr, OnErr, OnOk, refl, sym, ap, subst, ◌∙◌, append-nil}
 use Rattle.std.specs.Prelude.{is_some}
 use Rattle.std.specs.Ordering.{nat_cmp}
 use Rattle.std.specs.BTreeMap.{is_at}
@@ -12,33 +12,28 @@ use Rattle.hub.specs.declared.refusal.HubRefusal.TheVariants.{TooManySessions, S
 use Rattle.hub.specs.Events.{Bytes, Hubbed, BySession, at, due}
 use Rattle.hub.specs.Exchanges.{Exchange, Exchanges, replies}
 use Rattle.hub.specs.Happenings.{Happens}
-use Rattle.server.specs.Pieces.{Goes}
+use Rattle.std.specs.Io.KnownBytes.{Appends}
+use Rattle.textio.specs.declared.stream_fault.StreamFault.{StreamFault}
+use Rattle.textio.specs.declared.stream_fault.StreamFault.TheVariants as stream
+use Rattle.textio.specs.Output.{WritesBeginning, WritesBut}
+use Rattle.server.specs.declared.fault.ServeFault.{ServeFault}
+use Rattle.server.specs.declared.fault.ServeFault.TheVariants.{CannotWrite, OutOfMemory}
+use Rattle.server.specs.Pieces.{AnswersPiece, Goes}
 
 -- a session of which no refusal is due is open
+open_if : {X : Type 0} (found : Option X) → cond (is_some found) None (Some NoSession) ≡ None → (held : X) × (found ≡ Some held)
+open_if None fine = absurd (let wrong : Some NoSession ≡ None = fine in cc)
+open_if (Some held) fine = (held, refl)
+
 open_of : {X : Type 0} (sessions : BySession X) (session : ℕ) (piece : List ℕ) → due sessions (Bytes session piece) ≡ None → (held : X) × (at sessions session ≡ Some held)
-open_of {X} sessions session piece fine = by_entry (at sessions session) refl fine
-  where
-    by_entry : (found : Option X) → found ≡ at sessions session → (cond' : due sessions (Bytes session piece) ≡ None) → (held : X) × (at sessions session ≡ Some held)
-    by_entry None e fine = absurd (let wrong : Some NoSession ≡ None = rw (sym e) fine in cc)
-    by_entry (Some held) e fine = (held, sym e)
+open_of sessions session piece fine = open_if (at sessions session) fine
 
 module _ {S : Type 0} (answers : S → Frame → List ℕ → S → Type 0) where
-  -- all messages are answered
-  abbrev pub IsHeard : Hubbed S → ℕ → List ℕ → Hubbed S → List ℕ → Type 0
-  IsHeard before session piece after output = (held : Held) × (exchanges : List Exchange) × (left : Held)
-      × Goes answers before session held piece exchanges after left × IsSpent left × (output ≡ replies exchanges)
-
   -- memory was wanting, and the first messages are answered
   abbrev pub IsBegun : Hubbed S → ℕ → List ℕ → Hubbed S → List ℕ → Type 0
   IsBegun before session piece after output = (held : Held) × (exchanges : List Exchange) × (left kept : Held)
       × (at before.sessions session ≡ Some held) × (after.sessions ≡ set_value (is_at (nat_cmp session)) before.sessions kept)
       × Exchanges answers before.service (with_more held piece) exchanges after.service left × (output ≡ replies exchanges)
-
-  pub heard_whole : (before : Hubbed S) (session : ℕ) (piece output : List ℕ) (result : Result (Unit {0}) HubRefusal) (after : Hubbed S)
-      → Happens answers before (Bytes session piece) [] result after output → IsOk result → IsHeard before session piece after output
-  heard_whole before session piece output (Ok done) after (fine, exchanges, (held, left, here, set, exchanged, spent), wrote) ok =
-      (held, exchanges, left, (here, set, exchanged), spent refl, wrote)
-  heard_whole before session piece output (Err why) after happens ok = absurd ok
 
   pub heard_part : (before : Hubbed S) (session : ℕ) (piece output : List ℕ) (result : Result (Unit {0}) HubRefusal) (after : Hubbed S)
       → Happens answers before (Bytes session piece) [] result after output → due before.sessions (Bytes session piece) ≡ None → OnErr result (IsBegun before session piece after output)
@@ -48,17 +43,37 @@ module _ {S : Type 0} (answers : S → Frame → List ℕ → S → Type 0) wher
       let same_piece : piece ≡ taken = cc in
       rw (same_number, same_piece) (held, exchanges, left, left, here, set, exchanged, wrote)
   heard_part before session piece output (Err (Memory false)) after (may, due, same, wrote) fine =
-      let open = open_of before.sessions session piece fine in
+      let here = open_of before.sessions session piece fine in
       (
-        open.0,
+        here.0,
         [],
-        with_more open.0 piece,
-        open.0,
-        open.1,
-        ap (λ (h : Hubbed S). h.sessions) same ∙ sym (set_value_same (is_at (nat_cmp session)) before.sessions open.0 open.1),
+        with_more here.0 piece,
+        here.0,
+        here.1,
+        ap (λ (h : Hubbed S). h.sessions) same ∙ sym (set_value_same (is_at (nat_cmp session)) before.sessions here.0 here.1),
         (ap (λ (h : Hubbed S). h.service) same, refl),
         wrote,
       )
   heard_part before session piece output (Err TooManySessions) after (due, same, wrote) fine = absurd (let wrong : None ≡ Some TooManySessions = sym fine ∙ due in cc)
   heard_part before session piece output (Err SessionOpen) after (due, same, wrote) fine = absurd (let wrong : None ≡ Some SessionOpen = sym fine ∙ due in cc)
   heard_part before session piece output (Err NoSession) after (due, same, wrote) fine = absurd (let wrong : None ≡ Some NoSession = sym fine ∙ due in cc)
+
+-- ---- what is written
+
+-- a text is written, whole or not
+abbrev pub Writes : Option (List ℕ) → Option (List ℕ) → List ℕ → Result (Unit {0}) StreamFault → Type 0
+Writes written told text result = OnOk result (Appends written told text) × IfErr result (λ fault. (fault ≡ stream.CannotWrite) × WritesBeginning written told text)
+
+writes_some : (written told : Option (List ℕ)) (text : List ℕ) (result : Result (Unit {0}) StreamFault) → Writes written told text result → (rest : List ℕ) × WritesBut written told text rest
+writes_some written told text (Ok done) (whole, none) = ([], (text, sym (append-nil text), whole))
+writes_some written told text (Err fault) (none, (same, less)) = (less.0, less.2)
+
+module _ {S : Type 0} (answers : S → Frame → List ℕ → S → Type 0) where
+  pub part_written : (before : Hubbed S) (session : ℕ) (piece output : List ℕ) (heard : Result (Unit {0}) HubRefusal) (after : Hubbed S) (written told : Option (List ℕ)) (wrote : Result (Unit {0}) StreamFault)
+      → Happens answers before (Bytes session piece) [] heard after output → due before.sessions (Bytes session piece) ≡ None → IsErr heard → Writes written told output wrote
+      → AnswersPiece answers before session piece written (Err OutOfMemory) after told
+  part_written before session piece output (Ok done) after written told wrote happens fine bad writes = absurd cc
+  part_written before session piece output (Err why) after written told wrote happens fine bad writes =
+      let h = heard_part answers before session piece output (Err why) after happens fine in
+      let w = writes_some written told output wrote writes in
+      (h.0, h.1, h.2, h.3, w.0, h.4, h.5, h.6, subst (λ (t : List ℕ). WritesBut written told t w.0) h.7 w.1)

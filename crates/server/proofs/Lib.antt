@@ -1,3 +1,4 @@
 pub mod Conversing
+pub mod Ending
 pub mod Heard
 pub mod Opened
