@@ -9,11 +9,11 @@ use Rattle.clap.specs.declared.error.Error.{Error}
 use Rattle.clap.specs.Words.{Text, kind_of}
 use Rattle.textio.specs.declared.program_fault.ProgramFault.{ProgramFault}
 use Rattle.textio.specs.declared.program_fault.ProgramFault.TheVariants.{CannotWrite, OutOfMemory}
-use Rattle.textio.specs.Digits.{hex32}
+use Rattle.textio.specs.Digits.{hex32, nonce_of}
 use Rattle.textio.specs.Faults.{fault_text}
 use Rattle.textio.specs.Output.{Ends, WritesBeginning}
 use Rattle.items.specs.Prove.{Proves}
-use Rattle.items.specs.Root.{nonce_of, root_answer}
+use Rattle.items.specs.Root.{root_answer}
 use Rattle.directoryd.specs.declared.ending.Ending.{Ending}
 use Rattle.directoryd.specs.CommandLine.{status_of, IsHashNames, Refuses}
 use Rattle.directoryd.specs.Orders.{Ordered, ordered, the_root, the_path}

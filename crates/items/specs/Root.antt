@@ -1,5 +1,5 @@
 -- What `root` answers.
-use Rattle.std.specs.Prelude.{ℕ, List, [], ◌∷◌, ◌++◌, Option, None, Some, Result, Ok, Err, codes, replicate}
+use Rattle.std.specs.Prelude.{ℕ, List, [], ◌∷◌, ◌++◌, Option, None, Some, Result, Ok, Err, codes}
 use Rattle.textio.specs.Hex.{encode_lower}
 use Rattle.nodehash.specs.Sha256.{sha256}
 use Rattle.nodehash.specs.Digests.{byte_sum}
@@ -9,7 +9,7 @@ use Rattle.textio.specs.declared.program_fault.ProgramFault.{ProgramFault}
 use Rattle.textio.specs.declared.program_fault.ProgramFault.TheVariants.{BadHex}
 use Rattle.items.specs.declared.kinds.HashChoice.{HashChoice}
 use Rattle.items.specs.declared.kinds.HashChoice.TheVariants.{Sha256, Sum}
-use Rattle.textio.specs.Digits.{hex32}
+use Rattle.textio.specs.Digits.{nonce_of}
 use Rattle.items.specs.Items.{placement_of}
 use Rattle.items.specs.Asked.{Asked}
 
@@ -17,11 +17,6 @@ use Rattle.items.specs.Asked.{Asked}
 abbrev pub digest_of : HashChoice → List ℕ → List ℕ
 digest_of Sha256 = sha256
 digest_of Sum = byte_sum
-
--- the nonce: 32 zero bytes where none is given
-abbrev pub nonce_of : Option (List ℕ) → Option (List ℕ)
-nonce_of None = Some (replicate 32 0)
-nonce_of (Some text) = hex32 text
 
 -- the line that tells a root, in lower case
 abbrev pub root_line : List ℕ → List ℕ

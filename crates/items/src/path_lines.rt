@@ -1,21 +1,20 @@
 ghost use Rattle.std.specs.Prelude.{◌≡◌, ◌≢◌, ◌↔◌, ◌⊎◌, ◌++◌, Err, IfOk, IfErr, None};
-ghost use Rattle.textio.specs.Digits.{hex32};
+ghost use Rattle.textio.specs.Digits.{hex32, nonce_of};
 ghost use Rattle.items.specs.Items.{placement_of};
 ghost use Rattle.textio.specs.Output.{Ends};
 ghost use Rattle.items.specs.Prove.{end_line, path_lines, sibling_lines, PathTold, Proves};
 ghost use Rattle.items.specs.Asked.{values_of};
-ghost use Rattle.items.specs.Root.{nonce_of};
 
 use crate::kinds::{HashChoice, ProveOrder};
 use crate::listing::read_placement;
-use crate::root_line::{nonce_of, root_text};
+use crate::root_line::root_text;
 use encoding::{Hash32, Index};
 use itoa::Buffer;
 use nodehash::{NodeHash, Sha256Hash, SumHash};
 use prefixtree::{End, Path, Tree, path_is_way};
 use std::alloc::{AllocError, Global};
 use std::io::{BufRead, Write};
-use textio::{ProgramFault, hex_digits, option_hex32, write_text};
+use textio::{ProgramFault, hex_digits, option_hex32, option_nonce, write_text};
 
 /// Appends the line of a path's end.
 fn push_end(lines: &mut Vec<u8>, end: End) -> Result<(), AllocError>
@@ -111,7 +110,7 @@ pub fn prove<R: BufRead, W: Write>(
         ↔ ((nonce_of (values_of order.entry.root).nonce ≡ None) ⊎ (hex32 order.entry.index.now ≡ None)) }
     ensures unread { result ≡ Err ProgramFault.BadHex → (reader.new ≡ reader.old) × (writer.new ≡ writer.old) }
 {
-    let nonce = nonce_of(order.root.nonce)?;
+    let nonce = Hash32::new(option_nonce(order.root.nonce)?);
     let index = Index::new(option_hex32(order.index)?);
     match order.root.hash {
         HashChoice::Sha256 => prove_under(

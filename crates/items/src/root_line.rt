@@ -1,8 +1,9 @@
-ghost use Rattle.std.specs.Prelude.{◌≡◌, ◌≢◌, ◌↔◌, ◌++◌, length, Err, IfErr, MatchResult, None, Some, option_map};
+ghost use Rattle.std.specs.Prelude.{◌≡◌, ◌≢◌, ◌↔◌, ◌++◌, length, Err, IfErr, None};
 ghost use Rattle.items.specs.Asked.{values_of};
 ghost use Rattle.items.specs.Items.{placement_of};
 ghost use Rattle.textio.specs.Output.{Ends};
-ghost use Rattle.items.specs.Root.{nonce_of, root_answer, root_line, root_told};
+ghost use Rattle.textio.specs.Digits.{nonce_of};
+ghost use Rattle.items.specs.Root.{root_answer, root_line, root_told};
 
 use crate::kinds::{HashChoice, RootOrder};
 use crate::listing::read_placement;
@@ -11,7 +12,7 @@ use nodehash::{NodeHash, Sha256Hash, SumHash};
 use prefixtree::Tree;
 use std::alloc::Global;
 use std::io::{BufRead, Write};
-use textio::{HASH_DIGITS, HASH_SIZE, ProgramFault, hex_digits, option_hex32, write_text};
+use textio::{HASH_DIGITS, ProgramFault, hex_digits, option_nonce, write_text};
 
 /// The bytes of `root `, a hash in digits and LF.
 const ROOT_TEXT: usize = b"root \n".len() + HASH_DIGITS;
@@ -27,17 +28,6 @@ pub(crate) fn root_text(root: &Hash32) -> RootText
     text.push_slice(&hex_digits(root.bytes()));
     text.push(b'\n');
     text
-}
-
-/// The nonce of an order: 32 zero bytes where none is given.
-pub(crate) fn nonce_of(text: Option<&str>) -> Result<Hash32, ProgramFault>
-    ensures { MatchResult result (λ nonce. nonce_of (option_map (λ t. t.now) text.entry) ≡ Some nonce)
-        (λ fault. (fault ≡ ProgramFault.BadHex) × (nonce_of (option_map (λ t. t.now) text.entry) ≡ None)) }
-{
-    match text {
-        None => Ok(Hash32::new([0; HASH_SIZE])),
-        Some(text) => Ok(Hash32::new(option_hex32(text)?)),
-    }
 }
 
 /// Writes the root of the items that the input lists, under this hash function and nonce.
@@ -76,7 +66,7 @@ pub fn root<R: BufRead, W: Write>(
     ensures bad_hex { (result ≡ Err ProgramFault.BadHex) ↔ (nonce_of (values_of order.entry).nonce ≡ None) }
     ensures unread { result ≡ Err ProgramFault.BadHex → (reader.new ≡ reader.old) × (writer.new ≡ writer.old) }
 {
-    let nonce = nonce_of(order.nonce)?;
+    let nonce = Hash32::new(option_nonce(order.nonce)?);
     match order.hash {
         HashChoice::Sha256 => root_under(alloc, &mut Sha256Hash::new(), &nonce, reader, writer),
         HashChoice::Sum => root_under(alloc, &mut SumHash::new(), &nonce, reader, writer),

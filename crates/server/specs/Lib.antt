@@ -1,4 +1,5 @@
 pub mod Asked
+pub mod Directories
 pub mod Faults
 pub mod Pieces
 pub mod Serving

@@ -3,7 +3,7 @@ use Rattle.std.specs.Prelude.{ℕ, List, ◌++◌, Result, Err, codes, decimal, 
 use Rattle.textio.specs.declared.stream_fault.StreamFault.{StreamFault}
 use Rattle.textio.specs.declared.stream_fault.StreamFault.TheVariants as stream
 use Rattle.textio.specs.declared.program_fault.ProgramFault.{ProgramFault}
-use Rattle.textio.specs.declared.program_fault.ProgramFault.TheVariants.{BadHex, BadItem, IndexRepeated, CannotRead, CannotWrite, OutOfMemory}
+use Rattle.textio.specs.declared.program_fault.ProgramFault.TheVariants.{BadHex, BadItem, IndexRepeated, CannotRead, CannotWrite, CannotListen, OutOfMemory}
 
 -- what a program says of a read or a write that failed
 abbrev pub of_stream : StreamFault → ProgramFault
@@ -17,6 +17,7 @@ fault_text (BadItem line) = codes "line " ++ decimal line ++ codes ": bad item\n
 fault_text (IndexRepeated line) = codes "line " ++ decimal line ++ codes ": index repeated\n"
 fault_text CannotRead = codes "cannot read\n"
 fault_text CannotWrite = codes "cannot write\n"
+fault_text CannotListen = codes "cannot listen\n"
 fault_text OutOfMemory = codes "out of memory\n"
 
 -- A fault that speaks of the input is one that is said of it. A failed read and want of memory speak
@@ -36,4 +37,5 @@ IsDeviceFault _ = ⊥
 abbrev pub IsInputFault : ProgramFault → Type 0
 IsInputFault BadHex = ⊥
 IsInputFault CannotWrite = ⊥
+IsInputFault CannotListen = ⊥
 IsInputFault _ = ⊤

@@ -1,6 +1,6 @@
-ghost use Rattle.std.specs.Prelude.{◌≡◌, length, MatchResult, None, Some};
+ghost use Rattle.std.specs.Prelude.{◌≡◌, length, MatchResult, None, Some, option_map};
 ghost use Rattle.hex.specs.Hex.{encode_lower};
-ghost use Rattle.textio.specs.Digits.{hex32};
+ghost use Rattle.textio.specs.Digits.{hex32, nonce_of};
 
 use crate::program_fault::ProgramFault;
 use hex::FromHex;
@@ -41,5 +41,20 @@ pub fn option_hex32(text: &str) -> Result<[u8; HASH_SIZE], ProgramFault>
     match hex32(text.as_bytes()) {
         Some(bytes) => Ok(bytes),
         None => Err(ProgramFault::BadHex),
+    }
+}
+
+/// The 32 bytes of the option that gives a nonce: zeros where it is not there.
+///
+/// # Errors
+///
+/// `BadHex` where the text is not 64 hexadecimal digits.
+pub fn option_nonce(text: Option<&str>) -> Result<[u8; HASH_SIZE], ProgramFault>
+    ensures { MatchResult result (λ nonce. nonce_of (option_map (λ t. t.now) text.entry) ≡ Some nonce)
+        (λ fault. (fault ≡ ProgramFault.BadHex) × (nonce_of (option_map (λ t. t.now) text.entry) ≡ None)) }
+{
+    match text {
+        None => Ok([0; HASH_SIZE]),
+        Some(text) => option_hex32(text),
     }
 }

@@ -25,7 +25,7 @@ mod program_fault;
 mod stream_fault;
 
 pub use devices::{CutReader, CutWriter};
-pub use digits::{HASH_DIGITS, HASH_SIZE, hex_digits, hex32, option_hex32};
+pub use digits::{HASH_DIGITS, HASH_SIZE, hex_digits, hex32, option_hex32, option_nonce};
 pub use input::read_some;
 pub use line::next_line;
 pub use output::write_text;

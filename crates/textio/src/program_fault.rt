@@ -26,6 +26,8 @@ pub enum ProgramFault {
     CannotRead,
     #[error("cannot write")]
     CannotWrite,
+    #[error("cannot listen")]
+    CannotListen,
     #[error("out of memory")]
     OutOfMemory,
 }
@@ -109,6 +111,7 @@ impl ProgramFault {
             ProgramFault::IndexRepeated(line) => numbered(line, b": index repeated\n"),
             ProgramFault::CannotRead => plain(b"cannot read\n"),
             ProgramFault::CannotWrite => plain(b"cannot write\n"),
+            ProgramFault::CannotListen => plain(b"cannot listen\n"),
             ProgramFault::OutOfMemory => plain(b"out of memory\n"),
         }
     }
@@ -148,6 +151,7 @@ mod tests {
             ProgramFault::IndexRepeated(u64::MAX),
             ProgramFault::CannotRead,
             ProgramFault::CannotWrite,
+            ProgramFault::CannotListen,
             ProgramFault::OutOfMemory,
         ];
         for fault in faults {

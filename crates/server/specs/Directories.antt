@@ -1,0 +1,40 @@
+-- The directory that a server begins.
+use Rattle.std.specs.Prelude.{◌≡◌, ℕ, List, Option, None, Some}
+use Rattle.rand_core.specs.Stream.{Stream}
+use Rattle.rand_core.specs.Steps.{steps_u32, stream_of}
+use Rattle.rand_chacha.specs.ChaCha.{ChaCha, next_word, of_seed}
+use Rattle.book.specs.declared.keeper.NoKeeper.{NoKeeper}
+use Rattle.book.specs.Fresh.{fresh}
+use Rattle.epochs.specs.Kept.{book}
+use Rattle.hub.specs.Desks.{Desked}
+use Rattle.textio.specs.Digits.{hex32, nonce_of}
+use Rattle.server.specs.Asked.{Asked}
+
+-- the keys of a directory and of its salts, the token of its operator, and how it begins
+pub record Keyed : Type 0 where
+  pub sign_key : List ℕ
+  pub vuf_key : List ℕ
+  pub salt_key : List ℕ
+  pub token : List ℕ
+  pub epoch : ℕ
+  pub nonce : List ℕ
+
+abbrev pub keyed_if : Option (List ℕ) → Option (List ℕ) → Option (List ℕ) → Option (List ℕ) → Option (List ℕ) → ℕ → Option Keyed
+keyed_if (Some sign_key) (Some vuf_key) (Some salt_key) (Some token) (Some nonce) epoch =
+    Some (record { sign_key = sign_key; vuf_key = vuf_key; salt_key = salt_key; token = token; epoch = epoch; nonce = nonce })
+keyed_if _ _ _ _ _ epoch = None
+
+-- what the texts give, where each is 64 hexadecimal digits
+abbrev pub keys_of : Asked → Option Keyed
+keys_of asked = keyed_if (hex32 asked.sign_key) (hex32 asked.vuf_key) (hex32 asked.salt_key) (hex32 asked.token) (nonce_of asked.nonce) asked.epoch
+
+-- the salts that a generator will give
+abbrev pub salts : ChaCha → Stream
+salts = stream_of (steps_u32 (next_word 10))
+
+-- the desk is that of a directory at its first page, with these keys, and salts by ChaCha20 under the salt key
+pub record Begins (keys : Keyed) (desk : Desked ChaCha NoKeeper) : Type 0 where
+  pub book : book salts desk.directory ≡ fresh keys.epoch keys.nonce (salts (of_seed keys.salt_key))
+  pub vuf_key : desk.directory.vuf_key ≡ keys.vuf_key
+  pub sign_key : desk.directory.key ≡ keys.sign_key
+  pub token : desk.token ≡ keys.token

@@ -1,0 +1,90 @@
+ghost use Rattle.std.specs.Prelude.{◌≡◌, [], IfOk, MatchResult, None, Some};
+ghost use Rattle.server.specs.Asked.{values_of};
+ghost use Rattle.server.specs.Directories.{keys_of, Begins};
+ghost use Rattle.textio.specs.declared.program_fault.ProgramFault.TheVariants.{BadHex};
+
+use crate::DirectoryOrder;
+use book::NoKeeper;
+use encoding::Hash32;
+use epochs::Directory;
+use hub::{Desk, Hub};
+use nodehash::Sha256Hash;
+use rand_chacha::ChaCha20Rng;
+use rand_core::SeedableRng;
+use sigiface::KeyedSign;
+use std::alloc::{AllocError, Global};
+use std::marker::Model;
+use std::num::NonZeroU64;
+use textio::{HASH_SIZE, ProgramFault, option_hex32, option_nonce};
+use vrfiface::KeyedVuf;
+
+/// The desk of the directory that the programs serve.
+pub type ServedDesk = Desk<Sha256Hash, KeyedVuf, KeyedSign, ChaCha20Rng, NoKeeper>;
+
+/// What a directory begins with.
+#[derive(Debug)]
+pub(crate) struct Keys {
+    sign_key: Hash32,
+    vuf_key: Hash32,
+    salt_key: [u8; HASH_SIZE],
+    token: Hash32,
+    epoch: NonZeroU64,
+    nonce: Hash32,
+}
+
+impl Model for Keys {
+    ghost use Rattle.std.specs.NonZero.{non_zero_u64_get};
+    ghost use Rattle.server.specs.Directories.{Keyed};
+
+    ghost Value = { Keyed };
+
+    ghost view = { λ keys. record {
+        sign_key = keys.sign_key;
+        vuf_key = keys.vuf_key;
+        salt_key = keys.salt_key;
+        token = keys.token;
+        epoch = non_zero_u64_get keys.epoch;
+        nonce = keys.nonce;
+    } };
+}
+
+impl Keys {
+    /// The keys that the texts give.
+    ///
+    /// # Errors
+    ///
+    /// `BadHex` where one of the texts is not 64 hexadecimal digits.
+    pub(crate) fn read(order: &DirectoryOrder<'_>) -> Result<Self, ProgramFault>
+        ensures { MatchResult result (λ keys. keys_of (values_of order.now) ≡ Some keys)
+            (λ fault. (fault ≡ BadHex) × (keys_of (values_of order.now) ≡ None)) }
+    {
+        Ok(Keys {
+            sign_key: Hash32::new(option_hex32(order.sign_key)?),
+            vuf_key: Hash32::new(option_hex32(order.vuf_key)?),
+            salt_key: option_hex32(order.salt_key)?,
+            token: Hash32::new(option_hex32(order.token)?),
+            epoch: order.epoch,
+            nonce: Hash32::new(option_nonce(order.nonce)?),
+        })
+    }
+
+    /// A hub of the directory that begins with these keys, without a session.
+    pub(crate) fn begin(&self, alloc: Global) -> Result<Hub<ServedDesk>, AllocError>
+        ensures begins { IfOk result (λ hub. Begins self.now hub.service) }
+        ensures idle { IfOk result (λ hub. hub.sessions ≡ []) }
+    {
+        let directory = Directory::new(
+            alloc,
+            self.epoch.get(),
+            self.nonce,
+            Sha256Hash::new(),
+            KeyedVuf::new(self.vuf_key),
+            KeyedSign::new(self.sign_key),
+            ChaCha20Rng::from_seed(self.salt_key),
+        );
+        match directory {
+            Ok(directory) => Ok(Hub::new(alloc, directory, NoKeeper, self.token)),
+            Err(_) => Err(AllocError),
+        }
+    }
+}
