@@ -1,5 +1,7 @@
 pub mod Asked
 pub mod Directories
 pub mod Faults
+pub mod Listening
 pub mod Pieces
+pub mod Programs
 pub mod Serving

@@ -22,7 +22,7 @@ use vrfiface::KeyedVuf;
 pub type ServedDesk = Desk<Sha256Hash, KeyedVuf, KeyedSign, ChaCha20Rng, NoKeeper>;
 
 /// What a directory begins with.
-#[derive(Debug)]
+#[derive(Debug, Drop)]
 pub(crate) struct Keys {
     sign_key: Hash32,
     vuf_key: Hash32,

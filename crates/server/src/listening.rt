@@ -1,0 +1,91 @@
+// Connections over TCP, one after another. What a socket carries is known to the two systems alone, so
+// the clauses speak of the keys and of the line that tells the address; tests speak of the rest.
+ghost use Rattle.std.specs.Prelude.{◌≡◌, ◌≢◌, ◌↔◌, [], Err, IfErr, None};
+ghost use Rattle.textio.specs.declared.program_fault.ProgramFault.TheVariants.{BadHex};
+ghost use Rattle.server.specs.Asked.{values_of};
+ghost use Rattle.server.specs.Directories.{keys_of};
+ghost use Rattle.server.specs.Listening.{TellsAddress};
+
+use crate::input::SESSION;
+use crate::keys::{Keys, ServedDesk};
+use crate::serving::serve;
+use crate::{ListenOrder, ServeFault};
+use hub::Hub;
+use std::alloc::Global;
+use std::io::Write;
+use std::net::{Net, SocketAddr, TcpListener, TcpStream};
+use textio::{ProgramFault, write_text};
+
+/// Answers a connection, and closes it.
+fn answer(alloc: Global, hub: &mut Hub<ServedDesk>, stream: &TcpStream) -> Result<(), ServeFault>
+    requires { hub.old.sessions ≡ [] }
+    ensures { hub.new.sessions ≡ [] }
+{
+    // A reply is one write, which nothing else is to be waited for.
+    let _set = stream.set_nodelay(true);
+    serve(alloc, hub, SESSION, &mut &*stream, &mut &*stream)
+}
+
+/// Answers so many connections, one after another; 0 for no end. One that fails is closed, and the
+/// next is taken.
+fn answer_all(alloc: Global, hub: &mut Hub<ServedDesk>, listener: &TcpListener, count: u64)
+    requires { hub.old.sessions ≡ [] }
+{
+    let most = if count == 0 { u64::MAX } else { count };
+    for _ in 0..most {
+        if let Ok((stream, _)) = listener.accept() {
+            let _outcome = answer(alloc, hub, &stream);
+        }
+    }
+}
+
+/// Writes the line that tells where a server listens.
+fn tell_address<E: Write>(
+    alloc: Global,
+    address: SocketAddr,
+    errors: &mut E,
+) -> Result<(), ProgramFault>
+    ensures tells { TellsAddress (E.contents errors.old) result (E.contents errors.new) }
+    ensures good_hex { IfErr result (λ fault. fault ≢ BadHex) }
+{
+    let address = format!(in alloc; "{address}")?;
+    let mut line = Vec::from_slice(alloc, b"listening on ")?;
+    line.extend_from_slice(address.as_bytes())?;
+    line.push(b'\n')?;
+    write_text(errors, &line)?;
+    Ok(())
+}
+
+/// Begins a directory, listens on the address, and answers connections, one after another. Once it
+/// listens, it writes a line to the errors: `listening on` and the address, with the port that the
+/// system chose where port 0 was asked for.
+///
+/// # Errors
+///
+/// `BadHex`, before all else, where a text of the order is not 64 hexadecimal digits; `OutOfMemory`;
+/// `CannotListen` where the address cannot be listened on; `CannotWrite` where the line cannot be
+/// written. A connection that fails is closed, and no fault of `listen`.
+pub fn listen<N, E>(
+    alloc: Global,
+    net: &N,
+    order: ListenOrder<'_>,
+    errors: &mut E,
+) -> Result<(), ProgramFault>
+where
+    N: Net<Listener = TcpListener, Stream = TcpStream>,
+    E: Write,
+    ensures bad_hex { (result ≡ Err BadHex) ↔ (keys_of (values_of order.entry.directory) ≡ None) }
+    ensures tells { TellsAddress (E.contents errors.old) result (E.contents errors.new) }
+{
+    let keys = Keys::read(&order.directory)?;
+    let mut hub = keys.begin(alloc)?;
+    let Ok(listener) = TcpListener::bind(net, order.address) else {
+        return Err(ProgramFault::CannotListen);
+    };
+    let Ok(address) = listener.local_addr() else {
+        return Err(ProgramFault::CannotListen);
+    };
+    tell_address(alloc, address, errors)?;
+    answer_all(alloc, &mut hub, &listener, order.count);
+    Ok(())
+}
