@@ -14,3 +14,6 @@ pub use keys::ServedDesk;
 pub use listening::listen;
 pub use order::{DirectoryOrder, ListenOrder};
 pub use serving::serve;
+
+#[cfg(test)]
+mod tests;
