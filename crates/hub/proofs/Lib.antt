@@ -3,8 +3,10 @@ pub mod Entries
 pub mod Exchanging
 pub mod Fronts
 pub mod Hearing
+pub mod Once
 pub mod Others
 pub mod Outputting
+pub mod Owning
 pub mod Running
 pub mod Steps
 pub mod Stopping
