@@ -1,4 +1,4 @@
--- What a session is told is told of its own streams alone, whatever comes of the others.
+-- A session is told of its own streams alone, whatever comes of the others.
 use Rattle.std.specs.Prelude.{◌≡◌, ◌==◌, ◌&&◌, ℕ, List, [], ◌∷◌, ◌++◌, map, filter, flat_map, if◌then◌else◌, is_none, Option, Some, None}
 use Rattle.std.specs.List.Sorted.{IsStrictlySortedBy}
 use Rattle.std.specs.Map.{keys_of}
@@ -17,9 +17,9 @@ own_events session streams [] = []
 own_events session streams (it ∷ more) =
     (if (number it == session) && is_none (due streams it) then it ∷ [] else []) ++ own_events session (after_event streams it) more
 
--- what was held of a stream before the events, and its pieces
-abbrev pub Pieced : Type 0
-Pieced = Held × List (List ℕ)
+-- a stream of a session: what was held of it before the events, and the pieces that came
+abbrev pub OwnStream : Type 0
+OwnStream = Held × List (List ℕ)
 
 -- the pieces that come before the session is ended
 abbrev pub pieces : List Happening → List (List ℕ)
@@ -29,21 +29,21 @@ pieces (Bytes session piece ∷ more) = piece ∷ pieces more
 pieces (End session ∷ more) = []
 
 -- the streams that are opened, one after another
-abbrev pub opened : List Happening → List Pieced
+abbrev pub opened : List Happening → List OwnStream
 opened [] = []
 opened (Open session ∷ more) = (Rest [], pieces more) ∷ opened more
 opened (Bytes session piece ∷ more) = opened more
 opened (End session ∷ more) = opened more
 
--- the streams of a session that holds this, if it is open, by its events
-abbrev pub own_streams : Option Held → List Happening → List Pieced
+-- the streams of a session by its events: first the one that is open before them, if one is
+abbrev pub own_streams : Option Held → List Happening → List OwnStream
 own_streams None events = opened events
 own_streams (Some held) events = (held, pieces events) ∷ opened events
 
 -- ---- their messages
 
--- the messages of a stream: those of its pieces, joined behind what was held, which waits for the first piece
-abbrev pub stream_messages : Pieced → List Message
+-- the messages of a stream: those of what was held with the pieces behind it, joined; without a piece it waits
+abbrev pub stream_messages : OwnStream → List Message
 stream_messages (held, []) = []
 stream_messages (held, piece ∷ more) = (messages (with_more held (joined (piece ∷ more)))).0
 
@@ -66,7 +66,7 @@ abbrev pub SessionsHearTheirOwn : Type 0
 SessionsHearTheirOwn = (session : ℕ) (sessions : BySession Held) (events : List Happening) → IsStrictlySortedBy nat_cmp (keys_of sessions)
     → messages_of session (commands (each fresh sessions) events) ≡ own_messages session sessions events
 
--- In a run the lines of a session are of these messages, and it is told their replies.
+-- In a run the lines of a session are those of these messages, and it is told their replies.
 abbrev pub RunsTellTheirOwn : {S : Type 0} → (S → Frame → List ℕ → S → Type 0) → Type 0
 RunsTellTheirOwn {S} answers = (session : ℕ) (before after : Hubbed S) (events : List Happening) (lines : List Line) → IsStrictlySortedBy nat_cmp (keys_of before.sessions)
     → Runs answers before events lines after

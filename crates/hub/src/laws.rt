@@ -2,9 +2,8 @@ ghost use Rattle.hub.specs.Laws.{RunsTellTheirOwn, SessionsHearTheirOwn};
 
 use crate::Service;
 
-/// What a session is told is told of its own streams alone, whatever comes of the others, and also
-/// where it is ended and opened again: its messages are those that the pieces of each stream have
-/// when they are joined.
+/// A session is told of its own streams alone, whatever comes of the others, and also where it is
+/// ended and opened again: its messages are those of its pieces, joined stream by stream.
 pub fn sessions_hear_their_own<D: Service>()
     ensures messages { SessionsHearTheirOwn }
     ensures told { RunsTellTheirOwn D.answers }
