@@ -1,5 +1,5 @@
 -- The messages of a session are those of its own streams.
-use Rattle.std.proofs.Common.{◌≡◌, ◌≢◌, ℕ, ◌≤◌, List, [], ◌∷◌, ◌++◌, ◌&&◌, Bool, true, false, cond, drop, filter, flat_map, length, length-append, map, Option, Some, None, refl, sym, ap, subst, ◌∙◌, append_assoc, arith}
+use Rattle.std.proofs.Common.{◌≡◌, ◌≢◌, ℕ, ◌≤◌, List, [], ◌∷◌, ◌++◌, Bool, true, false, cond, drop, filter, flat_map, length, length-append, map, Option, Some, None, refl, sym, ap, subst, ◌∙◌, append_assoc, arith}
 use Rattle.std.proofs.lemmas.Bool.{eqb-true, eqb-false}
 use Rattle.std.proofs.lemmas.List.{append-nil, drop-append-le}
 use Rattle.std.proofs.Math.Seq.{drop-append_seam}
@@ -93,20 +93,12 @@ nothing_more : (found : Option Stream) → [] ≡ later_messages found []
 nothing_more None = refl
 nothing_more (Some stream) = refl
 
-and_false : (b : Bool) → (b && false) ≡ false
-and_false true = refl
-and_false false = refl
-
 same_is : (n : ℕ) → (n == n) ≡ true
 same_is n = by_test (n == n) refl
   where
     by_test : (b : Bool) → (n == n) ≡ b → b ≡ true
     by_test true e = refl
     by_test false e = absurd (eqb-false n n e refl)
-
--- a refused event
-refused_own : (n : ℕ) (streams : Streams) (it : Happening) (more : List Happening) (refusal : HubRefusal) → due streams it ≡ Some refusal → HearsOwn n streams more → HearsOwn n streams (it ∷ more)
-refused_own n streams it more refusal e next = rw (e, and_false (number it == n)) next
 
 -- an event of another session
 other_own : (n : ℕ) (streams : Streams) (it : Happening) (more : List Happening) → due streams it ≡ None → (number it == n) ≡ false → HearsOwn n (changed streams it) more → HearsOwn n streams (it ∷ more)
@@ -116,7 +108,25 @@ other_own n streams it more fine e next =
     ∙ ap (λ (found : Option Stream). later_messages found (own_events n (changed streams it) more)) (other_stays streams it n (eqb-false (number it) n e))
     )
 
--- ---- an event of the session itself
+refused_other : (n : ℕ) (streams : Streams) (it : Happening) (more : List Happening) (refusal : HubRefusal) → due streams it ≡ Some refusal → (number it == n) ≡ false → HearsOwn n streams more → HearsOwn n streams (it ∷ more)
+refused_other n streams it more refusal refused e next = rw (refused, e) next
+
+-- ---- a refused event of the session itself
+
+none_found : (found : Option Stream) (refusal : HubRefusal) → cond (is_some found) None (Some NoSession) ≡ Some refusal → found ≡ None
+none_found None refusal e = refl
+none_found (Some stream) refusal e = absurd cc
+
+refused_own : (streams : Streams) (it : Happening) (more : List Happening) (refusal : HubRefusal) → due streams it ≡ Some refusal → HearsOwn (number it) streams more → HearsOwn (number it) streams (it ∷ more)
+refused_own streams (Open n) more refusal refused next = rw (refused, same_is n) next
+refused_own streams (Bytes n piece) more refusal refused next =
+    let none : at streams n ≡ None = none_found (at streams n) refusal refused in
+    rw (refused, same_is n, none) (next ∙ ap (λ (found : Option Stream). later_messages found (own_events n streams more)) none)
+refused_own streams (End n) more refusal refused next =
+    let none : at streams n ≡ None = none_found (at streams n) refusal refused in
+    rw (refused, same_is n, none) (next ∙ ap (λ (found : Option Stream). later_messages found (own_events n streams more)) none)
+
+-- ---- another event of the session itself
 
 open_finds : (full : Bool) (found : Option Stream) → cond full (Some TooManySessions) (cond (is_some found) (Some SessionOpen) None) ≡ None → found ≡ None
 open_finds true found e = absurd cc
@@ -201,22 +211,26 @@ own_own streams (Open n) more fine kept next = open_own n streams more fine next
 own_own streams (Bytes n piece) more fine kept next = bytes_own n streams piece more fine kept.1 next
 own_own streams (End n) more fine kept next = end_own n streams more fine kept.0 next
 
-done_own : (n : ℕ) (streams : Streams) (it : Happening) (more : List Happening) → due streams it ≡ None → Kept n streams → HearsOwn n (changed streams it) more → HearsOwn n streams (it ∷ more)
-done_own n streams it more fine kept next = by_test (number it == n) refl
+one_own : (n : ℕ) (streams : Streams) (it : Happening) (more : List Happening) (found : Option HubRefusal) → due streams it ≡ found → Kept n streams → HearsOwn n streams more
+    → (Kept n (changed streams it) → HearsOwn n (changed streams it) more) → HearsOwn n streams (it ∷ more)
+one_own n streams it more None fine kept _ done = by_test (number it == n) refl (done (done_kept n streams it fine kept))
+  where
+    by_test : (b : Bool) → (number it == n) ≡ b → HearsOwn n (changed streams it) more → HearsOwn n streams (it ∷ more)
+    by_test true e next =
+        let same : number it ≡ n = eqb-true (number it) n e in
+        subst (λ (k : ℕ). Kept k streams → HearsOwn k (changed streams it) more → HearsOwn k streams (it ∷ more)) same (own_own streams it more fine) kept next
+    by_test false e next = other_own n streams it more fine e next
+one_own n streams it more (Some refusal) refused kept next _ = by_test (number it == n) refl
   where
     by_test : (b : Bool) → (number it == n) ≡ b → HearsOwn n streams (it ∷ more)
     by_test true e =
         let same : number it ≡ n = eqb-true (number it) n e in
-        subst (λ (k : ℕ). Kept k streams → HearsOwn k (changed streams it) more → HearsOwn k streams (it ∷ more)) same (own_own streams it more fine) kept next
-    by_test false e = other_own n streams it more fine e next
+        subst (λ (k : ℕ). HearsOwn k streams more → HearsOwn k streams (it ∷ more)) same (refused_own streams it more refusal refused) next
+    by_test false e = refused_other n streams it more refusal refused e next
 
 hears_own : (n : ℕ) (streams : Streams) (events : List Happening) → Kept n streams → HearsOwn n streams events
 hears_own n streams [] kept = nothing_more (at streams n)
-hears_own n streams (it ∷ more) kept = by_due (due streams it) refl (hears_own n streams more kept) (λ now. hears_own n (changed streams it) more now)
-  where
-    by_due : (found : Option HubRefusal) → due streams it ≡ found → HearsOwn n streams more → (Kept n (changed streams it) → HearsOwn n (changed streams it) more) → HearsOwn n streams (it ∷ more)
-    by_due None fine refused done = done_own n streams it more fine kept (done (done_kept n streams it fine kept))
-    by_due (Some refusal) e refused done = refused_own n streams it more refusal e refused
+hears_own n streams (it ∷ more) kept = one_own n streams it more (due streams it) refl kept (hears_own n streams more kept) (hears_own n (changed streams it) more)
 
 -- ---- the law
 

@@ -1,5 +1,5 @@
--- A session is told of its own streams alone, whatever comes of the others.
-use Rattle.std.specs.Prelude.{◌≡◌, ◌==◌, ◌&&◌, ℕ, List, [], ◌∷◌, ◌++◌, map, filter, flat_map, if◌then◌else◌, is_none, Option, Some, None}
+-- A session is told of its own streams alone, whatever the others send.
+use Rattle.std.specs.Prelude.{◌≡◌, ◌==◌, ◌&&◌, ℕ, List, [], ◌∷◌, ◌++◌, map, filter, flat_map, if◌then◌else◌, not, Bool, false, is_some, Option, Some, None}
 use Rattle.std.specs.List.Sorted.{IsStrictlySortedBy}
 use Rattle.std.specs.Map.{keys_of}
 use Rattle.std.specs.Ordering.{nat_cmp}
@@ -11,11 +11,17 @@ use Rattle.hub.specs.Runs.{Line, Streams, after_event, commands, each, fresh, to
 
 -- ---- the streams of a session
 
--- the events of a session that are not refused
+-- an opening that is refused
+abbrev pub is_refused_opening : Streams → Happening → Bool
+is_refused_opening streams (Open session) = is_some (due streams (Open session))
+is_refused_opening streams (Bytes session piece) = false
+is_refused_opening streams (End session) = false
+
+-- the events of a session, without the openings that are refused
 abbrev pub own_events : ℕ → Streams → List Happening → List Happening
 own_events session streams [] = []
 own_events session streams (it ∷ more) =
-    (if (number it == session) && is_none (due streams it) then it ∷ [] else []) ++ own_events session (after_event streams it) more
+    (if (number it == session) && not (is_refused_opening streams it) then it ∷ [] else []) ++ own_events session (after_event streams it) more
 
 -- a stream of a session: what was held of it before the events, and the pieces that came
 abbrev pub OwnStream : Type 0
@@ -28,7 +34,7 @@ pieces (Open session ∷ more) = []
 pieces (Bytes session piece ∷ more) = piece ∷ pieces more
 pieces (End session ∷ more) = []
 
--- the streams that are opened, one after another
+-- the streams that are opened, one after another; a piece or an ending outside of a stream does nothing
 abbrev pub opened : List Happening → List OwnStream
 opened [] = []
 opened (Open session ∷ more) = (Rest [], pieces more) ∷ opened more

@@ -2,8 +2,9 @@ ghost use Rattle.hub.specs.Laws.{RunsTellTheirOwn, SessionsHearTheirOwn};
 
 use crate::Service;
 
-/// A session is told of its own streams alone, whatever comes of the others, and also where it is
-/// ended and opened again: its messages are those of its pieces, joined stream by stream.
+/// The messages of a session are those of its own streams, whatever the other sessions send, and
+/// also where it is ended and opened again: of each stream those of its pieces, joined. The session
+/// is told their replies.
 pub fn sessions_hear_their_own<D: Service>()
     ensures messages { SessionsHearTheirOwn }
     ensures told { RunsTellTheirOwn D.answers }
