@@ -14,6 +14,7 @@
 mod desk;
 mod drain;
 mod event;
+mod laws;
 mod outputs;
 mod refusal;
 mod service;
@@ -21,6 +22,7 @@ mod sessions;
 
 pub use desk::Desk;
 pub use event::Event;
+pub use laws::sessions_hear_their_own;
 pub use refusal::HubRefusal;
 pub use service::Service;
 pub use sessions::Hub;
