@@ -16,7 +16,7 @@ use Rattle.wire.specs.Refusals.{read_refusal_number}
 use Rattle.wire.specs.Requests.{Asks, IsRequestKind}
 use Rattle.wire.specs.Requests as request
 use Rattle.wire.specs.Responses as response
-use Rattle.wire.specs.Responses.{response_frame}
+use Rattle.wire.specs.Responses.{proof_frame, response_frame}
 use Rattle.hub.specs.Exchanges.{refused_frame}
 
 pub record Desked (R K : Type 0) : Type 0 where
@@ -43,7 +43,7 @@ command token (request.Close given epoch) = if bytes_eq given token then Some (C
 -- the frame of a reply; that of a look-up has the reply's own bytes
 abbrev pub reply_frame : Reply → Frame
 reply_frame (reply.Promised signed) = response_frame (response.Promise signed)
-reply_frame (reply.Found text) = record { kind = 130; body = text }
+reply_frame (reply.Found text) = proof_frame text
 reply_frame (reply.Told told) = response_frame (response.Roots told.items)
 reply_frame (reply.Last root) = response_frame (response.Root root)
 reply_frame (reply.Refused why) = response_frame (response.Refused (refusal_number why))

@@ -30,19 +30,23 @@ response_seen (response.Roots roots) = Roots roots
 response_seen (response.Root root) = Root root
 response_seen (response.Refused code) = Refused code
 
+-- the frame of a reply to a look-up, by its bytes
+abbrev pub proof_frame : List ℕ → Frame
+proof_frame text = record { kind = 130; body = text }
+
+-- a response as a frame
+abbrev pub response_frame : Responded → Frame
+response_frame (Promise promise) = record { kind = 129; body = signed_promise_bytes promise }
+response_frame (Proof proof) = proof_frame (reply_bytes proof)
+response_frame (Roots roots) = record { kind = 131; body = root_list_bytes roots }
+response_frame (Root root) = record { kind = 132; body = signed_root_bytes root }
+response_frame (Refused code) = record { kind = 255; body = code ∷ [] }
+
 abbrev pub response_kind : Responded → ℕ
-response_kind (Promise promise) = 129
-response_kind (Proof proof) = 130
-response_kind (Roots roots) = 131
-response_kind (Root root) = 132
-response_kind (Refused code) = 255
+response_kind responded = (response_frame responded).kind
 
 abbrev pub response_body : Responded → List ℕ
-response_body (Promise promise) = signed_promise_bytes promise
-response_body (Proof proof) = reply_bytes proof
-response_body (Roots roots) = root_list_bytes roots
-response_body (Root root) = signed_root_bytes root
-response_body (Refused code) = code ∷ []
+response_body responded = (response_frame responded).body
 
 -- what a response may hold
 abbrev pub IsResponse : Responded → Type 0
@@ -51,10 +55,6 @@ IsResponse (Proof proof) = IsReply proof
 IsResponse (Roots roots) = IsRootList roots
 IsResponse (Root root) = IsSignedRoot root
 IsResponse (Refused code) = code < 256
-
--- a response as a frame
-abbrev pub response_frame : Responded → Frame
-response_frame responded = record { kind = response_kind responded; body = response_body responded }
 
 -- the body spells this response, which is of the kind
 abbrev pub Responds : ℕ → List ℕ → Responded → Type 0
@@ -75,11 +75,19 @@ ReadsResponse kind body (Err BadBody) = IsResponseKind kind × ((responded : Res
 
 -- the frame of an answer, whose proof is any text
 abbrev pub answer_frame : Answer → Frame
-answer_frame (answer.Promise promise) = record { kind = 129; body = signed_promise_bytes promise.now }
-answer_frame (answer.Proof text) = record { kind = 130; body = text.now }
-answer_frame (answer.Roots roots) = record { kind = 131; body = root_list_bytes roots.now }
-answer_frame (answer.Root root) = record { kind = 132; body = signed_root_bytes root.now }
-answer_frame (answer.Refused code) = record { kind = 255; body = code ∷ [] }
+answer_frame (answer.Promise promise) = response_frame (Promise promise.now)
+answer_frame (answer.Proof text) = proof_frame text.now
+answer_frame (answer.Roots roots) = response_frame (Roots roots.now)
+answer_frame (answer.Root root) = response_frame (Root root.now)
+answer_frame (answer.Refused code) = response_frame (Refused code)
+
+-- the response that has an answer's parts; the text of a proof is that of a reply
+abbrev pub Means : Answer → Responded → Type 0
+Means (answer.Promise promise) responded = responded ≡ Promise promise.now
+Means (answer.Proof text) responded = (reply : Reply) × (text.now ≡ reply_bytes reply) × (responded ≡ Proof reply)
+Means (answer.Roots roots) responded = responded ≡ Roots roots.now
+Means (answer.Root root) responded = responded ≡ Root root.now
+Means (answer.Refused code) responded = responded ≡ Refused code
 
 -- a list of roots has at most 64
 abbrev pub HasFewRoots : Answer → Type 0

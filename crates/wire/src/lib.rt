@@ -29,8 +29,8 @@ pub use answer::{Answer, MAX_ANSWER_LEN};
 pub use feed::{Feed, Next};
 pub use frame::MAX_FRAME_LEN;
 pub use laws::{
-    body_spells_one_request, body_spells_one_response, cutting_does_not_matter, frames_are_read,
-    messages_are_computed, stream_splits_once,
+    answers_are_read, body_spells_one_request, body_spells_one_response, cutting_does_not_matter,
+    frames_are_read, messages_are_computed, stream_splits_once,
 };
 pub use refusal::{FeedRefusal, ReadRefusal};
 pub use request::Request;

@@ -19,12 +19,9 @@ use nodehash::NodeHash;
 use prefixtree::{End as PathEnd, Path};
 use proofs::{End, make};
 use rand_core::Rng;
-use rootchain::{Body, SignedPromise, SignedRoot};
+use rootchain::{Body, MAX_ROOTS, SignedPromise, SignedRoot};
 use sigiface::Signer;
 use vrfiface::{Vuf, index_of};
-
-/// The most roots that one history has.
-const MOST_ROOTS: u16 = 64;
 
 impl<H: NodeHash, V: Vuf, S: Signer, R: Rng> Directory<H, V, S, R> {
     /// The promise that waits for a name: the same bytes as when it was made.
@@ -88,7 +85,7 @@ impl<H: NodeHash, V: Vuf, S: Signer, R: Rng> Directory<H, V, S, R> {
             × AllZip (IsRootOf (provider H.digest_of V.value_of S.signature_of self.now) (book R.stream self.now)) pages roots.now)
             (λ why. IsRefused (provider H.digest_of V.value_of S.signature_of self.now) (book R.stream self.now) (History from count) why) }
     {
-        if count == 0 || MOST_ROOTS < count {
+        if count == 0 || MAX_ROOTS < count as usize {
             return Err(Refusal::BadRange);
         }
         let start = self.roots.partition_point(|root| root.body.epoch < from);

@@ -10,5 +10,5 @@ returns g c =
     (rw c.deref.ensures.value (roots_parted _ _ _ _ c.self.invariant c.args.from)) (λ a r q k. search (rules, tests)) in
     record {
       reads = rw (← c.self.view_is) (history_reads _ _ _ _ c.self.invariant c.args.from c.args.count c.partition_point-start.result c.min-end.result c.split_at.result.1.now c.split_at-2.result.0.now
-          c.if-count-eq0.false (omega (arith, c.if-count-gt-MOST_ROOTS.false)) (rw c.deref.ensures.value at point) (rw c.deref-2.ensures.value at c.split_at.ensures.back) c.min-end.ensures c.split_at-2.ensures.front);
+          c.if-count-eq0.false (omega (arith, c.if-count-gt-MAX_ROOTS.false)) (rw c.deref.ensures.value at point) (rw c.deref-2.ensures.value at c.split_at.ensures.back) c.min-end.ensures c.split_at-2.ensures.front);
     }
