@@ -1,7 +1,8 @@
 //! Sessions that ask one directory, each by a stream of its own that comes in pieces.
 //!
 //! Callers can rely on this: each message of a session is answered once, in its own session, as the
-//! directory stands after all messages before it; and where a stream is cut does not matter.
+//! directory stands after all messages before it, of all sessions. Which messages a session sends does
+//! not depend on where its stream is cut; a message takes its place when its last byte comes.
 //!
 //! ```
 //! let mut hub = Hub::new(alloc, directory, keeper, token);
