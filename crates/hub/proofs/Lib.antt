@@ -1,3 +1,4 @@
+pub mod DeskRunning
 pub mod Desking
 pub mod Entries
 pub mod Exchanging

@@ -15,6 +15,7 @@
 mod desk;
 mod drain;
 mod event;
+mod laws_desk;
 mod outputs;
 mod refusal;
 mod service;
@@ -22,6 +23,7 @@ mod sessions;
 
 pub use desk::Desk;
 pub use event::Event;
+pub use laws_desk::replies_show_a_run;
 pub use refusal::HubRefusal;
 pub use service::Service;
 pub use sessions::Hub;
