@@ -1,3 +1,4 @@
+pub mod DeskHonest
 pub mod DeskRunning
 pub mod Desking
 pub mod Entries

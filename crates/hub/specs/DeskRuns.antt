@@ -1,11 +1,16 @@
 -- What the messages of sessions ask of the directory of a desk, and the run that their replies show.
 use Rattle.std.specs.Prelude.{◌≡◌, ◌⊎◌, ℕ, List, [], ◌∷◌, Some, None, Ok, Err}
+use Rattle.encoding.specs.Bytes.{Is32Bytes}
 use Rattle.rand_core.specs.Stream.{Stream}
 use Rattle.book.specs.declared.record.Record.{Record}
 use Rattle.book.specs.declared.reply.Reply.{Reply}
 use Rattle.book.specs.Asked.{Asked}
+use Rattle.book.specs.Books.{Book}
+use Rattle.book.specs.Fresh.{fresh, IsEpoch}
+use Rattle.book.specs.Honest.{IndicesDiffer, IsHonest}
+use Rattle.book.specs.Shows.{Provider}
 use Rattle.book.specs.Turns.{Run}
-use Rattle.epochs.specs.Kept.{book, provider, HasKeysOf}
+use Rattle.epochs.specs.Kept.{Kept, book, provider, HasKeysOf}
 use Rattle.wire.specs.declared.refusal.ReadRefusal.{ReadRefusal}
 use Rattle.wire.specs.Frames.{frame_bytes}
 use Rattle.wire.specs.Refusals.{read_refusal_number}
@@ -43,3 +48,19 @@ module _ {R K : Type 0} (digest_of : List ℕ → List ℕ) (value_of signature_
   ShowRun before lines after = (commands : List Asked) × (replies : List Reply) × ShowReplies before.token lines commands replies
       × Run (provider digest_of value_of signature_of before.directory) kept failed (book stream before.directory) before.keeper commands replies (book stream after.directory) after.keeper
       × HasKeysOf before.directory after.directory × (after.token ≡ before.token)
+
+-- a directory as it begins, with these public keys
+pub record IsNew {R : Type 0} (stream : R → Stream) (vuf_key key : List ℕ) (directory : Kept R) : Type 0 where
+  pub epoch : ℕ
+  pub nonce : List ℕ
+  pub salts : Stream
+  pub begun : book stream directory ≡ fresh epoch nonce salts
+  pub is_epoch : IsEpoch epoch
+  pub is_nonce : Is32Bytes nonce
+  pub is_vuf_key : directory.vuf_key ≡ vuf_key
+  pub is_key : directory.key ≡ key
+
+-- the lines show what the users of an honest provider see, where no look-up meets another name with its index
+abbrev pub ShowHonest : Provider → (List ℕ → List ℕ → List ℕ → Type 0) → (List ℕ → List ℕ → List ℕ → Type 0) → List ℕ → List ℕ → List Line → Book → Type 0
+ShowHonest provided accepted verified key token lines after = (commands : List Asked) × (replies : List Reply) × ShowReplies token lines commands replies
+    × (IndicesDiffer provided commands replies after → IsHonest provided accepted verified key after commands replies)

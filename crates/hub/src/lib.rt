@@ -23,7 +23,7 @@ mod sessions;
 
 pub use desk::Desk;
 pub use event::Event;
-pub use laws_desk::replies_show_a_run;
+pub use laws_desk::{replies_are_honest, replies_show_a_run};
 pub use refusal::HubRefusal;
 pub use service::Service;
 pub use sessions::Hub;
