@@ -6,8 +6,10 @@ pub mod Exchanging
 pub mod Fronts
 pub mod Hearing
 pub mod Joining
+pub mod Once
 pub mod Others
 pub mod Outputting
+pub mod Owning
 pub mod Running
 pub mod Steps
 pub mod Stopping

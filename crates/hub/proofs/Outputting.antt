@@ -29,7 +29,7 @@ use Rattle.hub.proofs.Steps.{due_same, lines, Matches}
 -- ---- numbers
 
 -- a number that a test is for is this one
-same_number : (m x : ℕ) → is_at (nat_cmp m) x ≡ true → m ≡ x
+pub same_number : (m x : ℕ) → is_at (nat_cmp m) x ≡ true → m ≡ x
 same_number m x e = by_order (nat_cmp m x) refl e
   where
     by_order : (o : Ordering) → o ≡ nat_cmp m x → is_eq o ≡ true → m ≡ x
@@ -53,7 +53,7 @@ not_here m n differ = apart m n differ m (is_here m)
 -- ---- which sessions are open
 
 -- what was put in is found
-insert_found : {X : Type 0} (entries : BySession X) (n : ℕ) (x : X) → at (insert_entry nat_cmp entries n x) n ≡ Some x
+pub insert_found : {X : Type 0} (entries : BySession X) (n : ℕ) (x : X) → at (insert_entry nat_cmp entries n x) n ≡ Some x
 insert_found [] n x = rw (is_here n) refl
 insert_found {X} (entry ∷ more) n x = by_order (nat_cmp n entry.0) refl (insert_found more n x)
   where
@@ -64,7 +64,7 @@ insert_found {X} (entry ∷ more) n x = by_order (nat_cmp n entry.0) refl (inser
     by_order Greater e next = let not : is_at (nat_cmp n) entry.0 ≡ false = ap is_eq e in rw not next
 
 -- an event leaves which other sessions are open
-other_stays : (streams : Streams) (it : Happening) (n : ℕ) → number it ≢ n → at (changed streams it) n ≡ at streams n
+pub other_stays : (streams : Streams) (it : Happening) (n : ℕ) → number it ≢ n → at (changed streams it) n ≡ at streams n
 other_stays streams (Open m) n differ = insert_other m (is_at (nat_cmp n)) (not_here m n differ) (apart m n differ) streams (fresh (Rest []))
 other_stays streams (Bytes m piece) n differ = by_stream (at streams m) refl
   where

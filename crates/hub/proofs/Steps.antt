@@ -84,11 +84,11 @@ stream_at sessions streams session held (same, all) here =
 pub due_same : (sessions : BySession Held) (streams : Streams) (it : Happening) → Matches sessions streams → due sessions it ≡ due streams it
 due_same sessions streams it (same, all) = ap (λ (m : BySession Held). due m it) same ∙ due_each rest_of streams it
 
-bytes_changed : (streams : Streams) (session : ℕ) (piece : List ℕ) (stream : Stream) → at streams session ≡ Some stream
+pub bytes_changed : (streams : Streams) (session : ℕ) (piece : List ℕ) (stream : Stream) → at streams session ≡ Some stream
     → changed streams (Bytes session piece) ≡ set_value (is_at (nat_cmp session)) streams (with_piece stream piece)
 bytes_changed streams session piece stream here = rw here refl
 
-bytes_completed : (streams : Streams) (session : ℕ) (piece : List ℕ) (stream : Stream) → at streams session ≡ Some stream
+pub bytes_completed : (streams : Streams) (session : ℕ) (piece : List ℕ) (stream : Stream) → at streams session ≡ Some stream
     → completed_by streams (Bytes session piece) ≡ completed stream piece
 bytes_completed streams session piece stream here = rw here refl
 

@@ -1,6 +1,9 @@
 -- The messages of a stream, and of what it is with more.
-use Rattle.std.proofs.Common.{◌≡◌, ℕ, zero, suc, ◌+◌, ◌-◌, ◌<◌, ◌≤◌, List, [], ◌∷◌, ◌++◌, length, Option, Some, None, refl, sym, ap, subst, ◌∙◌, arith}
+use Rattle.std.proofs.Common.{◌≡◌, ℕ, zero, suc, ◌+◌, ◌-◌, ◌<◌, ◌≤◌, List, [], ◌∷◌, ◌++◌, length, Option, Some, None, Ok, Err, refl, sym, ap, subst, ◌∙◌, arith}
 use Rattle.std.proofs.lemmas.List.{append-nil}
+use Rattle.encoding.specs.declared.fault.Fault.TheVariants.{Short, Trailing, OutOfRange}
+use Rattle.encoding.specs.Reading.{Reading}
+use Rattle.wire.specs.Frames.{Frame, read_frame}
 use Rattle.wire.specs.Streams.{Held, Message, Rest, Failed, Whole, BadFrame, after_first, first_by, first_message, held_size, messages, messages_within, with_more, IsSpent, Takes, Tells}
 use Rattle.hub.proofs.Fronts.{bad_more, frame_less, frame_more}
 
@@ -70,3 +73,24 @@ told_all held told after tells spent =
 pub left_within : (held : Held) (told : List Message) (after : Held) → Tells held told after → (messages_within (length told) held).1 ≡ after
 left_within held told after tells =
     ap (λ (n : ℕ). (messages_within n held).1) (omega arith) ∙ ap (λ (all : List Message × Held). all.1) (told_within held told after 0 tells)
+
+-- what is computed is told
+within_tells : (count : ℕ) (held : Held) → Tells held (messages_within count held).0 (messages_within count held).1
+within_tells zero held = refl
+within_tells (suc count) Failed = refl
+within_tells (suc count) (Rest bytes) = by_read (read_frame bytes) refl (λ left. within_tells count left)
+  where
+    by_read : (r : Reading Frame) → read_frame bytes ≡ r → ((left : Held) → Tells left (messages_within count left).0 (messages_within count left).1)
+        → Tells (Rest bytes) (after_first (Rest bytes) (first_by r) (messages_within count)).0 (after_first (Rest bytes) (first_by r) (messages_within count)).1
+    by_read (Ok read) e next = (Rest read.1, (read.1, e, refl), next (Rest read.1))
+    by_read (Err OutOfRange) e next = (Failed, (e, refl), next Failed)
+    by_read (Err Short) e next = refl
+    by_read (Err Trailing) e next = refl
+
+-- the messages of a stream are the first of those that it has with more
+pub messages_more : (held : Held) (more : List ℕ) → (later : List Message) × ((messages (with_more held more)).0 ≡ (messages held).0 ++ later)
+messages_more held more =
+    let told : List Message = (messages held).0 in
+    let left : Held = (messages held).1 in
+    let t = told_of (with_more held more) told (with_more left more) (tells_more held told left more (within_tells (held_size held) held)) in
+    ((messages_within t.0 (with_more left more)).0, ap (λ (all : List Message × Held). all.0) t.1)

@@ -3,6 +3,7 @@ pub mod Desks
 pub mod Events
 pub mod Exchanges
 pub mod Happenings
+pub mod Laws
 pub mod Outputs
 pub mod Refusals
 pub mod Runs

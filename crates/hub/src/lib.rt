@@ -15,6 +15,7 @@
 mod desk;
 mod drain;
 mod event;
+mod laws;
 mod laws_desk;
 mod outputs;
 mod refusal;
@@ -23,6 +24,7 @@ mod sessions;
 
 pub use desk::Desk;
 pub use event::Event;
+pub use laws::sessions_hear_their_own;
 pub use laws_desk::{replies_are_honest, replies_show_a_run};
 pub use refusal::HubRefusal;
 pub use service::Service;

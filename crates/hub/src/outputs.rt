@@ -64,7 +64,8 @@ impl Outputs {
         alloc: Global,
         sessions: &BTreeMap<u32, Feed>,
     ) -> Result<Outputs, AllocError>
-        ensures { IfOk result (λ outputs. (session : ℕ) → at outputs session ≡ option_map (λ _. []) (at sessions.now.entries session)) }
+        ensures empty { IfOk result (λ outputs. (session : ℕ) → at outputs session ≡ option_map (λ _. []) (at sessions.now.entries session)) }
+        ensures ascend { IsStrictlySortedBy nat_cmp (keys_of sessions.now.entries) }
     {
         let mut outputs = Outputs {
             alloc,

@@ -1,4 +1,7 @@
 ghost use Rattle.std.specs.Prelude.{◌≡◌, ◌⊎◌, ◌∷◌, [], List, map, vec_len, vec_capacity, IfOk, OnErr, OnOk};
+ghost use Rattle.std.specs.List.Sorted.{IsStrictlySortedBy};
+ghost use Rattle.std.specs.Map.{keys_of};
+ghost use Rattle.std.specs.Ordering.{nat_cmp};
 ghost use Rattle.hub.specs.Events.{due, number, seen, Bytes as AreBytes, End as IsEnd, Open as IsOpen};
 ghost use Rattle.hub.specs.Exchanges.{Exchange, LacksRoom, replies};
 ghost use Rattle.hub.specs.Happenings.{Happens, HearsAt, IsPart, Passes};
@@ -98,6 +101,7 @@ impl<D: Service + Drop> Hub<D> {
             × AreOutputs (each fresh (self.old).sessions) (map seen events.now) lines (map pair_seen outputs.items)) }
         ensures err { OnErr result (Stops D.answers self.old (map seen events.now) self.new) }
         ensures begun { OnErr result (Begins D.answers self.old (map seen events.now) (self.new).service) }
+        ensures ascend { IsStrictlySortedBy nat_cmp (keys_of (self.old).sessions) }
     {
         let mut outputs = Outputs::of_sessions(self.alloc, &self.sessions)?;
         let mut output = Vec::new(self.alloc);
