@@ -55,8 +55,7 @@ module _ {R K : Type 0} (digest_of : List ℕ → List ℕ) (value_of signature_
       ap (λ (k : List ℕ). provider_of digest_of value_of k signature_of before.directory.key) new.is_vuf_key ∙ ap (λ (k : List ℕ). provider_of digest_of value_of vuf_key signature_of k) new.is_key
       in
       let ran = subst (λ (p : Provider). Run p kept failed (book stream before.directory) before.keeper commands replies (book stream after.directory) after.keeper) same run in
-      let from = subst (λ (b : Book). Run (provider_of digest_of value_of vuf_key signature_of key) kept failed b before.keeper commands replies (book stream after.directory) after.keeper) new.begun ran in
-      (
+      let from = subst (λ (b : Book). Run (provider_of digest_of value_of vuf_key signature_of key) kept failed b before.keeper commands replies (book stream after.directory) after.keeper) new.begun ran in (
         commands,
         replies,
         shows,

@@ -31,5 +31,5 @@ pub fn replies_are_honest<H: NodeHash, V: Vuf, S: Signer, R: Rng, K: Keeper>()
         → HasSalts (book R.stream after.directory)
         → AllAnswered (DeskAnswers H.digest_of V.value_of S.signature_of R.stream K.kept K.failed) before lines after
         → ShowHonest (provider_of H.digest_of V.value_of (V.public_key vuf) S.signature_of (S.public_key signer))
-            V.accepted S.verified (S.public_key signer) before.token lines (book R.stream after.directory) }
+        V.accepted S.verified (S.public_key signer) before.token lines (book R.stream after.directory) }
 {}
