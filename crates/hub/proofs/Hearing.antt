@@ -6,7 +6,7 @@ use Rattle.std.specs.BTreeMap.{is_at}
 use Rattle.std.specs.Map.{set_value}
 use Rattle.std.proofs.lemmas.Map.Steps.{set_value_same}
 use Rattle.wire.specs.Frames.{Frame}
-use Rattle.wire.specs.Streams.{Held}
+use Rattle.wire.specs.Streams.{Held, Failed}
 use Rattle.hub.specs.declared.refusal.HubRefusal.{HubRefusal}
 use Rattle.hub.specs.declared.refusal.HubRefusal.TheVariants.{TooManySessions, SessionOpen, NoSession, Memory}
 use Rattle.hub.specs.Exchanges.{Hears}
@@ -28,12 +28,12 @@ module _ {S : Type 0} (answers : S → Frame → List ℕ → S → Type 0) wher
       → Hears answers before.service held piece output result after.service left grown
       → Happens answers before (Bytes session piece) output result after grown
   heard_happens before after session piece held left output grown (Ok done) here set (exchanges, exchanged, spent, wrote) =
-      (none_due before.sessions session piece held here, exchanges, (held, left, here, set, exchanged, λ _. spent), wrote)
-  heard_happens before after session piece held left output grown (Err (Memory true)) here set (exchanges, exchanged, wrote) =
-      (session, piece, exchanges, refl, (held, left, here, set, exchanged, λ e. absurd cc), wrote)
-  heard_happens before after session piece held left output grown (Err (Memory false)) here set (same, kept, wrote) =
+      (none_due before.sessions session piece held here, exchanges, (held, left, here, set, exchanged, spent), wrote)
+  heard_happens before after session piece held left output grown (Err (Memory true)) here set (exchanges, exchanged, waits, wrote) =
+      (session, piece, exchanges, refl, (held, left, here, set, exchanged, waits), wrote)
+  heard_happens before after session piece held left output grown (Err (Memory false)) here set (fine, same, kept, wrote) =
       let back = set ∙ ap (set_value (is_at (nat_cmp session)) before.sessions) kept ∙ set_value_same (is_at (nat_cmp session)) before.sessions held here in
-      (tt, none_due before.sessions session piece held here, same_hub after before same back, wrote)
+      (λ failed. fine (let is : held ≡ Failed = cc in is), none_due before.sessions session piece held here, same_hub after before same back, wrote)
   heard_happens before after session piece held left output grown (Err TooManySessions) here set h = absurd h
   heard_happens before after session piece held left output grown (Err SessionOpen) here set h = absurd h
   heard_happens before after session piece held left output grown (Err NoSession) here set h = absurd h

@@ -1,3 +1,5 @@
+pub mod DeskHonest
+pub mod DeskRunning
 pub mod Desking
 pub mod Entries
 pub mod Exchanging

@@ -20,7 +20,7 @@ use Rattle.hub.specs.Events.{BySession, Happening, Open, Bytes, End, Hubbed, at,
 use Rattle.hub.specs.Happenings.{Passes}
 use Rattle.hub.specs.Exchanges.{Exchange, replies}
 use Rattle.hub.specs.Outputs.{appended, Appends, AppendsUnless}
-use Rattle.hub.specs.Runs.{Line, Stream, Streams, after_event, after_events, changed, each, fresh, is_open_once, told, with_piece, AreOutputs}
+use Rattle.hub.specs.Runs.{Line, Stream, Streams, after_event, after_events, changed, each, fresh, was_open, told, with_piece, AreOutputs}
 use Rattle.hub.proofs.Entries.{is_some_each}
 use Rattle.hub.proofs.Others.{insert_other, remove_other, set_other}
 use Rattle.hub.proofs.Running.{open_last, open_more, run_more, told_more, RunsSo}
@@ -96,8 +96,8 @@ or_less false false e = refl
 
 -- the outputs so far, and that a session that was not open is told nothing
 abbrev pub OutputsSo : Streams → List Happening → List Line → BySession (List ℕ) → Type 0
-OutputsSo streams events ls outputs = ((n : ℕ) → at outputs n ≡ cond (is_open_once streams events n) (Some (told n ls)) None)
-    × ((n : ℕ) → is_open_once streams events n ≡ false → told n ls ≡ [])
+OutputsSo streams events ls outputs = ((n : ℕ) → at outputs n ≡ cond (was_open streams events n) (Some (told n ls)) None)
+    × ((n : ℕ) → was_open streams events n ≡ false → told n ls ≡ [])
 
 begun_at : {X : Type 0} (none : List ℕ) (found : Option X) → option_map (λ _. none) found ≡ cond (is_some found) (Some none) None
 begun_at none None = refl
@@ -117,14 +117,14 @@ module _ (streams : Streams) (events : List Happening) (ls : List Line) (it : Ha
   -- a refused event
   refused_more : after_event (after_events streams events) it ≡ after_events streams events → xs ≡ [] → ((n : ℕ) → at after n ≡ at before n) → OutputsSo streams (events ++ it ∷ []) (ls ++ lines (number it) xs) after
   refused_more stays none same = (
-    λ n. same n ∙ so.0 n ∙ ap (λ (b : Bool). cond b (Some (told n ls)) None) (sym (opens n)) ∙ ap (λ (t : List ℕ). cond (is_open_once streams (events ++ it ∷ []) n) (Some t) None) (sym (tells n)),
+    λ n. same n ∙ so.0 n ∙ ap (λ (b : Bool). cond b (Some (told n ls)) None) (sym (opens n)) ∙ ap (λ (t : List ℕ). cond (was_open streams (events ++ it ∷ []) n) (Some t) None) (sym (tells n)),
     λ n e. tells n ∙ so.1 n (sym (opens n) ∙ e),
   )
     where
-      opens : (n : ℕ) → is_open_once streams (events ++ it ∷ []) n ≡ is_open_once streams events n
+      opens : (n : ℕ) → was_open streams (events ++ it ∷ []) n ≡ was_open streams events n
       opens n =
-          open_more streams events it n ∙ ap (λ (m : Streams). is_open_once streams events n || is_some (at m n)) stays
-          ∙ or_less (is_open_once streams events n) (is_some (at (after_events streams events) n)) (open_last streams events n)
+          open_more streams events it n ∙ ap (λ (m : Streams). was_open streams events n || is_some (at m n)) stays
+          ∙ or_less (was_open streams events n) (is_some (at (after_events streams events) n)) (open_last streams events n)
 
       tells : (n : ℕ) → told n (ls ++ lines (number it) xs) ≡ told n ls
       tells n = ap (λ (ys : List Exchange). told n (ls ++ lines (number it) ys)) none ∙ ap (told n) (append-nil ls)
@@ -139,34 +139,34 @@ module _ (streams : Streams) (events : List Happening) (ls : List Line) (it : Ha
       next : after_event now it ≡ changed now it
       next = rw fine refl
 
-      at_each : (n : ℕ) → (at after n ≡ cond (is_open_once streams (events ++ it ∷ []) n) (Some (told n (ls ++ lines (number it) xs))) None)
-          × (is_open_once streams (events ++ it ∷ []) n ≡ false → told n (ls ++ lines (number it) xs) ≡ [])
+      at_each : (n : ℕ) → (at after n ≡ cond (was_open streams (events ++ it ∷ []) n) (Some (told n (ls ++ lines (number it) xs))) None)
+          × (was_open streams (events ++ it ∷ []) n ≡ false → told n (ls ++ lines (number it) xs) ≡ [])
       at_each n = by_test (number it == n) refl
         where
-          opens : is_open_once streams (events ++ it ∷ []) n ≡ (is_open_once streams events n || is_some (at (changed now it) n))
-          opens = open_more streams events it n ∙ ap (λ (m : Streams). is_open_once streams events n || is_some (at m n)) next
+          opens : was_open streams (events ++ it ∷ []) n ≡ (was_open streams events n || is_some (at (changed now it) n))
+          opens = open_more streams events it n ∙ ap (λ (m : Streams). was_open streams events n || is_some (at m n)) next
 
           by_test : (b : Bool) → (number it == n) ≡ b
-              → (at after n ≡ cond (is_open_once streams (events ++ it ∷ []) n) (Some (told n (ls ++ lines (number it) xs))) None)
-              × (is_open_once streams (events ++ it ∷ []) n ≡ false → told n (ls ++ lines (number it) xs) ≡ [])
+              → (at after n ≡ cond (was_open streams (events ++ it ∷ []) n) (Some (told n (ls ++ lines (number it) xs))) None)
+              × (was_open streams (events ++ it ∷ []) n ≡ false → told n (ls ++ lines (number it) xs) ≡ [])
           by_test true e =
               let same : number it ≡ n = eqb-true (number it) n e in
-              let opened : is_open_once streams (events ++ it ∷ []) n ≡ true = opens ∙ subst (λ (k : ℕ). (is_open_once streams events k || is_some (at (changed now it) k)) ≡ true) same (own_open now it (is_open_once streams events (number it)) fine (open_last streams events (number it))) in
+              let opened : was_open streams (events ++ it ∷ []) n ≡ true = opens ∙ subst (λ (k : ℕ). (was_open streams events k || is_some (at (changed now it) k)) ≡ true) same (own_open now it (was_open streams events (number it)) fine (open_last streams events (number it))) in
               let tells : told n (ls ++ lines (number it) xs) ≡ told n ls ++ replies xs = told_more n (number it) ls xs ∙ ap (λ (b : Bool). told n ls ++ cond b (replies xs) []) e in (
                 appends n ∙ ap (λ (b : Bool). cond b (Some (appended (at before n) (replies xs))) (at before n)) e
                     ∙ ap (λ (found : Option (List ℕ)). Some (appended found (replies xs))) (so.0 n)
-                    ∙ ap (λ (t : List ℕ). Some t) (with_more_bytes (is_open_once streams events n) (told n ls) (replies xs) (so.1 n) ∙ sym tells)
+                    ∙ ap (λ (t : List ℕ). Some t) (with_more_bytes (was_open streams events n) (told n ls) (replies xs) (so.1 n) ∙ sym tells)
                     ∙ ap (λ (b : Bool). cond b (Some (told n (ls ++ lines (number it) xs))) None) (sym opened),
                 λ closed. absurd (let wrong : true ≡ false = sym opened ∙ closed in cc),
               )
           by_test false e =
-              let opened : is_open_once streams (events ++ it ∷ []) n ≡ is_open_once streams events n =
-              opens ∙ ap (λ (found : Option Stream). is_open_once streams events n || is_some found) (other_stays now it n (eqb-false (number it) n e))
-              ∙ or_less (is_open_once streams events n) (is_some (at now n)) (open_last streams events n)
+              let opened : was_open streams (events ++ it ∷ []) n ≡ was_open streams events n =
+              opens ∙ ap (λ (found : Option Stream). was_open streams events n || is_some found) (other_stays now it n (eqb-false (number it) n e))
+              ∙ or_less (was_open streams events n) (is_some (at now n)) (open_last streams events n)
               in
               let tells : told n (ls ++ lines (number it) xs) ≡ told n ls = told_more n (number it) ls xs ∙ ap (λ (b : Bool). told n ls ++ cond b (replies xs) []) e ∙ append-nil (told n ls) in (
                 appends n ∙ ap (λ (b : Bool). cond b (Some (appended (at before n) (replies xs))) (at before n)) e ∙ so.0 n
-                    ∙ ap (λ (b : Bool). cond b (Some (told n ls)) None) (sym opened) ∙ ap (λ (t : List ℕ). cond (is_open_once streams (events ++ it ∷ []) n) (Some t) None) (sym tells),
+                    ∙ ap (λ (b : Bool). cond b (Some (told n ls)) None) (sym opened) ∙ ap (λ (t : List ℕ). cond (was_open streams (events ++ it ∷ []) n) (Some t) None) (sym tells),
                 λ closed. tells ∙ so.1 n (sym opened ∙ closed),
               )
 

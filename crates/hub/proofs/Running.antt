@@ -7,7 +7,7 @@ use Rattle.wire.specs.Streams.{Message}
 use Rattle.hub.specs.Events.{Happening, Hubbed, at, due, number}
 use Rattle.hub.specs.Exchanges.{Exchange, replies}
 use Rattle.hub.specs.Happenings.{Passes}
-use Rattle.hub.specs.Runs.{Line, Streams, after_event, after_events, asked, brought, commands, each, fresh, is_open_once, rest_of, told, AllAnswered, Runs}
+use Rattle.hub.specs.Runs.{Line, Streams, after_event, after_events, asked, brought, commands, each, fresh, was_open, rest_of, told, AllAnswered, Runs}
 use Rattle.hub.proofs.Entries.{AllAt}
 use Rattle.hub.proofs.Steps.{lines, messages_of, all_fresh, does_changes, due_same, each_fresh, IsTold}
 
@@ -70,14 +70,14 @@ or_assoc true b c = refl
 or_assoc false b c = refl
 
 pub open_more : (streams : Streams) (events : List Happening) (it : Happening) (n : ℕ)
-    → is_open_once streams (events ++ it ∷ []) n ≡ (is_open_once streams events n || is_some (at (after_event (after_events streams events) it) n))
+    → was_open streams (events ++ it ∷ []) n ≡ (was_open streams events n || is_some (at (after_event (after_events streams events) it) n))
 open_more streams [] it n = refl
 open_more streams (other ∷ events) it n =
     ap (λ (b : Bool). is_some (at streams n) || b) (open_more (after_event streams other) events it n)
-    ∙ or_assoc (is_some (at streams n)) (is_open_once (after_event streams other) events n) (is_some (at (after_event (after_events (after_event streams other) events) it) n))
+    ∙ or_assoc (is_some (at streams n)) (was_open (after_event streams other) events n) (is_some (at (after_event (after_events (after_event streams other) events) it) n))
 
 -- what is open at the end is open once
-pub open_last : (streams : Streams) (events : List Happening) (n : ℕ) → is_some (at (after_events streams events) n) ≡ true → is_open_once streams events n ≡ true
+pub open_last : (streams : Streams) (events : List Happening) (n : ℕ) → is_some (at (after_events streams events) n) ≡ true → was_open streams events n ≡ true
 open_last streams [] n e = e
 open_last streams (it ∷ events) n e = ap (λ (b : Bool). is_some (at streams n) || b) (open_last (after_event streams it) events n e) ∙ or_true (is_some (at streams n))
 

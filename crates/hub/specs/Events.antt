@@ -33,7 +33,7 @@ BySession X = List (ℕ × X)
 abbrev pub at : {X : Type 0} → BySession X → ℕ → Option X
 at sessions session = lookup (is_at (nat_cmp session)) sessions
 
--- the refusal that is due, if one is but for want of memory: at most 1,024 sessions are open
+-- the refusal that applies, memory aside: at most 1,024 sessions are open
 abbrev pub due : {X : Type 0} → BySession X → Happening → Option HubRefusal
 due sessions (Open session) = if nat_le 1024 (length sessions) then Some TooManySessions else (if is_some (at sessions session) then Some SessionOpen else None)
 due sessions (Bytes session piece) = if is_some (at sessions session) then None else Some NoSession

@@ -1,9 +1,9 @@
 -- Messages of one session, each answered.
-use Rattle.std.specs.Prelude.{◌≡◌, ℕ, List, [], ◌∷◌, ◌++◌, Bool, true, false, Result, Ok, Err}
+use Rattle.std.specs.Prelude.{◌≡◌, ◌≢◌, ◌+◌, ◌<◌, ℕ, List, [], ◌∷◌, ◌++◌, ⊤, Bool, true, false, Result, Ok, Err}
 use Rattle.std.specs.declared.alloc.AllocError.{AllocError}
 use Rattle.wire.specs.Frames.{Frame, frame_bytes}
 use Rattle.wire.specs.Responses.{response_frame, Refused}
-use Rattle.wire.specs.Streams.{Held, Message, Whole, BadFrame, with_more, IsSpent, Takes}
+use Rattle.wire.specs.Streams.{Held, Message, Failed, Whole, BadFrame, with_more, IsSpent, Takes}
 use Rattle.hub.specs.declared.refusal.HubRefusal.{HubRefusal}
 use Rattle.hub.specs.declared.refusal.HubRefusal.TheVariants.{TooManySessions, SessionOpen, NoSession, Memory}
 
@@ -20,6 +20,15 @@ replies (exchange ∷ more) = exchange.reply ++ replies more
 abbrev pub refused_frame : ℕ → List ℕ
 refused_frame code = frame_bytes (response_frame (Refused code))
 
+-- an output of this length and room has no room for the longest reply, if that is why messages wait
+abbrev pub LacksRoom : Result (Unit {0}) HubRefusal → ℕ → ℕ → Type 0
+LacksRoom (Ok done) length room = ⊤
+LacksRoom (Err (Memory true)) length room = room < length + 25863
+LacksRoom (Err (Memory false)) length room = ⊤
+LacksRoom (Err TooManySessions) length room = ⊤
+LacksRoom (Err SessionOpen) length room = ⊤
+LacksRoom (Err NoSession) length room = ⊤
+
 module _ {S : Type 0} (answers : S → Frame → List ℕ → S → Type 0) where
   -- the reply to a message; a length that no frame has is refused
   abbrev pub Replies : S → Message → List ℕ → S → Type 0
@@ -32,20 +41,21 @@ module _ {S : Type 0} (answers : S → Frame → List ℕ → S → Type 0) wher
   Exchanges service held (exchange ∷ more) service_after after = (middle : S) × (between : Held)
       × Takes held exchange.message between × Replies service exchange.message exchange.reply middle × Exchanges middle between more service_after after
 
-  -- some messages are answered: all that are held, unless memory was wanting
+  -- some messages are answered: all that are held, unless memory runs out while a whole one waits
   abbrev pub Drained : S → Held → List ℕ → Result (Unit {0}) AllocError → S → Held → List ℕ → Type 0
   Drained service held before (Ok done) service_after after output =
       (exchanges : List Exchange) × Exchanges service held exchanges service_after after × IsSpent after × (output ≡ before ++ replies exchanges)
-  Drained service held before (Err wanting) service_after after output =
-      (exchanges : List Exchange) × Exchanges service held exchanges service_after after × (output ≡ before ++ replies exchanges)
+  Drained service held before (Err no_memory) service_after after output =
+      (exchanges : List Exchange) × Exchanges service held exchanges service_after after × (¬ IsSpent after) × (output ≡ before ++ replies exchanges)
 
-  -- what is so where memory was wanting: nothing was done, or the piece was taken and the rest waits
+  -- where memory ran out nothing was done, and the stream had not failed; or the piece was taken, and a
+  -- whole message waits
   abbrev pub Wants : S → Held → List ℕ → List ℕ → Bool → S → Held → List ℕ → Type 0
-  Wants service held piece before false service_after after output = (service_after ≡ service) × (after ≡ held) × (output ≡ before)
+  Wants service held piece before false service_after after output = (held ≢ Failed) × (service_after ≡ service) × (after ≡ held) × (output ≡ before)
   Wants service held piece before true service_after after output =
-      (exchanges : List Exchange) × Exchanges service (with_more held piece) exchanges service_after after × (output ≡ before ++ replies exchanges)
+      (exchanges : List Exchange) × Exchanges service (with_more held piece) exchanges service_after after × (¬ IsSpent after) × (output ≡ before ++ replies exchanges)
 
-  -- a piece is taken and all its messages are answered, unless memory was wanting
+  -- a piece is taken and all its messages are answered, unless memory runs out
   abbrev pub Hears : S → Held → List ℕ → List ℕ → Result (Unit {0}) HubRefusal → S → Held → List ℕ → Type 0
   Hears service held piece before (Ok done) service_after after output =
       (exchanges : List Exchange) × Exchanges service (with_more held piece) exchanges service_after after × IsSpent after × (output ≡ before ++ replies exchanges)

@@ -4,32 +4,29 @@ use Rattle.std.specs.Ordering.{nat_cmp}
 use Rattle.std.specs.BTreeMap.{is_at, insert_entry}
 use Rattle.std.specs.Map.{remove_entry, set_value}
 use Rattle.wire.specs.Frames.{Frame}
-use Rattle.wire.specs.Streams.{Held, Rest, with_more, IsSpent}
+use Rattle.wire.specs.Streams.{Held, Rest, Failed, with_more, IsSpent}
 use Rattle.hub.specs.declared.refusal.HubRefusal.{HubRefusal}
 use Rattle.hub.specs.declared.refusal.HubRefusal.TheVariants.{TooManySessions, SessionOpen, NoSession, Memory}
-use Rattle.hub.specs.Events.{Happening, Open, Bytes, End, Hubbed, at, due}
+use Rattle.hub.specs.Events.{BySession, Happening, Open, Bytes, End, Hubbed, at, due}
 use Rattle.hub.specs.Exchanges.{Exchange, Exchanges, Hears, replies}
 
--- memory was wanting
-abbrev pub WantsMemory : Result (Unit {0}) HubRefusal → Type 0
-WantsMemory (Ok done) = ⊥
-WantsMemory (Err (Memory taken)) = ⊤
-WantsMemory (Err TooManySessions) = ⊥
-WantsMemory (Err SessionOpen) = ⊥
-WantsMemory (Err NoSession) = ⊥
+-- the event takes memory: the end of a session takes none, nor a piece of a stream that failed
+abbrev pub TakesMemory : BySession Held → Happening → Type 0
+TakesMemory sessions (Open session) = ⊤
+TakesMemory sessions (Bytes session piece) = ¬ (at sessions session ≡ Some Failed)
+TakesMemory sessions (End session) = ⊥
 
--- the event may want memory: all but the end of a session
-abbrev pub MayWant : Happening → Type 0
-MayWant (Open session) = ⊤
-MayWant (Bytes session piece) = ⊤
-MayWant (End session) = ⊥
+-- what a piece leaves in its session: no whole message where all are answered, else at least one
+abbrev pub Leaves : Bool → Held → Type 0
+Leaves true left = IsSpent left
+Leaves false left = ¬ IsSpent left
 
 module _ {S : Type 0} (answers : S → Frame → List ℕ → S → Type 0) where
   -- a session takes a piece, and whole messages are answered: all, or a first part; others wait
   abbrev pub Answered : Hubbed S → ℕ → List ℕ → Bool → List Exchange → Hubbed S → Type 0
   Answered before session piece all exchanges after = (held : Held) × (left : Held)
       × (at before.sessions session ≡ Some held) × (after.sessions ≡ set_value (is_at (nat_cmp session)) before.sessions left)
-      × Exchanges answers before.service (with_more held piece) exchanges after.service left × (all ≡ true → IsSpent left)
+      × Exchanges answers before.service (with_more held piece) exchanges after.service left × Leaves all left
 
   -- what an event does that is not refused, and the messages that it brings
   abbrev pub Does : Hubbed S → Happening → List Exchange → Hubbed S → Type 0
@@ -37,11 +34,11 @@ module _ {S : Type 0} (answers : S → Frame → List ℕ → S → Type 0) wher
   Does before (Bytes session piece) exchanges after = Answered before session piece true exchanges after
   Does before (End session) exchanges after = (exchanges ≡ []) × (after ≡ record before { sessions = remove_entry (is_at (nat_cmp session)) before.sessions })
 
-  -- What a call with an event does. Where memory is wanting nothing is done; or the piece was taken, a
-  -- first part of the messages is answered, and the others wait.
+  -- What a call with an event does. Where memory runs out nothing is done; or the piece was taken, a
+  -- first part of the messages is answered, and the others, at least one, wait.
   abbrev pub Happens : Hubbed S → Happening → List ℕ → Result (Unit {0}) HubRefusal → Hubbed S → List ℕ → Type 0
   Happens before it output (Ok done) after grown = (due before.sessions it ≡ None) × (exchanges : List Exchange) × Does before it exchanges after × (grown ≡ output ++ replies exchanges)
-  Happens before it output (Err (Memory false)) after grown = MayWant it × (due before.sessions it ≡ None) × (after ≡ before) × (grown ≡ output)
+  Happens before it output (Err (Memory false)) after grown = TakesMemory before.sessions it × (due before.sessions it ≡ None) × (after ≡ before) × (grown ≡ output)
   Happens before it output (Err (Memory true)) after grown = (session : ℕ) × (piece : List ℕ) × (exchanges : List Exchange) × (it ≡ Bytes session piece)
       × Answered before session piece false exchanges after × (grown ≡ output ++ replies exchanges)
   Happens before it output (Err TooManySessions) after grown = (due before.sessions it ≡ Some TooManySessions) × (after ≡ before) × (grown ≡ output)
@@ -54,7 +51,7 @@ module _ {S : Type 0} (answers : S → Frame → List ℕ → S → Type 0) wher
       ((refusal : HubRefusal) × (due before.sessions it ≡ Some refusal) × (exchanges ≡ []) × (after ≡ before))
       ⊎ ((due before.sessions it ≡ None) × Does before it exchanges after)
 
-  -- what is done of events where memory was wanting: nothing, or a first part of the first one
+  -- what is done of events where memory ran out: nothing, or a first part of the first one
   abbrev pub IsPart : Hubbed S → List Happening → Hubbed S → Type 0
   IsPart before [] after = after ≡ before
   IsPart before (it ∷ more) after = (after ≡ before)

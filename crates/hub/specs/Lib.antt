@@ -1,3 +1,4 @@
+pub mod DeskRuns
 pub mod Desks
 pub mod Events
 pub mod Exchanges

@@ -89,10 +89,10 @@ abbrev pub commands : Streams → List Happening → List (ℕ × Message)
 commands streams [] = []
 commands streams (it ∷ more) = map (λ message. (number it, message)) (brought streams it) ++ commands (after_event streams it) more
 
--- the session is open before one of the events, or after the last
-abbrev pub is_open_once : Streams → List Happening → ℕ → Bool
-is_open_once streams [] session = is_some (at streams session)
-is_open_once streams (it ∷ more) session = is_some (at streams session) || is_open_once (after_event streams it) more session
+-- at some time the session was open: before one of the events, or after the last
+abbrev pub was_open : Streams → List Happening → ℕ → Bool
+was_open streams [] session = is_some (at streams session)
+was_open streams (it ∷ more) session = is_some (at streams session) || was_open (after_event streams it) more session
 
 -- ---- answers
 
@@ -113,7 +113,7 @@ told session (line ∷ more) = (if line.session == session then line.reply else 
 -- an output for each session that is open once, of what it is told, ascending by their numbers
 pub record AreOutputs (streams : Streams) (events : List Happening) (lines : List Line) (outputs : BySession (List ℕ)) : Type 0 where
   pub ascend : IsStrictlySortedBy nat_cmp (keys_of outputs)
-  pub of_each : (session : ℕ) → at outputs session ≡ (if is_open_once streams events session then Some (told session lines) else None)
+  pub of_each : (session : ℕ) → at outputs session ≡ (if was_open streams events session then Some (told session lines) else None)
 
 module _ {S : Type 0} (answers : S → Frame → List ℕ → S → Type 0) where
   -- each message is answered as the service stands after those before it
@@ -132,7 +132,7 @@ module _ {S : Type 0} (answers : S → Frame → List ℕ → S → Type 0) wher
   Begins before events after = (lines : List Line) × (later : List (ℕ × Message))
       × (commands (each fresh before.sessions) events ≡ map asked lines ++ later) × AllAnswered before.service lines after
 
-  -- a run that stopped where memory was wanting: after some of its events, and perhaps in one
+  -- a run that stopped where memory ran out: after some of its events, and perhaps in one
   abbrev pub Stops : Hubbed S → List Happening → Hubbed S → Type 0
   Stops before events after = (done : List Happening) × (later : List Happening) × (lines : List Line) × (between : Hubbed S)
       × (events ≡ done ++ later) × Runs before done lines between × IsPart answers between later after

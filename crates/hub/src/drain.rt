@@ -1,6 +1,6 @@
-ghost use Rattle.std.specs.Prelude.{◌≡◌, ◌≢◌, ◌+◌, ◌≤◌, ◌++◌, vec_len, vec_capacity};
+ghost use Rattle.std.specs.Prelude.{◌≡◌, ◌≢◌, ◌+◌, ◌<◌, ◌≤◌, ◌++◌, vec_len, vec_capacity, OnErr};
 ghost use Rattle.wire.specs.Streams.{Failed};
-ghost use Rattle.hub.specs.Exchanges.{refused_frame, Drained, Hears};
+ghost use Rattle.hub.specs.Exchanges.{refused_frame, Drained, Hears, LacksRoom};
 
 use crate::{HubRefusal, Service};
 use std::alloc::AllocError;
@@ -13,7 +13,8 @@ pub(crate) fn hear<S: Service>(
     piece: &[u8],
     output: &mut Vec<u8>,
 ) -> Result<(), HubRefusal>
-    ensures { Hears S.answers service.old feed.old piece.now output.old.items result service.new feed.new output.new.items }
+    ensures hears { Hears S.answers service.old feed.old piece.now output.old.items result service.new feed.new output.new.items }
+    ensures room { LacksRoom result (vec_len output.new) (vec_capacity output.new) }
 {
     match feed.feed(piece) {
         Err(FeedRefusal::BadFrame) => Ok(()),
@@ -33,7 +34,8 @@ fn drain<S: Service>(
     output: &mut Vec<u8>,
 ) -> Result<(), AllocError>
     requires { feed.old ≢ Failed }
-    ensures { Drained S.answers service.old feed.old output.old.items result service.new feed.new output.new.items }
+    ensures drained { Drained S.answers service.old feed.old output.old.items result service.new feed.new output.new.items }
+    ensures room { OnErr result (vec_capacity output.new < vec_len output.new + 25863) }
 {
     while feed.ready() {
         output.reserve(MAX_ANSWER_LEN)?;

@@ -1,7 +1,8 @@
 //! Sessions that ask one directory, each by a stream of its own that comes in pieces.
 //!
 //! Callers can rely on this: each message of a session is answered once, in its own session, as the
-//! directory stands after all messages before it; and where a stream is cut does not matter.
+//! directory stands after all messages before it, of all sessions. Which messages a session sends does
+//! not depend on where its stream is cut; a message takes its place when its last byte comes.
 //!
 //! ```
 //! let mut hub = Hub::new(alloc, directory, keeper, token);
@@ -15,6 +16,7 @@ mod desk;
 mod drain;
 mod event;
 mod laws;
+mod laws_desk;
 mod outputs;
 mod refusal;
 mod service;
@@ -23,6 +25,7 @@ mod sessions;
 pub use desk::Desk;
 pub use event::Event;
 pub use laws::sessions_hear_their_own;
+pub use laws_desk::{replies_are_honest, replies_show_a_run};
 pub use refusal::HubRefusal;
 pub use service::Service;
 pub use sessions::Hub;

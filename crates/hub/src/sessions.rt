@@ -1,9 +1,9 @@
-ghost use Rattle.std.specs.Prelude.{◌≡◌, ◌⊎◌, ◌∷◌, [], List, map, IfOk, OnErr, OnOk};
+ghost use Rattle.std.specs.Prelude.{◌≡◌, ◌⊎◌, ◌∷◌, [], List, map, vec_len, vec_capacity, IfOk, OnErr, OnOk};
 ghost use Rattle.std.specs.List.Sorted.{IsStrictlySortedBy};
 ghost use Rattle.std.specs.Map.{keys_of};
 ghost use Rattle.std.specs.Ordering.{nat_cmp};
 ghost use Rattle.hub.specs.Events.{due, number, seen, Bytes as AreBytes, End as IsEnd, Open as IsOpen};
-ghost use Rattle.hub.specs.Exchanges.{Exchange, replies};
+ghost use Rattle.hub.specs.Exchanges.{Exchange, LacksRoom, replies};
 ghost use Rattle.hub.specs.Happenings.{Happens, HearsAt, IsPart, Passes};
 ghost use Rattle.hub.specs.Outputs.{pair_seen, AppendsUnless};
 ghost use Rattle.hub.specs.Runs.{each, fresh, AreOutputs, Begins, Line, Runs, Stops};
@@ -79,7 +79,8 @@ impl<D: Service + Drop> Hub<D> {
     /// `TooManySessions`, `SessionOpen`, `NoSession`: the first that applies, and nothing is done.
     /// Else `Memory` if memory runs out.
     pub fn event(&mut self, event: &Event<'_>, output: &mut Vec<u8>) -> Result<(), HubRefusal>
-        ensures { Happens D.answers self.old (seen event.now) output.old.items result self.new output.new.items }
+        ensures happens { Happens D.answers self.old (seen event.now) output.old.items result self.new output.new.items }
+        ensures room { LacksRoom result (vec_len output.new) (vec_capacity output.new) }
     {
         match event {
             Event::Open(session) => self.open(*session, output),
@@ -131,7 +132,8 @@ impl<D: Service + Drop> Hub<D> {
     }
 
     fn open(&mut self, session: u32, output: &Vec<u8>) -> Result<(), HubRefusal>
-        ensures { Happens D.answers self.old (IsOpen session) output.now.items result self.new output.now.items }
+        ensures happens { Happens D.answers self.old (IsOpen session) output.now.items result self.new output.now.items }
+        ensures room { LacksRoom result (vec_len output.now) (vec_capacity output.now) }
     {
         if self.sessions.len() >= MAX_SESSIONS {
             return Err(HubRefusal::TooManySessions);
@@ -146,7 +148,8 @@ impl<D: Service + Drop> Hub<D> {
     }
 
     fn end(&mut self, session: u32, output: &Vec<u8>) -> Result<(), HubRefusal>
-        ensures { Happens D.answers self.old (IsEnd session) output.now.items result self.new output.now.items }
+        ensures happens { Happens D.answers self.old (IsEnd session) output.now.items result self.new output.now.items }
+        ensures room { LacksRoom result (vec_len output.now) (vec_capacity output.now) }
     {
         match self.sessions.remove(&session) {
             Some(_) => Ok(()),
@@ -154,15 +157,19 @@ impl<D: Service + Drop> Hub<D> {
         }
     }
 
+    // `piece` has its contract by whether the session is found, as proves behind a `get_mut`. Here it
+    // becomes that of an event.
     fn bytes(&mut self, session: u32, piece: &[u8], output: &mut Vec<u8>) -> Result<(), HubRefusal>
-        ensures { Happens D.answers self.old (AreBytes session piece.now) output.old.items result self.new output.new.items }
+        ensures happens { Happens D.answers self.old (AreBytes session piece.now) output.old.items result self.new output.new.items }
+        ensures room { LacksRoom result (vec_len output.new) (vec_capacity output.new) }
     {
         self.piece(session, piece, output)
     }
 
     /// Takes a piece, where its session is found.
     fn piece(&mut self, session: u32, piece: &[u8], output: &mut Vec<u8>) -> Result<(), HubRefusal>
-        ensures { HearsAt D.answers self.old session piece.now output.old.items result self.new output.new.items }
+        ensures hears { HearsAt D.answers self.old session piece.now output.old.items result self.new output.new.items }
+        ensures room { LacksRoom result (vec_len output.new) (vec_capacity output.new) }
     {
         let Some(feed) = self.sessions.get_mut(&session) else {
             return Err(HubRefusal::NoSession);

@@ -7,11 +7,13 @@ mod sessions;
 
 use super::*;
 use book::NoKeeper;
-use encoding::Hash32;
+use encoding::{Hash32, Name};
 use epochs::Directory;
 use nodehash::Sha256Hash;
+use proofs::{ReplyView, Statement, check};
 use rand_chacha::ChaCha20Rng;
 use rand_core::SeedableRng;
+use rootchain::Body;
 use sigiface::KeyedSign;
 use std::alloc::{AllocError, Global};
 use std::process::Abort;
@@ -31,6 +33,11 @@ const TOKEN: [u8; 32] = [0; 32];
 /// A frame that asks for the head.
 const HEAD: [u8; 5] = [0, 0, 0, 1, 6];
 
+/// The values of the provider.
+fn vuf() -> KeyedVuf {
+    KeyedVuf::new(Hash32::new([2; 32]))
+}
+
 /// The provider's directory at epoch 1, without a name.
 fn first_page(alloc: Global) -> Result<Provided, AllocError> {
     let directory = Directory::new(
@@ -38,7 +45,7 @@ fn first_page(alloc: Global) -> Result<Provided, AllocError> {
         1,
         Hash32::new([0; 32]),
         Sha256Hash::new(),
-        KeyedVuf::new(Hash32::new([2; 32])),
+        vuf(),
         KeyedSign::new(Hash32::new([1; 32])),
         ChaCha20Rng::from_seed([0; 32]),
     );
@@ -51,7 +58,7 @@ fn started(alloc: Global) -> Result<ProvidedHub, AllocError> {
     Ok(Hub::new(alloc, directory, NoKeeper, Hash32::new(TOKEN)))
 }
 
-/// Handles an event, and tries it again where nothing was done for want of memory.
+/// Handles an event, and tries it again where memory ran out.
 fn handle(
     hub: &mut ProvidedHub,
     event: &Event<'_>,
@@ -66,13 +73,29 @@ fn handle(
     }
 }
 
-/// What a frame tells.
+/// What a reply states of the name `a` under the root that it names, if it is accepted.
+fn stated(reply: &[u8]) -> Option<(u64, Statement<'_>)> {
+    let body = Body::read(reply.get(..146)?).ok()?;
+    let name = Name::new(b"a").ok()?;
+    let view = ReplyView::read(reply).ok()?;
+    let accepted = check(&mut Sha256Hash::new(), &vuf(), &body, &name, &view).ok()?;
+    Some((body.epoch, accepted.statement()))
+}
+
+/// What a frame tells. A proof is one for the name `a`.
 fn line(alloc: Global, kind: u8, body: &[u8]) -> Result<String, AllocError> {
     match Response::read(kind, body) {
         Ok(Response::Promise(signed)) => {
             Ok(format!(in alloc; "promise {}", signed.promise.epoch)?)
         }
-        Ok(Response::Proof(_)) => Ok(format!(in alloc; "proof")?),
+        Ok(Response::Proof(_)) => match stated(body) {
+            Some((epoch, Statement::Present(key))) => {
+                let key = str::from_utf8(key).unwrap_or("not text");
+                Ok(format!(in alloc; "present {epoch} {key}")?)
+            }
+            Some((epoch, Statement::Absent)) => Ok(format!(in alloc; "absent {epoch}")?),
+            None => Ok(format!(in alloc; "not accepted")?),
+        },
         Ok(Response::Roots(_)) => Ok(format!(in alloc; "roots")?),
         Ok(Response::Root(root)) => Ok(format!(in alloc;
             "root {} after {}",

@@ -40,10 +40,15 @@ enum Message {
     Asks(Request<'static>),
     OfNoKind,
     OfNoForm,
+    /// The last of its stream.
+    OfNoLength,
 }
 
 /// Some message; a close is of this epoch.
 fn some_message(numbers: &mut Numbers, epoch: u64) -> Message {
+    if numbers.below(60) == 0 {
+        return Message::OfNoLength;
+    }
     let name = numbers.text();
     let key = numbers.text();
     let token = match numbers.below(3) {
@@ -80,6 +85,7 @@ fn frame(alloc: Global, message: &Message) -> Result<Vec<u8>, AllocError> {
         }
         Message::OfNoKind => frame.extend_from_slice(&[0, 0, 0, 1, 9])?,
         Message::OfNoForm => frame.extend_from_slice(&[0, 0, 0, 2, 6, 0])?,
+        Message::OfNoLength => frame.extend_from_slice(&[0, 1, 0, 1])?,
     }
     Ok(frame)
 }
@@ -98,6 +104,7 @@ fn answer(
         Message::Asks(request) => request,
         Message::OfNoKind => return refuse(2, output),
         Message::OfNoForm => return refuse(3, output),
+        Message::OfNoLength => return refuse(1, output),
     };
     let keeper = &mut NoKeeper;
     let refused = match request {
@@ -140,12 +147,13 @@ enum Happening {
     End,
 }
 
-/// A session: whether it is open or was once, the rest of a message that it began, and what it is
-/// told.
+/// A session: whether it is open or was once, whether its stream had a bad length, the rest of a
+/// message that it began, and what it is told.
 #[derive(Drop)]
 struct Talk {
     is_open: bool,
     was_open: bool,
+    failed: bool,
     begun: Option<(Vec<u8>, Message)>,
     told: Vec<u8>,
 }
@@ -156,6 +164,7 @@ impl Talk {
         Talk {
             is_open: false,
             was_open: false,
+            failed: false,
             begun: None,
             told: Vec::new(alloc),
         }
@@ -172,6 +181,7 @@ impl Talk {
             0 => {
                 self.begun = None;
                 self.is_open = false;
+                self.failed = false;
                 Ok(Happening::End)
             }
             1 => {
@@ -182,6 +192,15 @@ impl Talk {
             _ if !self.is_open => Ok(Happening::Piece(frame(alloc, &Message::OfNoKind)?)),
             _ => Ok(Happening::Piece(self.piece(alloc, numbers, directory)?)),
         }
+    }
+
+    /// Answers a message that is whole, unless one of a bad length came before it.
+    fn answer(&mut self, directory: &mut Provided, message: &Message) -> Result<(), AllocError> {
+        if self.failed {
+            return Ok(());
+        }
+        self.failed = matches!(message, Message::OfNoLength);
+        answer(directory, message, &mut self.told)
     }
 
     /// The next piece: the rest of the message that was begun, or a part of it; some messages; and
@@ -202,12 +221,12 @@ impl Talk {
                 return Ok(piece);
             }
             piece.extend_from_slice(&rest)?;
-            answer(directory, &message, &mut self.told)?;
+            self.answer(directory, &message)?;
         }
         for _ in 0..numbers.below(3) {
             let message = some_message(numbers, directory.head().body.epoch.saturating_add(1));
             piece.extend_from_slice(&frame(alloc, &message)?)?;
-            answer(directory, &message, &mut self.told)?;
+            self.answer(directory, &message)?;
         }
         if numbers.below(2) == 0 {
             let message = some_message(numbers, directory.head().body.epoch.saturating_add(1));

@@ -52,9 +52,15 @@ fn a_session_begins_anew(rt: HostRuntime) -> Result<(), Fail> {
 }
 
 #[test]
-fn numbers_of_refusals(rt: HostRuntime) {
-    assert_eq!(rt; HubRefusal::TooManySessions.number(), 16);
-    assert_eq!(rt; HubRefusal::SessionOpen.number(), 17);
-    assert_eq!(rt; HubRefusal::NoSession.number(), 18);
-    assert_eq!(rt; HubRefusal::Memory { taken: true }.number(), 14);
+fn messages_of_refusals(rt: HostRuntime) -> Result<(), Fail> {
+    for (refusal, message) in [
+        (HubRefusal::TooManySessions, "1,024 sessions are open"),
+        (HubRefusal::SessionOpen, "the session is open"),
+        (HubRefusal::NoSession, "the session is not open"),
+        (HubRefusal::Memory { taken: true }, "out of memory"),
+    ] {
+        let text = format!(in rt.alloc(); "{refusal}")?;
+        assert_eq!(rt; text.as_str(), message);
+    }
+    Ok(())
 }

@@ -1,6 +1,9 @@
 //! The worked rows: pieces of sessions, and what each session is told.
 
+ghost use Rattle.std.specs.Prelude.{⊤};
+
 use super::*;
+use book::{KeepFailed, Keeper, Record};
 
 /// A session that gets a piece, in hexadecimal digits, and what it is told then.
 type Row = (u32, &'static str, &'static str);
@@ -21,12 +24,39 @@ fn compare(rt: &impl Abort, alloc: Global, rows: &[Row]) -> Result<(), AllocErro
         let told = told(alloc, &output)?;
         assert_eq!(rt; told.as_str(), *wanted, "{session}");
     }
+    compare_run(rt, alloc, rows)
+}
+
+/// The same by one run.
+fn compare_run(rt: &impl Abort, alloc: Global, rows: &[Row]) -> Result<(), AllocError> {
+    let mut pieces = Vec::new(alloc);
+    for (_, piece, _) in rows {
+        pieces.push(bytes(alloc, piece)?)?;
+    }
+    let mut events = Vec::new(alloc);
+    for ((session, _, _), piece) in rows.iter().zip(&pieces) {
+        events.push(Event::Open(*session))?;
+        events.push(Event::Bytes(*session, piece))?;
+    }
+    for (session, output) in &run_all(alloc, &events)? {
+        let mut wanted = String::new(alloc);
+        for (of, _, lines) in rows {
+            if of == session {
+                wanted.push_str(lines)?;
+            }
+        }
+        let told = told(alloc, output)?;
+        assert_eq!(rt; told.as_str(), wanted.as_str(), "{session}");
+    }
     Ok(())
 }
 
-/// A close of this epoch, with the operator's token.
+/// Closes of these epochs, with the operator's token.
 const CLOSE_2: &str =
     "000000290700000000000000000000000000000000000000000000000000000000000000000000000000000002";
+
+const CLOSE_3: &str =
+    "000000290700000000000000000000000000000000000000000000000000000000000000000000000000000003";
 
 #[test]
 fn registration_cut_in_two_around_another_sessions_close(rt: HostRuntime) -> Result<(), Fail> {
@@ -38,8 +68,10 @@ fn registration_cut_in_two_around_another_sessions_close(rt: HostRuntime) -> Res
             (2, CLOSE_2, "root 2 after 1|"),
             (1, "00016100016b", "promise 2|"),
             (3, "0000000c0400000000000000020001", ""),
-            (3, "61", "proof|"),
+            (3, "61", "absent 2|"),
             (3, "0000000b0500000000000000010040", "roots|"),
+            (2, CLOSE_3, "root 3 after 2|"),
+            (3, "0000000c040000000000000003000161", "present 3 k|"),
         ],
     )?;
     Ok(())
@@ -150,6 +182,45 @@ fn the_directorys_refusals_are_told(rt: HostRuntime) -> Result<(), Fail> {
             (2, "0000000b0500000000000000000041", "refused 15|"),
         ],
     )?;
+    Ok(())
+}
+
+/// Keeps nothing, and fails at the second record.
+#[derive(Drop)]
+struct FailsOnce(u64);
+
+impl Keeper for FailsOnce {
+    ghost kept = { λ before what after. ⊤ };
+
+    ghost failed = { λ before what after. ⊤ };
+
+    fn keep(&mut self, _what: &Record) -> Result<(), KeepFailed> {
+        self.0 = self.0.saturating_add(1);
+        if self.0 == 2 {
+            return Err(KeepFailed);
+        }
+        Ok(())
+    }
+}
+
+#[test]
+fn a_record_that_was_not_kept_is_told_once(rt: HostRuntime) -> Result<(), Fail> {
+    let token = Hash32::new(TOKEN);
+    let mut hub = Hub::new(rt.alloc(), first_page(rt.alloc())?, FailsOnce(0), token);
+    // Registrations of `a`, `b` and `b` again, and the head.
+    let piece = bytes(
+        rt.alloc(),
+        "000000070100016100016b000000070100016200016b000000070100016200016b0000000106",
+    )?;
+    let outputs = hub.run(&[Event::Open(1), Event::Bytes(1, &piece)])?;
+    assert_eq!(rt; outputs.len(), 1);
+    for (_, output) in &outputs {
+        let told = told(rt.alloc(), output)?;
+        assert_eq!(rt;
+            told.as_str(),
+            "promise 1|refused 19|promise 1|root 1 after 0|"
+        );
+    }
     Ok(())
 }
 

@@ -17,8 +17,8 @@ loop-output-preserved g c =
     let more = exchanged_more g.S.Service.answers _ _ _ _ _ _ _ x _ _ (i.0, i.1, i.2) given.0 c.answer.ensures.1 (c.answer.ensures.2 ∙ ap (λ (t : List ℕ). t ++ x.reply) c.in_ok-reserve.ensures.items) in
     (more.0, more.1, more.2, has_not_failed _ frame _ given.0)
 
-pub returns-in-Failed : goal.returns-in-Failed
-returns-in-Failed g c =
+pub returns-in-Failed-clause-drained : goal.returns-in-Failed-clause-drained
+returns-in-Failed-clause-drained g c =
     let given = rw c.in-Failed.is at c.next.follows.holds-at-none in
     let i = c.loop-output.invariant in
     let x : Exchange = record { message = BadFrame; reply = refused_frame 1 } in
