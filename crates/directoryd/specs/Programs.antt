@@ -8,7 +8,7 @@ use Rattle.clap.specs.declared.builder.value_parser.ValueParser.{ValueParser}
 use Rattle.clap.specs.declared.error.Error.{Error}
 use Rattle.clap.specs.Words.{Text, kind_of}
 use Rattle.textio.specs.declared.program_fault.ProgramFault.{ProgramFault}
-use Rattle.textio.specs.declared.program_fault.ProgramFault.TheVariants.{CannotWrite, OutOfMemory}
+use Rattle.textio.specs.declared.program_fault.ProgramFault.TheVariants.{CannotRead, CannotWrite, OutOfMemory}
 use Rattle.textio.specs.Digits.{hex32}
 use Rattle.textio.specs.Faults.{fault_text}
 use Rattle.textio.specs.Output.{Ends, WritesBeginning}
@@ -16,7 +16,7 @@ use Rattle.items.specs.Prove.{Proves}
 use Rattle.items.specs.Root.{nonce_of, root_answer}
 use Rattle.directoryd.specs.declared.ending.Ending.{Ending}
 use Rattle.directoryd.specs.CommandLine.{status_of, IsHashNames, Refuses}
-use Rattle.directoryd.specs.Orders.{Ordered, ordered, the_root, the_path}
+use Rattle.directoryd.specs.Orders.{Ordered, ordered, the_root, the_path, the_session, the_connections}
 
 -- a program says a text to its input, and answers this status where that was written
 abbrev pub EndsAt : ℕ → (List ℕ → Result (List ℕ) ProgramFault → Type 0) → Option (List ℕ) → Option (List ℕ) → Option (List ℕ) → Result ℕ ProgramFault → Type 0
@@ -27,6 +27,8 @@ EndsAt status Says input old new (Err fault) = Ends Says input old new (Err faul
 abbrev pub Obeys : Ordered → Option (List ℕ) → Option (List ℕ) → Option (List ℕ) → Result ℕ ProgramFault → Type 0
 Obeys (the_root asked) = EndsAt 0 (λ input said. root_answer asked input ≡ said)
 Obeys (the_path index asked) = EndsAt 0 (Proves asked.hash (nonce_of asked.nonce) (hex32 index))
+Obeys (the_session asked) = λ input old new outcome. (outcome ≡ Err CannotRead) × Keeps old new
+Obeys (the_connections asked count address) = λ input old new outcome. (outcome ≡ Err CannotRead) × Keeps old new
 
 -- a text is written whole, and this status answered; or less of it where a write failed, or nothing
 -- for want of memory

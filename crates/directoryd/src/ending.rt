@@ -33,6 +33,7 @@ fn obey<R: BufRead, W: Write>(
     match order {
         Order::Root(order) => root(alloc, order, reader, writer)?,
         Order::Prove(order) => prove(alloc, order, reader, writer)?,
+        Order::Serve(_) | Order::Listen(_) => return Err(ProgramFault::CannotRead),
     }
     Ok(0)
 }
