@@ -1,18 +1,18 @@
 -- What a command line orders.
-use Rattle.std.specs.Prelude.{ℕ, List, [], Option, option_map, unwrap_or, codes, if◌then◌else◌}
+use Rattle.std.specs.Prelude.{◌≡◌, ℕ, List, [], Option, Some, option_map, unwrap_or, codes, if◌then◌else◌}
 use Rattle.std.specs.Option.{option_map_or}
 use Rattle.std.specs.Str.{bytes_eq}
 use Rattle.std.specs.Str.Parse.{digits_value, without_leading_plus}
 use Rattle.clap.specs.declared.builder.value_parser.ValueParser.{ValueParser}
 use Rattle.clap.specs.ValueTests.{is_unsigned_in}
-use Rattle.clap.specs.Words.{Row, Text, first_of, subcommand_of}
+use Rattle.clap.specs.Words.{Row, Text, fault_of, first_of, subcommand_of}
 use Rattle.items.specs.declared.kinds.HashChoice.{HashChoice}
 use Rattle.items.specs.declared.kinds.HashChoice.TheVariants.{Sha256, Sum}
 use Rattle.items.specs.Asked.{Asked, values_of}
 use Rattle.server.specs.Asked.{Asked as AskedDirectory, values_of as directory_values}
 use Rattle.directoryd.specs.declared.order.kinds.Order.{Order}
 use Rattle.directoryd.specs.declared.order.kinds.Order.TheVariants.{Root, Prove, Serve, Listen}
-use Rattle.directoryd.specs.CommandLine.{directory_app, greatest}
+use Rattle.directoryd.specs.CommandLine.{directory_app, greatest, IsHashNames}
 
 -- what is ordered: a root; the path of the index that a text gives; a directory for one session; or one
 -- for so many connections, at the address that a text gives
@@ -67,3 +67,7 @@ ordered_in name rows =
 -- what the words order: the values that clap's function of the words gives to the options
 abbrev pub ordered : ValueParser → List Text → Option Ordered
 ordered names words = option_map (λ found. ordered_in found.0 found.1) (subcommand_of (directory_app names) words)
+
+-- clap's function finds no fault in the words, and this is what they order
+abbrev pub IsOrdered : List Text → Ordered → Type 0
+IsOrdered words what = (names : ValueParser) × IsHashNames names × (fault_of (directory_app names) words ≡ []) × (ordered names words ≡ Some what)

@@ -1,10 +1,9 @@
 -- What the programs do, and how the process ends.
-use Rattle.std.specs.Prelude.{◌≡◌, ◌⊎◌, ◌↔◌, ℕ, zero, suc, List, Bool, true, false, Option, Some, Result, Ok, Err, Vec, String, map, string_bytes, codes}
+use Rattle.std.specs.Prelude.{◌≡◌, ◌⊎◌, ◌↔◌, ℕ, zero, suc, List, Bool, true, false, Option, Result, Ok, Err, Vec, String, map, string_bytes, codes}
 use Rattle.std.specs.IoError.{error_kind}
 use Rattle.std.specs.declared.io.Error.{Error as IoError}
 use Rattle.std.specs.declared.io.ErrorKind.TheVariants as io
 use Rattle.std.specs.Io.KnownBytes.{Appends, Keeps}
-use Rattle.clap.specs.declared.builder.value_parser.ValueParser.{ValueParser}
 use Rattle.clap.specs.declared.error.Error.{Error}
 use Rattle.clap.specs.Words.{Text, kind_of}
 use Rattle.textio.specs.declared.program_fault.ProgramFault.{ProgramFault}
@@ -15,8 +14,8 @@ use Rattle.textio.specs.Output.{Ends, WritesBeginning}
 use Rattle.items.specs.Prove.{Proves}
 use Rattle.items.specs.Root.{nonce_of, root_answer}
 use Rattle.directoryd.specs.declared.ending.Ending.{Ending}
-use Rattle.directoryd.specs.CommandLine.{status_of, IsHashNames, Refuses}
-use Rattle.directoryd.specs.Orders.{Ordered, ordered, the_root, the_path, the_session, the_connections}
+use Rattle.directoryd.specs.CommandLine.{status_of, Refuses}
+use Rattle.directoryd.specs.Orders.{IsOrdered, Ordered, the_root, the_path, the_session, the_connections}
 
 -- a program says a text to its input, and answers this status where that was written
 abbrev pub EndsAt : ℕ → (List ℕ → Result (List ℕ) ProgramFault → Type 0) → Option (List ℕ) → Option (List ℕ) → Option (List ℕ) → Result ℕ ProgramFault → Type 0
@@ -50,8 +49,7 @@ WantsMemory out out-new err err-new outcome = (outcome ≡ Err OutOfMemory) × K
 
 -- what the words order is done
 abbrev pub DoesOrder : List Text → Option (List ℕ) → Option (List ℕ) → Option (List ℕ) → Option (List ℕ) → Option (List ℕ) → Result ℕ ProgramFault → Type 0
-DoesOrder words input out out-new err err-new outcome = (names : ValueParser) × (what : Ordered) × IsHashNames names
-    × (ordered names words ≡ Some what) × Obeys what input out out-new outcome × Keeps err err-new
+DoesOrder words input out out-new err err-new outcome = (what : Ordered) × IsOrdered words what × Obeys what input out out-new outcome × Keeps err err-new
 
 -- clap refuses the words, or they ask for help
 abbrev pub Refused : List Text → Option (List ℕ) → Option (List ℕ) → Option (List ℕ) → Option (List ℕ) → Result ℕ ProgramFault → Type 0

@@ -6,7 +6,7 @@ ghost use Rattle.clap.specs.declared.error.kind.ErrorKind.TheVariants.{OutOfMemo
 ghost use Rattle.directoryd.specs.CommandLine.{address_rule, directory_app, hash_rule, listen_app, nonce_rule, number_rule, prove_app, required_rule, root_app, serve_app, text_rule, with_directory, with_keys, IsHashNames, Refuses};
 ghost use Rattle.items.specs.Asked.{values_of};
 ghost use Rattle.server.specs.Asked.{values_of as directory_values};
-ghost use Rattle.directoryd.specs.Orders.{asked_in, directory_in, hash_named, number_from, ordered, ordered_in, text_in, values_in};
+ghost use Rattle.directoryd.specs.Orders.{asked_in, directory_in, hash_named, number_from, ordered_in, text_in, values_in, IsOrdered};
 
 mod kinds;
 
@@ -325,8 +325,7 @@ fn named_order<'a>(name: &str, found: &ArgMatches<'a>) -> Order<'a>
 ///
 /// clap's, of words that it refuses or that ask for help, or of memory that ran out.
 pub fn order<'a, S: AsStr>(alloc: Global, words: &'a [S]) -> Result<Order<'a>, Error>
-    ensures ok { IfOk result (λ order. (names : _) × IsHashNames names
-        × (ordered names (map S.text words.entry.now) ≡ Some (values_in order))) }
+    ensures ok { IfOk result (λ order. IsOrdered (map S.text words.entry.now) (values_in order)) }
     ensures err { IfErr result (λ fault. (kind_of fault ≡ OutOfMemory) ⊎ Refuses (map S.text words.entry.now) fault) }
 {
     let matches = command(alloc)?.try_get_matches_from(words)?;
