@@ -1,7 +1,7 @@
 -- The command line, as clap's definitions read it.
 use Rattle.std.specs.Prelude.{◌≡◌, ℕ, List, [], ◌∷◌, Some, codes, map, true, false}
 use Rattle.clap.specs.declared.builder.value_parser.ValueParser.{ValueParser}
-use Rattle.clap.specs.declared.builder.value_parser.ValueParser.TheVariants.{Names}
+use Rattle.clap.specs.declared.builder.value_parser.ValueParser.TheVariants.{Names, Unsigned}
 use Rattle.clap.specs.declared.error.Error.{Error}
 use Rattle.clap.specs.declared.error.kind.ErrorKind.{ErrorKind}
 use Rattle.clap.specs.declared.error.kind.ErrorKind.TheVariants.{DisplayHelp, DisplayVersion}
@@ -16,23 +16,55 @@ IsHashNames _ = ⊥
 abbrev pub hash_rule : ValueParser → Rule
 hash_rule names = record (new_rule (codes "hash")) { long = Some (codes "hash"); defaults = codes "sha256" ∷ []; parser = Some names }
 
+-- an option of this name, whose value is a text
+abbrev pub text_rule : Text → Rule
+text_rule name = record (new_rule name) { long = Some name; value_names = 1 }
+
+-- such an option that has to be given
+abbrev pub required_rule : Text → Rule
+required_rule name = record (text_rule name) { required = true }
+
 -- `--nonce`
 abbrev pub nonce_rule : Rule
-nonce_rule = record (new_rule (codes "nonce")) { long = Some (codes "nonce"); value_names = 1 }
+nonce_rule = text_rule (codes "nonce")
 
--- `--index`, which has to be given
-abbrev pub index_rule : Rule
-index_rule = record (new_rule (codes "index")) { long = Some (codes "index"); value_names = 1; required = true }
+-- the greatest number of 64 bits
+abbrev pub greatest : ℕ
+greatest = 18446744073709551615
+
+-- an option whose value is a number from this one on, which is also the default, as a text
+abbrev pub number_rule : Text → ℕ → Text → Rule
+number_rule name least default = record (text_rule name) { defaults = default ∷ []; parser = Some (Unsigned least greatest) }
+
+-- the address to listen on, which has to be given, with no name before it
+abbrev pub address_rule : Rule
+address_rule = record (new_rule (codes "address")) { value_names = 1; required = true }
 
 -- a command, with the options of a tree
 abbrev pub with_tree : ValueParser → App → App
 with_tree names command = with_rule (with_rule command (hash_rule names)) nonce_rule
 
+-- a command, with the keys of a directory and the token
+abbrev pub with_keys : App → App
+with_keys command =
+    with_rule (with_rule (with_rule (with_rule command
+    (required_rule (codes "sign-key"))) (required_rule (codes "vuf-key"))) (required_rule (codes "salt-key"))) (required_rule (codes "token"))
+
+-- a command, with the options of a directory: its keys, its first epoch, and the nonce of its trees
+abbrev pub with_directory : App → App
+with_directory command = with_rule (with_rule (with_keys command) (number_rule (codes "epoch") 1 (codes "1"))) nonce_rule
+
 abbrev pub root_app : ValueParser → App
 root_app names = with_tree names (new_app (codes "root"))
 
 abbrev pub prove_app : ValueParser → App
-prove_app names = with_tree names (with_rule (new_app (codes "prove")) index_rule)
+prove_app names = with_tree names (with_rule (new_app (codes "prove")) (required_rule (codes "index")))
+
+abbrev pub serve_app : App
+serve_app = with_directory (new_app (codes "serve"))
+
+abbrev pub listen_app : App
+listen_app = with_rule (with_rule (with_directory (new_app (codes "listen"))) (number_rule (codes "count") 0 (codes "0"))) address_rule
 
 -- the program without its subcommands, of which one has to be there
 abbrev pub bare_app : App
@@ -41,7 +73,9 @@ bare_app =
     record top { top = record top.top { subcommand_required = true } }
 
 abbrev pub directory_app : ValueParser → App
-directory_app names = with_subcommand (with_subcommand bare_app (root_app names).top) (prove_app names).top
+directory_app names =
+    with_subcommand (with_subcommand (with_subcommand (with_subcommand bare_app
+    (root_app names).top) (prove_app names).top) serve_app.top) listen_app.top
 
 -- the words are refused, by a kind of fault that clap's function of the words gives
 abbrev pub Refuses : List Text → Error → Type 0

@@ -1,40 +1,73 @@
 -- What a command line orders.
-use Rattle.std.specs.Prelude.{List, [], Option, option_map, unwrap_or, codes, if◌then◌else◌}
+use Rattle.std.specs.Prelude.{◌≡◌, ℕ, List, [], Option, Some, option_map, unwrap_or, codes, if◌then◌else◌}
 use Rattle.std.specs.Option.{option_map_or}
 use Rattle.std.specs.Str.{bytes_eq}
+use Rattle.std.specs.Str.Parse.{digits_value, without_leading_plus}
 use Rattle.clap.specs.declared.builder.value_parser.ValueParser.{ValueParser}
-use Rattle.clap.specs.Words.{Row, Text, first_of, subcommand_of}
+use Rattle.clap.specs.ValueTests.{is_unsigned_in}
+use Rattle.clap.specs.Words.{Row, Text, fault_of, first_of, subcommand_of}
 use Rattle.items.specs.declared.kinds.HashChoice.{HashChoice}
 use Rattle.items.specs.declared.kinds.HashChoice.TheVariants.{Sha256, Sum}
 use Rattle.items.specs.Asked.{Asked, values_of}
+use Rattle.server.specs.Asked.{Asked as AskedDirectory, values_of as directory_values}
 use Rattle.directoryd.specs.declared.order.kinds.Order.{Order}
-use Rattle.directoryd.specs.declared.order.kinds.Order.TheVariants.{Root, Prove}
-use Rattle.directoryd.specs.CommandLine.{directory_app}
+use Rattle.directoryd.specs.declared.order.kinds.Order.TheVariants.{Root, Prove, Serve, Listen}
+use Rattle.directoryd.specs.CommandLine.{directory_app, greatest, IsHashNames}
 
--- what is ordered: a root, or the path of the index that a text gives
+-- what is ordered: a root; the path of the index that a text gives; a directory for one session; or one
+-- for so many connections, at the address that a text gives
 pub data Ordered : Type 0 where
   the_root : Asked → Ordered
   the_path : Text → Asked → Ordered
+  the_session : AskedDirectory → Ordered
+  the_connections : AskedDirectory → ℕ → Text → Ordered
 
 abbrev pub values_in : Order → Ordered
 values_in (Root order) = the_root (values_of order)
 values_in (Prove order) = the_path order.index.now (values_of order.root)
+values_in (Serve order) = the_session (directory_values order)
+values_in (Listen order) = the_connections (directory_values order.directory) order.count order.address.now
 
 -- the hash function of a name: the sum, or else SHA-256
 abbrev pub hash_named : Option Text → HashChoice
 hash_named name = option_map_or (λ text. if bytes_eq text (codes "sum") then Sum else Sha256) name Sha256
 
+-- the text of an option, which is empty where none was given
+abbrev pub text_in : Text → List Row → Text
+text_in name rows = unwrap_or (first_of name rows) []
+
+-- the number of a text that clap takes for a number from `least` on; of any other, `least`
+abbrev pub number_from : ℕ → Text → ℕ
+number_from least text = if is_unsigned_in least greatest text then digits_value 10 (without_leading_plus text) else least
+
 -- the values of a tree's options
 abbrev pub asked_in : List Row → Asked
 asked_in rows = record { hash = hash_named (first_of (codes "hash") rows); nonce = first_of (codes "nonce") rows }
 
--- what a subcommand orders by its name: a path, or else a root
+-- the values of a directory's options
+abbrev pub directory_in : List Row → AskedDirectory
+directory_in rows = record {
+  sign_key = text_in (codes "sign-key") rows;
+  vuf_key = text_in (codes "vuf-key") rows;
+  salt_key = text_in (codes "salt-key") rows;
+  token = text_in (codes "token") rows;
+  epoch = number_from 1 (text_in (codes "epoch") rows);
+  nonce = first_of (codes "nonce") rows;
+}
+
+-- what a subcommand orders by its name: a path, a directory, or else a root
 abbrev pub ordered_in : Text → List Row → Ordered
 ordered_in name rows =
-    if bytes_eq name (codes "prove")
-    then the_path (unwrap_or (first_of (codes "index") rows) []) (asked_in rows)
-    else the_root (asked_in rows)
+    if bytes_eq name (codes "prove") then the_path (text_in (codes "index") rows) (asked_in rows)
+    else (if bytes_eq name (codes "serve") then the_session (directory_in rows)
+    else (if bytes_eq name (codes "listen")
+    then the_connections (directory_in rows) (number_from 0 (text_in (codes "count") rows)) (text_in (codes "address") rows)
+    else the_root (asked_in rows)))
 
 -- what the words order: the values that clap's function of the words gives to the options
 abbrev pub ordered : ValueParser → List Text → Option Ordered
 ordered names words = option_map (λ found. ordered_in found.0 found.1) (subcommand_of (directory_app names) words)
+
+-- clap's function finds no fault in the words, and this is what they order
+abbrev pub IsOrdered : List Text → Ordered → Type 0
+IsOrdered words what = (names : ValueParser) × IsHashNames names × (fault_of (directory_app names) words ≡ []) × (ordered names words ≡ Some what)

@@ -1,32 +1,48 @@
 -- What the programs do, and how the process ends.
-use Rattle.std.specs.Prelude.{◌≡◌, ◌⊎◌, ◌↔◌, ℕ, zero, suc, List, Bool, true, false, Option, Some, Result, Ok, Err, Vec, String, map, string_bytes, codes}
+use Rattle.std.specs.Prelude.{◌≡◌, ◌⊎◌, ◌↔◌, ℕ, zero, suc, List, Bool, true, false, Option, None, Result, Ok, Err, Vec, String, map, string_bytes, codes, ⊤}
 use Rattle.std.specs.IoError.{error_kind}
 use Rattle.std.specs.declared.io.Error.{Error as IoError}
 use Rattle.std.specs.declared.io.ErrorKind.TheVariants as io
 use Rattle.std.specs.Io.KnownBytes.{Appends, Keeps}
-use Rattle.clap.specs.declared.builder.value_parser.ValueParser.{ValueParser}
 use Rattle.clap.specs.declared.error.Error.{Error}
 use Rattle.clap.specs.Words.{Text, kind_of}
 use Rattle.textio.specs.declared.program_fault.ProgramFault.{ProgramFault}
-use Rattle.textio.specs.declared.program_fault.ProgramFault.TheVariants.{CannotWrite, OutOfMemory}
+use Rattle.textio.specs.declared.program_fault.ProgramFault.TheVariants.{BadHex, CannotWrite, OutOfMemory}
 use Rattle.textio.specs.Digits.{hex32, nonce_of}
 use Rattle.textio.specs.Faults.{fault_text}
 use Rattle.textio.specs.Output.{Ends, WritesBeginning}
 use Rattle.items.specs.Prove.{Proves}
 use Rattle.items.specs.Root.{root_answer}
+use Rattle.server.specs.Directories.{keys_of}
+use Rattle.server.specs.Listening.{TellsAddress}
+use Rattle.server.specs.Programs.{DirectoryServes}
 use Rattle.directoryd.specs.declared.ending.Ending.{Ending}
-use Rattle.directoryd.specs.CommandLine.{status_of, IsHashNames, Refuses}
-use Rattle.directoryd.specs.Orders.{Ordered, ordered, the_root, the_path}
+use Rattle.directoryd.specs.CommandLine.{status_of, Refuses}
+use Rattle.directoryd.specs.Orders.{IsOrdered, Ordered, the_root, the_path, the_session, the_connections}
 
 -- a program says a text to its input, and answers this status where that was written
 abbrev pub EndsAt : ℕ → (List ℕ → Result (List ℕ) ProgramFault → Type 0) → Option (List ℕ) → Option (List ℕ) → Option (List ℕ) → Result ℕ ProgramFault → Type 0
 EndsAt status Says input old new (Ok given) = (given ≡ status) × Ends Says input old new (Ok tt)
 EndsAt status Says input old new (Err fault) = Ends Says input old new (Err fault)
 
--- what is ordered is done: a root is told, or the path of an index
-abbrev pub Obeys : Ordered → Option (List ℕ) → Option (List ℕ) → Option (List ℕ) → Result ℕ ProgramFault → Type 0
-Obeys (the_root asked) = EndsAt 0 (λ input said. root_answer asked input ≡ said)
-Obeys (the_path index asked) = EndsAt 0 (Proves asked.hash (nonce_of asked.nonce) (hex32 index))
+-- an outcome without its status, which is 0 where all went well
+abbrev pub without_status : Result ℕ ProgramFault → Result (Unit {0}) ProgramFault
+without_status (Ok given) = Ok tt
+without_status (Err fault) = Err fault
+
+abbrev pub IsZero : Result ℕ ProgramFault → Type 0
+IsZero (Ok given) = given ≡ 0
+IsZero (Err fault) = ⊤
+
+-- What is ordered is done: a root is told, or the path of an index; a directory is begun, and one session
+-- is served; or one is begun, and connections are served, of which the errors tell the address.
+abbrev pub Obeys : Ordered → Option (List ℕ) → Option (List ℕ) → Option (List ℕ) → Option (List ℕ) → Option (List ℕ) → Result ℕ ProgramFault → Type 0
+Obeys (the_root asked) input out out-new err err-new outcome = EndsAt 0 (λ input said. root_answer asked input ≡ said) input out out-new outcome × Keeps err err-new
+Obeys (the_path index asked) input out out-new err err-new outcome = EndsAt 0 (Proves asked.hash (nonce_of asked.nonce) (hex32 index)) input out out-new outcome × Keeps err err-new
+Obeys (the_session asked) input out out-new err err-new outcome = IsZero outcome × Keeps err err-new
+    × (left : Option (List ℕ)) × DirectoryServes asked input out (without_status outcome) left out-new
+Obeys (the_connections asked count address) input out out-new err err-new outcome = IsZero outcome × Keeps out out-new
+    × ((outcome ≡ Err BadHex) ↔ (keys_of asked ≡ None)) × TellsAddress err (without_status outcome) err-new
 
 -- a text is written whole, and this status answered; or less of it where a write failed, or nothing
 -- for want of memory
@@ -48,8 +64,7 @@ WantsMemory out out-new err err-new outcome = (outcome ≡ Err OutOfMemory) × K
 
 -- what the words order is done
 abbrev pub DoesOrder : List Text → Option (List ℕ) → Option (List ℕ) → Option (List ℕ) → Option (List ℕ) → Option (List ℕ) → Result ℕ ProgramFault → Type 0
-DoesOrder words input out out-new err err-new outcome = (names : ValueParser) × (what : Ordered) × IsHashNames names
-    × (ordered names words ≡ Some what) × Obeys what input out out-new outcome × Keeps err err-new
+DoesOrder words input out out-new err err-new outcome = (what : Ordered) × IsOrdered words what × Obeys what input out out-new err err-new outcome
 
 -- clap refuses the words, or they ask for help
 abbrev pub Refused : List Text → Option (List ℕ) → Option (List ℕ) → Option (List ℕ) → Option (List ℕ) → Result ℕ ProgramFault → Type 0

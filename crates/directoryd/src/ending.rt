@@ -7,10 +7,11 @@ ghost use Rattle.directoryd.specs.Programs.{EndsAs, Obeys, Runs, Starts};
 
 use crate::order::{Order, order};
 use crate::refusal::{refuse, refuse_bytes};
-use crate::{prove, root};
+use crate::{listen, prove, root, serve_directory};
 use std::alloc::Global;
 use std::convert::AsStr;
 use std::io::{self, BufRead, Write};
+use std::net::{Net, TcpListener, TcpStream};
 use textio::ProgramFault;
 
 /// How the process ends.
@@ -22,46 +23,69 @@ pub struct Ending {
 }
 
 /// Does what is ordered, and answers the status.
-fn obey<R: BufRead, W: Write>(
+fn obey<N, R, W, E>(
     alloc: Global,
+    net: &N,
     order: Order<'_>,
     reader: &mut R,
     writer: &mut W,
+    errors: &mut E,
 ) -> Result<u8, ProgramFault>
-    ensures { Obeys (values_in order.entry) (R.remaining reader.old) (W.contents writer.old) (W.contents writer.new) result }
+where
+    N: Net<Listener = TcpListener, Stream = TcpStream>,
+    R: BufRead,
+    W: Write,
+    E: Write,
+    ensures { Obeys (values_in order.entry) (R.remaining reader.old) (W.contents writer.old) (W.contents writer.new)
+        (E.contents errors.old) (E.contents errors.new) result }
 {
     match order {
         Order::Root(order) => root(alloc, order, reader, writer)?,
         Order::Prove(order) => prove(alloc, order, reader, writer)?,
+        Order::Serve(order) => serve_directory(alloc, order, reader, writer)?,
+        Order::Listen(order) => listen(alloc, net, order, errors)?,
     }
     Ok(0)
 }
 
 /// Does what the words order, or says why they order nothing.
-fn run<S: AsStr, R: BufRead, W: Write, E: Write>(
+fn run<N, S, R, W, E>(
     alloc: Global,
+    net: &N,
     words: &[S],
     reader: &mut R,
     writer: &mut W,
     errors: &mut E,
 ) -> Result<u8, ProgramFault>
+where
+    N: Net<Listener = TcpListener, Stream = TcpStream>,
+    S: AsStr,
+    R: BufRead,
+    W: Write,
+    E: Write,
     ensures { Runs (map S.text words.now) (R.remaining reader.old) (W.contents writer.old) (W.contents writer.new)
         (E.contents errors.old) (E.contents errors.new) result }
 {
     match order(alloc, words) {
-        Ok(order) => obey(alloc, order, reader, writer),
+        Ok(order) => obey(alloc, net, order, reader, writer, errors),
         Err(error) => refuse(alloc, &error, writer, errors),
     }
 }
 
 /// Does what the process's words order, where there are words and an input.
-fn start<R: BufRead + Drop, W: Write, E: Write>(
+fn start<N, R, W, E>(
     alloc: Global,
+    net: &N,
     words: io::Result<Vec<String>>,
     reader: io::Result<R>,
     writer: &mut W,
     errors: &mut E,
 ) -> Result<u8, ProgramFault>
+where
+    N: Net<Listener = TcpListener, Stream = TcpStream>,
+    R: BufRead + Drop,
+    W: Write,
+    E: Write,
     ensures { Starts R.remaining words reader (W.contents writer.old) (W.contents writer.new)
         (E.contents errors.old) (E.contents errors.new) result }
 {
@@ -70,7 +94,7 @@ fn start<R: BufRead + Drop, W: Write, E: Write>(
         Err(error) => return refuse_bytes(&error, errors),
     };
     match reader {
-        Ok(mut reader) => run(alloc, words.as_slice(), &mut reader, writer, errors),
+        Ok(mut reader) => run(alloc, net, words.as_slice(), &mut reader, writer, errors),
         // The buffer of the input is all that can fail.
         Err(_) => Err(ProgramFault::OutOfMemory),
     }
@@ -99,19 +123,25 @@ fn ended<E: Write>(outcome: Result<u8, ProgramFault>, errors: &mut E) -> Ending
 /// status that the program answers; or with status 1 and the fault's line on the errors; or, where the
 /// words order nothing, with clap's text, on the output with status 0 where they ask for help, else on
 /// the errors with status 2.
-pub fn end<R: BufRead + Drop, W: Write, E: Write>(
+pub fn end<N, R, W, E>(
     alloc: Global,
+    net: &N,
     words: io::Result<Vec<String>>,
     reader: io::Result<R>,
     writer: &mut W,
     errors: &mut E,
 ) -> Ending
+where
+    N: Net<Listener = TcpListener, Stream = TcpStream>,
+    R: BufRead + Drop,
+    W: Write,
+    E: Write,
     ensures { (outcome : _) × (errors_between : _)
         × Starts R.remaining words reader (W.contents writer.old) (W.contents writer.new)
         (E.contents errors.old) errors_between outcome
         × EndsAs outcome errors_between (E.contents errors.new) result }
 {
-    let outcome = start(alloc, words, reader, writer, errors);
+    let outcome = start(alloc, net, words, reader, writer, errors);
     ended(outcome, errors)
 }
 

@@ -9,6 +9,7 @@ mod refusal;
 pub use ending::{Ending, end};
 pub use items::{prove, root};
 pub use order::{Order, order};
+pub use server::{listen, serve_directory};
 use std::env;
 use std::io::{self, BufReader};
 use std::process::ExitCode;
@@ -23,6 +24,7 @@ fn main(rt: HostRuntime) -> ExitCode {
     let input = BufReader::new(rt.alloc(), rt.reader());
     let ending = end(
         rt.alloc(),
+        &rt,
         words(&rt),
         input,
         &mut io::writer(&rt),

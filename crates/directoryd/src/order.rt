@@ -1,10 +1,12 @@
-ghost use Rattle.std.specs.Prelude.{◌≡◌, ◌⊎◌, IfOk, IfErr, Some, false, map, option_map};
+ghost use Rattle.std.specs.Prelude.{◌≡◌, ◌⊎◌, ◌≤◌, IfOk, IfErr, Some, codes, false, map, option_map};
+ghost use Rattle.std.specs.NonZero.{non_zero_u64_get};
 ghost use Rattle.clap.specs.Words.{app_of, found_of, kind_of, rows_of, rule_of};
 ghost use Rattle.clap.specs.declared.builder.command.Command.TheViews.{out-Command};
 ghost use Rattle.clap.specs.declared.error.kind.ErrorKind.TheVariants.{OutOfMemory};
-ghost use Rattle.directoryd.specs.CommandLine.{directory_app, hash_rule, index_rule, nonce_rule, prove_app, root_app, IsHashNames, Refuses};
+ghost use Rattle.directoryd.specs.CommandLine.{address_rule, directory_app, hash_rule, listen_app, nonce_rule, number_rule, prove_app, required_rule, root_app, serve_app, text_rule, with_directory, with_keys, IsHashNames, Refuses};
 ghost use Rattle.items.specs.Asked.{values_of};
-ghost use Rattle.directoryd.specs.Orders.{asked_in, hash_named, ordered, ordered_in, values_in};
+ghost use Rattle.server.specs.Asked.{values_of as directory_values};
+ghost use Rattle.directoryd.specs.Orders.{asked_in, directory_in, hash_named, number_from, ordered_in, text_in, values_in, IsOrdered};
 
 mod kinds;
 
@@ -12,8 +14,10 @@ use clap::builder::ValueParser;
 use clap::{Arg, ArgMatches, Command, Error};
 use items::{HashChoice, ProveOrder, RootOrder};
 pub use kinds::Order;
+use server::{DirectoryOrder, ListenOrder};
 use std::alloc::{AllocError, Global};
 use std::convert::AsStr;
+use std::num::NonZeroU64;
 
 /// What stands below the options of `root`: the format of its input, and an example.
 static ROOT_HELP: &str = "\
@@ -29,6 +33,30 @@ Prints `level N`, then `present COMMITMENT`, `empty` or `other INDEX COMMITMENT`
 `sibling HASH` from the root down, then `root HASH`.
 
 Example: directoryd prove --index 4000000000000000000000000000000000000000000000000000000000000000 < items.txt";
+
+/// What stands below the options of `serve`.
+static SERVE_HELP: &str = "\
+Reads the frames of one session from standard input, and writes their replies to standard output.
+Each session begins with a new directory: nothing is kept when it ends.
+
+Example, with the keys in variables of the shell, 64 hexadecimal digits each:
+directoryd serve --sign-key $SIGN --vuf-key $VUF --salt-key $SALT --token $TOKEN < requests";
+
+/// What stands below the options of `listen`.
+static LISTEN_HELP: &str = "\
+Answers connections one after another, all from one directory. A connection with a fault is closed,
+and the next one is taken. Nothing is kept when the program ends.
+
+Example, with the keys in variables of the shell, 64 hexadecimal digits each:
+directoryd listen --sign-key $SIGN --vuf-key $VUF --salt-key $SALT --token $TOKEN 127.0.0.1:7000";
+
+static SIGN_KEY_HELP: &str = "The key that signs roots and promises, 64 hexadecimal digits";
+
+static VUF_KEY_HELP: &str = "The key that gives names their indices, 64 hexadecimal digits";
+
+static SALT_KEY_HELP: &str = "The key of the salts of commitments, 64 hexadecimal digits";
+
+static TOKEN_HELP: &str = "The operator's token, which closes epochs, 64 hexadecimal digits";
 
 /// The names of the hash functions.
 static HASHES: [&str; 2] = ["sha256", "sum"];
@@ -51,27 +79,72 @@ fn hash_arg<'a>(alloc: Global, names: ValueParser<'a>) -> Arg<'a>
         .help("The hash function of the tree; sum is for tests")
 }
 
+/// `--NAME HEX`.
+fn hex_arg<'a>(alloc: Global, name: &'a str, help: &'a str) -> Arg<'a>
+    ensures rule { rule_of result ≡ text_rule name.entry.now }
+    ensures local { result.global ≡ false }
+{
+    Arg::new(alloc, name)
+        .long(name)
+        .value_name("HEX")
+        .help(help)
+}
+
+/// `--NAME HEX`, which has to be given.
+fn required_arg<'a>(alloc: Global, name: &'a str, help: &'a str) -> Arg<'a>
+    ensures rule { rule_of result ≡ required_rule name.entry.now }
+    ensures local { result.global ≡ false }
+{
+    hex_arg(alloc, name, help).required(true)
+}
+
 /// `--nonce HEX`.
 fn nonce_arg<'a>(alloc: Global) -> Arg<'a>
     ensures rule { rule_of result ≡ nonce_rule }
     ensures local { result.global ≡ false }
 {
-    Arg::new(alloc, "nonce")
-        .long("nonce")
-        .value_name("HEX")
-        .help("The nonce of the tree, 64 hexadecimal digits [default: zeros]")
+    hex_arg(
+        alloc,
+        "nonce",
+        "The nonce of the tree, 64 hexadecimal digits [default: zeros]",
+    )
 }
 
-/// `--index HEX`.
-fn index_arg<'a>(alloc: Global) -> Arg<'a>
-    ensures rule { rule_of result ≡ index_rule }
+/// `--epoch E`.
+fn epoch_arg<'a>(alloc: Global) -> Arg<'a>
+    ensures rule { rule_of result ≡ number_rule (codes "epoch") 1 (codes "1") }
     ensures local { result.global ≡ false }
 {
-    Arg::new(alloc, "index")
-        .long("index")
-        .value_name("HEX")
+    Arg::new(alloc, "epoch")
+        .long("epoch")
+        .value_name("E")
+        .default_value("1")
+        .value_parser(ValueParser::unsigned(1, u64::MAX))
+        .help("The first epoch, a number from 1 on")
+}
+
+/// `--count N`.
+fn count_arg<'a>(alloc: Global) -> Arg<'a>
+    ensures rule { rule_of result ≡ number_rule (codes "count") 0 (codes "0") }
+    ensures local { result.global ≡ false }
+{
+    Arg::new(alloc, "count")
+        .long("count")
+        .value_name("N")
+        .default_value("0")
+        .value_parser(ValueParser::unsigned(0, u64::MAX))
+        .help("How many connections are answered; 0 for no end")
+}
+
+/// `ADDR`.
+fn address_arg<'a>(alloc: Global) -> Arg<'a>
+    ensures rule { rule_of result ≡ address_rule }
+    ensures local { result.global ≡ false }
+{
+    Arg::new(alloc, "address")
+        .value_name("ADDR")
         .required(true)
-        .help("The index, 64 hexadecimal digits")
+        .help("The address to listen on, such as 127.0.0.1:7000")
 }
 
 /// `root`, with its options.
@@ -95,10 +168,59 @@ fn prove_command<'a>(alloc: Global, names: ValueParser<'a>) -> Result<Command<'a
     let prove = Command::new(alloc, "prove")
         .about("Prints the path of an index among the items on standard input")
         .after_help(PROVE_HELP)
-        .arg(index_arg(alloc))?
+        .arg(required_arg(alloc, "index", "The index, 64 hexadecimal digits"))?
         .arg(hash_arg(alloc, names))?
         .arg(nonce_arg(alloc))?;
     Ok(prove)
+}
+
+/// A command with the keys of a directory and the operator's token.
+fn add_keys<'a>(alloc: Global, command: Command<'a>) -> Result<Command<'a>, AllocError>
+    ensures app { IfOk result (λ c. app_of c ≡ with_keys (app_of command.entry)) }
+    ensures local { IfOk result (λ c. (out-Command c).has_globals ≡ (out-Command command.entry).has_globals) }
+{
+    let with_keys = command
+        .arg(required_arg(alloc, "sign-key", SIGN_KEY_HELP))?
+        .arg(required_arg(alloc, "vuf-key", VUF_KEY_HELP))?
+        .arg(required_arg(alloc, "salt-key", SALT_KEY_HELP))?
+        .arg(required_arg(alloc, "token", TOKEN_HELP))?;
+    Ok(with_keys)
+}
+
+/// A command with the options of a directory.
+fn add_directory<'a>(alloc: Global, command: Command<'a>) -> Result<Command<'a>, AllocError>
+    ensures app { IfOk result (λ c. app_of c ≡ with_directory (app_of command.entry)) }
+    ensures local { IfOk result (λ c. (out-Command c).has_globals ≡ (out-Command command.entry).has_globals) }
+{
+    let with_directory = add_keys(alloc, command)?
+        .arg(epoch_arg(alloc))?
+        .arg(nonce_arg(alloc))?;
+    Ok(with_directory)
+}
+
+/// `serve`, with its options.
+fn serve_command<'a>(alloc: Global) -> Result<Command<'a>, AllocError>
+    ensures app { IfOk result (λ c. app_of c ≡ serve_app) }
+    ensures local { IfOk result (λ c. (out-Command c).has_globals ≡ false) }
+{
+    let serve = Command::new(alloc, "serve")
+        .about("Answers one session on standard input and output")
+        .after_help(SERVE_HELP);
+    add_directory(alloc, serve)
+}
+
+/// `listen`, with its options.
+fn listen_command<'a>(alloc: Global) -> Result<Command<'a>, AllocError>
+    ensures app { IfOk result (λ c. app_of c ≡ listen_app) }
+    ensures local { IfOk result (λ c. (out-Command c).has_globals ≡ false) }
+{
+    let bare = Command::new(alloc, "listen")
+        .about("Answers connections one after another")
+        .after_help(LISTEN_HELP);
+    let listen = add_directory(alloc, bare)?
+        .arg(count_arg(alloc))?
+        .arg(address_arg(alloc))?;
+    Ok(listen)
 }
 
 /// The subcommands, of which one has to be there.
@@ -110,7 +232,9 @@ fn command<'a>(alloc: Global) -> Result<Command<'a>, AllocError>
         .about("A CONIKS key directory")
         .subcommand_required(true)
         .subcommand(root_command(alloc, names)?)?
-        .subcommand(prove_command(alloc, names)?)?;
+        .subcommand(prove_command(alloc, names)?)?
+        .subcommand(serve_command(alloc)?)?
+        .subcommand(listen_command(alloc)?)?;
     Ok(directoryd)
 }
 
@@ -124,6 +248,24 @@ fn hash_choice(name: Option<&str>) -> HashChoice
     }
 }
 
+/// The text of an option, which is empty where none was given.
+fn text<'a>(found: &ArgMatches<'a>, name: &str) -> &'a str
+    ensures { result.now ≡ text_in name.now (rows_of (found_of found.now)) }
+{
+    found.get_str(name).unwrap_or("")
+}
+
+/// The number of an option that clap takes from `least` on.
+fn number(found: &ArgMatches<'_>, name: &str, least: u64) -> u64
+    ensures is { result ≡ number_from least (text_in name.now (rows_of (found_of found.now))) }
+    ensures least { least ≤ result }
+{
+    match text(found, name).parse::<u64>() {
+        Ok(number) if least <= number => number,
+        _ => least,
+    }
+}
+
 /// The options of a tree, as a subcommand has them.
 fn root_order<'a>(found: &ArgMatches<'a>) -> RootOrder<'a>
     ensures { values_of result ≡ asked_in (rows_of (found_of found.now)) }
@@ -134,16 +276,47 @@ fn root_order<'a>(found: &ArgMatches<'a>) -> RootOrder<'a>
     }
 }
 
+/// The first epoch of a directory.
+fn first_epoch(found: &ArgMatches<'_>) -> NonZeroU64
+    ensures { non_zero_u64_get result ≡ number_from 1 (text_in (codes "epoch") (rows_of (found_of found.now))) }
+{
+    match NonZeroU64::new(number(found, "epoch", 1)) {
+        Some(epoch) => epoch,
+        None => unreachable!(),
+    }
+}
+
+/// The options of a directory, as a subcommand has them.
+fn directory_order<'a>(found: &ArgMatches<'a>) -> DirectoryOrder<'a>
+    ensures { directory_values result ≡ directory_in (rows_of (found_of found.now)) }
+{
+    DirectoryOrder {
+        sign_key: text(found, "sign-key"),
+        vuf_key: text(found, "vuf-key"),
+        salt_key: text(found, "salt-key"),
+        token: text(found, "token"),
+        epoch: first_epoch(found),
+        nonce: found.get_str("nonce"),
+    }
+}
+
 /// What a subcommand orders.
 fn named_order<'a>(name: &str, found: &ArgMatches<'a>) -> Order<'a>
     ensures { values_in result ≡ ordered_in name.now (rows_of (found_of found.now)) }
 {
-    let root = root_order(found);
-    if name == "prove" {
-        let index = found.get_str("index").unwrap_or("");
-        return Order::Prove(ProveOrder { index, root });
+    match name {
+        "prove" => Order::Prove(ProveOrder {
+            index: text(found, "index"),
+            root: root_order(found),
+        }),
+        "serve" => Order::Serve(directory_order(found)),
+        "listen" => Order::Listen(ListenOrder {
+            directory: directory_order(found),
+            count: number(found, "count", 0),
+            address: text(found, "address"),
+        }),
+        _ => Order::Root(root_order(found)),
     }
-    Order::Root(root)
 }
 
 /// What the words of a command line order, the program's name first.
@@ -152,8 +325,7 @@ fn named_order<'a>(name: &str, found: &ArgMatches<'a>) -> Order<'a>
 ///
 /// clap's, of words that it refuses or that ask for help, or of memory that ran out.
 pub fn order<'a, S: AsStr>(alloc: Global, words: &'a [S]) -> Result<Order<'a>, Error>
-    ensures ok { IfOk result (λ order. (names : _) × IsHashNames names
-        × (ordered names (map S.text words.entry.now) ≡ Some (values_in order))) }
+    ensures ok { IfOk result (λ order. IsOrdered (map S.text words.entry.now) (values_in order)) }
     ensures err { IfErr result (λ fault. (kind_of fault ≡ OutOfMemory) ⊎ Refuses (map S.text words.entry.now) fault) }
 {
     let matches = command(alloc)?.try_get_matches_from(words)?;

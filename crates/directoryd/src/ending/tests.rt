@@ -30,11 +30,12 @@ struct Run {
     errors: Vec<u8>,
 }
 
-fn told(alloc: Global, words: &[&str], input: &str) -> Result<Run, Fail> {
+fn told(rt: &HostRuntime, words: &[&str], input: &str) -> Result<Run, Fail> {
+    let alloc = rt.alloc();
     let mut output = Vec::with_capacity(alloc, 2048)?;
     let mut errors = Vec::with_capacity(alloc, 2048)?;
     let words = Ok(owned(alloc, words)?);
-    let ending = end(alloc, words, Ok(input.as_bytes()), &mut output, &mut errors);
+    let ending = end(alloc, rt, words, Ok(input.as_bytes()), &mut output, &mut errors);
     unless_out_of_memory(errors.as_slice())?;
     Ok(Run {
         ending,
@@ -55,7 +56,7 @@ fn each_order_is_obeyed(rt: HostRuntime) -> Result<(), Fail> {
     let alloc = rt.alloc();
     let index = "0".repeat(alloc, 64)?;
     let line = format!(in alloc; "root {:0>64}\n", "45")?;
-    let run = told(alloc, &["directoryd", "root", "--hash", "sum"], "")?;
+    let run = told(&rt, &["directoryd", "root", "--hash", "sum"], "")?;
     assert_eq!(rt; run.ending, ending(0));
     assert_eq!(rt; run.output.as_slice(), line.as_bytes());
     assert!(rt; run.errors.is_empty());
@@ -68,7 +69,7 @@ fn each_order_is_obeyed(rt: HostRuntime) -> Result<(), Fail> {
         "--index",
         index.as_str(),
     ];
-    let run = told(alloc, &words, "")?;
+    let run = told(&rt, &words, "")?;
     let lines = format!(in alloc; "level 0\nempty\n{line}")?;
     assert_eq!(rt; run.ending, ending(0));
     assert_eq!(rt; run.output.as_slice(), lines.as_bytes());
@@ -150,7 +151,7 @@ fn failed_starts(rt: HostRuntime) -> Result<(), Fail> {
         let mut errors = CutWriter::new(alloc, 64, 8)?;
         let words = Err(io::Error::from(kind));
         let reader = Ok(b"x\n".as_slice());
-        let run = end(alloc, words, reader, &mut output, &mut errors);
+        let run = end(alloc, &rt, words, reader, &mut output, &mut errors);
         assert_eq!(rt; run, ending(status), "at {line}");
         assert_eq!(rt; errors.taken(), line.as_bytes());
     }
@@ -158,7 +159,7 @@ fn failed_starts(rt: HostRuntime) -> Result<(), Fail> {
     let mut errors = CutWriter::new(alloc, 64, 8)?;
     let reader: io::Result<&[u8]> = Err(io::Error::from(ErrorKind::OutOfMemory));
     let words = owned(alloc, &["directoryd", "root"])?;
-    let run = end(alloc, Ok(words), reader, &mut output, &mut errors);
+    let run = end(alloc, &rt, Ok(words), reader, &mut output, &mut errors);
     assert_eq!(rt; run, ending(1));
     assert_eq!(rt; errors.taken(), b"out of memory\n".as_slice());
     Ok(())
@@ -184,6 +185,7 @@ fn failing_streams(rt: HostRuntime) -> Result<(), Fail> {
         let reader = Ok(input.as_bytes());
         let run = end(
             alloc,
+            &rt,
             Ok(owned(alloc, words)?),
             reader,
             &mut output,
@@ -199,7 +201,7 @@ fn failing_streams(rt: HostRuntime) -> Result<(), Fail> {
     let device = CutReader::new(b"", 1).fail_at(0, kind);
     let reader = BufReader::with_capacity(alloc, 8, device);
     let words = owned(alloc, &["directoryd", "root"])?;
-    let run = end(alloc, Ok(words), reader, &mut output, &mut errors);
+    let run = end(alloc, &rt, Ok(words), reader, &mut output, &mut errors);
     unless_out_of_memory(errors.taken())?;
     assert_eq!(rt; run, ending(1));
     assert_eq!(rt; errors.taken(), b"cannot read\n".as_slice());

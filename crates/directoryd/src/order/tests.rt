@@ -57,6 +57,114 @@ fn words_of_prove(rt: HostRuntime) -> Result<(), Fail> {
     Ok(())
 }
 
+/// The keys of a directory, as each order of one needs them.
+static KEYS: [&str; 8] = [
+    "--sign-key",
+    "1a",
+    "--vuf-key",
+    "2b",
+    "--salt-key",
+    "3c",
+    "--token",
+    "4d",
+];
+
+/// A subcommand with the keys of a directory and these options.
+fn words_with_keys<'a>(
+    alloc: Global,
+    name: &'a str,
+    options: &[&'a str],
+) -> Result<Vec<&'a str>, AllocError> {
+    let mut words = Vec::from_slice(alloc, &["directoryd", name])?;
+    words.extend_from_slice(KEYS.as_slice())?;
+    words.extend_from_slice(options)?;
+    Ok(words)
+}
+
+/// The order has the keys of `KEYS`, each in its place.
+fn has_keys(order: &DirectoryOrder<'_>) -> bool {
+    order.sign_key == "1a" && order.vuf_key == "2b" && order.salt_key == "3c" && order.token == "4d"
+}
+
+#[test]
+fn words_of_serve(rt: HostRuntime) -> Result<(), Fail> {
+    let rows: [(&[&str], u64, Option<&str>); 6] = [
+        (&[], 1, None),
+        (&["--epoch", "5"], 5, None),
+        (&["--epoch=+05"], 5, None),
+        (&["--epoch", "18446744073709551615"], u64::MAX, None),
+        (&["--nonce="], 1, Some("")),
+        (&["--nonce", "a0", "--epoch=2"], 2, Some("a0")),
+    ];
+    for (options, epoch, nonce) in rows {
+        let words = words_with_keys(rt.alloc(), "serve", options)?;
+        let Order::Serve(order) = order(rt.alloc(), &words)? else {
+            panic!(rt; "at {options:?}");
+        };
+        assert!(rt; has_keys(&order), "at {options:?}");
+        assert_eq!(rt; order.epoch.get(), epoch, "at {options:?}");
+        assert_eq!(rt; order.nonce, nonce, "at {options:?}");
+    }
+    Ok(())
+}
+
+#[test]
+fn words_of_listen(rt: HostRuntime) -> Result<(), Fail> {
+    let rows: [(&[&str], u64, u64, Option<&str>); 4] = [
+        (&["here:1"], 0, 1, None),
+        (&["--count", "3", "here:1"], 3, 1, None),
+        (
+            &["here:1", "--count=18446744073709551615"],
+            u64::MAX,
+            1,
+            None,
+        ),
+        (
+            &["--nonce", "a0", "here:1", "--epoch", "2", "--count", "0"],
+            0,
+            2,
+            Some("a0"),
+        ),
+    ];
+    for (options, count, epoch, nonce) in rows {
+        let words = words_with_keys(rt.alloc(), "listen", options)?;
+        let Order::Listen(order) = order(rt.alloc(), &words)? else {
+            panic!(rt; "at {options:?}");
+        };
+        assert!(rt; has_keys(&order.directory), "at {options:?}");
+        assert_eq!(rt; order.address, "here:1", "at {options:?}");
+        assert_eq!(rt; order.count, count, "at {options:?}");
+        assert_eq!(rt; order.directory.epoch.get(), epoch, "at {options:?}");
+        assert_eq!(rt; order.directory.nonce, nonce, "at {options:?}");
+    }
+    Ok(())
+}
+
+/// The keys in another order, with an address before them and an empty key.
+#[test]
+fn keys_in_any_order(rt: HostRuntime) -> Result<(), Fail> {
+    let words = [
+        "directoryd",
+        "listen",
+        "here:1",
+        "--token=4d",
+        "--salt-key",
+        "3c",
+        "--vuf-key=",
+        "--sign-key",
+        "1a",
+    ];
+    let Order::Listen(order) = order(rt.alloc(), words.as_slice())? else {
+        panic!(rt; "another order");
+    };
+    assert_eq!(rt; order.address, "here:1");
+    assert_eq!(rt; order.directory.sign_key, "1a");
+    assert_eq!(rt; order.directory.vuf_key, "");
+    assert_eq!(rt; order.directory.salt_key, "3c");
+    assert_eq!(rt; order.directory.token, "4d");
+    Ok(())
+}
+
 /// Why clap refuses the words.
 pub(crate) fn refusal(alloc: Global, words: &[&str]) -> Result<Error, Fail> {
     match order(alloc, words) {
@@ -112,6 +220,96 @@ fn refused_words(rt: HostRuntime) -> Result<(), Fail> {
         let error = refusal(rt.alloc(), words)?;
         assert_eq!(rt; error.kind(), kind, "at {words:?}");
         assert_eq!(rt; error.exit_code(), 2, "at {words:?}");
+    }
+    Ok(())
+}
+
+#[test]
+fn refused_words_of_a_directory(rt: HostRuntime) -> Result<(), Fail> {
+    let rows: [(&str, &[&str], ErrorKind); 16] = [
+        ("serve", &["--epoch", "0"], ErrorKind::ValueValidation),
+        ("serve", &["--epoch=00"], ErrorKind::ValueValidation),
+        ("serve", &["--epoch=-1"], ErrorKind::ValueValidation),
+        ("serve", &["--epoch", "-1"], ErrorKind::UnknownArgument),
+        ("serve", &["--epoch", "two"], ErrorKind::ValueValidation),
+        (
+            "serve",
+            &["--epoch", "18446744073709551616"],
+            ErrorKind::ValueValidation,
+        ),
+        ("serve", &["--epoch="], ErrorKind::ValueValidation),
+        ("serve", &["--epoch"], ErrorKind::InvalidValue),
+        ("serve", &["--token", "5e"], ErrorKind::ArgumentConflict),
+        ("serve", &["--count", "1"], ErrorKind::UnknownArgument),
+        ("serve", &["here:1"], ErrorKind::UnknownArgument),
+        ("listen", &[], ErrorKind::MissingRequiredArgument),
+        (
+            "listen",
+            &["--count", "few", "here:1"],
+            ErrorKind::ValueValidation,
+        ),
+        (
+            "listen",
+            &["--count", "18446744073709551616", "here:1"],
+            ErrorKind::ValueValidation,
+        ),
+        (
+            "listen",
+            &["--epoch=0", "here:1"],
+            ErrorKind::ValueValidation,
+        ),
+        ("listen", &["here:1", "here:2"], ErrorKind::UnknownArgument),
+    ];
+    for (name, options, kind) in rows {
+        let words = words_with_keys(rt.alloc(), name, options)?;
+        let error = refusal(rt.alloc(), &words)?;
+        assert_eq!(rt; error.kind(), kind, "{name} at {options:?}");
+        assert_eq!(rt; error.exit_code(), 2, "{name} at {options:?}");
+    }
+    Ok(())
+}
+
+/// Each of the keys and the token has to be given.
+#[test]
+fn missing_keys_are_refused(rt: HostRuntime) -> Result<(), Fail> {
+    for name in ["serve", "listen"] {
+        for missing in 0..KEYS.len() / 2 {
+            let mut words = words_with_keys(rt.alloc(), name, &["here:1"])?;
+            let option = words.remove(2 + 2 * missing);
+            let _ = words.remove(2 + 2 * missing);
+            if name == "serve" {
+                let _ = words.pop();
+            }
+            let error = refusal(rt.alloc(), &words)?;
+            assert_eq!(rt;
+                error.kind(),
+                ErrorKind::MissingRequiredArgument,
+                "{name} without {option}"
+            );
+        }
+    }
+    Ok(())
+}
+
+/// The help of `serve` and of `listen` names each option, and gives an example.
+#[test]
+fn help_of_a_directory_shows_an_example(rt: HostRuntime) -> Result<(), Fail> {
+    let parts = [
+        "--sign-key <HEX>",
+        "--vuf-key <HEX>",
+        "--salt-key <HEX>",
+        "--token <HEX>",
+        "[default: 1]",
+        "[default: zeros]",
+        "64 hexadecimal digits each:\ndirectoryd ",
+    ];
+    for name in ["serve", "listen"] {
+        let help = refusal(rt.alloc(), &["directoryd", name, "--help"])?;
+        assert_eq!(rt; help.kind(), ErrorKind::DisplayHelp);
+        let text = format!(in rt.alloc(); "{help}")?;
+        for part in parts {
+            assert!(rt; text.contains(part), "{part} of {name}");
+        }
     }
     Ok(())
 }

@@ -46,6 +46,7 @@ returns-clause-ok g c =
     = c.in-Some.ensures.name ∙ sym (name_of_rows (out-ArgMatches matches).subcommand) in (
       names,
       made.1,
+      ap (λ a. fault_of a words) (sym app_is) ∙ c.in_ok-matches.ensures.kinds (ap is_simple_and_free app_is ∙ is_simple_and_free-directory_app names),
       ap (option_map (λ found. ordered_in found.0 found.1)) (sym sub)
           ∙ ordered_here (subcommand_rows_of matches) c.in-Some.name.now (rows_of (found_of c.in-Some.found.now)) named c.in-Some.ensures.rows
           ∙ ap (λ o. Some o) (sym c.named_order.ensures),

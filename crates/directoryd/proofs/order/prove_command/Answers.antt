@@ -7,4 +7,4 @@ pub returns-clause-app : goal.returns-clause-app
 returns-clause-app c =
     c.in_ok-prove.ensures.shape (search rules)
     ∙ ap₂ with_rule (c.in_ok-arg-2.ensures.shape (search rules)
-    ∙ ap₂ with_rule (c.in_ok-arg.ensures.shape (search rules) ∙ ap₂ with_rule (ap app_of_fields c.after_help.ensures ∙ ap app_of_fields c.about.ensures ∙ c.new.ensures.app) c.index_arg.ensures.rule) c.hash_arg.ensures.rule) c.nonce_arg.ensures.rule
+    ∙ ap₂ with_rule (c.in_ok-arg.ensures.shape (search rules) ∙ ap₂ with_rule (ap app_of_fields c.after_help.ensures ∙ ap app_of_fields c.about.ensures ∙ c.new.ensures.app) c.required_arg.ensures.rule) c.hash_arg.ensures.rule) c.nonce_arg.ensures.rule
