@@ -4,6 +4,8 @@
 mod connections;
 mod faults;
 
+ghost use Rattle.std.specs.Prelude.{◌≡◌, [], IfOk};
+
 use super::*;
 use crate::keys::Keys;
 use hub::Hub;
@@ -39,7 +41,9 @@ const LOOK_UP: &[u8] = b"\x00\x00\x00\x0c\x04\x00\x00\x00\x00\x00\x00\x00\x02\x0
 const THREE_HEADS: &[u8] = b"\x00\x00\x00\x01\x06\x00\x00\x00\x01\x06\x00\x00\x00\x01\x06";
 
 /// A hub of the directory of the order.
-fn begun(alloc: Global) -> Result<Hub<ServedDesk>, Fail> {
+fn begun(alloc: Global) -> Result<Hub<ServedDesk>, Fail>
+    ensures { IfOk result (λ hub. hub.sessions ≡ []) }
+{
     Ok(Keys::read(&ORDER)?.begin(alloc)?)
 }
 

@@ -77,6 +77,38 @@ fn each_order_is_obeyed(rt: HostRuntime) -> Result<(), Fail> {
     Ok(())
 }
 
+/// The words that serve a directory whose keys are all this one.
+fn words_of_serve(key: &str) -> [&str; 10] {
+    [
+        "directoryd",
+        "serve",
+        "--sign-key",
+        key,
+        "--vuf-key",
+        key,
+        "--salt-key",
+        key,
+        "--token",
+        key,
+    ]
+}
+
+/// A frame that asks for the head, over the standard streams.
+#[test]
+fn a_session_is_served(rt: HostRuntime) -> Result<(), Fail> {
+    let key = "0".repeat(rt.alloc(), 64)?;
+    let run = told(&rt, &words_of_serve(key.as_str()), "\0\0\0\x01\x06")?;
+    assert_eq!(rt; run.ending, ending(0));
+    assert_eq!(rt; run.output.len(), 185);
+    assert!(rt; run.errors.is_empty());
+
+    let run = told(&rt, &words_of_serve("a0"), "\0\0\0\x01\x06")?;
+    assert_eq!(rt; run.ending, ending(1));
+    assert!(rt; run.output.is_empty());
+    assert_eq!(rt; run.errors.as_slice(), b"bad hex\n".as_slice());
+    Ok(())
+}
+
 #[test]
 fn faults_are_told(rt: HostRuntime) -> Result<(), Fail> {
     let rows: [(&[&str], &str, &str); 3] = [
@@ -89,7 +121,7 @@ fn faults_are_told(rt: HostRuntime) -> Result<(), Fail> {
         ),
     ];
     for (words, input, line) in rows {
-        let run = told(rt.alloc(), words, input)?;
+        let run = told(&rt, words, input)?;
         assert_eq!(rt; run.ending, ending(1), "at {words:?}");
         assert!(rt; run.output.is_empty(), "at {words:?}");
         assert_eq!(rt; run.errors.as_slice(), line.as_bytes(), "at {words:?}");
@@ -122,7 +154,7 @@ fn refused_words_are_told(rt: HostRuntime) -> Result<(), Fail> {
     ];
     for (words, status, output, errors) in rows {
         let text = format!(in rt.alloc(); "{}", refusal(rt.alloc(), words)?)?;
-        let run = told(rt.alloc(), words, "x\n")?;
+        let run = told(&rt, words, "x\n")?;
         assert_eq!(rt; run.ending, ending(status), "at {words:?}");
         if status == 0 {
             assert_eq!(rt; run.output.as_slice(), text.as_bytes(), "at {words:?}");
