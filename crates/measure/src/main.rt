@@ -8,7 +8,9 @@
 mod changes;
 mod digests;
 mod directory;
+mod feeding;
 mod replies;
+mod sessions;
 mod steps;
 mod texts;
 mod tree;
@@ -79,6 +81,19 @@ fn run(rt: &(impl Print + Input), alloc: Global, program: &str, numbers: &[usize
                 digests,
             };
             directory::measure(rt, alloc, &wanted)
+        }
+        ("feed", &[frames, times]) => {
+            let wanted = feeding::Pieces { frames, times };
+            feeding::measure(rt, alloc, &wanted)
+        }
+        ("hub", &[names, frames, piece, rounds]) => {
+            let wanted = sessions::Sessions {
+                names,
+                frames,
+                piece,
+                rounds,
+            };
+            sessions::measure(rt, alloc, &wanted)
         }
         _ => bail!("{USAGE}"),
     }
