@@ -34,7 +34,7 @@ pub(crate) struct Epochs {
 pub(crate) type Provided = Directory<Sha256Hash, KeyedVuf, KeyedSign, ChaCha20Rng>;
 
 /// The epoch whose page is the first with names.
-const FIRST: u64 = 2;
+pub(crate) const FIRST: u64 = 2;
 
 /// A directory at epoch 1, without a name.
 pub(crate) fn new_directory(alloc: Global) -> Result<Provided> {

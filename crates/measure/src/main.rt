@@ -23,7 +23,8 @@ use std::env;
 const USAGE: &str = "usage: measure digests BYTES COUNT | texts COUNT ROUNDS \
     | tree GROWN MORE DIGESTS | whole ITEMS TIMES DIGESTS \
     | changes ITEMS CHANGES LISTS ROUNDS DIGESTS | replies SIBLINGS REPLIES ROUNDS DIGESTS \
-    | epochs NAMES CHANGES ROUNDS LOOK_UPS LOOK_UP_ROUNDS DIGESTS | all";
+    | epochs NAMES CHANGES ROUNDS LOOK_UPS LOOK_UP_ROUNDS DIGESTS \
+    | hub NAMES FRAMES PIECE ROUNDS | feed FRAMES TIMES | all";
 
 /// The number that this word writes.
 fn number(word: &str) -> Result<usize> {
@@ -82,10 +83,6 @@ fn run(rt: &(impl Print + Input), alloc: Global, program: &str, numbers: &[usize
             };
             directory::measure(rt, alloc, &wanted)
         }
-        ("feed", &[frames, times]) => {
-            let wanted = feeding::Pieces { frames, times };
-            feeding::measure(rt, alloc, &wanted)
-        }
         ("hub", &[names, frames, piece, rounds]) => {
             let wanted = sessions::Sessions {
                 names,
@@ -94,6 +91,10 @@ fn run(rt: &(impl Print + Input), alloc: Global, program: &str, numbers: &[usize
                 rounds,
             };
             sessions::measure(rt, alloc, &wanted)
+        }
+        ("feed", &[frames, times]) => {
+            let wanted = feeding::Pieces { frames, times };
+            feeding::measure(rt, alloc, &wanted)
         }
         _ => bail!("{USAGE}"),
     }
@@ -107,7 +108,9 @@ fn run_all(rt: &(impl Print + Input), alloc: Global) -> Result<()> {
     run(rt, alloc, "whole", &[5, 2, 1])?;
     run(rt, alloc, "changes", &[5, 3, 2, 2, 1])?;
     run(rt, alloc, "replies", &[4, 3, 2, 1])?;
-    run(rt, alloc, "epochs", &[5, 3, 2, 4, 2, 1])
+    run(rt, alloc, "epochs", &[5, 3, 2, 4, 2, 1])?;
+    run(rt, alloc, "hub", &[5, 3, 16, 2])?;
+    run(rt, alloc, "feed", &[3, 2])
 }
 
 fn main(rt: HostRuntime) -> Result<()> {

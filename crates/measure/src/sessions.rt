@@ -1,4 +1,4 @@
-use crate::directory::{Provided, close, key_of, name_of, new_directory, register_all};
+use crate::directory::{FIRST, Provided, close, key_of, name_of, new_directory, register_all};
 use crate::steps::end_step;
 use anyhow::{Context, Result};
 use encoding::Hash32;
@@ -29,9 +29,6 @@ type ProvidedHub = Hub<Desk<Sha256Hash, KeyedVuf, KeyedSign, ChaCha20Rng, NoKeep
 
 /// The sessions that are open.
 const SESSIONS: u32 = 16;
-
-/// The epoch whose page has the names.
-const FIRST: u64 = 2;
 
 /// What is asked.
 #[derive(Clone, Copy)]
@@ -109,7 +106,7 @@ fn streams_of(alloc: Global, kind: Kind, entries: &[Entry]) -> Result<Vec<Stream
         if let Some((_, stream)) = streams.get_mut(place) {
             write_request(&entry.request(kind), stream)?;
         }
-        place = (place.wrapping_add(1)) % SESSIONS as usize;
+        place = place.wrapping_add(1) % SESSIONS as usize;
     }
     Ok(streams)
 }
@@ -167,6 +164,7 @@ fn hub_of(alloc: Global, names: usize) -> Result<ProvidedHub> {
     Ok(hub)
 }
 
+/// Opens the sessions.
 fn open_sessions(alloc: Global, hub: &mut ProvidedHub) -> Result<()> {
     let mut output = Vec::new(alloc);
     for session in 0..SESSIONS {
@@ -207,6 +205,7 @@ fn write_calls(
     Ok(output.len() as u64)
 }
 
+/// Makes the call for a request, and appends the frame of the reply.
 fn write_call(
     directory: &mut Provided,
     kind: Kind,
@@ -233,6 +232,7 @@ fn run_hub(hub: &mut ProvidedHub, events: &[Event<'_>]) -> Result<u64, AllocErro
     Ok(count_bytes(&outputs))
 }
 
+/// The bytes of all outputs.
 fn count_bytes(outputs: &[Stream]) -> u64 {
     let mut bytes: u64 = 0;
     for (_, output) in outputs {
@@ -241,15 +241,18 @@ fn count_bytes(outputs: &[Stream]) -> u64 {
     bytes
 }
 
-/// What the requests are put to, each with the same names: two directories and a hub of a third.
+/// Three directories with the same names, of which a hub has the third. All are asked the same.
 #[derive(Drop)]
 struct Sides {
+    /// Its replies are let go.
     called: Provided,
+    /// The frames of its replies are written.
     written: Provided,
     hub: ProvidedHub,
 }
 
 impl Sides {
+    /// Directories with so many names on their pages.
     fn new(alloc: Global, names: usize) -> Result<Sides> {
         Ok(Sides {
             called: directory_of(alloc, names)?,
@@ -258,7 +261,7 @@ impl Sides {
         })
     }
 
-    /// The steps of a kind in a round.
+    /// The steps of one kind of request in a round.
     fn measure(
         &mut self,
         rt: &(impl Print + Input),
@@ -273,6 +276,8 @@ impl Sides {
         self.measure_sides(rt, alloc, kind, &entries, &events)
     }
 
+    /// The steps of these requests: the events made, the calls, the calls with the frames of their
+    /// replies written, and the events.
     fn measure_sides(
         &mut self,
         rt: &(impl Print + Input),
@@ -283,13 +288,17 @@ impl Sides {
     ) -> Result<()> {
         end_step(rt, alloc, events.len() as u64)?;
         end_step(rt, alloc, make_calls(&mut self.called, kind, entries)?)?;
-        end_step(rt, alloc, write_calls(alloc, &mut self.written, kind, entries)?)?;
+        end_step(
+            rt,
+            alloc,
+            write_calls(alloc, &mut self.written, kind, entries)?,
+        )?;
         end_step(rt, alloc, run_hub(&mut self.hub, events)?)?;
         Ok(())
     }
 }
 
-/// The steps of the rounds.
+/// The steps of all rounds.
 fn measure_rounds(
     rt: &(impl Print + Input),
     alloc: Global,
@@ -304,6 +313,8 @@ fn measure_rounds(
     Ok(())
 }
 
+/// The steps: in each round those of requests for the head, of look-ups, and of registrations. The
+/// numbers of the last two steps of a kind are the bytes of the replies' frames.
 pub(crate) fn measure(rt: &(impl Print + Input), alloc: Global, wanted: &Sessions) -> Result<()> {
     let mut sides = Sides::new(alloc, wanted.names)?;
     end_step(rt, alloc, 0)?;
