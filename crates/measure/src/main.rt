@@ -72,6 +72,19 @@ fn run(rt: &(impl Print + Input), alloc: Global, program: &str, numbers: &[usize
             };
             replies::measure(rt, alloc, &look_ups)
         }
+        _ => run_on_directory(rt, alloc, program, numbers),
+    }
+}
+
+/// Runs the program of this name on these numbers, if it is one of those on a directory and its
+/// sessions.
+fn run_on_directory(
+    rt: &(impl Print + Input),
+    alloc: Global,
+    program: &str,
+    numbers: &[usize],
+) -> Result<()> {
+    match (program, numbers) {
         ("epochs", &[names, changes, rounds, look_ups, look_up_rounds, digests]) => {
             let wanted = directory::Epochs {
                 names,
