@@ -1,12 +1,10 @@
 ghost use Rattle.std.specs.Prelude.{◌≡◌, ◌↔◌, ◌+◌, ◌<◌, ◌≤◌, ◌++◌, length, OnOk, OnErr, IsOk, IsTrue, vec_len, vec_capacity};
-ghost use Rattle.byteorder.specs.Endian.{big_bytes};
 ghost use Rattle.wire.specs.Frames.{frame_bytes, frame_size};
 ghost use Rattle.wire.specs.Requests.{read_request, request_frame, request_seen, GivesRequest, ReadsRequest};
 
 use crate::ReadRefusal;
 use crate::frame::MAX_FRAME_LEN;
-use crate::writing::append_frame;
-use byteorder::{BigEndian, ByteOrder};
+use crate::writing::{append_frame, length_bytes};
 use encoding::{Cursor, FixedText, Hash32};
 use std::alloc::AllocError;
 
@@ -171,14 +169,4 @@ fn read_parts<'a>(kind: u8, cursor: &mut Cursor<'a>) -> Result<Request<'a>, Read
         },
         _ => return Err(ReadRefusal::BadKind),
     })
-}
-
-/// The number of bytes, in two bytes.
-fn length_bytes(bytes: &[u8]) -> [u8; 2]
-    requires { length bytes.now < 65536 }
-    ensures { result ≡ big_bytes 2 (length bytes.now) }
-{
-    let mut two = [0; 2];
-    BigEndian::write_u16(&mut two, bytes.len() as u16);
-    two
 }
