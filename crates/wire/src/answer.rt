@@ -1,6 +1,6 @@
 ghost use Rattle.std.specs.Prelude.{◌≡◌, ◌+◌, ◌≤◌, ◌++◌, length, OnOk, OnErr, IsOk, vec_len, vec_capacity};
 ghost use Rattle.rootchain.specs.RootLists.{root_list_bytes};
-ghost use Rattle.wire.specs.Frames.{frame_bytes};
+ghost use Rattle.wire.specs.Frames.{frame_bytes, frame_size};
 ghost use Rattle.wire.specs.Responses.{answer_frame, HasFewRoots};
 
 use crate::writing::begin_frame;
@@ -39,12 +39,13 @@ pub enum Answer<'a> {
 
 impl Answer<'_> {
     /// Appends the frame of the response. An `Err` appends nothing, and is not returned where there
-    /// is room for the longest.
+    /// is room.
     pub fn write(&self, output: &mut Vec<u8>) -> Result<(), AllocError>
         requires { HasFewRoots self.now }
         ensures ok { OnOk result (output.new.items ≡ output.old.items ++ frame_bytes (answer_frame self.now)) }
         ensures err { OnErr result (output.new.items ≡ output.old.items) }
-        ensures room { vec_len output.old + 25863 ≤ vec_capacity output.old → IsOk result }
+        ensures room { vec_len output.old + 4 + frame_size (answer_frame self.now) ≤ vec_capacity output.old → IsOk result }
+        ensures most { 4 + frame_size (answer_frame self.now) ≤ 25863 }
     {
         match self {
             Answer::Promise(promise) => append_text(output, PROMISE, promise.write().bytes()),
@@ -72,7 +73,8 @@ fn append_roots(output: &mut Vec<u8>, roots: &[SignedRoot]) -> Result<(), AllocE
     requires { length roots.now ≤ 64 }
     ensures ok { OnOk result (output.new.items ≡ output.old.items ++ frame_bytes (record { kind = 131; body = root_list_bytes roots.now })) }
     ensures err { OnErr result (output.new.items ≡ output.old.items) }
-    ensures room { vec_len output.old + 25863 ≤ vec_capacity output.old → IsOk result }
+    ensures room { vec_len output.old + 5 + length (root_list_bytes roots.now) ≤ vec_capacity output.old → IsOk result }
+    ensures most { length (root_list_bytes roots.now) ≤ 25858 }
 {
     begin_frame(output, ROOTS, list_len(roots))?;
     write_list(roots, output)
