@@ -2,7 +2,7 @@ ghost use Rattle.std.specs.Prelude.{◌≡◌, ◌+◌, ◌≤◌, ◌++◌, len
 ghost use Rattle.rootchain.specs.Promises.{signed_promise_bytes};
 ghost use Rattle.rootchain.specs.RootLists.{root_list_bytes};
 ghost use Rattle.rootchain.specs.SignedRoots.{signed_root_bytes};
-ghost use Rattle.wire.specs.Frames.{frame_bytes};
+ghost use Rattle.wire.specs.Frames.{frame_bytes, frame_size};
 ghost use Rattle.wire.specs.Responses.{answer_frame, HasFewRoots};
 
 use crate::writing::{append_frame, begin_frame, length_bytes};
@@ -41,12 +41,13 @@ pub enum Answer<'a> {
 
 impl Answer<'_> {
     /// Appends the frame of the response. An `Err` appends nothing, and is not returned where there
-    /// is room for the longest.
+    /// is room.
     pub fn write(&self, output: &mut Vec<u8>) -> Result<(), AllocError>
         requires { HasFewRoots self.now }
         ensures ok { OnOk result (output.new.items ≡ output.old.items ++ frame_bytes (answer_frame self.now)) }
         ensures err { OnErr result (output.new.items ≡ output.old.items) }
-        ensures room { vec_len output.old + 25863 ≤ vec_capacity output.old → IsOk result }
+        ensures room { vec_len output.old + 4 + frame_size (answer_frame self.now) ≤ vec_capacity output.old → IsOk result }
+        ensures most { 4 + frame_size (answer_frame self.now) ≤ 25863 }
     {
         match self {
             Answer::Promise(promise) => append_promise(output, promise),
@@ -74,7 +75,8 @@ fn append_text(output: &mut Vec<u8>, kind: u8, text: &[u8]) -> Result<(), AllocE
 fn append_promise(output: &mut Vec<u8>, promise: &SignedPromise) -> Result<(), AllocError>
     ensures ok { OnOk result (output.new.items ≡ output.old.items ++ frame_bytes (record { kind = 129; body = signed_promise_bytes promise.now })) }
     ensures err { OnErr result (output.new.items ≡ output.old.items) }
-    ensures room { vec_len output.old + 25863 ≤ vec_capacity output.old → IsOk result }
+    ensures room { vec_len output.old + 5 + length (signed_promise_bytes promise.now) ≤ vec_capacity output.old → IsOk result }
+    ensures most { length (signed_promise_bytes promise.now) ≤ 25858 }
 {
     // `SignedPromise::write` would make a text with the room of the longest reply.
     let text = promise.promise.write();
@@ -93,7 +95,8 @@ fn append_promise(output: &mut Vec<u8>, promise: &SignedPromise) -> Result<(), A
 fn append_root(output: &mut Vec<u8>, root: &SignedRoot) -> Result<(), AllocError>
     ensures ok { OnOk result (output.new.items ≡ output.old.items ++ frame_bytes (record { kind = 132; body = signed_root_bytes root.now })) }
     ensures err { OnErr result (output.new.items ≡ output.old.items) }
-    ensures room { vec_len output.old + 25863 ≤ vec_capacity output.old → IsOk result }
+    ensures room { vec_len output.old + 5 + length (signed_root_bytes root.now) ≤ vec_capacity output.old → IsOk result }
+    ensures most { length (signed_root_bytes root.now) ≤ 25858 }
 {
     append_text(output, ROOT, root.write().bytes())
 }
@@ -103,7 +106,8 @@ fn append_roots(output: &mut Vec<u8>, roots: &[SignedRoot]) -> Result<(), AllocE
     requires { length roots.now ≤ 64 }
     ensures ok { OnOk result (output.new.items ≡ output.old.items ++ frame_bytes (record { kind = 131; body = root_list_bytes roots.now })) }
     ensures err { OnErr result (output.new.items ≡ output.old.items) }
-    ensures room { vec_len output.old + 25863 ≤ vec_capacity output.old → IsOk result }
+    ensures room { vec_len output.old + 5 + length (root_list_bytes roots.now) ≤ vec_capacity output.old → IsOk result }
+    ensures most { length (root_list_bytes roots.now) ≤ 25858 }
 {
     begin_frame(output, ROOTS, list_len(roots))?;
     write_list(roots, output)
