@@ -1,6 +1,6 @@
 ghost use Rattle.std.specs.Prelude.{◌≡◌, ◌↔◌, ◌+◌, ◌<◌, ◌≤◌, ◌++◌, length, OnOk, OnErr, IsOk, IsTrue, vec_len, vec_capacity};
-ghost use Rattle.wire.specs.Frames.{frame_bytes, frame_size};
-ghost use Rattle.wire.specs.Requests.{read_request, request_frame, request_seen, GivesRequest, ReadsRequest};
+ghost use Rattle.wire.specs.Frames.{frame_bytes, frame_size, IsFrame};
+ghost use Rattle.wire.specs.Requests.{read_request, request_frame, request_seen, GivesRequest, IsAsked, ReadsRequest};
 
 use crate::ReadRefusal;
 use crate::frame::MAX_FRAME_LEN;
@@ -83,11 +83,13 @@ impl<'a> Request<'a> {
     }
 
     /// Appends the request's frame. An `Err` appends nothing, and is not returned where there is room.
+    /// The frame is one that a stream may have, and `read` accepts its body as this request.
     pub fn write(&self, output: &mut Vec<u8>) -> Result<(), AllocError>
         requires { frame_size (request_frame (request_seen self.now)) ≤ 65536 }
         ensures ok { OnOk result (output.new.items ≡ output.old.items ++ frame_bytes (request_frame (request_seen self.now))) }
         ensures err { OnErr result (output.new.items ≡ output.old.items) }
         ensures room { vec_len output.old + 4 + frame_size (request_frame (request_seen self.now)) ≤ vec_capacity output.old → IsOk result }
+        ensures form { IsAsked (request_seen self.now) × IsFrame (request_frame (request_seen self.now)) }
     {
         match self {
             Request::Register { name, key } => append_frame(
