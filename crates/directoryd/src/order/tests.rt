@@ -58,30 +58,16 @@ fn words_of_prove(rt: HostRuntime) -> Result<(), Fail> {
 }
 
 /// The options of a directory that have to be given.
-static KEYS: [(&str, &str); 4] = [
-    ("--sign-key", "1a"),
-    ("--vuf-key", "2b"),
-    ("--salt-key", "3c"),
-    ("--token", "4d"),
+static KEYS: [&str; 8] = [
+    "--sign-key",
+    "1a",
+    "--vuf-key",
+    "2b",
+    "--salt-key",
+    "3c",
+    "--token",
+    "4d",
 ];
-
-/// A subcommand with the keys of a directory, but for the one that is left out, and with these options.
-fn words_with_keys<'a>(
-    alloc: Global,
-    name: &'a str,
-    left_out: &str,
-    options: &[&'a str],
-) -> Result<Vec<&'a str>, AllocError> {
-    let mut words = Vec::from_slice(alloc, &["directoryd", name])?;
-    for (option, value) in KEYS {
-        if option != left_out {
-            words.push(option)?;
-            words.push(value)?;
-        }
-    }
-    words.extend_from_slice(options)?;
-    Ok(words)
-}
 
 /// The order has the keys of `KEYS`, each in its place.
 fn has_keys(order: &DirectoryOrder<'_>) -> bool {
@@ -99,7 +85,9 @@ fn words_of_serve(rt: HostRuntime) -> Result<(), Fail> {
         (&["--nonce", "a0", "--epoch=2"], 2, Some("a0")),
     ];
     for (options, epoch, nonce) in rows {
-        let words = words_with_keys(rt.alloc(), "serve", "none", options)?;
+        let mut words = Vec::from_slice(rt.alloc(), &["directoryd", "serve"])?;
+        words.extend_from_slice(KEYS.as_slice())?;
+        words.extend_from_slice(options)?;
         let Order::Serve(order) = order(rt.alloc(), &words)? else {
             panic!(rt; "at {options:?}");
         };
@@ -129,7 +117,9 @@ fn words_of_listen(rt: HostRuntime) -> Result<(), Fail> {
         ),
     ];
     for (options, count, epoch, nonce) in rows {
-        let words = words_with_keys(rt.alloc(), "listen", "none", options)?;
+        let mut words = Vec::from_slice(rt.alloc(), &["directoryd", "listen"])?;
+        words.extend_from_slice(KEYS.as_slice())?;
+        words.extend_from_slice(options)?;
         let Order::Listen(order) = order(rt.alloc(), &words)? else {
             panic!(rt; "at {options:?}");
         };
@@ -263,7 +253,9 @@ fn refused_words_of_a_directory(rt: HostRuntime) -> Result<(), Fail> {
         ("listen", &["here:1", "here:2"], ErrorKind::UnknownArgument),
     ];
     for (name, options, kind) in rows {
-        let words = words_with_keys(rt.alloc(), name, "none", options)?;
+        let mut words = Vec::from_slice(rt.alloc(), &["directoryd", name])?;
+        words.extend_from_slice(KEYS.as_slice())?;
+        words.extend_from_slice(options)?;
         let error = refusal(rt.alloc(), &words)?;
         assert_eq!(rt; error.kind(), kind, "{name} at {options:?}");
         assert_eq!(rt; error.exit_code(), 2, "{name} at {options:?}");
@@ -274,43 +266,55 @@ fn refused_words_of_a_directory(rt: HostRuntime) -> Result<(), Fail> {
 /// Each of the keys and the token has to be given.
 #[test]
 fn missing_keys_are_refused(rt: HostRuntime) -> Result<(), Fail> {
-    let rows: [(&str, &[&str]); 2] = [("serve", &[]), ("listen", &["here:1"])];
-    for (name, options) in rows {
-        for (key, _) in KEYS {
-            let words = words_with_keys(rt.alloc(), name, key, options)?;
-            let error = refusal(rt.alloc(), &words)?;
-            assert_eq!(rt;
-                error.kind(),
-                ErrorKind::MissingRequiredArgument,
-                "{name} without {key}"
-            );
-        }
+    let rows: [[&str; 3]; 4] = [
+        ["--vuf-key=2b", "--salt-key=3c", "--token=4d"],
+        ["--sign-key=1a", "--salt-key=3c", "--token=4d"],
+        ["--sign-key=1a", "--vuf-key=2b", "--token=4d"],
+        ["--sign-key=1a", "--vuf-key=2b", "--salt-key=3c"],
+    ];
+    for [first, second, third] in rows {
+        let words = ["directoryd", "serve", first, second, third];
+        let error = refusal(rt.alloc(), words.as_slice())?;
+        assert_eq!(rt;
+            error.kind(),
+            ErrorKind::MissingRequiredArgument,
+            "at {words:?}"
+        );
+        let words = ["directoryd", "listen", "here:1", first, second, third];
+        let error = refusal(rt.alloc(), words.as_slice())?;
+        assert_eq!(rt;
+            error.kind(),
+            ErrorKind::MissingRequiredArgument,
+            "at {words:?}"
+        );
     }
     Ok(())
 }
 
-/// The help of each subcommand gives the form of each value, and an example.
+/// The help of each subcommand gives the form of its values, and an example.
 #[test]
 fn help_shows_an_example(rt: HostRuntime) -> Result<(), Fail> {
-    let item = "INDEX COMMITMENT, each 64 hexadecimal digits";
-    let key = "--vuf-key <HEX>   The key that gives names their indices, 64 hexadecimal digits";
-    let epoch = "The first epoch, a number from 1 on [default: 1]";
-    let count = "0 for no end [default: 0]";
-    let rows: [(&str, &[&str]); 4] = [
-        ("root", &[item]),
-        ("prove", &[item]),
-        ("serve", &[key, epoch]),
-        ("listen", &[key, epoch, count, "<ADDR>  The address"]),
+    let rows = [
+        ("root", "INDEX COMMITMENT, each 64 hexadecimal digits"),
+        ("prove", "INDEX COMMITMENT, each 64 hexadecimal digits"),
+        (
+            "serve",
+            "<HEX>   The key that gives names their indices, 64 hexadecimal digits",
+        ),
+        ("serve", "The first epoch, a number from 1 on [default: 1]"),
+        (
+            "listen",
+            "How many connections are answered; 0 for no end [default: 0]",
+        ),
+        ("listen", "<ADDR>  The address to listen on"),
     ];
-    for (name, parts) in rows {
+    for (name, part) in rows {
         let help = refusal(rt.alloc(), &["directoryd", name, "--help"])?;
         assert_eq!(rt; help.kind(), ErrorKind::DisplayHelp);
         let text = format!(in rt.alloc(); "{help}")?;
         let example = format!(in rt.alloc(); "\nExample: directoryd {name} ")?;
+        assert!(rt; text.contains(part), "{part} of {name}");
         assert!(rt; text.contains(example.as_str()), "no example of {name}");
-        for part in parts {
-            assert!(rt; text.contains(part), "{part} of {name}");
-        }
     }
     Ok(())
 }
