@@ -2,7 +2,7 @@
 use Rattle.std.proofs.Common.{◌≡◌, ◌≢◌, ℕ, List, [], ◌∷◌, ◌++◌, refl, sym, ap, subst, ◌∙◌, append_assoc}
 use Rattle.std.proofs.lemmas.List.{append-nil}
 use Rattle.wire.specs.Frames.{Frame}
-use Rattle.wire.specs.Streams.{Held, Rest, Failed, Whole, BadFrame, Takes, Fails}
+use Rattle.wire.specs.Streams.{Held, Rest, Failed, Whole, BadFrame, Takes, Fails, IsSpent, Waits}
 use Rattle.hub.specs.Exchanges.{Exchange, Exchanges, Replies, replies}
 
 pub replies-more : (xs : List Exchange) (x : Exchange) → replies (xs ++ x ∷ []) ≡ replies xs ++ x.reply
@@ -33,6 +33,11 @@ module _ {S : Type 0} (answers : S → Frame → List ℕ → S → Type 0) wher
 pub has_not_failed : (h : Held) (frame : Frame) (left : Held) → Takes h (Whole frame) left → left ≢ Failed
 has_not_failed (Rest bytes) frame left (rest, e, same) failed = absurd (let wrong : Rest rest ≡ Failed = sym same ∙ failed in cc)
 has_not_failed Failed frame left t failed = t
+
+-- a session that has not failed and does not wait holds a whole message
+pub is_not_spent : (h : Held) → h ≢ Failed → ¬ Waits h → ¬ IsSpent h
+is_not_spent (Rest bytes) fine ready spent = ready spent
+is_not_spent Failed fine ready spent = fine refl
 
 pub takes_bad_length : (h left : Held) → h ≢ Failed → Fails h → left ≡ Failed → Takes h BadFrame left
 takes_bad_length (Rest bytes) left fine e same = (e, same)

@@ -28,9 +28,9 @@ module _ {S : Type 0} (answers : S → Frame → List ℕ → S → Type 0) wher
       → Hears answers before.service held piece output result after.service left grown
       → Happens answers before (Bytes session piece) output result after grown
   heard_happens before after session piece held left output grown (Ok done) here set (exchanges, exchanged, spent, wrote) =
-      (none_due before.sessions session piece held here, exchanges, (held, left, here, set, exchanged, λ _. spent), wrote)
-  heard_happens before after session piece held left output grown (Err (Memory true)) here set (exchanges, exchanged, wrote) =
-      (session, piece, exchanges, refl, (held, left, here, set, exchanged, λ e. absurd cc), wrote)
+      (none_due before.sessions session piece held here, exchanges, (held, left, here, set, exchanged, (λ _. spent, λ _. refl)), wrote)
+  heard_happens before after session piece held left output grown (Err (Memory true)) here set (exchanges, exchanged, waits, wrote) =
+      (session, piece, exchanges, refl, (held, left, here, set, exchanged, (λ e. absurd cc, λ spent. absurd (waits spent))), wrote)
   heard_happens before after session piece held left output grown (Err (Memory false)) here set (same, kept, wrote) =
       let back = set ∙ ap (set_value (is_at (nat_cmp session)) before.sessions) kept ∙ set_value_same (is_at (nat_cmp session)) before.sessions held here in
       (none_due before.sessions session piece held here, same_hub after before same back, wrote)

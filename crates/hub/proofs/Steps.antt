@@ -108,7 +108,7 @@ module _ {S : Type 0} (answers : S → Frame → List ℕ → S → Type 0) wher
   bytes_does before after streams session piece xs match (held, left, here, set, exchanges, spent) =
       let s = stream_at before.sessions streams session held match here in
       let tells = exchanges_tell before.service (with_more held piece) xs after.service left exchanges in
-      let all = piece_told s.0 piece (messages_of xs) left s.3 (subst (λ (h : Held). Tells (with_more h piece) (messages_of xs) left) (sym s.2) tells) (spent refl) in
+      let all = piece_told s.0 piece (messages_of xs) left s.3 (subst (λ (h : Held). Tells (with_more h piece) (messages_of xs) left) (sym s.2) tells) (spent.0 refl) in
       let is = bytes_changed streams session piece s.0 s.1 in
       let p : ℕ → Bool = is_at (nat_cmp session) in (
         bytes_completed streams session piece s.0 s.1 ∙ all.0,

@@ -32,18 +32,18 @@ module _ {S : Type 0} (answers : S → Frame → List ℕ → S → Type 0) wher
   Exchanges service held (exchange ∷ more) service_after after = (middle : S) × (between : Held)
       × Takes held exchange.message between × Replies service exchange.message exchange.reply middle × Exchanges middle between more service_after after
 
-  -- some messages are answered: all that are held, unless memory was wanting
+  -- some messages are answered: all that are held; or where memory was wanting a first part, and more wait
   abbrev pub Drained : S → Held → List ℕ → Result (Unit {0}) AllocError → S → Held → List ℕ → Type 0
   Drained service held before (Ok done) service_after after output =
       (exchanges : List Exchange) × Exchanges service held exchanges service_after after × IsSpent after × (output ≡ before ++ replies exchanges)
   Drained service held before (Err wanting) service_after after output =
-      (exchanges : List Exchange) × Exchanges service held exchanges service_after after × (output ≡ before ++ replies exchanges)
+      (exchanges : List Exchange) × Exchanges service held exchanges service_after after × (¬ IsSpent after) × (output ≡ before ++ replies exchanges)
 
   -- what is so where memory was wanting: nothing was done, or the piece was taken and the rest waits
   abbrev pub Wants : S → Held → List ℕ → List ℕ → Bool → S → Held → List ℕ → Type 0
   Wants service held piece before false service_after after output = (service_after ≡ service) × (after ≡ held) × (output ≡ before)
   Wants service held piece before true service_after after output =
-      (exchanges : List Exchange) × Exchanges service (with_more held piece) exchanges service_after after × (output ≡ before ++ replies exchanges)
+      (exchanges : List Exchange) × Exchanges service (with_more held piece) exchanges service_after after × (¬ IsSpent after) × (output ≡ before ++ replies exchanges)
 
   -- a piece is taken and all its messages are answered, unless memory was wanting
   abbrev pub Hears : S → Held → List ℕ → List ℕ → Result (Unit {0}) HubRefusal → S → Held → List ℕ → Type 0

@@ -1,5 +1,5 @@
 -- What an event does, and the messages that it brings.
-use Rattle.std.specs.Prelude.{◌≡◌, ◌⊎◌, ℕ, List, [], ◌∷◌, ◌++◌, Bool, true, false, Some, None, Result, Ok, Err, ⊤}
+use Rattle.std.specs.Prelude.{◌≡◌, ◌⊎◌, ◌↔◌, ℕ, List, [], ◌∷◌, ◌++◌, Bool, true, false, Some, None, Result, Ok, Err, ⊤}
 use Rattle.std.specs.Ordering.{nat_cmp}
 use Rattle.std.specs.BTreeMap.{is_at, insert_entry}
 use Rattle.std.specs.Map.{remove_entry, set_value}
@@ -19,11 +19,11 @@ WantsMemory (Err SessionOpen) = ⊥
 WantsMemory (Err NoSession) = ⊥
 
 module _ {S : Type 0} (answers : S → Frame → List ℕ → S → Type 0) where
-  -- a session takes a piece, and whole messages are answered: all, or a first part; others wait
+  -- a session takes a piece, and whole messages are answered: all, or a first part, and at least one waits
   abbrev pub Answered : Hubbed S → ℕ → List ℕ → Bool → List Exchange → Hubbed S → Type 0
   Answered before session piece all exchanges after = (held : Held) × (left : Held)
       × (at before.sessions session ≡ Some held) × (after.sessions ≡ set_value (is_at (nat_cmp session)) before.sessions left)
-      × Exchanges answers before.service (with_more held piece) exchanges after.service left × (all ≡ true → IsSpent left)
+      × Exchanges answers before.service (with_more held piece) exchanges after.service left × (all ≡ true ↔ IsSpent left)
 
   -- what an event does that is not refused, and the messages that it brings
   abbrev pub Does : Hubbed S → Happening → List Exchange → Hubbed S → Type 0

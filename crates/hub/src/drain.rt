@@ -27,6 +27,7 @@ pub(crate) fn hear<S: Service>(
 
 /// Answers each whole message that a session holds. Room for the longest reply is reserved before
 /// each, so that an answer that is made goes out. Where there is no room, the rest waits.
+#[tactic(auto, using(crate::proofs::Exchanging::is_not_spent))]
 fn drain<S: Service>(
     service: &mut S,
     feed: &mut Feed,
