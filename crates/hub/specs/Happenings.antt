@@ -18,6 +18,12 @@ WantsMemory (Err TooManySessions) = ⊥
 WantsMemory (Err SessionOpen) = ⊥
 WantsMemory (Err NoSession) = ⊥
 
+-- the event takes memory; the end of a session takes none
+abbrev pub TakesMemory : Happening → Type 0
+TakesMemory (Open session) = ⊤
+TakesMemory (Bytes session piece) = ⊤
+TakesMemory (End session) = ⊥
+
 module _ {S : Type 0} (answers : S → Frame → List ℕ → S → Type 0) where
   -- a session takes a piece, and whole messages are answered: all, or a first part, and at least one waits
   abbrev pub Answered : Hubbed S → ℕ → List ℕ → Bool → List Exchange → Hubbed S → Type 0
@@ -35,7 +41,7 @@ module _ {S : Type 0} (answers : S → Frame → List ℕ → S → Type 0) wher
   -- first part of the messages is answered, and the others wait.
   abbrev pub Happens : Hubbed S → Happening → List ℕ → Result (Unit {0}) HubRefusal → Hubbed S → List ℕ → Type 0
   Happens before it output (Ok done) after grown = (due before.sessions it ≡ None) × (exchanges : List Exchange) × Does before it exchanges after × (grown ≡ output ++ replies exchanges)
-  Happens before it output (Err (Memory false)) after grown = (due before.sessions it ≡ None) × (after ≡ before) × (grown ≡ output)
+  Happens before it output (Err (Memory false)) after grown = TakesMemory it × (due before.sessions it ≡ None) × (after ≡ before) × (grown ≡ output)
   Happens before it output (Err (Memory true)) after grown = (session : ℕ) × (piece : List ℕ) × (exchanges : List Exchange) × (it ≡ Bytes session piece)
       × Answered before session piece false exchanges after × (grown ≡ output ++ replies exchanges)
   Happens before it output (Err TooManySessions) after grown = (due before.sessions it ≡ Some TooManySessions) × (after ≡ before) × (grown ≡ output)
