@@ -13,4 +13,4 @@ pub returns-in_err-listen-in-Listen : goal.returns-in_err-listen-in-Listen
 returns-in_err-listen-in-Listen g c =
     let passed : c.from_residual-in_err-listen-in-Listen.result ≡ Err c.in_err-listen-in-Listen.field-0.0 = search rules in
     let hex = c.in_err-listen-in-Listen.ensures.bad_hex in
-    rw (passed, c.in-Listen.is) (tt, Keeps-refl _, (λ e. hex.0 (same_fault _ _ e), λ e. same_fault _ _ (hex.1 e)), c.in_err-listen-in-Listen.ensures.tells)
+    rw (passed, c.in-Listen.is) (tt, Keeps-refl _, (λ e. hex.0 (same_fault ℕ (Unit {0}) _ _ e), λ e. same_fault (Unit {0}) ℕ _ _ (hex.1 e)), c.in_err-listen-in-Listen.ensures.tells)
