@@ -2,7 +2,7 @@
 """Times the built programs and prints the tables of the scripts beside it. docs/SPEED.md says what
 the columns mean.
 
-usage: bench/bench.py root|tree|changes|replies|epochs, at the top of the repository
+usage: bench/bench.py root|tree|changes|replies|epochs|hub, at the top of the repository
 
 BEFORE, if it is set, is the top of another clone, in which directoryd and measure are built. `root`
 then times the programs of both, in turn.
@@ -55,6 +55,14 @@ EPOCH_LOOK_UPS, LOOK_UP_ROUNDS = 10_000, 10
 LATE_ROUNDS = 40
 # With how many digests one by one a change and its share of the closing are compared.
 CHANGE_DIGESTS = 24
+# The names of the hub's directory, the frames of a step, the bytes of a piece, the rounds of a run
+# and the runs. The sessions are those of the crate `measure`.
+HUB_NAMES, HUB_FRAMES, PIECES, HUB_ROUNDS, HUB_RUNS = 100_000, 16_000, (4_096, 16), 4, 5
+HUB_SESSIONS = 16
+# What a round asks for, in turn, and the bytes of a request's frame.
+HUB_REQUESTS = {"head": 5, "look-up": 31, "registration": 57}
+# The frames of one piece that a feed takes, the frames of a step, and the runs.
+FEED_FRAMES, FEED_TAKEN, FEED_RUNS = (64, 1_024, 16_384), 1 << 23, 20
 
 
 class Spread:
@@ -609,10 +617,78 @@ def epochs(_folder):
     table("look-ups at the head and at an old epoch, microseconds", head, rows)
 
 
+class Sessions:
+    """The runs of `measure hub` with pieces of so many bytes: for each request the times of its
+    steps, which are the calls, the calls with their frames written, and the hub."""
+
+    def __init__(self, piece):
+        self.piece = piece
+        self.times = {request: ([], [], []) for request in HUB_REQUESTS}
+        for _ in range(HUB_RUNS):
+            self.run()
+
+    def events(self, request):
+        """The pieces of all streams."""
+        stream = HUB_REQUESTS[request] * HUB_FRAMES // HUB_SESSIONS
+        return HUB_SESSIONS * -(-stream // self.piece)
+
+    def run(self):
+        requests = list(HUB_REQUESTS) * HUB_ROUNDS
+        words = [HUB_NAMES, HUB_FRAMES, self.piece, HUB_ROUNDS]
+        _, run_steps = steps(4 * len(requests), "hub", *words)
+        for request in requests:
+            made, *sides = run_steps[:4]
+            run_steps = run_steps[4:]
+            if made.number != self.events(request):
+                sys.exit(f"hub: {made.number} events, and {self.events(request)} was wanted")
+            if sides[1].number != sides[2].number:
+                sys.exit(f"hub: {sides[2].number} bytes, and {sides[1].number} was wanted")
+            for kept, step in zip(self.times[request], sides):
+                kept.append(step.seconds)
+
+    def row(self, request):
+        called, written, run = self.times[request]
+        spread = Spread(run, HUB_FRAMES)
+        row = [request, f"{self.piece:,}", f"{1 / spread.median:,.0f}", *spread.cells(1e6, 2)]
+        for calls in (called, written):
+            ratio = statistics.median(mine / its for mine, its in zip(run, calls))
+            row += [*Spread(calls, HUB_FRAMES).cells(1e6, 2), f"{ratio:.2f}"]
+        return row
+
+    def head_row(self):
+        spread = Spread(self.times["head"][2], HUB_FRAMES)
+        return [f"{self.piece:,}", f"{1 / spread.median:,.0f}", *spread.cells(1e9, 0)]
+
+
+def feed_row(frames):
+    times = FEED_TAKEN // frames
+    taken = []
+    for _ in range(FEED_RUNS):
+        _, (step,) = steps(1, "feed", frames, times)
+        if step.number != FEED_TAKEN:
+            sys.exit(f"feed: {step.number} frames, and {FEED_TAKEN} was wanted")
+        taken.append(step.seconds)
+    return [f"{frames:,}", *Spread(taken, FEED_TAKEN).cells(1e9, 1)]
+
+
+def hub(_folder):
+    sides = [Sessions(piece) for piece in PIECES]
+    spread = ["least", "median", "greatest"]
+    head = ["", "piece", "frames/s", *spread, "calls", *spread[1:], "ratio"]
+    rows = [each.row(request) for request in list(HUB_REQUESTS)[1:] for each in sides]
+    title = "a frame through the hub; its call; and its call with the reply's frame written, us"
+    table(title, [*head, "written", *spread[1:], "ratio"], rows)
+    head = ["piece", "frames/s", *spread]
+    table("a frame that asks for the head, nanoseconds", head, [each.head_row() for each in sides])
+    rows = [feed_row(frames) for frames in FEED_FRAMES]
+    table("a frame out of a feed, nanoseconds", ["frames of the piece", *spread], rows)
+
+
 def main(which):
     with tempfile.TemporaryDirectory() as folder:
         print_machine()
-        of = {"root": root, "tree": tree, "changes": changes, "replies": replies, "epochs": epochs}
+        of = {"root": root, "tree": tree, "changes": changes, "replies": replies}
+        of |= {"epochs": epochs, "hub": hub}
         of[which](folder)
     print(f"\nload at the end {os.getloadavg()[0]:.2f}")
 

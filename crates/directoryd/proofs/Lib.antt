@@ -1,2 +1,3 @@
 mod Commands
 mod Numbers
+pub mod Faults

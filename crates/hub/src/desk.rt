@@ -2,7 +2,7 @@ ghost use Rattle.std.specs.Prelude.{◌≡◌, ◌+◌, ◌≤◌, ◌++◌, ℕ
 ghost use Rattle.book.specs.declared.reply.Reply.{Reply};
 ghost use Rattle.epochs.specs.Replied.{found, last, promised, IsTold};
 ghost use Rattle.wire.specs.Frames.{frame_bytes};
-ghost use Rattle.wire.specs.Requests.{request_seen};
+ghost use Rattle.wire.specs.Requests.{request_seen, Change, Close, Lookup, Promise, Register};
 ghost use Rattle.wire.specs.Responses.{answer_frame, HasFewRoots};
 ghost use Rattle.hub.specs.Desks.{reply_frame, Serves};
 
@@ -54,27 +54,65 @@ impl<H: NodeHash, V: Vuf, S: Signer, R: Rng, K: Keeper> Desk<H, V, S, R, K> {
             × (output.new.items ≡ output.old.items ++ reply) }
     {
         match request {
-            Request::Register { name, key } => {
-                write_promise(self.directory.register(&mut self.keeper, name, key), output)
-            }
-            Request::Change { name, key } => {
-                write_promise(self.directory.change(&mut self.keeper, name, key), output)
-            }
-            Request::Promise { name } => write_promise(self.directory.promise(name), output),
-            Request::Lookup { epoch, name } => {
-                write_proof(self.directory.lookup(name, *epoch), output)
-            }
+            Request::Register { name, key } => self.register(name, key, output),
+            Request::Change { name, key } => self.change(name, key, output),
+            Request::Promise { name } => self.promise(name, output),
+            Request::Lookup { epoch, name } => self.look_up(*epoch, name, output),
             Request::History { from, count } => {
                 write_roots(self.directory.history(*from, *count), output)
             }
             Request::Head => write(&Answer::Root(self.directory.head()), output),
-            Request::Close { token, epoch } => {
-                if *token != self.token {
-                    return write_refused(12, output);
-                }
-                write_root(self.directory.close(&mut self.keeper, *epoch), output)
-            }
+            Request::Close { token, epoch } => self.close(token, *epoch, output),
         }
+    }
+
+    /// Each of these calls has a function of its own, since a function clears the room of all its
+    /// replies when it is entered.
+    fn register(&mut self, name: &[u8], key: &[u8], output: &mut Vec<u8>)
+        requires { vec_len output.old + 25863 ≤ vec_capacity output.old }
+        ensures { (reply : List ℕ) × Serves H.digest_of V.value_of S.signature_of R.stream K.kept K.failed self.old (Register name.now key.now) reply self.new
+            × (output.new.items ≡ output.old.items ++ reply) }
+    {
+        write_promise(self.directory.register(&mut self.keeper, name, key), output)
+    }
+
+    /// Changes the key of a name.
+    fn change(&mut self, name: &[u8], key: &[u8], output: &mut Vec<u8>)
+        requires { vec_len output.old + 25863 ≤ vec_capacity output.old }
+        ensures { (reply : List ℕ) × Serves H.digest_of V.value_of S.signature_of R.stream K.kept K.failed self.old (Change name.now key.now) reply self.new
+            × (output.new.items ≡ output.old.items ++ reply) }
+    {
+        write_promise(self.directory.change(&mut self.keeper, name, key), output)
+    }
+
+    /// Tells the promise that waits for a name.
+    fn promise(&mut self, name: &[u8], output: &mut Vec<u8>)
+        requires { vec_len output.old + 25863 ≤ vec_capacity output.old }
+        ensures { (reply : List ℕ) × Serves H.digest_of V.value_of S.signature_of R.stream K.kept K.failed self.old (Promise name.now) reply self.new
+            × (output.new.items ≡ output.old.items ++ reply) }
+    {
+        write_promise(self.directory.promise(name), output)
+    }
+
+    /// Looks a name up.
+    fn look_up(&mut self, epoch: u64, name: &[u8], output: &mut Vec<u8>)
+        requires { vec_len output.old + 25863 ≤ vec_capacity output.old }
+        ensures { (reply : List ℕ) × Serves H.digest_of V.value_of S.signature_of R.stream K.kept K.failed self.old (Lookup epoch name.now) reply self.new
+            × (output.new.items ≡ output.old.items ++ reply) }
+    {
+        write_proof(&self.directory.lookup(name, epoch), output)
+    }
+
+    /// Closes the epoch for whoever has the token.
+    fn close(&mut self, token: &Hash32, epoch: u64, output: &mut Vec<u8>)
+        requires { vec_len output.old + 25863 ≤ vec_capacity output.old }
+        ensures { (reply : List ℕ) × Serves H.digest_of V.value_of S.signature_of R.stream K.kept K.failed self.old (Close token.now epoch) reply self.new
+            × (output.new.items ≡ output.old.items ++ reply) }
+    {
+        if *token != self.token {
+            return write_refused(12, output);
+        }
+        write_root(self.directory.close(&mut self.keeper, epoch), output)
     }
 }
 
@@ -111,12 +149,12 @@ fn write_promise(answer: Result<SignedPromise, Refusal>, output: &mut Vec<u8>)
     }
 }
 
-fn write_proof(answer: Result<ProofText, Refusal>, output: &mut Vec<u8>)
+fn write_proof(answer: &Result<ProofText, Refusal>, output: &mut Vec<u8>)
     requires { vec_len output.old + 25863 ≤ vec_capacity output.old }
-    ensures { output.new.items ≡ output.old.items ++ frame_bytes (reply_frame (found answer)) }
+    ensures { output.new.items ≡ output.old.items ++ frame_bytes (reply_frame (found answer.now)) }
 {
     match answer {
-        Ok(text) => write(&Answer::Proof(&text), output),
+        Ok(text) => write(&Answer::Proof(text), output),
         Err(why) => write_refused(why.number(), output),
     }
 }

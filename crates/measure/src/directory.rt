@@ -31,10 +31,23 @@ pub(crate) struct Epochs {
 }
 
 /// A directory as a provider would run it.
-type Provided = Directory<Sha256Hash, KeyedVuf, KeyedSign, ChaCha20Rng>;
+pub(crate) type Provided = Directory<Sha256Hash, KeyedVuf, KeyedSign, ChaCha20Rng>;
 
 /// The epoch whose page is the first with names.
-const FIRST: u64 = 2;
+pub(crate) const FIRST: u64 = 2;
+
+/// A directory at epoch 1, without a name.
+pub(crate) fn new_directory(alloc: Global) -> Result<Provided> {
+    Ok(Directory::new(
+        alloc,
+        1,
+        Hash32::default(),
+        Sha256Hash::new(),
+        KeyedVuf::new(Hash32::new([2; 32])),
+        KeyedSign::new(Hash32::new([1; 32])),
+        ChaCha20Rng::from_seed([0; 32]),
+    )?)
+}
 
 /// A number that this one is spread to, so that neighbours lie far apart.
 fn spread(number: u64) -> u64 {
@@ -42,12 +55,12 @@ fn spread(number: u64) -> u64 {
 }
 
 /// The name of this number: 16 bytes.
-fn name_of(number: u64) -> [u8; 16] {
+pub(crate) fn name_of(number: u64) -> [u8; 16] {
     ((u128::from(spread(number)) << 64) | u128::from(number)).to_be_bytes()
 }
 
 /// The 32 bytes of a key, another one in each epoch.
-fn key_of(number: u64, epoch: u64) -> [u8; 32] {
+pub(crate) fn key_of(number: u64, epoch: u64) -> [u8; 32] {
     let mut key = [7; 32];
     let numbers = ((u128::from(number) << 64) | u128::from(epoch)).to_be_bytes();
     key[..16].copy_from_slice(&numbers);
@@ -61,7 +74,7 @@ fn with_promise(sum: u64, signed: &SignedPromise) -> u64 {
 }
 
 /// Registers so many names.
-fn register_all(directory: &mut Provided, names: usize) -> Result<u64> {
+pub(crate) fn register_all(directory: &mut Provided, names: usize) -> Result<u64> {
     let mut sum = 0;
     for number in 0..names as u64 {
         let promise = directory.register(&mut NoKeeper, &name_of(number), &key_of(number, 1))?;
@@ -82,7 +95,7 @@ fn change_all(directory: &mut Provided, numbers: &[u64], epoch: u64) -> Result<u
 }
 
 /// Closes the epoch, and returns the first byte of the new root.
-fn close(directory: &mut Provided, epoch: u64) -> Result<u64> {
+pub(crate) fn close(directory: &mut Provided, epoch: u64) -> Result<u64> {
     let root = directory.close(&mut NoKeeper, epoch)?;
     let first = root.body.root.bytes().first().copied().unwrap_or(0);
     Ok(u64::from(first))
@@ -137,16 +150,7 @@ fn look_up_rounds(
 /// first epoch with names; digests again.
 pub(crate) fn measure(rt: &(impl Print + Input), alloc: Global, wanted: &Epochs) -> Result<()> {
     let mut text = [0; LEAF_BYTES];
-    let mut directory = Directory::new(
-        alloc,
-        1,
-        Hash32::default(),
-        Sha256Hash::new(),
-        KeyedVuf::new(Hash32::new([2; 32])),
-        KeyedSign::new(Hash32::new([1; 32])),
-        ChaCha20Rng::from_seed([0; 32]),
-    )?;
-
+    let mut directory = new_directory(alloc)?;
     end_step(rt, alloc, 0)?;
     end_step(rt, alloc, take_digests(&mut text, wanted.digests))?;
     end_step(rt, alloc, register_all(&mut directory, wanted.names)?)?;

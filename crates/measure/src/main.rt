@@ -8,7 +8,9 @@
 mod changes;
 mod digests;
 mod directory;
+mod feeding;
 mod replies;
+mod sessions;
 mod steps;
 mod texts;
 mod tree;
@@ -21,7 +23,8 @@ use std::env;
 const USAGE: &str = "usage: measure digests BYTES COUNT | texts COUNT ROUNDS \
     | tree GROWN MORE DIGESTS | whole ITEMS TIMES DIGESTS \
     | changes ITEMS CHANGES LISTS ROUNDS DIGESTS | replies SIBLINGS REPLIES ROUNDS DIGESTS \
-    | epochs NAMES CHANGES ROUNDS LOOK_UPS LOOK_UP_ROUNDS DIGESTS | all";
+    | epochs NAMES CHANGES ROUNDS LOOK_UPS LOOK_UP_ROUNDS DIGESTS \
+    | hub NAMES FRAMES PIECE ROUNDS | feed FRAMES TIMES | all";
 
 /// The number that this word writes.
 fn number(word: &str) -> Result<usize> {
@@ -69,6 +72,19 @@ fn run(rt: &(impl Print + Input), alloc: Global, program: &str, numbers: &[usize
             };
             replies::measure(rt, alloc, &look_ups)
         }
+        _ => run_on_directory(rt, alloc, program, numbers),
+    }
+}
+
+/// Runs the program of this name on these numbers, if it is one of those on a directory and its
+/// sessions.
+fn run_on_directory(
+    rt: &(impl Print + Input),
+    alloc: Global,
+    program: &str,
+    numbers: &[usize],
+) -> Result<()> {
+    match (program, numbers) {
         ("epochs", &[names, changes, rounds, look_ups, look_up_rounds, digests]) => {
             let wanted = directory::Epochs {
                 names,
@@ -79,6 +95,19 @@ fn run(rt: &(impl Print + Input), alloc: Global, program: &str, numbers: &[usize
                 digests,
             };
             directory::measure(rt, alloc, &wanted)
+        }
+        ("hub", &[names, frames, piece, rounds]) => {
+            let wanted = sessions::Sessions {
+                names,
+                frames,
+                piece,
+                rounds,
+            };
+            sessions::measure(rt, alloc, &wanted)
+        }
+        ("feed", &[frames, times]) => {
+            let wanted = feeding::Pieces { frames, times };
+            feeding::measure(rt, alloc, &wanted)
         }
         _ => bail!("{USAGE}"),
     }
@@ -92,7 +121,9 @@ fn run_all(rt: &(impl Print + Input), alloc: Global) -> Result<()> {
     run(rt, alloc, "whole", &[5, 2, 1])?;
     run(rt, alloc, "changes", &[5, 3, 2, 2, 1])?;
     run(rt, alloc, "replies", &[4, 3, 2, 1])?;
-    run(rt, alloc, "epochs", &[5, 3, 2, 4, 2, 1])
+    run(rt, alloc, "epochs", &[5, 3, 2, 4, 2, 1])?;
+    run(rt, alloc, "hub", &[5, 3, 16, 2])?;
+    run(rt, alloc, "feed", &[3, 2])
 }
 
 fn main(rt: HostRuntime) -> Result<()> {

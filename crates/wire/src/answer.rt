@@ -1,9 +1,11 @@
 ghost use Rattle.std.specs.Prelude.{◌≡◌, ◌+◌, ◌≤◌, ◌++◌, length, OnOk, OnErr, IsOk, vec_len, vec_capacity};
+ghost use Rattle.rootchain.specs.Promises.{signed_promise_bytes};
 ghost use Rattle.rootchain.specs.RootLists.{root_list_bytes};
-ghost use Rattle.wire.specs.Frames.{frame_bytes};
+ghost use Rattle.rootchain.specs.SignedRoots.{signed_root_bytes};
+ghost use Rattle.wire.specs.Frames.{frame_bytes, frame_size};
 ghost use Rattle.wire.specs.Responses.{answer_frame, HasFewRoots};
 
-use crate::writing::begin_frame;
+use crate::writing::{append_frame, begin_frame, length_bytes};
 use encoding::ProofText;
 use rootchain::{SignedPromise, SignedRoot, list_len, write_list};
 use std::alloc::AllocError;
@@ -39,18 +41,19 @@ pub enum Answer<'a> {
 
 impl Answer<'_> {
     /// Appends the frame of the response. An `Err` appends nothing, and is not returned where there
-    /// is room for the longest.
+    /// is room.
     pub fn write(&self, output: &mut Vec<u8>) -> Result<(), AllocError>
         requires { HasFewRoots self.now }
         ensures ok { OnOk result (output.new.items ≡ output.old.items ++ frame_bytes (answer_frame self.now)) }
         ensures err { OnErr result (output.new.items ≡ output.old.items) }
-        ensures room { vec_len output.old + 25863 ≤ vec_capacity output.old → IsOk result }
+        ensures room { vec_len output.old + 4 + frame_size (answer_frame self.now) ≤ vec_capacity output.old → IsOk result }
+        ensures most { 4 + frame_size (answer_frame self.now) ≤ 25863 }
     {
         match self {
-            Answer::Promise(promise) => append_text(output, PROMISE, promise.write().bytes()),
+            Answer::Promise(promise) => append_promise(output, promise),
             Answer::Proof(text) => append_text(output, PROOF, text.bytes()),
             Answer::Roots(roots) => append_roots(output, roots),
-            Answer::Root(root) => append_text(output, ROOT, root.write().bytes()),
+            Answer::Root(root) => append_root(output, root),
             Answer::Refused(code) => append_text(output, REFUSED, &[*code]),
         }
     }
@@ -67,12 +70,44 @@ fn append_text(output: &mut Vec<u8>, kind: u8, text: &[u8]) -> Result<(), AllocE
     output.extend_from_slice(text)
 }
 
+/// Appends the frame of a promise. A function clears the room of all its texts when it is entered, so
+/// each text that is made here has a function of its own.
+fn append_promise(output: &mut Vec<u8>, promise: &SignedPromise) -> Result<(), AllocError>
+    ensures ok { OnOk result (output.new.items ≡ output.old.items ++ frame_bytes (record { kind = 129; body = signed_promise_bytes promise.now })) }
+    ensures err { OnErr result (output.new.items ≡ output.old.items) }
+    ensures room { vec_len output.old + 5 + length (signed_promise_bytes promise.now) ≤ vec_capacity output.old → IsOk result }
+    ensures most { length (signed_promise_bytes promise.now) ≤ 25858 }
+{
+    // `SignedPromise::write` would make a text with the room of the longest reply.
+    let text = promise.promise.write();
+    let signature = promise.signature.bytes();
+    append_frame(
+        output,
+        PROMISE,
+        text.bytes(),
+        &length_bytes(signature),
+        signature,
+        &[],
+    )
+}
+
+/// Appends the frame of a root.
+fn append_root(output: &mut Vec<u8>, root: &SignedRoot) -> Result<(), AllocError>
+    ensures ok { OnOk result (output.new.items ≡ output.old.items ++ frame_bytes (record { kind = 132; body = signed_root_bytes root.now })) }
+    ensures err { OnErr result (output.new.items ≡ output.old.items) }
+    ensures room { vec_len output.old + 5 + length (signed_root_bytes root.now) ≤ vec_capacity output.old → IsOk result }
+    ensures most { length (signed_root_bytes root.now) ≤ 25858 }
+{
+    append_text(output, ROOT, root.write().bytes())
+}
+
 /// Appends the frame of a list of roots.
 fn append_roots(output: &mut Vec<u8>, roots: &[SignedRoot]) -> Result<(), AllocError>
     requires { length roots.now ≤ 64 }
     ensures ok { OnOk result (output.new.items ≡ output.old.items ++ frame_bytes (record { kind = 131; body = root_list_bytes roots.now })) }
     ensures err { OnErr result (output.new.items ≡ output.old.items) }
-    ensures room { vec_len output.old + 25863 ≤ vec_capacity output.old → IsOk result }
+    ensures room { vec_len output.old + 5 + length (root_list_bytes roots.now) ≤ vec_capacity output.old → IsOk result }
+    ensures most { length (root_list_bytes roots.now) ≤ 25858 }
 {
     begin_frame(output, ROOTS, list_len(roots))?;
     write_list(roots, output)

@@ -1,4 +1,4 @@
-ghost use Rattle.std.specs.Prelude.{◌≡◌, ◌↔◌, ◌++◌, ◌<◌, ◌≤◌, length, drop, IsTrue, OnErr, OnOk, IsErrOf};
+ghost use Rattle.std.specs.Prelude.{◌≡◌, ◌≢◌, ◌↔◌, ◌++◌, ◌<◌, ◌≤◌, length, drop, IsTrue, IsOk, OnErr, OnOk, IsErrOf};
 ghost use Rattle.wire.specs.Streams.{Held, Rest, Failed, with_more, Waits};
 
 use crate::FeedRefusal;
@@ -55,7 +55,7 @@ impl Feed {
         }
     }
 
-    /// Takes the next piece of the stream.
+    /// Takes the next piece of the stream. An empty one takes no memory and moves no byte.
     ///
     /// # Errors
     ///
@@ -65,9 +65,13 @@ impl Feed {
         ensures ok { OnOk result (self.new ≡ with_more self.old piece.now) }
         ensures err { OnErr result (self.new ≡ self.old) }
         ensures failed { IsErrOf result FeedRefusal.BadFrame ↔ (self.old ≡ Failed) }
+        ensures empty { piece.now ≡ [] → self.old ≢ Failed → IsOk result }
     {
         if self.failed {
             return Err(FeedRefusal::BadFrame);
+        }
+        if piece.is_empty() {
+            return Ok(());
         }
         drop_front(&mut self.buffer, self.from);
         self.from = 0;

@@ -1,12 +1,10 @@
 ghost use Rattle.std.specs.Prelude.{◌≡◌, ◌↔◌, ◌+◌, ◌<◌, ◌≤◌, ◌++◌, length, OnOk, OnErr, IsOk, IsTrue, vec_len, vec_capacity};
-ghost use Rattle.byteorder.specs.Endian.{big_bytes};
-ghost use Rattle.wire.specs.Frames.{frame_bytes, frame_size};
-ghost use Rattle.wire.specs.Requests.{read_request, request_frame, request_seen, GivesRequest, ReadsRequest};
+ghost use Rattle.wire.specs.Frames.{frame_bytes, frame_size, IsFrame};
+ghost use Rattle.wire.specs.Requests.{read_request, request_frame, request_seen, GivesRequest, IsAsked, ReadsRequest};
 
 use crate::ReadRefusal;
 use crate::frame::MAX_FRAME_LEN;
-use crate::writing::append_frame;
-use byteorder::{BigEndian, ByteOrder};
+use crate::writing::{append_frame, length_bytes};
 use encoding::{Cursor, FixedText, Hash32};
 use std::alloc::AllocError;
 
@@ -85,11 +83,13 @@ impl<'a> Request<'a> {
     }
 
     /// Appends the request's frame. An `Err` appends nothing, and is not returned where there is room.
+    /// The frame is one that a stream may have, and `read` accepts its body as this request.
     pub fn write(&self, output: &mut Vec<u8>) -> Result<(), AllocError>
         requires { frame_size (request_frame (request_seen self.now)) ≤ 65536 }
         ensures ok { OnOk result (output.new.items ≡ output.old.items ++ frame_bytes (request_frame (request_seen self.now))) }
         ensures err { OnErr result (output.new.items ≡ output.old.items) }
         ensures room { vec_len output.old + 4 + frame_size (request_frame (request_seen self.now)) ≤ vec_capacity output.old → IsOk result }
+        ensures form { IsAsked (request_seen self.now) × IsFrame (request_frame (request_seen self.now)) }
     {
         match self {
             Request::Register { name, key } => append_frame(
@@ -171,14 +171,4 @@ fn read_parts<'a>(kind: u8, cursor: &mut Cursor<'a>) -> Result<Request<'a>, Read
         },
         _ => return Err(ReadRefusal::BadKind),
     })
-}
-
-/// The number of bytes, in two bytes.
-fn length_bytes(bytes: &[u8]) -> [u8; 2]
-    requires { length bytes.now < 65536 }
-    ensures { result ≡ big_bytes 2 (length bytes.now) }
-{
-    let mut two = [0; 2];
-    BigEndian::write_u16(&mut two, bytes.len() as u16);
-    two
 }

@@ -1,4 +1,6 @@
 ghost use Rattle.std.specs.Prelude.{◌≡◌, ◌+◌, ◌<◌, ◌≤◌, ◌++◌, length, OnOk, OnErr, IsOk, vec_len, vec_capacity};
+ghost use Rattle.byteorder.specs.Endian.{big_bytes};
+ghost use Rattle.encoding.specs.Bytes.{IsBytes};
 ghost use Rattle.wire.specs.Frames.{frame_bytes, frame_head};
 
 use byteorder::{BigEndian, ByteOrder};
@@ -47,4 +49,16 @@ pub(crate) fn append_frame(
     output.extend_from_slice(middle)?;
     output.extend_from_slice(key)?;
     Ok(())
+}
+
+/// The number of bytes, in two bytes.
+// That its elements are bytes is known of a parameter, but not of what a request borrows.
+pub(crate) fn length_bytes(bytes: &[u8]) -> [u8; 2]
+    requires { length bytes.now < 65536 }
+    ensures value { result ≡ big_bytes 2 (length bytes.now) }
+    ensures bytes { IsBytes bytes.now }
+{
+    let mut two = [0; 2];
+    BigEndian::write_u16(&mut two, bytes.len() as u16);
+    two
 }
