@@ -40,7 +40,7 @@ same() {
     if [[ "$3" == $2 ]]; then
         passed=$((passed + 1))
     else
-        fails "$1: wanted '$2', got '$3'"
+        fails "$1: wanted '${2:0:80}', got '${3:0:80}'"
     fi
 }
 
@@ -48,7 +48,7 @@ same() {
 well() {
     local what=$1
     shift
-    if timeout 10 "$@" >"$folder/printed" 2>&1; then
+    if timeout --foreground 10 "$@" >"$folder/printed" 2>&1; then
         passed=$((passed + 1))
     else
         fails "$what: status $?"
@@ -61,7 +61,7 @@ well() {
 ends() {
     local what=$1 status=$2 output=$3 line=$4 input=$5 got=0
     shift 5
-    timeout 10 "$program" "$@" <"$input" >"$folder/out" 2>"$folder/err" || got=$?
+    timeout --foreground 10 "$program" "$@" <"$input" >"$folder/out" 2>"$folder/err" || got=$?
     same "$what, status" "$status" "$got"
     same "$what, output" "$output" "$(od -An -v -tx1 "$folder/out" | tr -d ' \n')"
     same "$what, errors" "$line" "$(head -n 1 "$folder/err")"
@@ -69,7 +69,7 @@ ends() {
 
 # Sends bytes in hex over a connection, and compares the frames that come back: told WHAT HEX FRAMES
 told() {
-    same "$1" "$3" "$(timeout 10 scripts/send_frames.py "$address" $2 2>&1)"
+    same "$1" "$3" "$(timeout --foreground 10 scripts/send_frames.py "$address" $2 2>&1)"
 }
 
 if [ ! -x "$program" ]; then
@@ -92,7 +92,7 @@ ends "serve with a bad token" 1 "" "bad hex" "$folder/heads" serve ${keys% *} 00
 ends "serve at epoch 0" 2 "" "error: *" "$folder/heads" serve $keys --epoch 0
 ends "serve of a folder" 1 "" "cannot read" "$folder" serve $keys
 status=0
-timeout 10 "$program" serve $keys <"$folder/heads" 2>"$folder/err" >/dev/full || status=$?
+timeout --foreground 10 "$program" serve $keys <"$folder/heads" 2>"$folder/err" >/dev/full || status=$?
 same "serve to a full device" "1 cannot write" "$status $(cat "$folder/err")"
 
 # A server on a port that the system chooses, which answers five connections.
@@ -116,7 +116,7 @@ ends "a bad token and an address in use" 1 "" "bad hex" /dev/null listen ${keys%
 ends "a bad nonce and an address in use" 1 "" "bad hex" /dev/null listen $keys --nonce 00 "$address"
 ends "listen at epoch 0" 2 "" "error: *" /dev/null listen ${keys% *} 00 --epoch 0 "$address"
 status=0
-timeout 10 "$program" listen $keys --count 1 127.0.0.1:0 </dev/null 2>/dev/full || status=$?
+timeout --foreground 10 "$program" listen $keys --count 1 127.0.0.1:0 </dev/null 2>/dev/full || status=$?
 same "a line that cannot be written" 1 "$status"
 
 # One connection after another, with one directory, whatever a client sends.

@@ -9,13 +9,22 @@ head. The connection is one session. The status is 0 where the bytes that came b
 
 import socket
 import sys
+import time
 
 SECONDS = 10
+TRIES = 20
 
 
 def connected(address):
-    host, port = address.rsplit(":", 1)
-    return socket.create_connection((host.strip("[]"), int(port)), timeout=SECONDS)
+    """A connection. A server that was just started may not listen yet, so it tries for two seconds."""
+    host, _, port = address.rpartition(":")
+    for _ in range(TRIES):
+        try:
+            return socket.create_connection((host.strip("[]"), port), timeout=SECONDS)
+        except ConnectionRefusedError as error:
+            refused = error
+            time.sleep(0.1)
+    raise refused
 
 
 def frames(stream):
@@ -51,4 +60,7 @@ def main(address, *words):
 if __name__ == "__main__":
     if len(sys.argv) < 2:
         sys.exit(__doc__)
-    sys.exit(main(*sys.argv[1:]))
+    try:
+        sys.exit(main(*sys.argv[1:]))
+    except (OSError, ValueError) as error:
+        sys.exit(f"{sys.argv[1]}: {error}")
