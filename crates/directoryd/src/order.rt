@@ -37,18 +37,16 @@ Example: directoryd prove --index 4000000000000000000000000000000000000000000000
 /// What stands below the options of `serve`.
 static SERVE_HELP: &str = "\
 Reads the frames of one session from standard input, and writes their replies to standard output.
-Each session begins with a new directory: nothing is kept when it ends.
+The directory is new, and nothing of it is kept at the end.
 
-Example, with the keys in variables of the shell, 64 hexadecimal digits each:
-directoryd serve --sign-key $SIGN --vuf-key $VUF --salt-key $SALT --token $TOKEN < requests";
+Example: directoryd serve --sign-key $SIGN --vuf-key $VUF --salt-key $SALT --token $TOKEN < requests";
 
 /// What stands below the options of `listen`.
 static LISTEN_HELP: &str = "\
 Answers connections one after another, all from one directory. A connection with a fault is closed,
-and the next one is taken. Nothing is kept when the program ends.
+and the next one is taken. The directory is new, and nothing of it is kept at the end.
 
-Example, with the keys in variables of the shell, 64 hexadecimal digits each:
-directoryd listen --sign-key $SIGN --vuf-key $VUF --salt-key $SALT --token $TOKEN 127.0.0.1:7000";
+Example: directoryd listen --sign-key $SIGN --vuf-key $VUF --salt-key $SALT --token $TOKEN 127.0.0.1:7000";
 
 static SIGN_KEY_HELP: &str = "The key that signs roots and promises, 64 hexadecimal digits";
 
@@ -56,7 +54,8 @@ static VUF_KEY_HELP: &str = "The key that gives names their indices, 64 hexadeci
 
 static SALT_KEY_HELP: &str = "The key of the salts of commitments, 64 hexadecimal digits";
 
-static TOKEN_HELP: &str = "The operator's token, which closes epochs, 64 hexadecimal digits";
+static TOKEN_HELP: &str =
+    "The token of the operator, who alone closes epochs, 64 hexadecimal digits";
 
 /// The names of the hash functions.
 static HASHES: [&str; 2] = ["sha256", "sum"];

@@ -77,7 +77,7 @@ impl<D: Service + Drop> Hub<D> {
     /// # Errors
     ///
     /// `TooManySessions`, `SessionOpen`, `NoSession`: the first that applies, and nothing is done.
-    /// Else `Memory` if memory runs out.
+    /// Else `Memory` if memory runs out, which an end does not need.
     pub fn event(&mut self, event: &Event<'_>, output: &mut Vec<u8>) -> Result<(), HubRefusal>
         ensures happens { Happens D.answers self.old (seen event.now) output.old.items result self.new output.new.items }
         ensures room { LacksRoom result (vec_len output.new) (vec_capacity output.new) }

@@ -123,6 +123,17 @@ fn told(alloc: Global, output: &[u8]) -> Result<String, AllocError> {
     Ok(told)
 }
 
+/// Whether a frame of an output says that the directory wanted memory.
+fn tells_of_memory(output: &[u8]) -> bool {
+    for place in 0..output.len() {
+        let (_, later) = output.split_at(place);
+        if later.starts_with(&[0, 0, 0, 2, 255, 14]) {
+            return true;
+        }
+    }
+    false
+}
+
 /// The bytes that these hexadecimal digits stand for.
 fn bytes(alloc: Global, text: &str) -> Result<Vec<u8>, AllocError> {
     let mut bytes = Vec::new(alloc);

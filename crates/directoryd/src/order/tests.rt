@@ -57,7 +57,7 @@ fn words_of_prove(rt: HostRuntime) -> Result<(), Fail> {
     Ok(())
 }
 
-/// The keys of a directory, as each order of one needs them.
+/// The options of a directory that have to be given.
 static KEYS: [&str; 8] = [
     "--sign-key",
     "1a",
@@ -68,18 +68,6 @@ static KEYS: [&str; 8] = [
     "--token",
     "4d",
 ];
-
-/// A subcommand with the keys of a directory and these options.
-fn words_with_keys<'a>(
-    alloc: Global,
-    name: &'a str,
-    options: &[&'a str],
-) -> Result<Vec<&'a str>, AllocError> {
-    let mut words = Vec::from_slice(alloc, &["directoryd", name])?;
-    words.extend_from_slice(KEYS.as_slice())?;
-    words.extend_from_slice(options)?;
-    Ok(words)
-}
 
 /// The order has the keys of `KEYS`, each in its place.
 fn has_keys(order: &DirectoryOrder<'_>) -> bool {
@@ -97,7 +85,9 @@ fn words_of_serve(rt: HostRuntime) -> Result<(), Fail> {
         (&["--nonce", "a0", "--epoch=2"], 2, Some("a0")),
     ];
     for (options, epoch, nonce) in rows {
-        let words = words_with_keys(rt.alloc(), "serve", options)?;
+        let mut words = Vec::from_slice(rt.alloc(), &["directoryd", "serve"])?;
+        words.extend_from_slice(KEYS.as_slice())?;
+        words.extend_from_slice(options)?;
         let Order::Serve(order) = order(rt.alloc(), &words)? else {
             panic!(rt; "at {options:?}");
         };
@@ -127,7 +117,9 @@ fn words_of_listen(rt: HostRuntime) -> Result<(), Fail> {
         ),
     ];
     for (options, count, epoch, nonce) in rows {
-        let words = words_with_keys(rt.alloc(), "listen", options)?;
+        let mut words = Vec::from_slice(rt.alloc(), &["directoryd", "listen"])?;
+        words.extend_from_slice(KEYS.as_slice())?;
+        words.extend_from_slice(options)?;
         let Order::Listen(order) = order(rt.alloc(), &words)? else {
             panic!(rt; "at {options:?}");
         };
@@ -261,7 +253,9 @@ fn refused_words_of_a_directory(rt: HostRuntime) -> Result<(), Fail> {
         ("listen", &["here:1", "here:2"], ErrorKind::UnknownArgument),
     ];
     for (name, options, kind) in rows {
-        let words = words_with_keys(rt.alloc(), name, options)?;
+        let mut words = Vec::from_slice(rt.alloc(), &["directoryd", name])?;
+        words.extend_from_slice(KEYS.as_slice())?;
+        words.extend_from_slice(options)?;
         let error = refusal(rt.alloc(), &words)?;
         assert_eq!(rt; error.kind(), kind, "{name} at {options:?}");
         assert_eq!(rt; error.exit_code(), 2, "{name} at {options:?}");
@@ -272,62 +266,55 @@ fn refused_words_of_a_directory(rt: HostRuntime) -> Result<(), Fail> {
 /// Each of the keys and the token has to be given.
 #[test]
 fn missing_keys_are_refused(rt: HostRuntime) -> Result<(), Fail> {
-    for name in ["serve", "listen"] {
-        for missing in 0..KEYS.len() / 2 {
-            let mut words = words_with_keys(rt.alloc(), name, &["here:1"])?;
-            let option = words.remove(2 + 2 * missing);
-            let _ = words.remove(2 + 2 * missing);
-            if name == "serve" {
-                let _ = words.pop();
-            }
-            let error = refusal(rt.alloc(), &words)?;
-            assert_eq!(rt;
-                error.kind(),
-                ErrorKind::MissingRequiredArgument,
-                "{name} without {option}"
-            );
-        }
-    }
-    Ok(())
-}
-
-/// The help of `serve` and of `listen` names each option, and gives an example.
-#[test]
-fn help_of_a_directory_shows_an_example(rt: HostRuntime) -> Result<(), Fail> {
-    let parts = [
-        "--sign-key <HEX>",
-        "--vuf-key <HEX>",
-        "--salt-key <HEX>",
-        "--token <HEX>",
-        "[default: 1]",
-        "[default: zeros]",
-        "64 hexadecimal digits each:\ndirectoryd ",
+    let rows: [[&str; 3]; 4] = [
+        ["--vuf-key=2b", "--salt-key=3c", "--token=4d"],
+        ["--sign-key=1a", "--salt-key=3c", "--token=4d"],
+        ["--sign-key=1a", "--vuf-key=2b", "--token=4d"],
+        ["--sign-key=1a", "--vuf-key=2b", "--salt-key=3c"],
     ];
-    for name in ["serve", "listen"] {
-        let help = refusal(rt.alloc(), &["directoryd", name, "--help"])?;
-        assert_eq!(rt; help.kind(), ErrorKind::DisplayHelp);
-        let text = format!(in rt.alloc(); "{help}")?;
-        for part in parts {
-            assert!(rt; text.contains(part), "{part} of {name}");
-        }
+    for [first, second, third] in rows {
+        let words = ["directoryd", "serve", first, second, third];
+        let error = refusal(rt.alloc(), words.as_slice())?;
+        assert_eq!(rt;
+            error.kind(),
+            ErrorKind::MissingRequiredArgument,
+            "at {words:?}"
+        );
+        let words = ["directoryd", "listen", "here:1", first, second, third];
+        let error = refusal(rt.alloc(), words.as_slice())?;
+        assert_eq!(rt;
+            error.kind(),
+            ErrorKind::MissingRequiredArgument,
+            "at {words:?}"
+        );
     }
     Ok(())
 }
 
-/// The help of each subcommand gives the format of an item and an example.
+/// The help of each subcommand gives the form of its values, and an example.
 #[test]
 fn help_shows_an_example(rt: HostRuntime) -> Result<(), Fail> {
-    for name in ["root", "prove"] {
+    let rows = [
+        ("root", "INDEX COMMITMENT, each 64 hexadecimal digits"),
+        ("prove", "INDEX COMMITMENT, each 64 hexadecimal digits"),
+        (
+            "serve",
+            "<HEX>   The key that gives names their indices, 64 hexadecimal digits",
+        ),
+        ("serve", "The first epoch, a number from 1 on [default: 1]"),
+        (
+            "listen",
+            "How many connections are answered; 0 for no end [default: 0]",
+        ),
+        ("listen", "<ADDR>  The address to listen on"),
+    ];
+    for (name, part) in rows {
         let help = refusal(rt.alloc(), &["directoryd", name, "--help"])?;
         assert_eq!(rt; help.kind(), ErrorKind::DisplayHelp);
         let text = format!(in rt.alloc(); "{help}")?;
         let example = format!(in rt.alloc(); "\nExample: directoryd {name} ")?;
-        for part in [
-            "INDEX COMMITMENT, each 64 hexadecimal digits",
-            example.as_str(),
-        ] {
-            assert!(rt; text.contains(part), "{part} of {name}");
-        }
+        assert!(rt; text.contains(part), "{part} of {name}");
+        assert!(rt; text.contains(example.as_str()), "no example of {name}");
     }
     Ok(())
 }

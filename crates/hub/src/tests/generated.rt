@@ -256,6 +256,21 @@ fn events<'a>(
     Ok(events)
 }
 
+/// Whether either directory wanted memory once.
+fn wanted_memory(outputs: &Vec<(u32, Vec<u8>)>, talks: &Vec<Talk>) -> bool {
+    for (_, output) in outputs {
+        if tells_of_memory(output) {
+            return true;
+        }
+    }
+    for talk in talks {
+        if tells_of_memory(&talk.told) {
+            return true;
+        }
+    }
+    false
+}
+
 #[test]
 fn sessions_are_told_what_a_list_of_messages_is(rt: HostRuntime) -> Result<(), Fail> {
     let mut numbers = Numbers(7);
@@ -274,6 +289,9 @@ fn sessions_are_told_what_a_list_of_messages_is(rt: HostRuntime) -> Result<(), F
         script.push((*session, happening))?;
     }
     let outputs = started(rt.alloc())?.run(&events(rt.alloc(), &script)?)?;
+    if wanted_memory(&outputs, &talks) {
+        return Err(AllocError)?;
+    }
     assert_eq!(rt; outputs.len(), SESSIONS.len());
     let mut place = 0;
     for talk in &talks {

@@ -21,6 +21,9 @@ fn compare(rt: &impl Abort, alloc: Global, rows: &[Row]) -> Result<(), AllocErro
             return Err(AllocError);
         }
         assert_eq!(rt; done, Ok(()));
+        if tells_of_memory(&output) {
+            return Err(AllocError);
+        }
         let told = told(alloc, &output)?;
         assert_eq!(rt; told.as_str(), *wanted, "{session}");
     }
