@@ -8,7 +8,7 @@
 # Takes the built program, or the one that DIRECTORYD names: `rt try` takes minutes to begin. The last
 # line is `N passed, M failed`, and the status is 0 where none failed. It ends within 30 seconds.
 set -uo pipefail
-cd "$(dirname "$0")/.."
+cd "$(dirname "$0")/.." || exit 1
 
 if [ -z "${LISTEN_LIMIT:-}" ]; then
     LISTEN_LIMIT=26 exec timeout --kill-after=2 26 "scripts/listen.sh"
@@ -95,8 +95,8 @@ status=0
 timeout --foreground 10 "$program" serve $keys <"$folder/heads" 2>"$folder/err" >/dev/full || status=$?
 same "serve to a full device" "1 cannot write" "$status $(cat "$folder/err")"
 
-# A server on a port that the system chooses, which answers five connections.
-"$program" listen $keys --count 5 127.0.0.1:0 >"$folder/server_out" 2>"$folder/server_err" &
+# A server on a port that the system chooses, which answers six connections.
+"$program" listen $keys --count 6 127.0.0.1:0 >"$folder/server_out" 2>"$folder/server_err" &
 server=$!
 address=
 for _ in {1..100}; do
@@ -124,12 +124,15 @@ well "all requests over a connection" scripts/worked_frames.py --ask "$address"
 well "the same directory over the next" scripts/worked_frames.py --again "$address"
 told "half a frame" "00000029 07 04040404" ""
 told "a length that no frame has" "ffffffff ffffffff" 00000002ff01
-well "the same directory after both" scripts/worked_frames.py --again "$address"
+# This client sends 2,000 heads, and is gone before it reads a reply.
+well "a client that takes no reply" bash -c \
+    'printf "\0\0\0\1\6%.0s" {1..2000} >"/dev/tcp/${0/://}"' "$address"
+well "the same directory after these" scripts/worked_frames.py --again "$address"
 
 status=0
 wait "$server" || status=$?
 server=
-same "the server after five connections" 0 "$status"
+same "the server after six connections" 0 "$status"
 same "the server's errors" "listening on $address" "$(cat "$folder/server_err")"
 same "the server's output" "" "$(cat "$folder/server_out")"
 finish
