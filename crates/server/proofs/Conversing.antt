@@ -17,7 +17,7 @@ use Rattle.hub.proofs.Steps.{exchanges_tell}
 use Rattle.hub.proofs.Streaming.{told_all, told_of}
 use Rattle.server.specs.declared.fault.ServeFault.{ServeFault}
 use Rattle.server.specs.declared.fault.ServeFault.TheVariants.{CannotRead, CannotWrite, OutOfMemory}
-use Rattle.server.specs.Pieces.{AnswersPiece, Goes}
+use Rattle.server.specs.Pieces.{AnswersPiece}
 use Rattle.server.specs.Serving.{messages_of, AllReplied, Answers, AnswersFirst, Serves}
 use Rattle.server.proofs.Opened.{set_twice}
 
@@ -111,7 +111,7 @@ module _ {S : Type 0} (answers : S → Frame → List ℕ → S → Type 0) wher
       joined (bytes, xs, now, exchanged, spent, here, set, eaten, wrote) held ys last there more =
           let same : now ≡ held = (let e : Some now ≡ Some held = sym here ∙ there in cc) in
           exchanges_joined answers service (Rest []) bytes piece xs ys before.service after.service now last exchanged
-            (subst (λ (h : Held). Exchanges answers before.service (with_more h piece) ys after.service last) (sym same) more)
+          (subst (λ (h : Held). Exchanges answers before.service (with_more h piece) ys after.service last) (sym same) more)
 
       kept_by : (midway : Midway opened session service input written before left text) (last : Held) → after.sessions ≡ set_value (is_at (nat_cmp session)) before.sessions last
           → after.sessions ≡ set_value (is_at (nat_cmp session)) opened last

@@ -8,7 +8,7 @@ use Rattle.wire.specs.Frames.{Frame}
 use Rattle.wire.specs.Streams.{Held, Rest}
 use Rattle.hub.specs.declared.refusal.HubRefusal.{HubRefusal}
 use Rattle.hub.specs.declared.refusal.HubRefusal.TheVariants.{TooManySessions, SessionOpen, NoSession, Memory}
-use Rattle.hub.specs.Events.{Bytes, End, Open, BySession, Happening, Hubbed, at, due}
+use Rattle.hub.specs.Events.{Bytes, End, Open, BySession, Hubbed, at, due}
 use Rattle.hub.specs.Happenings.{Happens}
 use Rattle.hub.proofs.Others.{set_found}
 use Rattle.hub.proofs.Outputting.{insert_found}
@@ -65,7 +65,7 @@ module _ {S : Type 0} (answers : S → Frame → List ℕ → S → Type 0) wher
   ended_whole before session one two three four opening ending between last after fine opens good keeps ends =
       let p : ℕ → Bool = is_at (nat_cmp session) in
       let here : at last.sessions session ≡ Some keeps.0 =
-          ap (λ (m : BySession Held). at m session) keeps.1 ∙ set_found p between.sessions keeps.0 (Rest []) (begins_empty before session one two opening between opens good) in
+      ap (λ (m : BySession Held). at m session) keeps.1 ∙ set_found p between.sessions keeps.0 (Rest []) (begins_empty before session one two opening between opens good) in
       let g = gone last session three four ending after keeps.0 ends here in (
         g.0,
         g.1 ∙ ap (remove_entry p) (keeps.1 ∙ ap (λ (m : BySession Held). set_value p m keeps.0) (opened before session one two opening between opens good).1)

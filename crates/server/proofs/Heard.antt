@@ -1,12 +1,12 @@
 -- What a piece does to its session, as the hub says it.
-use Rattle.std.proofs.Common.{◌≡◌, ℕ, List, [], ◌++◌, true, false, cond, Option, Some, None, Result, Ok, Err, IsErr, IsOk, IfErr, OnErr, OnOk, refl, sym, ap, subst, ◌∙◌, append-nil}
+use Rattle.std.proofs.Common.{◌≡◌, ℕ, List, [], true, false, cond, Option, Some, None, Result, Ok, Err, IsErr, IfErr, OnErr, OnOk, refl, sym, ap, subst, ◌∙◌, append-nil}
 use Rattle.std.specs.Prelude.{is_some}
 use Rattle.std.specs.Ordering.{nat_cmp}
 use Rattle.std.specs.BTreeMap.{is_at}
 use Rattle.std.specs.Map.{set_value}
 use Rattle.std.proofs.lemmas.Map.Steps.{set_value_same}
 use Rattle.wire.specs.Frames.{Frame}
-use Rattle.wire.specs.Streams.{Held, with_more, IsSpent}
+use Rattle.wire.specs.Streams.{Held, with_more}
 use Rattle.hub.specs.declared.refusal.HubRefusal.{HubRefusal}
 use Rattle.hub.specs.declared.refusal.HubRefusal.TheVariants.{TooManySessions, SessionOpen, NoSession, Memory}
 use Rattle.hub.specs.Events.{Bytes, Hubbed, BySession, at, due}
@@ -16,9 +16,8 @@ use Rattle.std.specs.Io.KnownBytes.{Appends}
 use Rattle.textio.specs.declared.stream_fault.StreamFault.{StreamFault}
 use Rattle.textio.specs.declared.stream_fault.StreamFault.TheVariants as stream
 use Rattle.textio.specs.Output.{WritesBeginning, WritesBut}
-use Rattle.server.specs.declared.fault.ServeFault.{ServeFault}
-use Rattle.server.specs.declared.fault.ServeFault.TheVariants.{CannotWrite, OutOfMemory}
-use Rattle.server.specs.Pieces.{AnswersPiece, Goes}
+use Rattle.server.specs.declared.fault.ServeFault.TheVariants.{OutOfMemory}
+use Rattle.server.specs.Pieces.{AnswersPiece}
 
 -- a session of which no refusal is due is open
 open_if : {X : Type 0} (found : Option X) → cond (is_some found) None (Some NoSession) ≡ None → (held : X) × (found ≡ Some held)
@@ -43,8 +42,7 @@ module _ {S : Type 0} (answers : S → Frame → List ℕ → S → Type 0) wher
       let same_piece : piece ≡ taken = cc in
       rw (same_number, same_piece) (held, exchanges, left, left, here, set, exchanged, wrote)
   heard_part before session piece output (Err (Memory false)) after (may, due, same, wrote) fine =
-      let here = open_of before.sessions session piece fine in
-      (
+      let here = open_of before.sessions session piece fine in (
         here.0,
         [],
         with_more here.0 piece,

@@ -1,10 +1,10 @@
 -- The entry of a session that is opened, changed and ended again.
-use Rattle.std.proofs.Common.{◌≡◌, ℕ, List, [], ◌∷◌, Bool, true, false, cond, Option, Some, None, refl, sym, ap, ◌∙◌}
+use Rattle.std.proofs.Common.{◌≡◌, ℕ, [], ◌∷◌, Bool, true, false, cond, Some, None, refl, sym, ap, ◌∙◌}
 use Rattle.std.specs.declared.cmp.Ordering.{Ordering}
 use Rattle.std.specs.declared.cmp.Ordering.TheVariants.{Less, Equal, Greater}
 use Rattle.std.specs.Ordering.{nat_cmp, match_ordering, is_eq}
 use Rattle.std.specs.BTreeMap.{is_at, insert_entry}
-use Rattle.std.specs.Map.{lookup, remove_entry, set_value}
+use Rattle.std.specs.Map.{remove_entry, set_value}
 use Rattle.hub.specs.Events.{BySession, at}
 use Rattle.hub.proofs.Outputting.{is_here}
 
@@ -25,6 +25,7 @@ gone_again {X} (entry ∷ more) n x y none = by_order (nat_cmp n entry.0) refl (
   where
     p : ℕ → Bool
     p = is_at (nat_cmp n)
+
     by_order : (o : Ordering) → nat_cmp n entry.0 ≡ o → (at more n ≡ None → remove_entry p (set_value p (insert_entry nat_cmp more n x) y) ≡ more)
         → remove_entry p (set_value p (match_ordering o ((n, x) ∷ entry ∷ more) ((entry.0, x) ∷ more) (entry ∷ insert_entry nat_cmp more n x)) y) ≡ entry ∷ more
     by_order Less e next = rw (is_here n) (rw (is_here n) refl)

@@ -39,12 +39,12 @@ impl Model for Keys {
     ghost Value = { Keyed };
 
     ghost view = { λ keys. record {
-        sign_key = keys.sign_key;
-        vuf_key = keys.vuf_key;
-        salt_key = keys.salt_key;
-        token = keys.token;
-        epoch = non_zero_u64_get keys.epoch;
-        nonce = keys.nonce;
+      sign_key = keys.sign_key;
+      vuf_key = keys.vuf_key;
+      salt_key = keys.salt_key;
+      token = keys.token;
+      epoch = non_zero_u64_get keys.epoch;
+      nonce = keys.nonce;
     } };
 }
 

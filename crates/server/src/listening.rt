@@ -28,7 +28,12 @@ fn answer(alloc: Global, hub: &mut Hub<ServedDesk>, stream: &TcpStream) -> Resul
 
 /// Answers so many connections, one after another; 0 for no end. One that fails is closed, and the
 /// next is taken.
-pub(crate) fn answer_all(alloc: Global, hub: &mut Hub<ServedDesk>, listener: &TcpListener, count: u64)
+pub(crate) fn answer_all(
+    alloc: Global,
+    hub: &mut Hub<ServedDesk>,
+    listener: &TcpListener,
+    count: u64,
+)
     requires { hub.old.sessions ≡ [] }
 {
     let most = if count == 0 { u64::MAX } else { count };

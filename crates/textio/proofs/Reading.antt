@@ -1,5 +1,5 @@
 -- Reads that are tried again.
-use Rattle.std.proofs.Common.{◌≡◌, ℕ, List, Option, None, Some, sym, ◌∙◌}
+use Rattle.std.proofs.Common.{ℕ, List, Option, None, Some, sym, ◌∙◌}
 use Rattle.std.specs.Io.KnownBytes.{Consumes, Keeps}
 use Rattle.std.proofs.KnownBytes.{Keeps-refl, Keeps-trans}
 

@@ -35,7 +35,14 @@ fn told(rt: &HostRuntime, words: &[&str], input: &str) -> Result<Run, Fail> {
     let mut output = Vec::with_capacity(alloc, 2048)?;
     let mut errors = Vec::with_capacity(alloc, 2048)?;
     let words = Ok(owned(alloc, words)?);
-    let ending = end(alloc, rt, words, Ok(input.as_bytes()), &mut output, &mut errors);
+    let ending = end(
+        alloc,
+        rt,
+        words,
+        Ok(input.as_bytes()),
+        &mut output,
+        &mut errors,
+    );
     unless_out_of_memory(errors.as_slice())?;
     Ok(Run {
         ending,

@@ -1,4 +1,4 @@
-use Rattle.std.proofs.Common.{rules, ◌≡◌, [], ◌∷◌, ◌++◌, subst, List, ℕ, Err, codes}
+use Rattle.std.proofs.Common.{rules, ◌≡◌, subst, List, ℕ, Err}
 use Rattle.std.specs.Io.KnownBytes.{Appends}
 use Rattle.textio.specs.declared.program_fault.ProgramFault.TheVariants.{CannotWrite}
 use Rattle.textio.specs.Output.{WritesBeginning}

@@ -1,7 +1,7 @@
-use Rattle.std.proofs.Common.{rules, ◌≡◌, [], ◌++◌, ℕ, List, take, Err, subst}
+use Rattle.std.proofs.Common.{rules, ◌≡◌, [], ℕ, List, take, Err, subst}
 use Rattle.std.specs.Io.KnownBytes.{Consumes}
 use Rattle.server.specs.declared.fault.ServeFault.TheVariants.{CannotRead}
-use Rattle.server.proofs.Conversing.{begun, ended, faulted, gone_on, is_left, unread}
+use Rattle.server.proofs.Conversing.{begun, ended, faulted, gone_on, unread}
 use Rattle.server.proofs.serving.converse.Goals as goal
 
 pub loop-init : goal.loop-init
@@ -16,7 +16,7 @@ pub returns-then-count-eq0-clause-serves : goal.returns-then-count-eq0-clause-se
 returns-then-count-eq0-clause-serves g c =
     let none : take c.in_ok-count.count c.read_some.new.room ≡ [] = search rules in
     ended g.S.Service.answers c.args.hub.now.sessions c.args.session c.args.hub.now.service _ _ c.loop.hub _ _ c.loop.invariant _
-      (subst (λ (t : List ℕ). Consumes (g.R.Read.remaining c.loop.reader) (g.R.Read.remaining c.read_some.new.reader) t) none c.in_ok-count.ensures.ok) (search rules)
+    (subst (λ (t : List ℕ). Consumes (g.R.Read.remaining c.loop.reader) (g.R.Read.remaining c.read_some.new.reader) t) none c.in_ok-count.ensures.ok) (search rules)
 
 pub returns-in_err-answer_piece-clause-keeps : goal.returns-in_err-answer_piece-clause-keeps
 returns-in_err-answer_piece-clause-keeps g c =

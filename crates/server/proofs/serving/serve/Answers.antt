@@ -1,8 +1,6 @@
-use Rattle.std.proofs.Common.{rules, ◌≡◌, [], refl, IsErr, IsOk, ap, subst}
-use Rattle.std.proofs.KnownBytes.{Appends-nil, Consumes-nil}
-use Rattle.hub.proofs.Outputting.{insert_found}
+use Rattle.std.proofs.Common.{rules, IsErr, IsOk}
 use Rattle.server.proofs.Conversing.{nothing_served}
-use Rattle.server.proofs.Ending.{begins_empty, ended_whole, opened, unopened}
+use Rattle.server.proofs.Ending.{begins_empty, ended_whole, unopened}
 use Rattle.server.proofs.serving.serve.Goals as goal
 
 pub returns-then-is_err-clause-serves : goal.returns-then-is_err-clause-serves
@@ -19,4 +17,4 @@ pub returns-clause-ended : goal.returns-clause-ended
 returns-clause-ended g c =
     let good : IsOk c.event.result = search rules in
     (ended_whole g.S.Service.answers c.args.hub.now c.args.session _ _ _ _ c.event.result c.event-ended.result c.event.new.self c.converse-outcome.new.hub c.event-ended.new.self
-      c.requires c.event.ensures.happens good c.converse-outcome.ensures.keeps c.event-ended.ensures.happens).1
+    c.requires c.event.ensures.happens good c.converse-outcome.ensures.keeps c.event-ended.ensures.happens).1
