@@ -6,12 +6,13 @@
 #   scripts/listen.sh
 #
 # Takes the built program, or the one that DIRECTORYD names: `rt try` takes minutes to begin. The last
-# line is `N passed, M failed`, and the status is 0 where none failed. It ends within 30 seconds.
+# line is `N passed, M failed`, and the status is 0 where none failed. It takes some three seconds, and
+# ends after three minutes whatever happens.
 set -uo pipefail
 cd "$(dirname "$0")/.." || exit 1
 
 if [ -z "${LISTEN_LIMIT:-}" ]; then
-    LISTEN_LIMIT=26 exec timeout --kill-after=2 26 "scripts/listen.sh"
+    LISTEN_LIMIT=170 exec timeout --kill-after=10 170 "scripts/listen.sh"
 fi
 
 program=${DIRECTORYD:-crates/directoryd/out/directoryd}
@@ -48,7 +49,7 @@ same() {
 well() {
     local what=$1
     shift
-    if timeout --foreground 10 "$@" >"$folder/printed" 2>&1; then
+    if timeout --foreground 60 "$@" >"$folder/printed" 2>&1; then
         passed=$((passed + 1))
     else
         fails "$what: status $?"
@@ -61,7 +62,7 @@ well() {
 ends() {
     local what=$1 status=$2 output=$3 line=$4 input=$5 got=0
     shift 5
-    timeout --foreground 10 "$program" "$@" <"$input" >"$folder/out" 2>"$folder/err" || got=$?
+    timeout --foreground 60 "$program" "$@" <"$input" >"$folder/out" 2>"$folder/err" || got=$?
     same "$what, status" "$status" "$got"
     same "$what, output" "$output" "$(od -An -v -tx1 "$folder/out" | tr -d ' \n')"
     same "$what, errors" "$line" "$(head -n 1 "$folder/err")"
@@ -69,7 +70,7 @@ ends() {
 
 # Sends bytes in hex over a connection, and compares the frames that come back: told WHAT HEX FRAMES
 told() {
-    same "$1" "$3" "$(timeout --foreground 10 scripts/send_frames.py "$address" $2 2>&1)"
+    same "$1" "$3" "$(timeout --foreground 60 scripts/send_frames.py "$address" $2 2>&1)"
 }
 
 if [ ! -x "$program" ]; then
@@ -92,14 +93,14 @@ ends "serve with a bad token" 1 "" "bad hex" "$folder/heads" serve ${keys% *} 00
 ends "serve at epoch 0" 2 "" "error: *" "$folder/heads" serve $keys --epoch 0
 ends "serve of a folder" 1 "" "cannot read" "$folder" serve $keys
 status=0
-timeout --foreground 10 "$program" serve $keys <"$folder/heads" 2>"$folder/err" >/dev/full || status=$?
+timeout --foreground 60 "$program" serve $keys <"$folder/heads" 2>"$folder/err" >/dev/full || status=$?
 same "serve to a full device" "1 cannot write" "$status $(cat "$folder/err")"
 
 # A server on a port that the system chooses, which answers six connections.
 "$program" listen $keys --count 6 127.0.0.1:0 >"$folder/server_out" 2>"$folder/server_err" &
 server=$!
 address=
-for _ in {1..100}; do
+for _ in {1..600}; do
     address=$(sed -n 's/^listening on \(127\.0\.0\.1:[1-9][0-9]*\)$/\1/p' "$folder/server_err")
     [ -z "$address" ] || break
     sleep 0.05
@@ -116,7 +117,7 @@ ends "a bad token and an address in use" 1 "" "bad hex" /dev/null listen ${keys%
 ends "a bad nonce and an address in use" 1 "" "bad hex" /dev/null listen $keys --nonce 00 "$address"
 ends "listen at epoch 0" 2 "" "error: *" /dev/null listen ${keys% *} 00 --epoch 0 "$address"
 status=0
-timeout --foreground 10 "$program" listen $keys --count 1 127.0.0.1:0 </dev/null 2>/dev/full || status=$?
+timeout --foreground 60 "$program" listen $keys --count 1 127.0.0.1:0 </dev/null 2>/dev/full || status=$?
 same "a line that cannot be written" 1 "$status"
 
 # One connection after another, with one directory, whatever a client sends.

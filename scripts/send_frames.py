@@ -11,7 +11,7 @@ import socket
 import sys
 import time
 
-SECONDS = 10
+SECONDS = 60
 TRIES = 20
 
 
