@@ -55,7 +55,7 @@ directory_in rows = record {
   nonce = first_of (codes "nonce") rows;
 }
 
--- what a subcommand orders by its name: a path, a directory, or else a root
+-- what a subcommand orders by its name: a path, a session, connections, or else a root
 abbrev pub ordered_in : Text → List Row → Ordered
 ordered_in name rows =
     if bytes_eq name (codes "prove") then the_path (text_in (codes "index") rows) (asked_in rows)

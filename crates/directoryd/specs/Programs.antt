@@ -35,7 +35,7 @@ IsZero (Ok given) = given ≡ 0
 IsZero (Err fault) = ⊤
 
 -- What is ordered is done: a root is told, or the path of an index; a directory is begun, and one session
--- is served; or one is begun, and connections are served, of which the errors tell the address.
+-- is served; or one is begun, and connections are served: the errors are told the address.
 abbrev pub Obeys : Ordered → Option (List ℕ) → Option (List ℕ) → Option (List ℕ) → Option (List ℕ) → Option (List ℕ) → Result ℕ ProgramFault → Type 0
 Obeys (the_root asked) input out out-new err err-new outcome = EndsAt 0 (λ input said. root_answer asked input ≡ said) input out out-new outcome × Keeps err err-new
 Obeys (the_path index asked) input out out-new err err-new outcome = EndsAt 0 (Proves asked.hash (nonce_of asked.nonce) (hex32 index)) input out out-new outcome × Keeps err err-new

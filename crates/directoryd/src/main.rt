@@ -9,7 +9,7 @@ mod refusal;
 pub use ending::{Ending, end};
 pub use items::{prove, root};
 pub use order::{Order, order};
-pub use server::{listen, serve_directory};
+pub use server::{listen, serve, serve_directory};
 use std::env;
 use std::io::{self, BufReader};
 use std::process::ExitCode;

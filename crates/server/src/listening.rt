@@ -21,7 +21,7 @@ fn answer(alloc: Global, hub: &mut Hub<ServedDesk>, stream: &TcpStream) -> Resul
     requires { hub.old.sessions ≡ [] }
     ensures { hub.new.sessions ≡ [] }
 {
-    // A reply is one write, which nothing else is to be waited for.
+    // A reply is sent at once. Where this fails it only comes later.
     let _set = stream.set_nodelay(true);
     serve(alloc, hub, SESSION, &mut &*stream, &mut &*stream)
 }

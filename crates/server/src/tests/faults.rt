@@ -11,6 +11,11 @@ const READ: usize = 7;
 /// The most bytes that a write takes.
 const WRITTEN: usize = 100;
 
+/// The reads of the frames, of which the last one finds the end, and the writes of their replies.
+const READS: usize = 12;
+
+const WRITES: usize = 7;
+
 /// The frames of a session, which registers a name, closes an epoch, and looks the name up.
 fn frames(alloc: Global) -> Result<Vec<u8>, Fail> {
     let mut frames = Vec::from_slice(alloc, REGISTER_AND_CLOSE)?;
@@ -41,7 +46,7 @@ fn whole(rt: &impl Abort, alloc: Global, frames: &[u8]) -> Result<CutWriter, Fai
 fn one_read_fails(rt: HostRuntime) -> Result<(), Fail> {
     let frames = frames(rt.alloc())?;
     let whole = whole(&rt, rt.alloc(), &frames)?;
-    for call in 0..frames.len() / READ {
+    for call in 0..READS {
         for (kind, wanted) in [
             (ErrorKind::ConnectionReset, Err(ServeFault::CannotRead)),
             (ErrorKind::Interrupted, Ok(())),
@@ -59,7 +64,7 @@ fn one_read_fails(rt: HostRuntime) -> Result<(), Fail> {
 fn one_write_fails(rt: HostRuntime) -> Result<(), Fail> {
     let frames = frames(rt.alloc())?;
     let whole = whole(&rt, rt.alloc(), &frames)?;
-    for call in 0..whole.taken().len() / WRITTEN {
+    for call in 0..WRITES {
         for kind in [Some(ErrorKind::BrokenPipe), None] {
             let mut reader = CutReader::new(&frames, READ);
             let mut writer = CutWriter::new(rt.alloc(), 1000, WRITTEN)?.fail_at(call, kind);
