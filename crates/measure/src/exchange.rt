@@ -1,7 +1,7 @@
 use crate::directory::FIRST;
 use crate::sessions::{Entry, Kind, Sessions, entries_of, write_request};
 use crate::steps::end_step;
-use anyhow::{Result, ensure};
+use anyhow::{Context, Result, ensure};
 use encoding::Hash32;
 use std::alloc::{AllocError, Global};
 use std::io::{Read, Write};
@@ -91,7 +91,8 @@ impl Client {
     where
         R: Net<Listener = TcpListener, Stream = TcpStream>,
     {
-        let stream = TcpStream::connect(rt, ("127.0.0.1", port as u16))?;
+        let port = u16::try_from(port).ok().context("this is no port")?;
+        let stream = TcpStream::connect(rt, ("127.0.0.1", port))?;
         stream.set_nodelay(true)?;
         Ok(Client {
             stream,
@@ -219,7 +220,7 @@ where
 
 /// A frame of so many bytes.
 fn frame_of(alloc: Global, bytes: usize) -> Result<Vec<u8>, AllocError> {
-    let length = bytes.saturating_sub(4) as u32;
+    let length = u32::try_from(bytes.saturating_sub(4)).unwrap_or(u32::MAX);
     let mut frame = Vec::from_slice(alloc, &length.to_be_bytes())?;
     for _ in 4..bytes {
         frame.push(0)?;
