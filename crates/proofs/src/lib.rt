@@ -15,6 +15,7 @@
 #![tactic(auto)]
 
 mod accepted;
+mod broken_promise;
 mod checking;
 mod comparing;
 mod end;
@@ -26,6 +27,7 @@ mod statement;
 mod view;
 
 pub use accepted::Accepted;
+pub use broken_promise::BrokenPromise;
 pub use checking::check;
 pub use comparing::{RefusedReply, SameOr, compare_replies, same_or_collision};
 pub use end::End;

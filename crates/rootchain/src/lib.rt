@@ -16,6 +16,7 @@
 
 mod body;
 mod chain;
+mod evidence;
 mod laws;
 mod promise;
 mod refusal;
@@ -26,6 +27,7 @@ mod whole;
 
 pub use body::Body;
 pub use chain::Chain;
+pub use evidence::RootEvidence;
 pub use laws::{
     body_is_read, epochs_ascend, promise_is_read, root_list_is_read, signed_promise_is_read,
     signed_root_is_read,

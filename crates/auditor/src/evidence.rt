@@ -1,0 +1,11 @@
+use proofs::BrokenPromise;
+use rootchain::RootEvidence;
+
+/// What shows anyone that a provider cheated (CONIKS, section 4).
+#[derive(Debug, Drop)]
+pub enum Evidence {
+    /// Two roots that no one chain has.
+    Root(RootEvidence),
+    /// A promise that was not kept.
+    Broken(BrokenPromise),
+}
