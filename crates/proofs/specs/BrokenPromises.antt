@@ -1,7 +1,7 @@
 -- What shows that a provider broke a promise (CONIKS, section 4).
 use Rattle.std.specs.Prelude.{◌≡◌, ◌≢◌, ℕ, List, Option, Some}
 use Rattle.rootchain.specs.Chains.{Verifies}
-use Rattle.rootchain.specs.Promises.{promise_bytes}
+use Rattle.rootchain.specs.Promises.{PromiseVerifies}
 use Rattle.rootchain.specs.declared.signed_promise.SignedPromise.{SignedPromise}
 use Rattle.rootchain.specs.declared.signed_root.SignedRoot.{SignedRoot}
 use Rattle.proofs.specs.Accepts.{Accepts, HasIndex}
@@ -9,7 +9,7 @@ use Rattle.proofs.specs.Accepts.{Accepts, HasIndex}
 module _ (hash : List ℕ → List ℕ) (verified : List ℕ → List ℕ → List ℕ → Type 0) (key : List ℕ) (accepted : List ℕ → List ℕ → List ℕ → Type 0) where
   -- a promise, and a reply under the next root that does not state its key
   pub record IsBrokenPromise (promised : SignedPromise) (root : SignedRoot) (text : List ℕ) : Type 0 where
-    pub signed : verified key (promise_bytes promised.promise) promised.signature
+    pub signed : PromiseVerifies verified key promised
     pub rooted : Verifies verified key root
     pub next : root.body.previous_epoch ≡ promised.promise.epoch
     pub linked : root.body.previous_hash ≡ promised.promise.root_hash
