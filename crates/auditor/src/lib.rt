@@ -2,5 +2,6 @@
 #![tactic(auto)]
 
 mod evidence;
+mod judging;
 
 pub use evidence::Evidence;
