@@ -1,6 +1,7 @@
 pub mod Bodies
 pub mod Chains
 pub mod Evidence
+pub mod Places
 pub mod Promises
 pub mod Readable
 pub mod Refusals

@@ -26,7 +26,7 @@ mod signed_root;
 mod whole;
 
 pub use body::Body;
-pub use chain::Chain;
+pub use chain::{Chain, Place};
 pub use evidence::RootEvidence;
 pub use laws::{
     body_is_read, epochs_ascend, promise_is_read, root_list_is_read, signed_promise_is_read,
