@@ -7,5 +7,6 @@ pub mod Readable
 pub mod Refusals
 pub mod RootLists
 pub mod SignedRoots
+pub mod Taking
 pub use Rattle.encoding.specs.Forms
 pub use Rattle.encoding.specs.Reading

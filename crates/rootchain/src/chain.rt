@@ -121,5 +121,7 @@ impl<H: NodeHash, S: Verifier> Chain<H, S> {
     }
 }
 
+mod taking;
+
 #[cfg(test)]
 mod tests;

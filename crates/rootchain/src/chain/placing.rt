@@ -45,7 +45,7 @@ impl<H: NodeHash, S: Verifier> Chain<H, S> {
     }
 
     /// The place of a root, whether it verifies or not.
-    fn place_of(&self, hash: &mut H, root: &SignedRoot) -> Place
+    pub(super) fn place_of(&self, hash: &mut H, root: &SignedRoot) -> Place
         ensures place { IsPlace H.digest_of self.now root.now result }
         ensures counted { H.digests hash.new ≤ H.digests hash.old + 1 }
     {
