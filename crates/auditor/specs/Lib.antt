@@ -1,1 +1,6 @@
+pub mod Chains
+pub mod Evidence
+pub mod Observing
 pub use Rattle.proofs.specs.BrokenPromises
+pub use Rattle.rootchain.specs.Evidence
+pub use Rattle.rootchain.specs.Places

@@ -1,13 +1,33 @@
 ghost use Rattle.std.specs.Prelude.{◌≡◌, ◌↔◌, IsTrue, Some};
+ghost use Rattle.auditor.specs.Evidence.{IsEvidence};
 ghost use Rattle.proofs.specs.BrokenPromises.{Contradicts, IsBrokenPromise};
 ghost use Rattle.proofs.specs.Views.{key_stated};
 
+use crate::Evidence;
 use encoding::{Hash32, KeyData};
 use nodehash::NodeHash;
 use proofs::{BrokenPromise, Statement, accept};
 use rootchain::{Body, Promise};
 use sigiface::Verifier;
 use vrfiface::VufCheck;
+
+/// Whether it is evidence against the provider that has this public key, whoever made it: whether each
+/// signature verifies under the key, and the parts stand to each other as the kind of evidence says.
+/// Takes at most 259 digests.
+pub fn judge<H: NodeHash, V: VufCheck, S: Verifier>(
+    hash: &mut H,
+    vuf: &V,
+    verifier: &S,
+    key: &Hash32,
+    evidence: &Evidence,
+) -> bool
+    ensures { IsTrue result ↔ IsEvidence H.digest_of V.accepted S.verified key.now evidence.now }
+{
+    match evidence {
+        Evidence::Root(roots) => roots.holds(hash, verifier, key),
+        Evidence::Broken(broken) => is_broken(hash, vuf, verifier, key, broken),
+    }
+}
 
 /// Whether the promise was broken.
 fn is_broken<H: NodeHash, V: VufCheck, S: Verifier>(
