@@ -1,3 +1,5 @@
 pub mod Chains
+pub mod Clashes
 pub mod Places
 pub mod RootLists
+pub mod Telling
