@@ -17,97 +17,102 @@ use Rattle.auditor.specs.Chains.{Chains, NowHas, chain_of}
 use Rattle.auditor.specs.declared.auditor.Observed.{Observed}
 use Rattle.auditor.specs.declared.auditor.Observed.TheVariants.{Started, Extended, Known, Ahead, BeforeStart, Evidence}
 
--- the bytes spell this root
-abbrev pub SpellsRoot : List ℕ → SignedRoot → Type 0
-SpellsRoot = Spells signed_root_bytes IsSignedRoot
+-- how an auditor tells where a root stands that it observes
+abbrev pub observed_as : Place → Observed
+observed_as place.Known = Known
+observed_as place.Next = Extended
+observed_as place.Ahead = Ahead
+observed_as place.BeforeStart = BeforeStart
+observed_as (place.Evidence evidence) = Evidence evidence
 
--- the chain of a provider of which only this root is known
-abbrev pub begun : List ℕ → SignedRoot → KeyedRoots
-begun key root = record { key = key; roots = root ∷ [] }
+-- and one that it only compares: a root that may follow is told as one that is ahead
+abbrev pub compared_as : Place → Place
+compared_as place.Known = place.Known
+compared_as place.Next = place.Ahead
+compared_as place.Ahead = place.Ahead
+compared_as place.BeforeStart = place.BeforeStart
+compared_as (place.Evidence evidence) = place.Evidence evidence
 
--- the chains after this was told of a root: only at these two is one of them another
+module _ (hash : List ℕ → List ℕ) where
+  -- what is told of a root beside the chain of its provider, if there is one
+  abbrev pub IsObserved : Option KeyedRoots → SignedRoot → Observed → Type 0
+  IsObserved None root told = told ≡ Started
+  IsObserved (Some chain) root told = (stands : Place) × IsPlace hash chain root stands × (told ≡ observed_as stands)
+
+  abbrev pub IsCompared : Option KeyedRoots → SignedRoot → Place → Type 0
+  IsCompared None root told = told ≡ place.Ahead
+  IsCompared (Some chain) root told = (stands : Place) × IsPlace hash chain root stands × (told ≡ compared_as stands)
+
+-- the chains once this was told of a root: only at the first two does the provider have another chain
 abbrev pub HoldsAfter : Chains → List ℕ → SignedRoot → Observed → Chains → Type 0
-HoldsAfter before key root Started after = NowHas before key (begun key root) after
+HoldsAfter before key root Started after = NowHas before key (record { key = key; roots = root ∷ [] }) after
 HoldsAfter before key root Extended after = (chain : KeyedRoots) × (chain_of before key ≡ Some chain) × NowHas before key (with_root chain root) after
 HoldsAfter before key root Known after = after ≡ before
 HoldsAfter before key root Ahead after = after ≡ before
 HoldsAfter before key root BeforeStart after = after ≡ before
 HoldsAfter before key root (Evidence evidence) after = after ≡ before
 
--- evidence whose roots have a spelling
-abbrev pub IsSpelled : RootEvidence → Type 0
-IsSpelled (Fork one other) = IsSignedRoot one × IsSignedRoot other
-IsSpelled (Link one other) = IsSignedRoot one × IsSignedRoot other
-IsSpelled (Skip one other) = IsSignedRoot one × IsSignedRoot other
-
-module _ (hash : List ℕ → List ℕ) where
-  -- what is told of a root, beside the chain of its provider: it starts one where there is none, and
-  -- else stands so to it
-  abbrev pub IsObserved : Option KeyedRoots → SignedRoot → Observed → Type 0
-  IsObserved None root Started = Unit
-  IsObserved None root Extended = ⊥
-  IsObserved None root Known = ⊥
-  IsObserved None root Ahead = ⊥
-  IsObserved None root BeforeStart = ⊥
-  IsObserved None root (Evidence evidence) = ⊥
-  IsObserved (Some chain) root Started = ⊥
-  IsObserved (Some chain) root Extended = IsPlace hash chain root place.Next
-  IsObserved (Some chain) root Known = IsPlace hash chain root place.Known
-  IsObserved (Some chain) root Ahead = IsPlace hash chain root place.Ahead
-  IsObserved (Some chain) root BeforeStart = IsPlace hash chain root place.BeforeStart
-  IsObserved (Some chain) root (Evidence evidence) = IsPlace hash chain root (place.Evidence evidence)
-
-  -- what is told of a root that is only compared: one that may follow is told as one that is ahead, and
-  -- so is one of a provider without a chain
-  abbrev pub IsCompared : Option KeyedRoots → SignedRoot → Place → Type 0
-  IsCompared None root place.Ahead = Unit
-  IsCompared None root place.Known = ⊥
-  IsCompared None root place.Next = ⊥
-  IsCompared None root place.BeforeStart = ⊥
-  IsCompared None root (place.Evidence evidence) = ⊥
-  IsCompared (Some chain) root place.Ahead = IsPlace hash chain root place.Ahead ⊎ IsPlace hash chain root place.Next
-  IsCompared (Some chain) root place.Known = IsPlace hash chain root place.Known
-  IsCompared (Some chain) root place.Next = ⊥
-  IsCompared (Some chain) root place.BeforeStart = IsPlace hash chain root place.BeforeStart
-  IsCompared (Some chain) root (place.Evidence evidence) = IsPlace hash chain root (place.Evidence evidence)
+-- the bytes spell this root
+abbrev pub SpellsRoot : List ℕ → SignedRoot → Type 0
+SpellsRoot = Spells signed_root_bytes IsSignedRoot
 
 module _ (hash : List ℕ → List ℕ) (verified : List ℕ → List ℕ → List ℕ → Type 0) where
-  -- when bytes are refused so: memory is wanted only to start a chain or to extend it
-  abbrev pub IsObserveRefusal : Option KeyedRoots → List ℕ → List ℕ → Refusal → Type 0
-  IsObserveRefusal held key bytes Malformed = (root : SignedRoot) → ¬ SpellsRoot bytes root
-  IsObserveRefusal held key bytes BadSignature = (root : SignedRoot) × SpellsRoot bytes root × ¬ Verifies verified key root
-  IsObserveRefusal held key bytes NotLater = ⊥
-  IsObserveRefusal held key bytes BadLink = ⊥
-  IsObserveRefusal held key bytes Memory = (root : SignedRoot) × SpellsRoot bytes root × Verifies verified key root
-      × (IsObserved hash held root Started ⊎ IsObserved hash held root Extended)
+  -- when a root that was read is refused so: memory is wanted only to start a chain or to extend one
+  abbrev pub IsRefused : Option KeyedRoots → List ℕ → SignedRoot → Refusal → Type 0
+  IsRefused held key root Malformed = ⊥
+  IsRefused held key root BadSignature = ¬ Verifies verified key root
+  IsRefused held key root NotLater = ⊥
+  IsRefused held key root BadLink = ⊥
+  IsRefused held key root Memory = Verifies verified key root × (IsObserved hash held root Started ⊎ IsObserved hash held root Extended)
 
-  -- what comes of bytes that are observed as a root of a provider
+  -- what comes of a root of a provider that is observed
+  abbrev pub ObservesRoot : Chains → List ℕ → SignedRoot → Result Observed Refusal → Chains → Type 0
+  ObservesRoot before key root (Ok told) after = Verifies verified key root × IsObserved hash (chain_of before key) root told × HoldsAfter before key root told after
+  ObservesRoot before key root (Err why) after = IsRefused (chain_of before key) key root why × (after ≡ before)
+
+  -- what comes of bytes that are observed: they spell a root, or else they are refused
   abbrev pub Observes : Chains → List ℕ → List ℕ → Result Observed Refusal → Chains → Type 0
-  Observes before key bytes (Ok told) after = (root : SignedRoot) × SpellsRoot bytes root × Verifies verified key root
-      × IsObserved hash (chain_of before key) root told × HoldsAfter before key root told after
-  Observes before key bytes (Err why) after = IsObserveRefusal (chain_of before key) key bytes why × (after ≡ before)
+  Observes before key bytes result after =
+      ((root : SignedRoot) × SpellsRoot bytes root × ObservesRoot before key root result after)
+      ⊎ (((root : SignedRoot) → ¬ SpellsRoot bytes root) × (result ≡ Err Malformed) × (after ≡ before))
 
-  -- what comes of bytes that are compared as a root of a provider
+  -- what comes of a root of a provider that is compared
+  abbrev pub ComparesRoot : Chains → List ℕ → SignedRoot → Result Place Refusal → Type 0
+  ComparesRoot chains key root (Ok told) = Verifies verified key root × IsCompared hash (chain_of chains key) root told
+  ComparesRoot chains key root (Err Malformed) = ⊥
+  ComparesRoot chains key root (Err BadSignature) = ¬ Verifies verified key root
+  ComparesRoot chains key root (Err NotLater) = ⊥
+  ComparesRoot chains key root (Err BadLink) = ⊥
+  ComparesRoot chains key root (Err Memory) = ⊥
+
   abbrev pub Compares : Chains → List ℕ → List ℕ → Result Place Refusal → Type 0
-  Compares chains key bytes (Ok told) = (root : SignedRoot) × SpellsRoot bytes root × Verifies verified key root × IsCompared hash (chain_of chains key) root told
-  Compares chains key bytes (Err Malformed) = (root : SignedRoot) → ¬ SpellsRoot bytes root
-  Compares chains key bytes (Err BadSignature) = (root : SignedRoot) × SpellsRoot bytes root × ¬ Verifies verified key root
-  Compares chains key bytes (Err NotLater) = ⊥
-  Compares chains key bytes (Err BadLink) = ⊥
-  Compares chains key bytes (Err Memory) = ⊥
+  Compares chains key bytes result =
+      ((root : SignedRoot) × SpellsRoot bytes root × ComparesRoot chains key root result)
+      ⊎ (((root : SignedRoot) → ¬ SpellsRoot bytes root) × (result ≡ Err Malformed))
 
--- where evidence is told, it is evidence against this provider, and can be written down and read
-abbrev pub ObservedHolds : (List ℕ → List ℕ) → (List ℕ → List ℕ → List ℕ → Type 0) → List ℕ → Observed → Type 0
-ObservedHolds hash verified key Started = Unit
-ObservedHolds hash verified key Extended = Unit
-ObservedHolds hash verified key Known = Unit
-ObservedHolds hash verified key Ahead = Unit
-ObservedHolds hash verified key BeforeStart = Unit
-ObservedHolds hash verified key (Evidence evidence) = IsRootEvidence hash verified key evidence × IsSpelled evidence
+-- this holds of both roots
+abbrev pub BothAre : (SignedRoot → Type 0) → RootEvidence → Type 0
+BothAre P (Fork one other) = P one × P other
+BothAre P (Link one other) = P one × P other
+BothAre P (Skip one other) = P one × P other
 
-abbrev pub ComparedHolds : (List ℕ → List ℕ) → (List ℕ → List ℕ → List ℕ → Type 0) → List ℕ → Place → Type 0
-ComparedHolds hash verified key place.Known = Unit
-ComparedHolds hash verified key place.Next = Unit
-ComparedHolds hash verified key place.Ahead = Unit
-ComparedHolds hash verified key place.BeforeStart = Unit
-ComparedHolds hash verified key (place.Evidence evidence) = IsRootEvidence hash verified key evidence × IsSpelled evidence
+module _ (hash : List ℕ → List ℕ) (verified : List ℕ → List ℕ → List ℕ → Type 0) (key : List ℕ) where
+  -- evidence against this provider, of roots that have a spelling
+  abbrev pub Holds : RootEvidence → Type 0
+  Holds evidence = IsRootEvidence hash verified key evidence × BothAre IsSignedRoot evidence
+
+  -- if evidence is told, it holds
+  abbrev pub ObservedHolds : Observed → Type 0
+  ObservedHolds Started = Unit
+  ObservedHolds Extended = Unit
+  ObservedHolds Known = Unit
+  ObservedHolds Ahead = Unit
+  ObservedHolds BeforeStart = Unit
+  ObservedHolds (Evidence evidence) = Holds evidence
+
+  abbrev pub PlaceHolds : Place → Type 0
+  PlaceHolds place.Known = Unit
+  PlaceHolds place.Next = Unit
+  PlaceHolds place.Ahead = Unit
+  PlaceHolds place.BeforeStart = Unit
+  PlaceHolds (place.Evidence evidence) = Holds evidence

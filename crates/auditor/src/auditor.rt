@@ -1,6 +1,9 @@
-ghost use Rattle.std.specs.Prelude.{◌≡◌, ◌+◌, ◌≤◌, [], IfOk, IfSome, option_map};
+ghost use Rattle.std.specs.Prelude.{◌≡◌, ◌+◌, ◌≤◌, [], IfOk, IfSome, IsSome, None, option_map};
 ghost use Rattle.auditor.specs.Chains.{chain_of, IsHeld};
-ghost use Rattle.auditor.specs.Observing.{ComparedHolds, Compares, ObservedHolds, Observes};
+ghost use Rattle.auditor.specs.declared.auditor.Observed.TheVariants.{Started};
+ghost use Rattle.auditor.specs.Observing.{compared_as, observed_as, Compares, ComparesRoot, ObservedHolds, Observes, ObservesRoot, PlaceHolds};
+ghost use Rattle.auditor.specs.Taking.{TakesAt};
+ghost use Rattle.rootchain.specs.SignedRoots.{IsSignedRoot};
 
 use encoding::Hash32;
 use nodehash::NodeHash;
@@ -61,5 +64,134 @@ impl<H: NodeHash + Drop, S: Verifier + Drop> Auditor<H, S> {
         ensures held { IfSome (chain_of self.now provider_key.now) (IsHeld provider_key.now) }
     {
         self.chains.get(provider_key)
+    }
+
+    /// Observes the signed root that these bytes spell as one of this provider's: it starts the
+    /// provider's chain or extends it, or is placed beside it.
+    ///
+    /// # Errors
+    ///
+    /// `Malformed`, `BadSignature`, `Memory`: the first that applies. The auditor then stays as it was.
+    pub fn observe(
+        &mut self,
+        hash: &mut H,
+        verifier: &S,
+        provider_key: &Hash32,
+        bytes: &[u8],
+    ) -> Result<Observed, Refusal>
+        ensures observes { Observes H.digest_of S.verified self.old provider_key.now bytes.now result self.new }
+        ensures evidence { IfOk result (ObservedHolds H.digest_of S.verified provider_key.now) }
+        ensures counted { H.digests hash.new ≤ H.digests hash.old + 1 }
+    {
+        let root = SignedRoot::read(bytes)?;
+        if !self.chains.contains_key(provider_key) {
+            return self.start(verifier, provider_key, root);
+        }
+        let place = self.take(hash, verifier, provider_key, root)?;
+        Ok(observed(place))
+    }
+
+    /// Compares the signed root that these bytes spell with this provider's chain. One that may follow
+    /// is told as `Ahead`, and so is one of a provider that the auditor did not observe.
+    ///
+    /// # Errors
+    ///
+    /// `Malformed`, `BadSignature`: the first that applies.
+    pub fn compare(
+        &self,
+        hash: &mut H,
+        verifier: &S,
+        provider_key: &Hash32,
+        bytes: &[u8],
+    ) -> Result<Place, Refusal>
+        ensures compares { Compares H.digest_of S.verified self.now provider_key.now bytes.now result }
+        ensures evidence { IfOk result (PlaceHolds H.digest_of S.verified provider_key.now) }
+        ensures counted { H.digests hash.new ≤ H.digests hash.old + 1 }
+    {
+        let root = SignedRoot::read(bytes)?;
+        self.compare_root(hash, verifier, provider_key, &root)
+    }
+
+    /// Compares a root that was read.
+    fn compare_root(
+        &self,
+        hash: &mut H,
+        verifier: &S,
+        provider_key: &Hash32,
+        root: &SignedRoot,
+    ) -> Result<Place, Refusal>
+        requires form { IsSignedRoot root.now }
+        ensures compares { ComparesRoot H.digest_of S.verified self.now provider_key.now root.now result }
+        ensures evidence { IfOk result (PlaceHolds H.digest_of S.verified provider_key.now) }
+        ensures counted { H.digests hash.new ≤ H.digests hash.old + 1 }
+    {
+        match self.chain(provider_key) {
+            Some(chain) => {
+                let place = chain.place(hash, verifier, root)?;
+                Ok(compared(place))
+            }
+            None if root.verifies(verifier, provider_key) => Ok(Place::Ahead),
+            None => Err(Refusal::BadSignature),
+        }
+    }
+
+    /// Starts the chain of a provider that has none.
+    fn start(
+        &mut self,
+        verifier: &S,
+        provider_key: &Hash32,
+        root: SignedRoot,
+    ) -> Result<Observed, Refusal>
+        requires form { IsSignedRoot root }
+        requires none { chain_of self.old provider_key.now ≡ None }
+        ensures observes { ObservesRoot H.digest_of S.verified self.old provider_key.now root result self.new }
+        ensures started { IfOk result (λ told. told ≡ Started) }
+    {
+        let chain = Chain::start(self.alloc, verifier, *provider_key, root)?;
+        self.chains.insert(*provider_key, chain)?;
+        Ok(Observed::Started)
+    }
+
+    /// The chain of a provider that has one takes a root.
+    fn take(
+        &mut self,
+        hash: &mut H,
+        verifier: &S,
+        provider_key: &Hash32,
+        root: SignedRoot,
+    ) -> Result<Place, Refusal>
+        requires form { IsSignedRoot root }
+        requires some { IsSome (chain_of self.old provider_key.now) }
+        ensures takes { TakesAt H.digest_of S.verified self.old provider_key.now root result self.new }
+        ensures evidence { IfOk result (PlaceHolds H.digest_of S.verified provider_key.now) }
+        ensures counted { H.digests hash.new ≤ H.digests hash.old + 1 }
+    {
+        let Some(chain) = self.chains.get_mut(provider_key) else {
+            unreachable!()
+        };
+        chain.take(hash, verifier, root)
+    }
+}
+
+/// How the place of a root that is observed is told.
+fn observed(place: Place) -> Observed
+    ensures { result ≡ observed_as place }
+{
+    match place {
+        Place::Known => Observed::Known,
+        Place::Evidence(evidence) => Observed::Evidence(evidence),
+        Place::Next => Observed::Extended,
+        Place::Ahead => Observed::Ahead,
+        Place::BeforeStart => Observed::BeforeStart,
+    }
+}
+
+/// How the place of a root that is compared is told.
+fn compared(place: Place) -> Place
+    ensures { result ≡ compared_as place }
+{
+    match place {
+        Place::Next => Place::Ahead,
+        other => other,
     }
 }

@@ -18,17 +18,18 @@ use Rattle.rootchain.proofs.Chains.{ascend-linked}
 abbrev pub Parts : List SignedRoot → ℕ → ℕ → Type 0
 Parts roots epoch place = IsPartitionPoint (λ (root : SignedRoot). root.body.epoch < epoch) (λ (root : SignedRoot). epoch ≤ root.body.epoch) roots place
 
--- epochs ascend, so that those before one come first
+-- no root is of an earlier epoch than one before it, nor than itself
+pub rising : (roots : List SignedRoot) → Ascend roots → IsNonDecreasingBy (λ (root : SignedRoot). root.body.epoch) roots
+rising roots up i j d le below = elim (cases_lt i j) [
+  | inl less ↦ omega (arith, up i j d less below)
+  | inr behind ↦
+      let same : i ≡ j = omega (arith, le, behind) in
+      omega (arith, ap (λ (n : ℕ). (get_or roots n d).body.epoch) same)
+]
+
+-- so those before an epoch come first
 pub epochs-parted : (roots : List SignedRoot) (epoch : ℕ) → Ascend roots → IsPartitionedBy (λ (root : SignedRoot). ltb root.body.epoch epoch) roots
-epochs-parted roots epoch up = IsPartitionedBy-ltb (λ (root : SignedRoot). root.body.epoch) roots epoch rising
-  where
-    rising : IsNonDecreasingBy (λ (root : SignedRoot). root.body.epoch) roots
-    rising i j d le below = elim (cases_lt i j) [
-      | inl less ↦ omega (arith, up i j d less below)
-      | inr behind ↦
-          let same : i ≡ j = omega (arith, le, behind) in
-          omega (arith, ap (λ (n : ℕ). (get_or roots n d).body.epoch) same)
-    ]
+epochs-parted roots epoch up = IsPartitionedBy-ltb (λ (root : SignedRoot). root.body.epoch) roots epoch (rising roots up)
 
 -- where a search by the test ends
 pub parts-from : (roots : List SignedRoot) (epoch place : ℕ) → IsPartitionPoint (λ (root : SignedRoot). ltb root.body.epoch epoch ≡ true) (λ (root : SignedRoot). ltb root.body.epoch epoch ≡ false) roots place → Parts roots epoch place

@@ -29,8 +29,8 @@ pub use body::Body;
 pub use chain::{Chain, Place};
 pub use evidence::RootEvidence;
 pub use laws::{
-    body_is_read, epochs_ascend, promise_is_read, root_list_is_read, signed_promise_is_read,
-    signed_root_is_read,
+    body_is_read, chain_is_no_evidence, epochs_ascend, place_tells_evidence, promise_is_read,
+    root_list_is_read, signed_promise_is_read, signed_root_is_read,
 };
 pub use promise::Promise;
 pub use refusal::Refusal;
