@@ -3,5 +3,4 @@ pub mod Evidence
 pub mod Observing
 pub mod Taking
 pub use Rattle.proofs.specs.BrokenPromises
-pub use Rattle.rootchain.specs.Evidence
 pub use Rattle.rootchain.specs.Places

@@ -88,7 +88,7 @@ impl<H: NodeHash + Drop, S: Verifier + Drop> Auditor<H, S> {
             return self.start(verifier, provider_key, root);
         }
         let place = self.take(hash, verifier, provider_key, root)?;
-        Ok(observed(place))
+        Ok(tell_observed(place))
     }
 
     /// Compares the signed root that these bytes spell with this provider's chain. One that may follow
@@ -128,7 +128,7 @@ impl<H: NodeHash + Drop, S: Verifier + Drop> Auditor<H, S> {
         match self.chain(provider_key) {
             Some(chain) => {
                 let place = chain.place(hash, verifier, root)?;
-                Ok(compared(place))
+                Ok(tell_compared(place))
             }
             None if root.verifies(verifier, provider_key) => Ok(Place::Ahead),
             None => Err(Refusal::BadSignature),
@@ -174,7 +174,7 @@ impl<H: NodeHash + Drop, S: Verifier + Drop> Auditor<H, S> {
 }
 
 /// How the place of a root that is observed is told.
-fn observed(place: Place) -> Observed
+fn tell_observed(place: Place) -> Observed
     ensures { result ≡ observed_as place }
 {
     match place {
@@ -187,7 +187,7 @@ fn observed(place: Place) -> Observed
 }
 
 /// How the place of a root that is compared is told.
-fn compared(place: Place) -> Place
+fn tell_compared(place: Place) -> Place
     ensures { result ≡ compared_as place }
 {
     match place {

@@ -36,6 +36,7 @@ impl<H: NodeHash, S: Verifier> Chain<H, S> {
         ensures refused { IsOkUnless result BadSignature }
         ensures place { IfOk result (IsPlace H.digest_of self.now root.now) }
         ensures evidence { IfOk result (EvidenceHolds H.digest_of S.verified self.now.key) }
+        ensures chain { IsChain H.digest_of S.verified self.now }
         ensures counted { H.digests hash.new ≤ H.digests hash.old + 1 }
     {
         if !root.verifies(verifier, &self.key) {

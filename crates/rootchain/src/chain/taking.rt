@@ -1,5 +1,5 @@
 ghost use Rattle.std.specs.Prelude.{◌≡◌, ◌+◌, ◌≤◌, IfErr, IfOk, OnErr};
-ghost use Rattle.rootchain.specs.Chains.{Verifies};
+ghost use Rattle.rootchain.specs.Chains.{IsChain, Verifies};
 ghost use Rattle.rootchain.specs.Places.{EvidenceHolds, IsPlace};
 ghost use Rattle.rootchain.specs.Taking.{with_taken, IsTakeRefusal};
 
@@ -23,6 +23,7 @@ impl<H: NodeHash, S: Verifier> Chain<H, S> {
         ensures taken { IfOk result (λ place. self.new ≡ with_taken self.old root place) }
         ensures refused { IfErr result (IsTakeRefusal H.digest_of S.verified self.old root) }
         ensures stays { OnErr result (self.new ≡ self.old) }
+        ensures chain { IsChain H.digest_of S.verified self.old }
         ensures counted { H.digests hash.new ≤ H.digests hash.old + 1 }
     {
         let place = self.place(hash, verifier, &root)?;
