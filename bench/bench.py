@@ -744,10 +744,11 @@ class Loopback:
         self.memory.append(self.look())
         self.hub = Side("hub", HUB_NAMES, SERVE_FRAMES, PIECES[0], SERVE_ROUNDS)
         self.answer = self.bare = None
-        self.times, self.used, self.size = {}, {}, {}
+        self.times, self.used, self.bytes = {}, {}, {}
         for _ in range(SERVE_ROUNDS):
             self.round()
         self.memory.append(self.look())
+        self.compare()
         for side in (self.client, self.hub, self.bare, self.answer):
             side.end()
         if self.server.wait(60) != 0:
@@ -762,7 +763,17 @@ class Loopback:
         number, clock, used = step
         self.times.setdefault(which, []).append(clock / SERVE_FRAMES)
         self.used.setdefault(which, []).append(used / SERVE_FRAMES)
-        self.size[which] = number / SERVE_FRAMES
+        self.bytes.setdefault(which, []).append(number)
+
+    def compare(self):
+        """The replies of the server have as many bytes as those of the hub. The client asks twice in a
+        round, so that the hub is asked what the client asks in the first half of the rounds."""
+        for request in HUB_REQUESTS:
+            pairs = zip(self.bytes[request, 1], self.bytes[request, IN_FLIGHT])
+            told = [number for pair in pairs for number in pair][:SERVE_ROUNDS]
+            wanted = self.bytes[request, "hub"]
+            if told != wanted:
+                sys.exit(f"{request}: replies of {told} bytes, and {wanted} was wanted")
 
     def round(self):
         for request in HUB_REQUESTS:
@@ -777,7 +788,7 @@ class Loopback:
     def exchange(self):
         """The bare exchange: as many bytes as the look-ups of a step before had."""
         if self.bare is None:
-            reply = round(self.size["look-up", 1])
+            reply = round(self.bytes["look-up", 1][0] / SERVE_FRAMES)
             self.answer = Side("answer", HUB_REQUESTS["look-up"], reply)
             self.answer.process.stdin.write(b"\n")
             words = [self.answer.number, HUB_NAMES, SERVE_FRAMES, SERVE_ROUNDS]
@@ -787,7 +798,8 @@ class Loopback:
     def row(self, request, which, name):
         times = Spread(self.times[request, which])
         used = statistics.median(self.used[request, which]) * 1e6
-        row = [request, name, f"{self.size[request, which]:.0f}", f"{1 / times.median:,.0f}"]
+        size = statistics.mean(self.bytes[request, which]) / SERVE_FRAMES
+        row = [request, name, f"{size:.0f}", f"{1 / times.median:,.0f}"]
         return [*row, *times.cells(1e6, 2), f"{used:.2f}" if used else "-"]
 
     def part(self, mine, its):
