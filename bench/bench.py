@@ -809,6 +809,9 @@ class Loopback:
 
 
 def serve(_folder):
+    # All run on one processor. With two, much of the time is that of waking the other one, and it
+    # depends on where the system puts which process.
+    os.sched_setaffinity(0, {max(os.sched_getaffinity(0))})
     loop = Loopback()
     kinds = {"hub": "hub", IN_FLIGHT: f"{IN_FLIGHT} in flight", 1: "one at a time", "bare": "bare"}
     head = ["", "", "bytes", "a second", "least", "median", "greatest", "server"]
