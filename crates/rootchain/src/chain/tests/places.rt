@@ -44,11 +44,15 @@ fn places_within_a_chain(rt: HostRuntime) -> Result<(), Fail> {
     let chain = chain.expect(&rt, "each root follows the one before");
     let zeros = Hash32::new(ZEROS);
     let before_head = chain.head().body.previous_hash;
-    assert_eq!(rt; placed(&chain, 3, 0, zeros), ("known", 0, 0));
-    assert_eq!(rt; placed(&chain, 9, 7, before_head), ("known", 0, 0));
-    assert_eq!(rt; placed(&chain, 9, 7, zeros), ("fork", 9, 9));
-    assert_eq!(rt; placed(&chain, 4, 3, zeros), ("skip", 4, 7));
-    assert_eq!(rt; placed(&chain, 8, 7, zeros), ("skip", 8, 9));
+    for (epoch, previous_epoch, previous_hash, place) in [
+        (3, 0, zeros, ("known", 0, 0)),
+        (9, 7, before_head, ("known", 0, 0)),
+        (9, 7, zeros, ("fork", 9, 9)),
+        (4, 3, zeros, ("skip", 4, 7)),
+        (8, 7, zeros, ("skip", 8, 9)),
+    ] {
+        assert_eq!(rt; placed(&chain, epoch, previous_epoch, previous_hash), place);
+    }
     Ok(())
 }
 
@@ -58,10 +62,14 @@ fn places_above_a_chain(rt: HostRuntime) -> Result<(), Fail> {
     let chain = chain.expect(&rt, "each root follows the one before");
     let zeros = Hash32::new(ZEROS);
     let head = SumHash::new().digest(chain.head().body.write().bytes());
-    assert_eq!(rt; placed(&chain, 12, 8, zeros), ("skip", 9, 12));
-    assert_eq!(rt; placed(&chain, 12, 9, zeros), ("link", 9, 12));
-    assert_eq!(rt; placed(&chain, 12, 9, head), ("next", 0, 0));
-    assert_eq!(rt; placed(&chain, 12, 10, head), ("ahead", 0, 0));
+    for (epoch, previous_epoch, previous_hash, place) in [
+        (12, 8, zeros, ("skip", 9, 12)),
+        (12, 9, zeros, ("link", 9, 12)),
+        (12, 9, head, ("next", 0, 0)),
+        (12, 10, head, ("ahead", 0, 0)),
+    ] {
+        assert_eq!(rt; placed(&chain, epoch, previous_epoch, previous_hash), place);
+    }
     Ok(())
 }
 
@@ -74,10 +82,14 @@ fn places_below_a_chain(rt: HostRuntime) -> Result<(), Fail> {
     let first = signed(&signer, 5, 3, hash);
     let chain = unless_out_of_memory(Chain::start(rt.alloc(), &signer, signer.public(), first))?;
     let chain: Chain<SumHash, KeyedSign> = chain.expect(&rt, "the root verifies");
-    assert_eq!(rt; placed(&chain, 4, 3, hash), ("skip", 4, 5));
-    assert_eq!(rt; placed(&chain, 3, 2, zeros), ("link", 3, 5));
-    assert_eq!(rt; placed(&chain, 3, 0, zeros), ("before start", 0, 0));
-    assert_eq!(rt; placed(&chain, 2, 0, zeros), ("before start", 0, 0));
+    for (epoch, previous_epoch, previous_hash, place) in [
+        (4, 3, hash, ("skip", 4, 5)),
+        (3, 2, zeros, ("link", 3, 5)),
+        (3, 0, zeros, ("before start", 0, 0)),
+        (2, 0, zeros, ("before start", 0, 0)),
+    ] {
+        assert_eq!(rt; placed(&chain, epoch, previous_epoch, previous_hash), place);
+    }
     Ok(())
 }
 
@@ -97,26 +109,26 @@ fn place_of_a_wrong_signature(rt: HostRuntime) -> Result<(), Fail> {
     Ok(())
 }
 
-/// Whether the evidence holds under the provider's key.
-fn holds(evidence: RootEvidence) -> bool {
-    let signer = provider();
-    evidence.holds(&mut SumHash::new(), &signer, &signer.public())
-}
-
 #[test]
 fn evidence_that_holds(rt: HostRuntime) {
     let signer = provider();
     let zeros = Hash32::new(ZEROS);
     let third = signed(&signer, 3, 0, zeros);
     let fourth = signed(&signer, 4, 3, zeros);
-    assert!(rt; holds(RootEvidence::Fork(third.copied(), signed(&signer, 3, 2, zeros))));
-    assert!(rt; holds(RootEvidence::Link(third.copied(), fourth.copied())));
-    assert!(rt; holds(RootEvidence::Skip(third.copied(), signed(&signer, 4, 2, zeros))));
-
     let forged = signed(&KeyedSign::new(zeros), 3, 2, zeros);
-    assert!(rt; !holds(RootEvidence::Fork(third.copied(), third.copied())));
-    assert!(rt; !holds(RootEvidence::Fork(third.copied(), forged.copied())));
-    assert!(rt; !holds(RootEvidence::Fork(forged, third.copied())));
-    assert!(rt; !holds(RootEvidence::Link(fourth.copied(), third.copied())));
-    assert!(rt; !holds(RootEvidence::Skip(third, fourth)));
+    let other_third = signed(&signer, 3, 2, zeros);
+    let other_fourth = signed(&signer, 4, 2, zeros);
+    for (evidence, holds) in [
+        (RootEvidence::Fork(third.copied(), other_third), true),
+        (RootEvidence::Link(third.copied(), fourth.copied()), true),
+        (RootEvidence::Skip(third.copied(), other_fourth), true),
+        (RootEvidence::Fork(third.copied(), third.copied()), false),
+        (RootEvidence::Fork(third.copied(), forged.copied()), false),
+        (RootEvidence::Fork(forged, third.copied()), false),
+        (RootEvidence::Link(fourth.copied(), third.copied()), false),
+        (RootEvidence::Skip(third, fourth), false),
+    ] {
+        let answer = evidence.holds(&mut SumHash::new(), &signer, &signer.public());
+        assert_eq!(rt; answer, holds, "{:?}", evidence);
+    }
 }
