@@ -38,7 +38,7 @@ parts-from roots epoch place point = (
   λ k d a b. ltb-false (get_or roots k d).body.epoch epoch (point.1 k d a b),
 )
 
--- where the place is below the end, its root is the first that is not of an earlier epoch
+-- the root at this place is the first that is of no earlier epoch
 pub missing-at : (roots : List SignedRoot) (epoch place : ℕ) (own : SignedRoot) → Ascend roots → Parts roots epoch place → place < length roots → get_or roots place own ≡ own → own.body.epoch ≢ epoch →
     (key : List ℕ) → IsMissing (record { key = key; roots = roots }) epoch × IsNextAfter (record { key = key; roots = roots }) epoch own
 missing-at roots epoch place own up split p at other key =
@@ -72,10 +72,6 @@ not_named hash one other false is same = ((λ yes. (same, λ hashes. let named :
 pub names_another : (hash : List ℕ → List ℕ) (one other : SignedRoot) (test : Bool) → (IsTrue test ↔ Names hash one other) → test ≡ false → other.body.previous_epoch ≡ one.body.epoch → IsLink hash one other
 names_another hash one other test is failed same = (not_named hash one other test is same).0 (rw failed refl)
 
--- the roots of a chain ascend
-pub ascending : (hash : List ℕ → List ℕ) (verified : List ℕ → List ℕ → List ℕ → Type 0) (chain : KeyedRoots) → IsChain hash verified chain → Ascend chain.roots
-ascending hash verified chain is = ascend-linked hash chain.roots is.linked
-
 -- the first and the last of some roots
 pub record Ends (roots : List SignedRoot) : Type 0 where
   pub first : SignedRoot
@@ -102,17 +98,10 @@ ends (root ∷ roots) some =
 -- the first is not of a later epoch than the last
 pub first-low : (roots : List SignedRoot) (first head : SignedRoot) → Ascend roots → 0 < length roots → slice_get roots 0 ≡ Some first → slice_get roots (length roots - 1) ≡ Some head → first.body.epoch ≤ head.body.epoch
 first-low roots first head up some at last =
-    let one : get_or roots 0 first ≡ first = get_or_from_slice_get roots 0 first first at in
-    let other : get_or roots (length roots - 1) first ≡ head = get_or_from_slice_get roots (length roots - 1) head first last in
-    elim (cases_lt 0 (length roots - 1)) [
-      | inl more ↦ omega (arith, ap (λ (x : SignedRoot). x.body.epoch) one, ap (λ (x : SignedRoot). x.body.epoch) other, up 0 (length roots - 1) first more (omega (arith, some)))
-      | inr alone ↦
-          let e : length roots - 1 ≡ 0 = omega (arith, alone) in
-          omega (arith, ap (λ (x : SignedRoot). x.body.epoch) (sym one ∙ ap (λ n. get_or roots n first) (sym e) ∙ other))
-    ]
+    rw (get_or_from_slice_get roots 0 first first at, get_or_from_slice_get roots (length roots - 1) head first last) at (rising roots up 0 (length roots - 1) first (omega arith) (omega (arith, some)))
 
--- what a split of a chain's roots shows where the epoch is not above the head's: its root, and where this is of a
--- later epoch, that the chain has none of the epoch and that this one is next
+-- if the epoch is not above the head's, the root at this place is the chain's; and if that is of another
+-- epoch, the chain has none of this one, and that root is next
 pub own-facts : (hash : List ℕ → List ℕ) (verified : List ℕ → List ℕ → List ℕ → Type 0) (chain : KeyedRoots) (shown : List SignedRoot) (epoch place : ℕ) (own : SignedRoot) → shown ≡ chain.roots → IsChain hash verified chain →
     Parts shown epoch place → ((head : SignedRoot) → IsHead chain head → epoch ≤ head.body.epoch) → own ≡ get_or shown place own →
     Contains chain.roots own × (own.body.epoch ≢ epoch → IsMissing chain epoch × IsNextAfter chain epoch own)
