@@ -1,0 +1,51 @@
+-- Evidence as JSON (the form is this directory's own).
+use Rattle.std.specs.Prelude.{◌≡◌, ℕ, List, ◌++◌, codes, Option, Some, Result, Ok, Err, option_map, option_and_then, IsUtf8, ⊤}
+use Rattle.auditor.specs.declared.evidence.Evidence.{Evidence}
+use Rattle.hex.specs.Hex.{decode_of, encode_lower}
+use Rattle.serde_json.specs.Data.{Data}
+use Rattle.serde_json.specs.Events.{members_len}
+use Rattle.serde_json.specs.Find.{as_object, as_str, get}
+use Rattle.serde_json.specs.Read.{read}
+use Rattle.audits.specs.declared.fault.ReadFault.{ReadFault}
+use Rattle.audits.specs.declared.fault.ReadFault.TheVariants.{Memory, NotEvidence}
+use Rattle.audits.specs.Parts.{parts_of, HasParts, Parts}
+
+-- one object with no space: its keys are first, kind and second, and the parts are in hex
+unfoldable pub parts_text : Parts → List ℕ
+parts_text parts =
+    codes "{\"first\":\"" ++ (encode_lower parts.first ++ (codes "\",\"kind\":\"" ++ (parts.kind
+    ++ (codes "\",\"second\":\"" ++ (encode_lower parts.second ++ codes "\"}")))))
+
+-- the text of evidence
+abbrev pub evidence_text : Evidence → List ℕ
+evidence_text evidence = parts_text (parts_of evidence)
+
+-- ---- reading
+
+-- the text at a key of a value
+abbrev pub text_at : List ℕ → Data → Option (List ℕ)
+text_at key value = option_and_then as_str (get key value)
+
+-- the text at a key is these bytes in hex, of either case
+abbrev pub HasHex : List ℕ → Data → List ℕ → Type 0
+HasHex key value bytes = option_map decode_of (text_at key value) ≡ Some (Ok bytes)
+
+-- an object of three members: a part in hex at first, the kind at kind, and a part in hex at second
+abbrev pub IsOfParts : Data → Parts → Type 0
+IsOfParts value parts =
+    (option_map members_len (as_object value) ≡ Some 3)
+    × HasHex (codes "first") value parts.first × (text_at (codes "kind") value ≡ Some parts.kind) × HasHex (codes "second") value parts.second
+
+-- a value of JSON is this evidence
+abbrev pub IsEvidenceOf : Data → Evidence → Type 0
+IsEvidenceOf value evidence = (parts : Parts) × IsOfParts value parts × HasParts parts evidence
+
+-- a file is this evidence: it is UTF-8, and `serde_json` reads it as a value that is
+abbrev pub IsFileOf : List ℕ → Evidence → Type 0
+IsFileOf bytes evidence = IsUtf8 bytes × ((value : Data) × (read bytes ≡ Some value) × IsEvidenceOf value evidence)
+
+-- what reading a file answers
+abbrev pub ReadsFile : List ℕ → Result Evidence ReadFault → Type 0
+ReadsFile bytes (Ok evidence) = IsFileOf bytes evidence
+ReadsFile bytes (Err NotEvidence) = (evidence : Evidence) → ¬ IsFileOf bytes evidence
+ReadsFile bytes (Err Memory) = ⊤
