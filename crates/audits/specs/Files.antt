@@ -30,11 +30,14 @@ text_at key value = option_and_then as_str (get key value)
 abbrev pub HasHex : List ℕ → Data → List ℕ → Type 0
 HasHex key value bytes = option_map decode_of (text_at key value) ≡ Some (Ok bytes)
 
+-- an object of three members
+abbrev pub HasThree : Data → Type 0
+HasThree value = option_map members_len (as_object value) ≡ Some 3
+
 -- an object of three members: a part in hex at first, the kind at kind, and a part in hex at second
 abbrev pub IsOfParts : Data → Parts → Type 0
 IsOfParts value parts =
-    (option_map members_len (as_object value) ≡ Some 3)
-    × HasHex (codes "first") value parts.first × (text_at (codes "kind") value ≡ Some parts.kind) × HasHex (codes "second") value parts.second
+    HasThree value × HasHex (codes "first") value parts.first × (text_at (codes "kind") value ≡ Some parts.kind) × HasHex (codes "second") value parts.second
 
 -- a value of JSON is this evidence
 abbrev pub IsEvidenceOf : Data → Evidence → Type 0
@@ -44,8 +47,9 @@ IsEvidenceOf value evidence = (parts : Parts) × IsOfParts value parts × HasPar
 abbrev pub IsFileOf : List ℕ → Evidence → Type 0
 IsFileOf bytes evidence = IsUtf8 bytes × ((value : Data) × (read bytes ≡ Some value) × IsEvidenceOf value evidence)
 
--- what reading a file answers
-abbrev pub ReadsFile : List ℕ → Result Evidence ReadFault → Type 0
-ReadsFile bytes (Ok evidence) = IsFileOf bytes evidence
-ReadsFile bytes (Err NotEvidence) = (evidence : Evidence) → ¬ IsFileOf bytes evidence
-ReadsFile bytes (Err Memory) = ⊤
+-- What a call answers that looks for something: one that is so, or that there is none, or want of memory. The
+-- first argument gives what was found from what was returned.
+abbrev pub Finds : {X A : Type 0} → (X → A) → (A → Type 0) → Result X ReadFault → Type 0
+Finds seen Is (Ok x) = Is (seen x)
+Finds {A = A} seen Is (Err NotEvidence) = (y : A) → ¬ Is y
+Finds seen Is (Err Memory) = ⊤

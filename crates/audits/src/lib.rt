@@ -12,7 +12,9 @@
 #![tactic(auto)]
 
 mod fault;
+mod reading;
 mod writing;
 
 pub use fault::ReadFault;
+pub use reading::read_evidence;
 pub use writing::evidence_json;
