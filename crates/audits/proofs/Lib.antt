@@ -1,4 +1,4 @@
 pub mod Files
+pub mod Forms
 pub mod Found
 pub mod Parts
-pub mod Sizes

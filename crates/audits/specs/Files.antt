@@ -1,5 +1,5 @@
 -- Evidence as JSON (the form is this directory's own).
-use Rattle.std.specs.Prelude.{◌≡◌, ℕ, List, ◌++◌, codes, Option, Some, Result, Ok, Err, option_map, option_and_then, IsUtf8, ⊤}
+use Rattle.std.specs.Prelude.{◌≡◌, ℕ, List, ◌++◌, codes, Option, Some, Result, Ok, Err, option_map, option_and_then, IsUtf8, MatchResult, ⊤}
 use Rattle.auditor.specs.declared.evidence.Evidence.{Evidence}
 use Rattle.hex.specs.Hex.{decode_of, encode_lower}
 use Rattle.serde_json.specs.Data.{Data}
@@ -8,7 +8,7 @@ use Rattle.serde_json.specs.Find.{as_object, as_str, get}
 use Rattle.serde_json.specs.Read.{read}
 use Rattle.audits.specs.declared.fault.ReadFault.{ReadFault}
 use Rattle.audits.specs.declared.fault.ReadFault.TheVariants.{Memory, NotEvidence}
-use Rattle.audits.specs.Parts.{parts_of, HasParts, Parts}
+use Rattle.audits.specs.Parts.{parts_of, HasParts, IsFormed, Parts}
 
 -- one object with no space: its keys are first, kind and second, and the parts are in hex
 unfoldable pub parts_text : Parts → List ℕ
@@ -43,9 +43,13 @@ IsOfParts value parts =
 abbrev pub IsEvidenceOf : Data → Evidence → Type 0
 IsEvidenceOf value evidence = (parts : Parts) × IsOfParts value parts × HasParts parts evidence
 
--- a file is this evidence: it is UTF-8, and `serde_json` reads it as a value that is
+-- a file is UTF-8, and `serde_json` reads it as this value
+abbrev pub IsJson : List ℕ → Data → Type 0
+IsJson bytes value = IsUtf8 bytes × (read bytes ≡ Some value)
+
+-- a file is this evidence
 abbrev pub IsFileOf : List ℕ → Evidence → Type 0
-IsFileOf bytes evidence = IsUtf8 bytes × ((value : Data) × (read bytes ≡ Some value) × IsEvidenceOf value evidence)
+IsFileOf bytes evidence = (value : Data) × IsJson bytes value × IsEvidenceOf value evidence
 
 -- What a call answers that looks for something: one that is so, or that there is none, or want of memory. The
 -- first argument gives what was found from what was returned.
@@ -53,3 +57,7 @@ abbrev pub Finds : {X A : Type 0} → (X → A) → (A → Type 0) → Result X 
 Finds seen Is (Ok x) = Is (seen x)
 Finds {A = A} seen Is (Err NotEvidence) = (y : A) → ¬ Is y
 Finds seen Is (Err Memory) = ⊤
+
+-- what was written of well-formed evidence is read as that evidence, unless memory runs out
+abbrev pub ReadsAgain : List ℕ → Result Evidence ReadFault → Type 0
+ReadsAgain bytes result = (evidence : Evidence) → IsFormed evidence → bytes ≡ evidence_text evidence → MatchResult result (λ read. read ≡ evidence) (λ fault. fault ≡ Memory)

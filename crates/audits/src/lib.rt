@@ -12,9 +12,11 @@
 #![tactic(auto)]
 
 mod fault;
+mod laws;
 mod reading;
 mod writing;
 
 pub use fault::ReadFault;
+pub use laws::{file_is_one_evidence, text_is_file};
 pub use reading::read_evidence;
 pub use writing::evidence_json;

@@ -1,6 +1,6 @@
 ghost use Rattle.std.specs.Prelude.{◌≡◌, ◌↔◌, option_map, IsTrue};
 ghost use Rattle.serde_json.specs.View.{view};
-ghost use Rattle.audits.specs.Files.{text_at, Finds, HasHex, HasThree, IsEvidenceOf, IsFileOf};
+ghost use Rattle.audits.specs.Files.{text_at, Finds, HasHex, HasThree, IsEvidenceOf, IsFileOf, IsJson, ReadsAgain};
 ghost use Rattle.audits.specs.Parts.{HasParts};
 ghost use Rattle.audits.specs.Steps.{AreRoots, IsBroken, IsProof, IsRootWithProof};
 
@@ -134,6 +134,17 @@ fn of_value(alloc: Global, value: &Value) -> Result<Evidence, ReadFault>
     of_parts(&first, kind, &second)
 }
 
+/// The value of JSON that a file is.
+fn parsed(alloc: Global, bytes: &[u8]) -> Result<Value, ReadFault>
+    ensures { Finds view (IsJson bytes.now) result }
+{
+    match Value::from_slice(alloc, bytes) {
+        Ok(value) => Ok(value),
+        Err(fault) if fault.is_memory() => Err(ReadFault::Memory),
+        Err(_) => Err(ReadFault::NotEvidence),
+    }
+}
+
 /// The evidence of a file: one JSON object of the keys `first`, `kind` and `second`, in any order, with
 /// hexadecimal digits of either case. Of a key that is given twice, the last counts.
 ///
@@ -141,11 +152,9 @@ fn of_value(alloc: Global, value: &Value) -> Result<Evidence, ReadFault>
 ///
 /// `NotEvidence` where the file is not of this form; `Memory`.
 pub fn read_evidence(alloc: Global, bytes: &[u8]) -> Result<Evidence, ReadFault>
-    ensures { Finds (λ evidence. evidence) (IsFileOf bytes.now) result }
+    ensures exact { Finds (λ evidence. evidence) (IsFileOf bytes.now) result }
+    ensures again { ReadsAgain bytes.now result }
 {
-    match Value::from_slice(alloc, bytes) {
-        Ok(value) => of_value(alloc, &value),
-        Err(fault) if fault.is_memory() => Err(ReadFault::Memory),
-        Err(_) => Err(ReadFault::NotEvidence),
-    }
+    let value = parsed(alloc, bytes)?;
+    of_value(alloc, &value)
 }

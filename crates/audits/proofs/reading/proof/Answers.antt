@@ -1,6 +1,6 @@
 use Rattle.std.proofs.Common.{sym, ap, ◌∙◌, ◌≡◌, ◌+◌, ◌≤◌, length, arith, lit≤}
 use Rattle.audits.proofs.Found.{no_reply, some_reply}
-use Rattle.audits.proofs.Sizes.{length-reply_bytes}
+use Rattle.audits.proofs.Forms.{length-reply_bytes}
 use Rattle.audits.proofs.reading.proof.Goals as goal
 
 pub returns-then-is_err : goal.returns-then-is_err
