@@ -20,3 +20,6 @@ pub use fault::ReadFault;
 pub use laws::{file_is_one_evidence, text_is_file};
 pub use reading::read_evidence;
 pub use writing::evidence_json;
+
+#[cfg(test)]
+mod tests;
