@@ -273,3 +273,17 @@ for name, kind, body in frames:
     print(f"frame of kind {kind:02x}, {name}: {frame(kind, body).hex()}")
 longest_roots = (64).to_bytes(2, "big") + (frame_root_body + counted(bytes(256))) * 64
 print(f"frame of 64 roots: {len(frame(0x83, longest_roots))} bytes")
+
+
+# Evidence as JSON: two roots that differ in their nonces, and a promise with a root and a reply.
+def evidence(first, kind, second):
+    return f'{{"first":"{first.hex()}","kind":"{kind}","second":"{second.hex()}"}}'
+
+
+other_body = b"R\x01" + epoch(7) + epoch(3) + run(0x20) + run(0x40) + run(0xA0) + run(0x80)
+other_root = other_body + counted(b"s")
+short_reply = other_body + counted(b"v") + b"\x02" + bytes(2)
+for kind in ["fork", "link", "skip"]:
+    print(f"evidence: {evidence(frame_root, kind, other_root)}")
+signed_promise = frame_promise + counted(b"s")
+print(f"evidence: {evidence(signed_promise, 'broken-promise', other_root + short_reply)}")

@@ -1,0 +1,4 @@
+pub mod Files
+pub mod Forms
+pub mod Found
+pub mod Parts

@@ -1,0 +1,106 @@
+-- What evidence of some parts is made of.
+use Rattle.std.proofs.Common.{◌≡◌, ◌≢◌, ℕ, List, [], ◌++◌, ◌==◌, codes, slice_index, true, false, true≢false, eq-eqb, refl, sym, ap, ap₂, subst, ◌∙◌}
+use Rattle.encoding.proofs.Fields.{one_spelling}
+use Rattle.auditor.specs.declared.evidence.Evidence.{Evidence}
+use Rattle.auditor.specs.declared.evidence.Evidence.TheVariants.{Root, Broken}
+use Rattle.proofs.specs.Replies.{Spells}
+use Rattle.rootchain.specs.declared.evidence.RootEvidence.TheVariants.{Fork, Link, Skip}
+use Rattle.rootchain.specs.declared.signed_root.SignedRoot.{SignedRoot}
+use Rattle.rootchain.specs.Readable.{signed_promise_field, signed_root_field}
+use Rattle.rootchain.specs.declared.signed_promise.SignedPromise.{SignedPromise}
+use Rattle.rootchain.specs.Promises.{read_signed_promise, signed_promise_bytes, IsSignedPromise}
+use Rattle.proofs.specs.declared.broken_promise.BrokenPromise.{BrokenPromise}
+use Rattle.encoding.specs.Bytes.{IsBytes}
+use Rattle.encoding.proofs.ByteLists.{IsBytes-append}
+use Rattle.json.specs.Print.{escape, escape_byte}
+use Rattle.json.proofs.Printed.Utf8.{are_ascii}
+use Rattle.audits.proofs.Forms.{IsBytes-reply_bytes, IsBytes-signed_promise_bytes, IsBytes-signed_root_bytes}
+use Rattle.rootchain.specs.SignedRoots.{read_signed_root, signed_root_bytes, IsSignedRoot}
+use Rattle.audits.specs.Parts.{parts_of, HasParts, IsFormed, Parts}
+use Rattle.audits.specs.Steps.{AreRoots, IsProof, IsRootWithProof}
+
+-- evidence of another kind than a broken promise is two roots
+pub roots_of : (first kind second : List ℕ) (evidence : Evidence) → kind ≢ codes "broken-promise" → HasParts (record { first = first; kind = kind; second = second }) evidence
+    → (roots : SignedRoot × SignedRoot) × AreRoots first second roots
+roots_of first kind second (Root (Fork one other)) no_promise h =
+    ((one, other), ((sym (ap (λ (p : Parts). p.first) h.0), h.1.0), (sym (ap (λ (p : Parts). p.second) h.0), h.1.1)))
+roots_of first kind second (Root (Link one other)) no_promise h =
+    ((one, other), ((sym (ap (λ (p : Parts). p.first) h.0), h.1.0), (sym (ap (λ (p : Parts). p.second) h.0), h.1.1)))
+roots_of first kind second (Root (Skip one other)) no_promise h =
+    ((one, other), ((sym (ap (λ (p : Parts). p.first) h.0), h.1.0), (sym (ap (λ (p : Parts). p.second) h.0), h.1.1)))
+roots_of first kind second (Broken broken) no_promise h = absurd (no_promise (sym (ap (λ (p : Parts). p.kind) h.0)))
+
+-- what follows a root is one proof
+pub proof_after : (bytes : List ℕ) (root : SignedRoot) (rest : List ℕ) → bytes ≡ signed_root_bytes root ++ rest → IsSignedRoot root
+    → (pair : SignedRoot × List ℕ) → IsRootWithProof bytes pair → (proof : List ℕ) × IsProof rest proof
+proof_after bytes root rest e formed pair is =
+    let same = one_spelling read_signed_root signed_root_bytes IsSignedRoot signed_root_field pair.0 root pair.1 rest is.1 formed (sym is.0 ∙ e) in
+    (pair.1, (same.1, (is.2.0, subst (λ (text : List ℕ). Spells text is.2.0) same.1 is.2.1)))
+
+-- two roots that are spelled alike
+same_root : (one other : SignedRoot) → IsSignedRoot one → IsSignedRoot other → signed_root_bytes one ≡ signed_root_bytes other → one ≡ other
+same_root one other p q e =
+    (one_spelling read_signed_root signed_root_bytes IsSignedRoot signed_root_field one other [] [] p q (ap (λ (t : List ℕ). t ++ []) e)).0
+
+same_promise : (one other : SignedPromise) → IsSignedPromise one → IsSignedPromise other → signed_promise_bytes one ≡ signed_promise_bytes other → one ≡ other
+same_promise one other p q e =
+    (one_spelling read_signed_promise signed_promise_bytes IsSignedPromise signed_promise_field one other [] [] p q (ap (λ (t : List ℕ). t ++ []) e)).0
+
+same_broken : (one other : BrokenPromise) → IsFormed (Broken one) → IsFormed (Broken other) → parts_of (Broken one) ≡ parts_of (Broken other) → one ≡ other
+same_broken one other p q e =
+    let second = one_spelling read_signed_root signed_root_bytes IsSignedRoot signed_root_field one.root other.root one.proof other.proof p.1 q.1 (ap (λ (parts : Parts). parts.second) e) in
+    let promise = same_promise one.promise other.promise p.0 q.0 (ap (λ (parts : Parts). parts.first) e) in
+    let P : SignedPromise → BrokenPromise = λ x. record { promise = x; root = one.root; proof = one.proof } in
+    let Q : SignedRoot → BrokenPromise = λ x. record { promise = other.promise; root = x; proof = one.proof } in
+    let R : List ℕ → BrokenPromise = λ x. record { promise = other.promise; root = other.root; proof = x } in
+    ap P promise ∙ ap Q second.0 ∙ ap R second.1
+
+-- kinds differ in their first letters
+abbrev first_letter : Parts → ℕ
+first_letter parts = slice_index parts.kind 0
+
+apart : (m n : ℕ) → (m == n) ≡ false → m ≡ n → ⊥
+apart m n other same = true≢false (sym (eq-eqb m n same) ∙ other)
+
+-- well-formed evidence of the same parts is the same
+pub same_evidence : (one other : Evidence) → IsFormed one → IsFormed other → parts_of one ≡ parts_of other → one ≡ other
+same_evidence (Root (Fork a b)) (Root (Fork c d)) p q e =
+    ap₂ (λ x y. Root (Fork x y)) (same_root a c p.0 q.0 (ap (λ (parts : Parts). parts.first) e)) (same_root b d p.1 q.1 (ap (λ (parts : Parts). parts.second) e))
+same_evidence (Root (Link a b)) (Root (Link c d)) p q e =
+    ap₂ (λ x y. Root (Link x y)) (same_root a c p.0 q.0 (ap (λ (parts : Parts). parts.first) e)) (same_root b d p.1 q.1 (ap (λ (parts : Parts). parts.second) e))
+same_evidence (Root (Skip a b)) (Root (Skip c d)) p q e =
+    ap₂ (λ x y. Root (Skip x y)) (same_root a c p.0 q.0 (ap (λ (parts : Parts). parts.first) e)) (same_root b d p.1 q.1 (ap (λ (parts : Parts). parts.second) e))
+same_evidence (Broken a) (Broken b) p q e = ap Broken (same_broken a b p q e)
+same_evidence (Broken a) (Root (Fork c d)) p q e = absurd (apart 98 102 refl (ap first_letter e))
+same_evidence (Broken a) (Root (Link c d)) p q e = absurd (apart 98 108 refl (ap first_letter e))
+same_evidence (Broken a) (Root (Skip c d)) p q e = absurd (apart 98 115 refl (ap first_letter e))
+same_evidence one other p q e = absurd (apart (first_letter (parts_of one)) (first_letter (parts_of other)) refl (ap first_letter e))
+
+-- the parts of well-formed evidence are bytes
+pub IsBytes-first : (evidence : Evidence) → IsFormed evidence → IsBytes (parts_of evidence).first
+IsBytes-first (Root (Fork one other)) h = IsBytes-signed_root_bytes one h.0
+IsBytes-first (Root (Link one other)) h = IsBytes-signed_root_bytes one h.0
+IsBytes-first (Root (Skip one other)) h = IsBytes-signed_root_bytes one h.0
+IsBytes-first (Broken broken) h = IsBytes-signed_promise_bytes broken.promise h.0
+
+pub IsBytes-second : (evidence : Evidence) → IsFormed evidence → IsBytes (parts_of evidence).second
+IsBytes-second (Root (Fork one other)) h = IsBytes-signed_root_bytes other h.1
+IsBytes-second (Root (Link one other)) h = IsBytes-signed_root_bytes other h.1
+IsBytes-second (Root (Skip one other)) h = IsBytes-signed_root_bytes other h.1
+IsBytes-second (Broken broken) h =
+    IsBytes-append (signed_root_bytes broken.root) broken.proof (IsBytes-signed_root_bytes broken.root h.1)
+    (subst IsBytes (sym h.2.1.0) (IsBytes-reply_bytes h.2.0 h.2.1.1))
+
+-- kinds have no character that JSON escapes
+pub escape-kind : (evidence : Evidence) → escape (parts_of evidence).kind ≡ (parts_of evidence).kind
+unfolding escape_byte
+escape-kind (Root (Fork one other)) = refl
+escape-kind (Root (Link one other)) = refl
+escape-kind (Root (Skip one other)) = refl
+escape-kind (Broken broken) = refl
+
+pub are_ascii-kind : (evidence : Evidence) → are_ascii (parts_of evidence).kind ≡ true
+are_ascii-kind (Root (Fork one other)) = refl
+are_ascii-kind (Root (Link one other)) = refl
+are_ascii-kind (Root (Skip one other)) = refl
+are_ascii-kind (Broken broken) = refl

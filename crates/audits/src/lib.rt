@@ -1,0 +1,25 @@
+//! Evidence against a provider as JSON: one file for each, which anybody can judge. After CONIKS,
+//! section 4; the form of the file is this directory's own.
+//!
+//! To the layers above: `evidence_json` writes exactly the definition's bytes, and `read_evidence` reads
+//! exactly the files of evidence, so what was written is read again. White space, the keys in another
+//! order and hexadecimal digits in upper case are read too.
+//!
+//! ```text
+//! let file = evidence_json(alloc, &evidence)?;
+//! let again = read_evidence(alloc, file.as_bytes())?;
+//! ```
+#![tactic(auto)]
+
+mod fault;
+mod laws;
+mod reading;
+mod writing;
+
+pub use fault::ReadFault;
+pub use laws::{file_is_one_evidence, text_is_file};
+pub use reading::read_evidence;
+pub use writing::evidence_json;
+
+#[cfg(test)]
+mod tests;

@@ -1,0 +1,59 @@
+ghost use Rattle.std.specs.Prelude.{◌≡◌, ◌++◌, string_bytes, IfOk};
+ghost use Rattle.rootchain.specs.SignedRoots.{signed_root_bytes};
+ghost use Rattle.audits.specs.Files.{evidence_text, parts_text};
+
+use auditor::Evidence;
+use encoding::{FixedText, ProofText};
+use rootchain::{RootEvidence, SignedRoot};
+use std::alloc::{AllocError, Global};
+
+/// The room of a signed root, 404 bytes, and a proof.
+const ROOT_AND_PROOF: usize = 11_104;
+
+/// The object of a kind and two parts.
+#[tactic(auto, unfolding(crate::specs::Files::parts_text))]
+fn object(alloc: Global, first: &[u8], kind: &str, second: &[u8]) -> Result<String, AllocError>
+    ensures { IfOk result (λ text. string_bytes text ≡ parts_text (record { first = first.now; kind = kind.now; second = second.now })) }
+{
+    let first = hex::encode(alloc, first)?;
+    let second = hex::encode(alloc, second)?;
+    format!(in alloc; "{{\"first\":\"{first}\",\"kind\":\"{kind}\",\"second\":\"{second}\"}}")
+}
+
+fn roots(
+    alloc: Global,
+    one: &SignedRoot,
+    kind: &str,
+    other: &SignedRoot,
+) -> Result<String, AllocError>
+    ensures { IfOk result (λ text. string_bytes text
+        ≡ parts_text (record { first = signed_root_bytes one.now; kind = kind.now; second = signed_root_bytes other.now })) }
+{
+    object(alloc, one.write().bytes(), kind, other.write().bytes())
+}
+
+fn root_and_proof(root: &SignedRoot, proof: &ProofText) -> FixedText<ROOT_AND_PROOF>
+    ensures { result ≡ signed_root_bytes root.now ++ proof.now }
+{
+    let mut text = FixedText::new();
+    text.push_slice(root.write().bytes());
+    text.push_slice(proof.bytes());
+    text
+}
+
+/// Evidence as one JSON object with no space, its keys in alphabetical order, hexadecimal digits in lower
+/// case.
+pub fn evidence_json(alloc: Global, evidence: &Evidence) -> Result<String, AllocError>
+    ensures { IfOk result (λ text. string_bytes text ≡ evidence_text evidence.now) }
+{
+    match evidence {
+        Evidence::Root(RootEvidence::Fork(one, other)) => roots(alloc, one, "fork", other),
+        Evidence::Root(RootEvidence::Link(one, other)) => roots(alloc, one, "link", other),
+        Evidence::Root(RootEvidence::Skip(one, other)) => roots(alloc, one, "skip", other),
+        Evidence::Broken(broken) => {
+            let second = root_and_proof(&broken.root, &broken.proof);
+            let first = broken.promise.write();
+            object(alloc, first.bytes(), "broken-promise", second.bytes())
+        }
+    }
+}
