@@ -33,6 +33,7 @@ fn root_and_proof(bytes: &[u8]) -> Result<(SignedRoot, ProofText), ReadFault>
     let Ok(root) = SignedRoot::read_from(&mut cursor) else {
         return Err(ReadFault::NotEvidence);
     };
+    // A root has one spelling, so this many bytes were read.
     let (_, rest) = bytes.split_at(root.write().bytes().len());
     let proof = proof(rest)?;
     Ok((root, proof))
