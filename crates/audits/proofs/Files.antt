@@ -21,7 +21,7 @@ use Rattle.serde_json.specs.Read.{of_json, read, max_depth}
 use Rattle.serde_json.specs.Written.{compact_text, outline}
 use Rattle.serde_json.proofs.Texts.{print-outline}
 use Rattle.audits.specs.declared.fault.ReadFault.{ReadFault}
-use Rattle.audits.specs.declared.fault.ReadFault.TheVariants.{Memory, NotEvidence}
+use Rattle.audits.specs.declared.fault.ReadFault.TheVariants.{NotEvidence, OutOfMemory}
 use Rattle.audits.specs.Files.{evidence_text, parts_text, Finds, IsEvidenceOf, IsFileOf, IsOfParts, ReadsAgain}
 use Rattle.audits.specs.Parts.{parts_of, IsFormed, Parts}
 use Rattle.audits.proofs.Parts.{are_ascii-kind, escape-kind, same_evidence, IsBytes-first, IsBytes-second}
@@ -134,4 +134,4 @@ one_evidence bytes one other p q =
 pub read_again : (bytes : List ℕ) (r : Result Evidence ReadFault) → Finds (λ evidence. evidence) (IsFileOf bytes) r → ReadsAgain bytes r
 read_again bytes (Ok read) found = λ evidence formed text. one_evidence bytes read evidence found (subst (λ (t : List ℕ). IsFileOf t evidence) (sym text) (text_is_file evidence formed))
 read_again bytes (Err NotEvidence) none = λ evidence formed text. absurd (none evidence (subst (λ (t : List ℕ). IsFileOf t evidence) (sym text) (text_is_file evidence formed)))
-read_again bytes (Err Memory) _ = λ evidence formed text. refl
+read_again bytes (Err OutOfMemory) _ = λ evidence formed text. refl

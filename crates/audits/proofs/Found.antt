@@ -6,7 +6,7 @@ use Rattle.proofs.specs.declared.refusal.Refusal.TheVariants.{Malformed, Trailin
 use Rattle.proofs.specs.Refusals.{ReadsReply}
 use Rattle.proofs.specs.Replies.{Reply, Spells}
 use Rattle.audits.specs.declared.fault.ReadFault.{ReadFault}
-use Rattle.audits.specs.declared.fault.ReadFault.TheVariants.{Memory, NotEvidence}
+use Rattle.audits.specs.declared.fault.ReadFault.TheVariants.{NotEvidence, OutOfMemory}
 use Rattle.serde_json.specs.Data.{Data, Members}
 use Rattle.serde_json.specs.Events.{members_len}
 use Rattle.serde_json.specs.Find.{as_object}
@@ -16,14 +16,14 @@ use Rattle.audits.specs.Files.{Finds, HasThree}
 pub refused : {A B : Type 0} (Is : A → Type 0) (IsWhole : B → Type 0) (fault : ReadFault)
     → ((y : B) → IsWhole y → (x : A) × Is x) → Finds {X = A} (λ x. x) Is (Err fault) → Finds {X = B} (λ y. y) IsWhole (Err fault)
 refused Is IsWhole NotEvidence part none = λ y whole. let x = part y whole in none x.0 x.1
-refused Is IsWhole Memory part none = tt
+refused Is IsWhole OutOfMemory part none = tt
 
 -- what is found of one is found of the same
 pub found : {X A : Type 0} (seen : X → A) (Is IsToo : A → Type 0) → ((y : A) → Is y → IsToo y) → ((y : A) → IsToo y → Is y)
     → (r : Result X ReadFault) → Finds seen Is r → Finds seen IsToo r
 found seen Is IsToo to back (Ok x) h = to (seen x) h
 found seen Is IsToo to back (Err NotEvidence) h = λ y is. h y (back y is)
-found seen Is IsToo to back (Err Memory) h = tt
+found seen Is IsToo to back (Err OutOfMemory) h = tt
 
 -- bytes that are refused spell no reply
 pub no_reply : (bytes : List ℕ) (r : Result Reply Refusal) → ReadsReply bytes r → is_err r ≡ true → (reply : Reply) → ¬ Spells bytes reply

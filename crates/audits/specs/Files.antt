@@ -7,7 +7,7 @@ use Rattle.serde_json.specs.Events.{members_len}
 use Rattle.serde_json.specs.Find.{as_object, as_str, get}
 use Rattle.serde_json.specs.Read.{read}
 use Rattle.audits.specs.declared.fault.ReadFault.{ReadFault}
-use Rattle.audits.specs.declared.fault.ReadFault.TheVariants.{Memory, NotEvidence}
+use Rattle.audits.specs.declared.fault.ReadFault.TheVariants.{NotEvidence, OutOfMemory}
 use Rattle.audits.specs.Parts.{parts_of, HasParts, IsFormed, Parts}
 
 -- one object with no space: its keys are first, kind and second, and the parts are in hex
@@ -56,8 +56,8 @@ IsFileOf bytes evidence = (value : Data) × IsJson bytes value × IsEvidenceOf v
 abbrev pub Finds : {X A : Type 0} → (X → A) → (A → Type 0) → Result X ReadFault → Type 0
 Finds seen Is (Ok x) = Is (seen x)
 Finds {A = A} seen Is (Err NotEvidence) = (y : A) → ¬ Is y
-Finds seen Is (Err Memory) = ⊤
+Finds seen Is (Err OutOfMemory) = ⊤
 
 -- what was written of well-formed evidence is read as that evidence, unless memory runs out
 abbrev pub ReadsAgain : List ℕ → Result Evidence ReadFault → Type 0
-ReadsAgain bytes result = (evidence : Evidence) → IsFormed evidence → bytes ≡ evidence_text evidence → MatchResult result (λ read. read ≡ evidence) (λ fault. fault ≡ Memory)
+ReadsAgain bytes result = (evidence : Evidence) → IsFormed evidence → bytes ≡ evidence_text evidence → MatchResult result (λ read. read ≡ evidence) (λ fault. fault ≡ OutOfMemory)

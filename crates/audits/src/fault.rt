@@ -9,16 +9,16 @@ pub enum ReadFault {
     #[error("not an evidence file")]
     NotEvidence,
     #[error("out of memory")]
-    Memory,
+    OutOfMemory,
 }
 
 impl From<AllocError> for ReadFault {
     ghost use Rattle.std.specs.Prelude.{◌≡◌};
-    ghost use Rattle.audits.specs.declared.fault.ReadFault.TheVariants.{Memory};
+    ghost use Rattle.audits.specs.declared.fault.ReadFault.TheVariants.{OutOfMemory};
 
-    ghost from_gives = { λ _ fault. fault ≡ Memory };
+    ghost from_gives = { λ _ fault. fault ≡ OutOfMemory };
 
     fn from(_: AllocError) -> Self {
-        ReadFault::Memory
+        ReadFault::OutOfMemory
     }
 }

@@ -105,7 +105,7 @@ fn hex_at(alloc: Global, value: &Value, key: &str) -> Result<Vec<u8>, ReadFault>
     };
     match hex::decode(alloc, text) {
         Ok(bytes) => Ok(bytes),
-        Err(FromHexError::OutOfMemory) => Err(ReadFault::Memory),
+        Err(FromHexError::OutOfMemory) => Err(ReadFault::OutOfMemory),
         Err(_) => Err(ReadFault::NotEvidence),
     }
 }
@@ -141,7 +141,7 @@ fn parsed(alloc: Global, bytes: &[u8]) -> Result<Value, ReadFault>
 {
     match Value::from_slice(alloc, bytes) {
         Ok(value) => Ok(value),
-        Err(fault) if fault.is_memory() => Err(ReadFault::Memory),
+        Err(fault) if fault.is_memory() => Err(ReadFault::OutOfMemory),
         Err(_) => Err(ReadFault::NotEvidence),
     }
 }
@@ -151,7 +151,7 @@ fn parsed(alloc: Global, bytes: &[u8]) -> Result<Value, ReadFault>
 ///
 /// # Errors
 ///
-/// `NotEvidence` where the file is not of this form; `Memory`.
+/// `NotEvidence` where the file is not of this form; `OutOfMemory`.
 pub fn read_evidence(alloc: Global, bytes: &[u8]) -> Result<Evidence, ReadFault>
     ensures exact { Finds (λ evidence. evidence) (IsFileOf bytes.now) result }
     ensures again { ReadsAgain bytes.now result }

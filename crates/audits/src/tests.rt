@@ -100,7 +100,7 @@ fn is_refused(alloc: Global, file: &[u8]) -> Result<bool, ReadFault> {
     match read_evidence(alloc, file) {
         Ok(_) => Ok(false),
         Err(ReadFault::NotEvidence) => Ok(true),
-        Err(ReadFault::Memory) => Err(ReadFault::Memory),
+        Err(ReadFault::OutOfMemory) => Err(ReadFault::OutOfMemory),
     }
 }
 
