@@ -1,5 +1,5 @@
 -- When a reply contradicts a promise.
-use Rattle.std.proofs.Common.{◌≡◌, ◌≢◌, ◌↔◌, ℕ, Bool, true, false, not, List, Option, Some, IsTrue, refl, sym, subst, ◌∙◌}
+use Rattle.std.proofs.Common.{◌≡◌, ◌≢◌, ◌↔◌, ℕ, Bool, true, false, not, List, Some, IsTrue, refl, sym, subst, ◌∙◌}
 use Rattle.rootchain.specs.declared.body.Body.{Body}
 use Rattle.rootchain.specs.declared.promise.Promise.{Promise}
 use Rattle.proofs.specs.declared.refusal.Refusal.{Refusal}

@@ -1,14 +1,13 @@
 -- Chains at their keys: what is put in or replaced is found, other chains stay, and each is at its own key.
-use Rattle.std.proofs.Common.{◌≡◌, ◌≢◌, ℕ, List, [], ◌∷◌, ◌++◌, Bool, true, false, cond, Option, Some, None, Result, Ok, Err, All, Contains, IfSome, IfErr, IfOk, IsSome, OnErr, refl, sym, ap, subst, ◌∙◌, inl, inr}
+use Rattle.std.proofs.Common.{◌≡◌, ◌≢◌, ℕ, List, [], ◌∷◌, Bool, true, false, cond, Option, Some, Result, Ok, Err, IfSome, IfErr, IfOk, OnErr, refl, sym, ap, subst, ◌∙◌, inr}
 use Rattle.std.specs.BTreeMap.{insert_entry, is_at}
-use Rattle.std.specs.List.{AllByRecursion}
-use Rattle.std.specs.Map.{lookup, set_value}
+use Rattle.std.specs.Map.{set_value}
 use Rattle.std.specs.Ordering.{match_ordering}
 use Rattle.std.specs.declared.cmp.Ordering.{Ordering}
 use Rattle.std.specs.declared.cmp.Ordering.TheVariants.{Less, Equal, Greater}
 use Rattle.std.proofs.lemmas.Map.Steps.{set_value_same}
 use Rattle.std.proofs.lemmas.List.Elements.{All-contains, All-from_recursion, All-push}
-use Rattle.prefixtree.proofs.Entries.{at_put_other, at_put_same, is_name, is_no_name}
+use Rattle.prefixtree.proofs.Entries.{at_put_other, at_put_same, is_name}
 use Rattle.prefixtree.proofs.Order.{same-equal}
 use Rattle.rootchain.specs.declared.chain.placing.Place.{Place}
 use Rattle.rootchain.specs.declared.chain.placing.Place.TheVariants.{Known, Evidence, Next, Ahead, BeforeStart}

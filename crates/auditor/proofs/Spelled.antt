@@ -1,5 +1,5 @@
 -- What holds of a root and of all roots of a chain holds of both roots of the evidence that they give.
-use Rattle.std.proofs.Common.{ℕ, ◌<◌, ◌≤◌, List, length, Contains, inl, inr}
+use Rattle.std.proofs.Common.{ℕ, ◌<◌, List, length, Contains, inl, inr}
 use Rattle.std.proofs.lemmas.Bool.{cases_lt}
 use Rattle.rootchain.specs.declared.chain.placing.Place.{Place}
 use Rattle.rootchain.specs.declared.chain.placing.Place.TheVariants.{Known, Evidence, Next, Ahead, BeforeStart}

@@ -8,3 +8,6 @@ mod judging;
 pub use auditor::{Auditor, Observed};
 pub use evidence::Evidence;
 pub use judging::judge;
+
+#[cfg(test)]
+mod tests;

@@ -1,4 +1,4 @@
-use Rattle.std.proofs.Common.{◌≡◌, ◌↔◌, IsTrue, Some, ◌∙◌, refl, sym, rules}
+use Rattle.std.proofs.Common.{◌≡◌, ◌↔◌, IsTrue, Some, ◌∙◌, refl, sym}
 use Rattle.proofs.specs.Accepts.{stated}
 use Rattle.rootchain.proofs.Chains.{same-hashes}
 use Rattle.auditor.proofs.Contradicting.{against_unless, other_never, refused_never}
@@ -15,7 +15,7 @@ pub returns-else-eq : goal.returns-else-eq
 returns-else-eq g c = (
   λ is. let no : c.eq.result ≡ _ = c.if-eq.false in absurd cc,
   λ against. absurd (other_never g.H.NodeHash.digest_of g.V.VufCheck.accepted c.args.promise.now c.args.body.now c.args.bytes.now c.in-Ok.reply.reply c.in-Ok.ensures.accepted
-  (λ same. let yes = (same-hashes c.eq.result c.index.result c.args.promise.now.index c.args.promise.now.index c.eq.ensures refl).1 (c.index.ensures ∙ same) in let no = c.if-eq.false in cc) against),
+      (λ same. let yes = (same-hashes c.eq.result c.index.result c.args.promise.now.index c.args.promise.now.index c.eq.ensures refl).1 (c.index.ensures ∙ same) in let no = c.if-eq.false in cc) against),
 )
 
 pub returns-in-Err : goal.returns-in-Err

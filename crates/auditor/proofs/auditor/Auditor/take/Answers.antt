@@ -1,7 +1,6 @@
-use Rattle.std.proofs.Common.{rules, ◌≡◌, Some, IfSome, ap, subst, sym, ◌∙◌}
+use Rattle.std.proofs.Common.{rules, ◌≡◌, Some}
 use Rattle.std.specs.BTreeMap.{is_at}
 use Rattle.std.specs.Map.{set_value}
-use Rattle.rootchain.specs.Chains.{KeyedRoots}
 use Rattle.auditor.specs.Chains.{IsHeld, chain_of, key_cmp}
 use Rattle.auditor.proofs.Holding.{found-held, result-holds, set-held, taken-held, takes}
 use Rattle.auditor.proofs.auditor.Auditor.take.Goals as goal
@@ -17,8 +16,7 @@ invariant_of-self g c =
 pub returns-clause-takes : goal.returns-clause-takes
 returns-clause-takes g c =
     let set : (c.get_mut.follows.lender c.take.new.self).entries ≡ set_value (is_at (key_cmp c.args.provider_key.now)) c.self.inside.chains.entries c.take.new.self = search rules in
-    let found : chain_of c.self.inside.chains.entries c.args.provider_key.now ≡ Some c.in-Some.chain.now = search rules in
-    (
+    let found : chain_of c.self.inside.chains.entries c.args.provider_key.now ≡ Some c.in-Some.chain.now = search rules in (
       c.in-Some.chain.now,
       c.take.new.self,
       rw c.self.view_is at found,
