@@ -1,6 +1,7 @@
 //! What no clause says: what goes over sockets, that sessions are served where nothing fails, and that
 //! each failing call is told.
 
+mod calls;
 mod connections;
 mod faults;
 

@@ -2,8 +2,9 @@
 
 use super::*;
 use crate::listening::answer_all;
-use std::io::{Read, Write};
+use std::io::{self, Read, Write};
 use std::net::Shutdown;
+use std::str;
 use textio::ProgramFault;
 
 /// A client that has written these bytes, and writes no more.
@@ -71,5 +72,58 @@ fn faults_of_listening(rt: HostRuntime) -> Result<(), Fail> {
         assert_eq!(rt; listen(rt.alloc(), &rt, order, &mut errors), Err(fault));
         assert!(rt; errors.is_empty());
     }
+    Ok(())
+}
+
+/// A client that dials the address of the line that it is told, and asks for three heads.
+#[derive(Drop)]
+struct Dialing<'a> {
+    rt: &'a HostRuntime,
+    line: Vec<u8>,
+    client: Option<TcpStream>,
+}
+
+/// The address of a whole line.
+fn address(line: &[u8]) -> Option<&str> {
+    let address = line.strip_prefix(b"listening on ")?.strip_suffix(b"\n")?;
+    str::from_utf8(address).ok()
+}
+
+impl Write for Dialing<'_> {
+    fn write(&mut self, buf: &[u8]) -> io::Result<usize> {
+        self.line.extend_from_slice(buf)?;
+        if let Some(address) = address(&self.line) {
+            let mut client = TcpStream::connect(self.rt, address)?;
+            client.write_all(THREE_HEADS)?;
+            client.shutdown(Shutdown::Write)?;
+            self.client = Some(client);
+        }
+        Ok(buf.len())
+    }
+
+    fn flush(&mut self) -> io::Result<()> {
+        Ok(())
+    }
+}
+
+/// The address is told once clients can connect, and with the port that the system chose.
+#[test]
+fn who_dials_the_told_address_is_answered(rt: HostRuntime) -> Result<(), Fail> {
+    let order = ListenOrder {
+        directory: ORDER,
+        count: 1,
+        address: "127.0.0.1:0",
+    };
+    let mut errors = Dialing {
+        rt: &rt,
+        line: Vec::new(rt.alloc()),
+        client: None,
+    };
+    assert_eq!(rt; listen(rt.alloc(), &rt, order, &mut errors), Ok(()));
+    let Some(client) = errors.client.take() else {
+        return Err(Fail::from("no whole line was told"));
+    };
+    let replies = replies(rt.alloc(), client)?;
+    assert_eq!(rt; told(rt.alloc(), &replies)?.as_str(), "rrr");
     Ok(())
 }
