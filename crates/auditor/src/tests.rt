@@ -139,14 +139,13 @@ fn promised(alloc: Global, bound: Option<&KeyData>) -> Result<BrokenPromise, Fai
 #[test]
 fn fork_of_one_epoch(rt: HostRuntime) -> Result<(), Fail> {
     let signer = provider();
-    let one = signed(&signer, body(3, 2, Hash32::new(ZEROS)));
+    let first = body(3, 2, Hash32::new(ZEROS));
     let nonce = Hash32::new([9; 32]);
-    let other = signed(&signer, Body { nonce, ..one.body });
+    let second = Body { nonce, ..first };
+    let (one, other) = (signed(&signer, first), signed(&signer, second));
     let mut auditor = Auditor::new(rt.alloc());
-    assert_eq!(rt;
-        observed(&mut auditor, &signer, &one)?,
-        Ok(Observed::Started)
-    );
+    let told = observed(&mut auditor, &signer, &one)?;
+    assert_eq!(rt; told, Ok(Observed::Started));
     let fork = RootEvidence::Fork(one.copied(), other.copied());
     let told = observed(&mut auditor, &signer, &other)?;
     assert_eq!(rt; told, Ok(Observed::Evidence(fork)));
@@ -169,14 +168,15 @@ fn fork_of_one_epoch(rt: HostRuntime) -> Result<(), Fail> {
 fn skip_between_two_roots(rt: HostRuntime) -> Result<(), Fail> {
     let signer = provider();
     let mut auditor = three_roots(rt.alloc())?;
-    let [_, _, ninth] = roots(&signer);
+    let chain = roots(&signer);
+    let ninth = &chain[2];
     let eighth = signed(&signer, body(8, 7, ninth.body.previous_hash));
     let skip = RootEvidence::Skip(eighth.copied(), ninth.copied());
     assert_eq!(rt; compared(&auditor, &eighth), Ok(Place::Evidence(skip)));
     let skip = RootEvidence::Skip(eighth.copied(), ninth.copied());
     let told = observed(&mut auditor, &signer, &eighth)?;
     assert_eq!(rt; told, Ok(Observed::Evidence(skip)));
-    let skip = RootEvidence::Skip(eighth, ninth);
+    let skip = RootEvidence::Skip(eighth, ninth.copied());
     assert!(rt; is_judged(&Evidence::Root(skip)));
     Ok(())
 }
@@ -185,7 +185,8 @@ fn skip_between_two_roots(rt: HostRuntime) -> Result<(), Fail> {
 fn roots_that_are_observed(rt: HostRuntime) -> Result<(), Fail> {
     let (signer, zeros) = (provider(), Hash32::new(ZEROS));
     let mut auditor = three_roots(rt.alloc())?;
-    let [third, _, ninth] = roots(&signer);
+    let chain = roots(&signer);
+    let (third, ninth) = (&chain[0], &chain[2]);
     let forged = signed(&KeyedSign::new(zeros), third.body);
     let told = observed(&mut auditor, &signer, &forged)?;
     assert_eq!(rt; told, Err(Refusal::BadSignature));
@@ -199,10 +200,8 @@ fn roots_that_are_observed(rt: HostRuntime) -> Result<(), Fail> {
         assert_eq!(rt; head_epoch(&auditor, &signer), Some(9));
     }
     let next = signed(&signer, body(12, 9, hash_of(&ninth.body)));
-    assert_eq!(rt;
-        observed(&mut auditor, &signer, &next)?,
-        Ok(Observed::Extended)
-    );
+    let told = observed(&mut auditor, &signer, &next)?;
+    assert_eq!(rt; told, Ok(Observed::Extended));
     assert_eq!(rt; head_epoch(&auditor, &signer), Some(12));
     Ok(())
 }
@@ -222,16 +221,17 @@ fn bytes_that_spell_no_root(rt: HostRuntime) -> Result<(), Fail> {
 #[test]
 fn comparing_changes_nothing(rt: HostRuntime) -> Result<(), Fail> {
     let (signer, zeros) = (provider(), Hash32::new(ZEROS));
-    let [third, _, ninth] = roots(&signer);
+    let chain = roots(&signer);
+    let (third, ninth) = (&chain[0], &chain[2]);
     let forged = signed(&KeyedSign::new(zeros), third.body);
     let empty = Auditor::new(rt.alloc());
-    assert_eq!(rt; compared(&empty, &third), Ok(Place::Ahead));
+    assert_eq!(rt; compared(&empty, third), Ok(Place::Ahead));
     assert_eq!(rt; compared(&empty, &forged), Err(Refusal::BadSignature));
     assert_eq!(rt; head_epoch(&empty, &signer), None);
 
     let auditor = three_roots(rt.alloc())?;
     let next = signed(&signer, body(12, 9, hash_of(&ninth.body)));
-    assert_eq!(rt; compared(&auditor, &third), Ok(Place::Known));
+    assert_eq!(rt; compared(&auditor, third), Ok(Place::Known));
     assert_eq!(rt; compared(&auditor, &next), Ok(Place::Ahead));
     assert_eq!(rt; compared(&auditor, &forged), Err(Refusal::BadSignature));
     assert_eq!(rt; head_epoch(&auditor, &signer), Some(9));
@@ -242,12 +242,10 @@ fn comparing_changes_nothing(rt: HostRuntime) -> Result<(), Fail> {
 fn two_providers(rt: HostRuntime) -> Result<(), Fail> {
     let (signer, other) = (provider(), KeyedSign::new(Hash32::new([2; 32])));
     let mut auditor = three_roots(rt.alloc())?;
-    let [third, _, _] = roots(&other);
+    let chain = roots(&other);
     assert_eq!(rt; head_epoch(&auditor, &other), None);
-    assert_eq!(rt;
-        observed(&mut auditor, &other, &third)?,
-        Ok(Observed::Started)
-    );
+    let told = observed(&mut auditor, &other, &chain[0])?;
+    assert_eq!(rt; told, Ok(Observed::Started));
     assert_eq!(rt; head_epoch(&auditor, &other), Some(3));
     assert_eq!(rt; head_epoch(&auditor, &signer), Some(9));
     Ok(())
