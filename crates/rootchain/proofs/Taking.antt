@@ -16,9 +16,9 @@ next_links hash verified chain head root is at place =
     elim (cases_lt head.body.epoch root.body.epoch) [
       | inl above ↦ (place.above head at above, above)
       | inr not-above ↦ elim (cases_lt root.body.epoch first.body.epoch) [
-          | inl below ↦ absurd (place.below first at-first below)
-          | inr not-below ↦ absurd (place.within first head at-first at not-below not-above)
-        ]
+        | inl below ↦ absurd (place.below first at-first below)
+        | inr not-below ↦ absurd (place.within first head at-first at not-below not-above)
+      ]
     ]
 
 -- so the chain with it is one

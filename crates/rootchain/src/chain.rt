@@ -122,6 +122,5 @@ impl<H: NodeHash, S: Verifier> Chain<H, S> {
 }
 
 mod taking;
-
 #[cfg(test)]
 mod tests;
