@@ -24,7 +24,7 @@ pub enum Observed {
     Known,
     /// It names a later epoch than the head's as the one before.
     Ahead,
-    /// Its epoch is before the first one, and the first root does not tell against it.
+    /// Its epoch is before the first one, and it is no evidence with the first root.
     BeforeStart,
     /// It is evidence with a root of the chain.
     Evidence(RootEvidence),
@@ -67,7 +67,7 @@ impl<H: NodeHash + Drop, S: Verifier + Drop> Auditor<H, S> {
     }
 
     /// Observes the signed root that these bytes spell as one of this provider's: it starts the
-    /// provider's chain or extends it, or is placed beside it.
+    /// provider's chain or extends it, else the answer says where it stands to that chain.
     ///
     /// # Errors
     ///
@@ -84,6 +84,7 @@ impl<H: NodeHash + Drop, S: Verifier + Drop> Auditor<H, S> {
         ensures counted { H.digests hash.new ≤ H.digests hash.old + 1 }
     {
         let root = SignedRoot::read(bytes)?;
+        // The chain is looked for once more in `take`, whose contract then speaks of one that is there.
         if !self.chains.contains_key(provider_key) {
             return self.start(verifier, provider_key, root);
         }

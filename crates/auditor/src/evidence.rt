@@ -4,7 +4,7 @@ use rootchain::RootEvidence;
 /// What shows anyone that a provider cheated (CONIKS, section 4).
 #[derive(Debug, Drop)]
 pub enum Evidence {
-    /// Two roots that no one chain has.
+    /// Two roots that cannot both stand in one chain of well-formed roots.
     Root(RootEvidence),
     /// A promise that was not kept.
     Broken(BrokenPromise),

@@ -1,4 +1,4 @@
-ghost use Rattle.std.specs.Prelude.{◌≡◌, ◌↔◌, IsTrue, Some};
+ghost use Rattle.std.specs.Prelude.{◌≡◌, ◌↔◌, ◌+◌, ◌≤◌, IsTrue, Some};
 ghost use Rattle.auditor.specs.Evidence.{IsEvidence};
 ghost use Rattle.proofs.specs.BrokenPromises.{Contradicts, IsBrokenPromise};
 ghost use Rattle.proofs.specs.Views.{key_stated};
@@ -21,7 +21,8 @@ pub fn judge<H: NodeHash, V: VufCheck, S: Verifier>(
     key: &Hash32,
     evidence: &Evidence,
 ) -> bool
-    ensures { IsTrue result ↔ IsEvidence H.digest_of V.accepted S.verified key.now evidence.now }
+    ensures value { IsTrue result ↔ IsEvidence H.digest_of V.accepted S.verified key.now evidence.now }
+    ensures counted { H.digests hash.new ≤ H.digests hash.old + 259 }
 {
     match evidence {
         Evidence::Root(roots) => roots.holds(hash, verifier, key),
@@ -37,7 +38,8 @@ fn is_broken<H: NodeHash, V: VufCheck, S: Verifier>(
     key: &Hash32,
     broken: &BrokenPromise,
 ) -> bool
-    ensures { IsTrue result ↔ IsBrokenPromise H.digest_of V.accepted S.verified key.now broken.now.promise broken.now.root broken.now.proof }
+    ensures value { IsTrue result ↔ IsBrokenPromise H.digest_of V.accepted S.verified key.now broken.now.promise broken.now.root broken.now.proof }
+    ensures counted { H.digests hash.new ≤ H.digests hash.old + 259 }
 {
     let promise = &broken.promise.promise;
     let body = &broken.root.body;
@@ -57,7 +59,8 @@ fn contradicts<H: NodeHash, V: VufCheck>(
     body: &Body,
     bytes: &[u8],
 ) -> bool
-    ensures { IsTrue result ↔ Contradicts H.digest_of V.accepted promise.now body.now bytes.now }
+    ensures value { IsTrue result ↔ Contradicts H.digest_of V.accepted promise.now body.now bytes.now }
+    ensures counted { H.digests hash.new ≤ H.digests hash.old + 259 }
 {
     match accept(hash, vuf, body, &promise.name, bytes) {
         Ok(reply) => {

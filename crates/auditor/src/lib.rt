@@ -1,4 +1,17 @@
 //! Auditors of providers, and evidence against one. After CONIKS, sections 3 and 4.
+//!
+//! To the layers above: `judge` answers exactly whether something is evidence, whoever made it. An
+//! auditor holds one chain a provider; what it tells of a root is exactly where the root stands to that
+//! chain, and what it tells as evidence, `judge` accepts. Only `observe` changes an auditor, and only it
+//! allocates.
+//!
+//! ```text
+//! let mut auditor = Auditor::new(alloc);
+//! auditor.observe(&mut hash, &verifier, &provider_key, first_bytes)?;
+//! if let Observed::Evidence(roots) = auditor.observe(&mut hash, &verifier, &provider_key, bytes)? {
+//!     // The provider told two histories: send these roots to whoever uses it.
+//! }
+//! ```
 #![tactic(auto)]
 
 mod auditor;

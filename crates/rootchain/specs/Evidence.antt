@@ -19,7 +19,7 @@ abbrev pub IsSkip : SignedRoot → SignedRoot → Type 0
 IsSkip one other = (other.body.previous_epoch < one.body.epoch) × (one.body.epoch < other.body.epoch)
 
 module _ (hash : List ℕ → List ℕ) (verified : List ℕ → List ℕ → List ℕ → Type 0) (key : List ℕ) where
-  -- two roots of the provider that no one chain has
+  -- two roots of the provider that cannot both stand in one chain of well-formed roots
   abbrev pub AreEvidence : SignedRoot → SignedRoot → Type 0
   AreEvidence one other = Verifies verified key one × Verifies verified key other × (IsFork one other ⊎ (IsLink hash one other ⊎ IsSkip one other))
 

@@ -20,7 +20,7 @@ pub enum Place {
     Next,
     /// It names a later epoch than the head's as the one before.
     Ahead,
-    /// Its epoch is before the first one, and the first root does not tell against it.
+    /// Its epoch is before the first one, and it is no evidence with the first root.
     BeforeStart,
 }
 
