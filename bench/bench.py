@@ -2,7 +2,7 @@
 """Times the built programs and prints the tables of the scripts beside it. docs/SPEED.md says what
 the columns mean.
 
-usage: bench/bench.py root|tree|changes|replies|epochs|hub, at the top of the repository
+usage: bench/bench.py root|tree|changes|replies|epochs|hub|serve, at the top of the repository
 
 BEFORE, if it is set, is the top of another clone, in which directoryd and measure are built. `root`
 then times the programs of both, in turn.
@@ -12,6 +12,7 @@ import bisect
 import hashlib
 import os
 import random
+import select
 import ssl
 import statistics
 import subprocess
@@ -63,6 +64,10 @@ HUB_SESSIONS = 16
 HUB_REQUESTS = {"head": 5, "look-up": 31, "registration": 57}
 # The frames of one piece that a feed takes, the frames of a step, and the runs.
 FEED_FRAMES, FEED_TAKEN, FEED_RUNS = (64, 1_024, 16_384), 1 << 23, 20
+# The requests that a client has in flight, those of a step, and the rounds. The token is that of the
+# client in the crate `measure`, and the keys are those of its directory.
+IN_FLIGHT, SERVE_FRAMES, SERVE_ROUNDS = 64, 8_000, 9
+SERVE_KEYS = {"sign-key": "01", "vuf-key": "02", "salt-key": "00", "token": "04"}
 
 
 class Spread:
@@ -684,11 +689,154 @@ def hub(_folder):
     table("a frame out of a feed, nanoseconds", ["frames of the piece", *spread], rows)
 
 
+def processor_time(process):
+    """The processor's time that the process has used, once it waits."""
+    wait_until_it_waits(process)
+    with open(f"/proc/{process.pid}/schedstat", encoding="ascii") as file:
+        return int(file.read().split()[0]) / 1e9
+
+
+class Side:
+    """A run of the crate `measure`, whose steps are taken one by one and timed by the clock. Another
+    process, which answers it, may be watched meanwhile."""
+
+    def __init__(self, *words, server=None):
+        words = [MEASURE, *map(str, words)]
+        self.process = subprocess.Popen(words, bufsize=0, stdin=subprocess.PIPE, stdout=subprocess.PIPE)
+        self.server = server
+        self.number = look(self.process)[0]
+
+    def step(self):
+        """The number of a step, its time by the clock, and the processor's time of the server."""
+        before = processor_time(self.server) if self.server else 0
+        start = time.perf_counter()
+        self.process.stdin.write(b"\n")
+        select.select([self.process.stdout], [], [])
+        taken = time.perf_counter() - start
+        number = look(self.process)[0]
+        return number, taken, processor_time(self.server) - before if self.server else 0
+
+    def asked(self):
+        """The steps of requests that are made, and then asked."""
+        self.step()
+        return self.step()
+
+    def end(self):
+        self.process.stdin.close()
+        self.process.stdout.close()
+        if self.process.wait(60) != 0:
+            sys.exit(f"{' '.join(self.process.args)}: status {self.process.returncode}")
+
+
+class Loopback:
+    """A server that listens, a client of it, a hub in a process of its own, and a bare exchange of the
+    bytes of a look-up. In each round all take their turns. For each the times of a frame by the clock,
+    and the processor's times of the server."""
+
+    def __init__(self):
+        words = [word for key, value in SERVE_KEYS.items() for word in (f"--{key}", value * 32)]
+        words = [DIRECTORYD, "listen", *words, "--count", "1", "127.0.0.1:0"]
+        self.server = subprocess.Popen(words, stderr=subprocess.PIPE)
+        port = self.server.stderr.readline().rpartition(b":")[2].decode().strip()
+        self.memory = [self.look()]
+        words = [HUB_NAMES, SERVE_FRAMES, IN_FLIGHT, SERVE_ROUNDS]
+        self.client = Side("ask", port, *words, server=self.server)
+        self.memory.append(self.look())
+        self.hub = Side("hub", HUB_NAMES, SERVE_FRAMES, PIECES[0], SERVE_ROUNDS)
+        self.answer = self.bare = None
+        self.times, self.used, self.bytes = {}, {}, {}
+        for _ in range(SERVE_ROUNDS):
+            self.round()
+        self.memory.append(self.look())
+        self.compare()
+        for side in (self.client, self.hub, self.bare, self.answer):
+            side.end()
+        if self.server.wait(60) != 0:
+            sys.exit(f"directoryd listen: status {self.server.returncode}")
+
+    def look(self):
+        """The resident memory of the server, and its peak."""
+        wait_until_it_waits(self.server)
+        return tuple(int(status_field(self.server, name)) * 1024 for name in ("VmRSS", "VmHWM"))
+
+    def keep(self, which, step):
+        number, clock, used = step
+        self.times.setdefault(which, []).append(clock / SERVE_FRAMES)
+        self.used.setdefault(which, []).append(used / SERVE_FRAMES)
+        self.bytes.setdefault(which, []).append(number)
+
+    def compare(self):
+        """The replies of the server have as many bytes as those of the hub. The client asks twice in a
+        round, so that the hub is asked what the client asks in the first half of the rounds."""
+        for request in HUB_REQUESTS:
+            pairs = zip(self.bytes[request, 1], self.bytes[request, IN_FLIGHT])
+            told = [number for pair in pairs for number in pair][:SERVE_ROUNDS]
+            wanted = self.bytes[request, "hub"]
+            if told != wanted:
+                sys.exit(f"{request}: replies of {told} bytes, and {wanted} was wanted")
+
+    def round(self):
+        for request in HUB_REQUESTS:
+            for in_flight in (1, IN_FLIGHT):
+                self.keep((request, in_flight), self.client.asked())
+                if (request, in_flight) == ("look-up", 1):
+                    self.exchange()
+            for _ in range(3):
+                self.hub.step()
+            self.keep((request, "hub"), self.hub.step())
+
+    def exchange(self):
+        """The bare exchange: as many bytes as the look-ups of a step before had."""
+        if self.bare is None:
+            reply = round(self.bytes["look-up", 1][0] / SERVE_FRAMES)
+            self.answer = Side("answer", HUB_REQUESTS["look-up"], reply)
+            self.answer.process.stdin.write(b"\n")
+            words = [self.answer.number, HUB_NAMES, SERVE_FRAMES, SERVE_ROUNDS]
+            self.bare = Side("exchange", *words, server=self.answer.process)
+        self.keep(("look-up", "bare"), self.bare.asked())
+
+    def row(self, request, which, name):
+        times = Spread(self.times[request, which])
+        used = statistics.median(self.used[request, which]) * 1e6
+        size = statistics.mean(self.bytes[request, which]) / SERVE_FRAMES
+        row = [request, name, f"{size:.0f}", f"{1 / times.median:,.0f}"]
+        return [*row, *times.cells(1e6, 2), f"{used:.2f}" if used else "-"]
+
+    def part(self, mine, its):
+        """The median of the parts of the rounds."""
+        pairs = zip(self.times["look-up", mine], self.times["look-up", its])
+        return statistics.median(a / b for a, b in pairs)
+
+
+def serve(_folder):
+    # All run on one processor. With two, much of the time is that of waking the other one, and it
+    # depends on where the system puts which process.
+    os.sched_setaffinity(0, {max(os.sched_getaffinity(0))})
+    loop = Loopback()
+    kinds = {"hub": "hub", IN_FLIGHT: f"{IN_FLIGHT} in flight", 1: "one at a time", "bare": "bare"}
+    head = ["", "", "bytes", "a second", "least", "median", "greatest", "server"]
+    rows = [
+        loop.row(request, which, name)
+        for request in reversed(HUB_REQUESTS)
+        for which, name in kinds.items()
+        if (request, which) in loop.times
+    ]
+    table("a request by the clock, and the server's processor time, us", head, rows)
+    print(f"\nlook-ups, {IN_FLIGHT} in flight: {loop.part('hub', IN_FLIGHT):.2f} of the hub's rate")
+    print(f"look-ups, one at a time: {loop.part(1, 'bare'):.2f} of a bare exchange's time")
+    times = ["when it listens", f"with {HUB_NAMES:,} names", "at the end"]
+    rows = [
+        [at, *(f"{bytes_now / 2**20:.1f}" for bytes_now in memory)]
+        for at, memory in zip(times, loop.memory)
+    ]
+    table("resident memory of the server, MiB", ["", "now", "peak"], rows)
+
+
 def main(which):
     with tempfile.TemporaryDirectory() as folder:
         print_machine()
         of = {"root": root, "tree": tree, "changes": changes, "replies": replies}
-        of |= {"epochs": epochs, "hub": hub}
+        of |= {"epochs": epochs, "hub": hub, "serve": serve}
         of[which](folder)
     print(f"\nload at the end {os.getloadavg()[0]:.2f}")
 

@@ -192,20 +192,20 @@ module _ (provider : Provider) where
 
     -- a promise that is kept is not broken by a reply that is right
     unbroken : (command : Asked) (promised : SignedPromise) (name : List ℕ) (epoch : ℕ) (text : List ℕ) (root : SignedRoot) → IsKept provider accepted verified key after command promised → (s : SeenFound provider after name epoch text)
-        → Alone provider name s.page.bindings → IsBrokenPromise provider.hash verified key accepted promised root text → ⊥
+        → Alone provider name s.page.bindings → IsBrokenPromise provider.hash accepted verified key promised root text → ⊥
     unbroken command promised name epoch text root k s alone b =
         let r = right name epoch text s alone in
-        let own : b.passes.0 ≡ r.reply = one_reply text b.passes.0 r.reply b.passes.1 r.spells in
-        let body : root.body ≡ s.root.body = sym b.passes.2.of_body ∙ ap (λ (x : Spelled). x.body) own ∙ r.of_body in
+        let own : b.contradicts.passes.0 ≡ r.reply = one_reply text b.contradicts.passes.0 r.reply b.contradicts.passes.1 r.spells in
+        let body : root.body ≡ s.root.body = sym b.contradicts.passes.2.of_body ∙ ap (λ (x : Spelled). x.body) own ∙ r.of_body in
         let behind : s.root.body.previous_epoch ≡ promised.promise.epoch = ap (λ (x : Body). x.previous_epoch) (sym body) ∙ b.next in
         let has : key_at s.page promised.promise.name ≡ Some promised.promise.key = k.next s.page s.root s.is behind in
         let entry = some-key (at s.page.bindings promised.promise.name) promised.promise.key has in
         let e = found-entry (λ each. index_of provider each.0 ≡ index_of provider name → each.0 ≡ name) s.page.bindings promised.promise.name entry.0 entry.1 alone in
-        let spelled : b.index.0 ≡ r.reply = one_reply text b.index.0 r.reply b.index.1 r.spells in
+        let spelled : b.contradicts.index.0 ≡ r.reply = one_reply text b.contradicts.index.0 r.reply b.contradicts.index.1 r.spells in
         let index : index_of provider promised.promise.name ≡ index_of provider name =
-        sym k.index ∙ sym b.index.2 ∙ ap (λ (x : Spelled). provider.hash x.value) spelled ∙ ap provider.hash r.value in
+        sym k.index ∙ sym b.contradicts.index.2 ∙ ap (λ (x : Spelled). provider.hash x.value) spelled ∙ ap provider.hash r.value in
         let same : promised.promise.name ≡ name = sym e.2 ∙ e.1 (ap (index_of provider) e.2 ∙ index) in
-        b.broken (sym (accepts-passed provider.hash accepted root.body promised.promise.name text r.reply r.spells b.statement b.passes).0
+        b.contradicts.broken (sym (accepts-passed provider.hash accepted root.body promised.promise.name text r.reply r.spells b.contradicts.statement b.contradicts.passes).0
         ∙ r.states ∙ ap (key_at s.page) (sym same) ∙ has)
 
     -- what is found for the name of a promise under the next root

@@ -141,4 +141,4 @@ module _ (provider : Provider) where
       -- and no promise is shown broken, by whatever reply and root
       pub unbroken : (command : Asked) (promised : SignedPromise) (name : List ℕ) (epoch : ℕ) (text : List ℕ) (root : SignedRoot)
           → IsSaid commands replies command (reply.Promised promised) → IsSaid commands replies (Lookup name epoch) (reply.Found text)
-          → ¬ IsBrokenPromise provider.hash verified key accepted promised root text
+          → ¬ IsBrokenPromise provider.hash accepted verified key promised root text

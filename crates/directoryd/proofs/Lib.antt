@@ -1,3 +1,5 @@
 mod Commands
 mod Numbers
 pub mod Faults
+mod Statuses
+mod Telling

@@ -1,4 +1,5 @@
-//! What bench/ measures. The first argument chooses a program, and its numbers follow.
+//! What bench/ measures. The first argument chooses a program, and its numbers follow. Those that ask
+//! or answer over loopback are no part of `all`.
 //!
 //! A program runs in steps. At the end of each it prints a number that depends on the step's work,
 //! so that the compiler cannot leave the work out, and waits for a line. Meanwhile bench/bench.py
@@ -8,6 +9,7 @@
 mod changes;
 mod digests;
 mod directory;
+mod exchange;
 mod feeding;
 mod replies;
 mod sessions;
@@ -19,12 +21,15 @@ mod whole;
 use anyhow::{Context, Result, bail};
 use std::alloc::Global;
 use std::env;
+use std::net::{Net, TcpListener, TcpStream};
 
 const USAGE: &str = "usage: measure digests BYTES COUNT | texts COUNT ROUNDS \
     | tree GROWN MORE DIGESTS | whole ITEMS TIMES DIGESTS \
     | changes ITEMS CHANGES LISTS ROUNDS DIGESTS | replies SIBLINGS REPLIES ROUNDS DIGESTS \
     | epochs NAMES CHANGES ROUNDS LOOK_UPS LOOK_UP_ROUNDS DIGESTS \
-    | hub NAMES FRAMES PIECE ROUNDS | feed FRAMES TIMES | all";
+    | hub NAMES FRAMES PIECE ROUNDS | feed FRAMES TIMES | all \
+    | ask PORT NAMES FRAMES IN_FLIGHT ROUNDS | exchange PORT NAMES FRAMES ROUNDS \
+    | answer REQUEST REPLY";
 
 /// The number that this word writes.
 fn number(word: &str) -> Result<usize> {
@@ -113,6 +118,39 @@ fn run_on_directory(
     }
 }
 
+/// Runs the program of this name on these numbers, if it is one of those over loopback, and says
+/// whether it is.
+fn run_over_loopback<R>(rt: &R, alloc: Global, program: &str, numbers: &[usize]) -> Result<bool>
+where
+    R: Print + Input + Net<Listener = TcpListener, Stream = TcpStream>,
+{
+    match (program, numbers) {
+        ("ask", &[port, names, frames, in_flight, rounds]) => {
+            let wanted = exchange::Asked {
+                port,
+                names,
+                frames,
+                in_flight,
+                rounds,
+            };
+            exchange::measure(rt, alloc, &wanted)?;
+        }
+        ("exchange", &[port, names, frames, rounds]) => {
+            let wanted = exchange::Asked {
+                port,
+                names,
+                frames,
+                in_flight: 1,
+                rounds,
+            };
+            exchange::measure_look_ups(rt, alloc, &wanted)?;
+        }
+        ("answer", &[request, reply]) => exchange::answer(rt, alloc, request, reply)?,
+        _ => return Ok(false),
+    }
+    Ok(true)
+}
+
 /// Runs each program once, on small numbers: this shows that they still work.
 fn run_all(rt: &(impl Print + Input), alloc: Global) -> Result<()> {
     run(rt, alloc, "digests", &[64, 3])?;
@@ -138,6 +176,9 @@ fn main(rt: HostRuntime) -> Result<()> {
     let mut numbers = Vec::with_capacity(alloc, rest.len())?;
     for word in rest {
         numbers.push(number(word)?)?;
+    }
+    if run_over_loopback(&rt, alloc, program, &numbers)? {
+        return Ok(());
     }
     run(&rt, alloc, program, &numbers)
 }

@@ -32,7 +32,7 @@ const SESSIONS: u32 = 16;
 
 /// What is asked.
 #[derive(Clone, Copy)]
-enum Kind {
+pub(crate) enum Kind {
     Head,
     LookUp,
     Register,
@@ -40,14 +40,14 @@ enum Kind {
 
 /// A name, and a key for it.
 #[derive(Clone, Copy)]
-struct Entry {
+pub(crate) struct Entry {
     name: [u8; 16],
     key: [u8; 32],
 }
 
 impl Entry {
     /// The name of this number with its first key.
-    fn new(number: u64) -> Entry {
+    pub(crate) fn new(number: u64) -> Entry {
         Entry {
             name: name_of(number),
             key: key_of(number, 1),
@@ -55,7 +55,7 @@ impl Entry {
     }
 
     /// The request of this kind for it.
-    fn request(&self, kind: Kind) -> Request<'_> {
+    pub(crate) fn request(&self, kind: Kind) -> Request<'_> {
         match kind {
             Kind::Head => Request::Head,
             Kind::LookUp => Request::Lookup {
@@ -71,7 +71,12 @@ impl Entry {
 }
 
 /// The entries of a round: names of the page, or new names that are to be registered.
-fn entries_of(alloc: Global, wanted: &Sessions, kind: Kind, round: usize) -> Result<Vec<Entry>> {
+pub(crate) fn entries_of(
+    alloc: Global,
+    wanted: &Sessions,
+    kind: Kind,
+    round: usize,
+) -> Result<Vec<Entry>> {
     let names = wanted.names as u64;
     let frames = wanted.frames as u64;
     let step = names.checked_div(frames).unwrap_or(1).max(1);
@@ -112,7 +117,7 @@ fn streams_of(alloc: Global, kind: Kind, entries: &[Entry]) -> Result<Vec<Stream
 }
 
 /// Appends the frame of a request.
-fn write_request(request: &Request<'_>, stream: &mut Vec<u8>) -> Result<(), AllocError> {
+pub(crate) fn write_request(request: &Request<'_>, stream: &mut Vec<u8>) -> Result<(), AllocError> {
     if request.fits() {
         request.write(stream)?;
     }

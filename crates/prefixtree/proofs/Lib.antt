@@ -4,6 +4,7 @@ pub mod Childless
 pub mod Climbs
 pub mod Counts
 pub mod Ends
+pub mod Entries
 pub mod Forked
 pub mod Forks
 pub mod Growing

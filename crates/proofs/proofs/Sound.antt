@@ -44,10 +44,10 @@ module _ (hash : List ℕ → List ℕ) (accepted : List ℕ → List ℕ → Li
       subst (IsAcceptedReply hash accepted body name bytes) (sym (ap (λ (n : NamedReply). n.reply) is)) (spelled, passed OtherRoot, passed-accepted hash accepted body name reply passed)
   keeps_accepted bytes reply spelled (Err refusal) exact is = tt
 
-  states_this : (bytes : List ℕ) (reply : Reply) → IsAcceptedReply hash accepted body name bytes reply → (statement : Option (List ℕ)) → Accepts hash accepted body name bytes statement → stated reply.end ≡ statement
+  pub states_this : (bytes : List ℕ) (reply : Reply) → IsAcceptedReply hash accepted body name bytes reply → (statement : Option (List ℕ)) → Accepts hash accepted body name bytes statement → stated reply.end ≡ statement
   states_this bytes reply is statement accepts = (accepts-passed hash accepted body name bytes reply is.0 statement accepts).0
 
-  has_this : (bytes index : List ℕ) (reply : Reply) → IsAcceptedReply hash accepted body name bytes reply → HasIndex hash bytes index → hash reply.value ≡ index
+  pub has_this : (bytes index : List ℕ) (reply : Reply) → IsAcceptedReply hash accepted body name bytes reply → HasIndex hash bytes index → hash reply.value ≡ index
   has_this bytes index reply is has = ap (λ (r : Reply). hash r.value) (one_reply bytes reply has.0 is.0 has.1) ∙ has.2
 
   -- the answer on two accepted replies of one index

@@ -1,5 +1,6 @@
 ghost use Rattle.std.specs.Prelude.{◌≡◌, ◌≢◌, ◌↔◌, ◌+◌, ◌≤◌, ℕ, List, Option, length, IfErr, IfOk, IsOkAnd, IsTrue};
 ghost use Rattle.proofs.specs.Accepts.{stated, Accepts};
+ghost use Rattle.proofs.specs.Comparisons.{IsAcceptedReply, Refuses};
 ghost use Rattle.proofs.specs.PathEnds.{end_of_path, end_text};
 ghost use Rattle.proofs.specs.Refusals.{IsFirst, AbsenceIsByAnother, AbsenceIsOnWay, Passes};
 ghost use Rattle.proofs.specs.Replies.{IsEnd, Spells};
@@ -124,4 +125,29 @@ pub fn check<'a, H: NodeHash, V: VufCheck>(
 {
     let index = test_reply(hash, vuf, body, name, view)?;
     Ok(Accepted::new(name.copied(), view.copied(), index))
+}
+
+/// Reads a reply for a name and checks it under this body of a signed root, whoever made it. Takes at
+/// most 259 digests.
+///
+/// # Errors
+///
+/// The refusal of `ReplyView::read` or of `check`.
+pub fn accept<'a, H: NodeHash, V: VufCheck>(
+    hash: &mut H,
+    vuf: &V,
+    body: &Body,
+    name: &Name,
+    bytes: &'a [u8],
+) -> Result<Accepted<'a, H, V>, Refusal>
+    ensures refused { IfErr result (Refuses H.digest_of V.accepted body.now name.now bytes.entry.now) }
+    ensures kept { IfOk result (λ accepted. accepted ≡ record { name = name.now; reply = accepted.reply }) }
+    ensures accepted { IfOk result (λ accepted. IsAcceptedReply H.digest_of V.accepted body.now name.now bytes.entry.now accepted.reply) }
+    ensures counted { H.digests hash.new ≤ H.digests hash.old + 259 }
+{
+    // The prover does not cover `?` in a function with clauses whose result holds a view.
+    match ReplyView::read(bytes) {
+        Ok(view) => check(hash, vuf, body, name, &view),
+        Err(refusal) => Err(refusal),
+    }
 }

@@ -2,14 +2,14 @@
 //! ends. Both are climbed from the ends up, and the last pair of texts that differs is kept, which is the
 //! nearest to the root: the texts above it are equal, so the two have one digest. If no texts differ,
 //! the ends open two commitment texts with one digest.
-ghost use Rattle.std.specs.Prelude.{◌≡◌, ◌≢◌, ◌⊎◌, ◌↔◌, ◌≤◌, ℕ, List, Option, length, IfErr, IfOk, IsOkAnd, IsSomeAnd, IsTrue, MatchOption};
+ghost use Rattle.std.specs.Prelude.{◌≡◌, ◌≢◌, ◌⊎◌, ◌≤◌, ℕ, List, Option, length, IsOkAnd, IsSomeAnd, MatchOption};
 ghost use Rattle.proofs.specs.Accepts.{Accepts, HasIndex};
-ghost use Rattle.proofs.specs.Comparisons.{texts_of, Answers, AreOpposed, Compares, HaveOneIndex, IsAcceptedReply, IsOneBindingOr, Refuses};
+ghost use Rattle.proofs.specs.Comparisons.{texts_of, Answers, AreOpposed, Compares, HaveOneIndex, IsOneBindingOr};
 ghost use Rattle.proofs.specs.Replies.{AreSiblings};
 ghost use Rattle.proofs.specs.Views.{key_stated};
 ghost use Rattle.proofs.specs.WayTexts.{way_texts, AreFirstToDiffer};
 
-use crate::{Accepted, Refusal, ReplyView, Statement, check};
+use crate::{Accepted, Refusal, accept};
 use encoding::{Hash32, Index, Name, Text};
 use nodehash::{NodeHash, NodeText};
 use prefixtree::{climb, joined_text};
@@ -158,25 +158,6 @@ pub fn same_or_collision<H: NodeHash, V: VufCheck>(
     collision(hash, first, second)
 }
 
-/// Reads a reply and checks it.
-fn accept<'a, H: NodeHash, V: VufCheck>(
-    hash: &mut H,
-    vuf: &V,
-    body: &Body,
-    name: &Name,
-    bytes: &'a [u8],
-) -> Result<Accepted<'a, H, V>, Refusal>
-    ensures refused { IfErr result (Refuses H.digest_of V.accepted body.now name.now bytes.entry.now) }
-    ensures kept { IfOk result (λ accepted. accepted ≡ record { name = name.now; reply = accepted.reply }) }
-    ensures accepted { IfOk result (λ accepted. IsAcceptedReply H.digest_of V.accepted body.now name.now bytes.entry.now accepted.reply) }
-{
-    // The prover does not cover `?` in a function with clauses whose result holds a view: here and below.
-    match ReplyView::read(bytes) {
-        Ok(view) => check(hash, vuf, body, name, &view),
-        Err(refusal) => Err(refusal),
-    }
-}
-
 /// Reads, checks and compares two replies for one name under one body of a signed root, whoever made
 /// them.
 ///
@@ -199,6 +180,7 @@ pub fn compare_replies<H: NodeHash, V: VufCheck>(
         → HasIndex H.digest_of first.now index → HasIndex H.digest_of second.now index
         → IsOkAnd result (IsOneBindingOr H.digest_of statement other) }
 {
+    // The prover does not cover `?` in a function with clauses whose result holds a view.
     let first = match accept(hash, vuf, body, name, first) {
         Ok(first) => first,
         Err(refusal) => return Err(RefusedReply::First(refusal)),

@@ -28,7 +28,7 @@ mod view;
 
 pub use accepted::Accepted;
 pub use broken_promise::BrokenPromise;
-pub use checking::check;
+pub use checking::{accept, check};
 pub use comparing::{RefusedReply, SameOr, compare_replies, same_or_collision};
 pub use end::End;
 pub use laws::{

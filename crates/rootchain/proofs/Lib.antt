@@ -1,2 +1,6 @@
 pub mod Chains
+pub mod Clashes
+pub mod Places
 pub mod RootLists
+pub mod Taking
+pub mod Telling

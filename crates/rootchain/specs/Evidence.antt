@@ -2,6 +2,8 @@
 use Rattle.std.specs.Prelude.{◌≡◌, ◌≢◌, ◌⊎◌, ℕ, ◌<◌, List}
 use Rattle.rootchain.specs.Bodies.{body_bytes}
 use Rattle.rootchain.specs.Chains.{Verifies}
+use Rattle.rootchain.specs.declared.evidence.RootEvidence.{RootEvidence}
+use Rattle.rootchain.specs.declared.evidence.RootEvidence.TheVariants.{Fork, Link, Skip}
 use Rattle.rootchain.specs.declared.signed_root.SignedRoot.{SignedRoot}
 
 -- one epoch, and two bodies
@@ -20,3 +22,9 @@ module _ (hash : List ℕ → List ℕ) (verified : List ℕ → List ℕ → Li
   -- two roots of the provider that no one chain has
   abbrev pub AreEvidence : SignedRoot → SignedRoot → Type 0
   AreEvidence one other = Verifies verified key one × Verifies verified key other × (IsFork one other ⊎ (IsLink hash one other ⊎ IsSkip one other))
+
+  -- such two roots, which stand as the kind says
+  abbrev pub IsRootEvidence : RootEvidence → Type 0
+  IsRootEvidence (Fork one other) = Verifies verified key one × Verifies verified key other × IsFork one other
+  IsRootEvidence (Link one other) = Verifies verified key one × Verifies verified key other × IsLink hash one other
+  IsRootEvidence (Skip one other) = Verifies verified key one × Verifies verified key other × IsSkip one other

@@ -1,10 +1,12 @@
 pub mod Bodies
 pub mod Chains
 pub mod Evidence
+pub mod Places
 pub mod Promises
 pub mod Readable
 pub mod Refusals
 pub mod RootLists
 pub mod SignedRoots
+pub mod Taking
 pub use Rattle.encoding.specs.Forms
 pub use Rattle.encoding.specs.Reading

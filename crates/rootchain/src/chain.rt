@@ -8,6 +8,10 @@ use sigiface::Verifier;
 use std::alloc::Global;
 use std::marker::{Model, PhantomData};
 
+mod placing;
+
+pub use placing::Place;
+
 /// The signed roots of one provider, in order (CONIKS, section 3), under the functions of `H` and
 /// `S`: each verifies under the provider's key, and each but the first names the one before it and
 /// has a later epoch.
@@ -116,6 +120,8 @@ impl<H: NodeHash, S: Verifier> Chain<H, S> {
         &self.key
     }
 }
+
+mod taking;
 
 #[cfg(test)]
 mod tests;

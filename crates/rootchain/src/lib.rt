@@ -3,7 +3,9 @@
 //!
 //! Callers can rely on this: `read` accepts exactly the bytes of a form, each value has one spelling,
 //! and `write` produces it. The roots of a chain verify under one key, each root names the one before
-//! it, and a root that may not follow is refused. Only chains allocate.
+//! it, and a root that may not follow is refused. Where a root stands to a chain is answered exactly,
+//! and so is whether two roots are evidence against their provider. Only chains allocate, to keep their
+//! roots.
 //!
 //! ```
 //! let first = SignedRoot::read(first_bytes)?;
@@ -11,6 +13,7 @@
 //! let mut chain = Chain::start(alloc, &verifier, provider_key, first)?;
 //! chain.extend(&mut hash, &verifier, next)?;
 //! let root = chain.at(7);
+//! let place = chain.place(&mut hash, &verifier, &seen_elsewhere)?;
 //! ```
 #![tactic(auto)]
 
@@ -26,11 +29,11 @@ mod signed_root;
 mod whole;
 
 pub use body::Body;
-pub use chain::Chain;
+pub use chain::{Chain, Place};
 pub use evidence::RootEvidence;
 pub use laws::{
-    body_is_read, epochs_ascend, promise_is_read, root_list_is_read, signed_promise_is_read,
-    signed_root_is_read,
+    body_is_read, chain_is_no_evidence, epochs_ascend, place_tells_evidence, promise_is_read,
+    root_list_is_read, signed_promise_is_read, signed_root_is_read,
 };
 pub use promise::Promise;
 pub use refusal::Refusal;

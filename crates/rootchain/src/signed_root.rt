@@ -50,8 +50,8 @@ impl SignedRoot {
         }
     }
 
-    /// Whether the signature verifies under the public key.
-    pub(crate) fn verifies<S: Verifier>(&self, verifier: &S, key: &Hash32) -> bool
+    /// Whether the signature verifies under the provider's public key.
+    pub fn verifies<S: Verifier>(&self, verifier: &S, key: &Hash32) -> bool
         ensures { IsTrue result ↔ Verifies S.verified key.now self.now }
     {
         verifier.verify(key, self.body.write().bytes(), self.signature.bytes())

@@ -1,8 +1,17 @@
-use Rattle.std.proofs.Common.{rules, ◌≡◌, ℕ, Result, Err, ap}
+use Rattle.std.proofs.Common.{rules, ◌≡◌, ℕ, Err, refl}
 use Rattle.std.proofs.KnownBytes.{Keeps-refl}
-use Rattle.textio.specs.declared.program_fault.ProgramFault.{ProgramFault}
-use Rattle.directoryd.proofs.Faults.{same_fault}
+use Rattle.directoryd.proofs.Faults.{no_fault, same_fault}
 use Rattle.directoryd.proofs.ending.obey.Goals as goal
+
+pub returns-in_err-root-in-Root : goal.returns-in_err-root-in-Root
+returns-in_err-root-in-Root g c =
+    let passed : c.from_residual.result ≡ Err c.in_err-root-in-Root.field-0.0 = search rules in
+    rw (passed, c.in-Root.is) (c.in_err-root-in-Root.ensures.ends, Keeps-refl _)
+
+pub returns-in_err-prove-in-Prove : goal.returns-in_err-prove-in-Prove
+returns-in_err-prove-in-Prove g c =
+    let passed : c.from_residual-in_err-prove-in-Prove.result ≡ Err c.in_err-prove-in-Prove.field-0.0 = search rules in
+    rw (passed, c.in-Prove.is) (c.in_err-prove-in-Prove.ensures.ends, Keeps-refl _)
 
 pub returns-in_err-serve_directory-in-Serve : goal.returns-in_err-serve_directory-in-Serve
 returns-in_err-serve_directory-in-Serve g c =
@@ -14,3 +23,17 @@ returns-in_err-listen-in-Listen g c =
     let passed : c.from_residual-in_err-listen-in-Listen.result ≡ Err c.in_err-listen-in-Listen.field-0.0 = search rules in
     let hex = c.in_err-listen-in-Listen.ensures.bad_hex in
     rw (passed, c.in-Listen.is) (tt, Keeps-refl _, (λ e. hex.0 (same_fault ℕ (Unit {0}) _ _ e), λ e. same_fault (Unit {0}) ℕ _ _ (hex.1 e)), c.in_err-listen-in-Listen.ensures.tells)
+
+pub returns-in_ok-root-in-Root : goal.returns-in_ok-root-in-Root
+returns-in_ok-root-in-Root g c = rw c.in-Root.is ((refl, c.in_ok-root-in-Root.ensures.ends), Keeps-refl _)
+
+pub returns-in_ok-prove-in-Prove : goal.returns-in_ok-prove-in-Prove
+returns-in_ok-prove-in-Prove g c = rw c.in-Prove.is ((refl, c.in_ok-prove-in-Prove.ensures.ends), Keeps-refl _)
+
+pub returns-in_ok-serve_directory-in-Serve : goal.returns-in_ok-serve_directory-in-Serve
+returns-in_ok-serve_directory-in-Serve g c = rw c.in-Serve.is (refl, Keeps-refl _, _, c.in_ok-serve_directory-in-Serve.ensures.serves)
+
+pub returns-in_ok-listen-in-Listen : goal.returns-in_ok-listen-in-Listen
+returns-in_ok-listen-in-Listen g c =
+    let hex = c.in_ok-listen-in-Listen.ensures.bad_hex in
+    rw c.in-Listen.is (refl, Keeps-refl _, (λ e. hex.0 (no_fault ℕ (Unit {0}) _ _ _ _ e), λ e. no_fault (Unit {0}) ℕ _ _ _ _ (hex.1 e)), c.in_ok-listen-in-Listen.ensures.tells)

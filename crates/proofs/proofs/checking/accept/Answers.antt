@@ -1,5 +1,5 @@
 use Rattle.proofs.proofs.Sound.{keeps_accepted, refuses_checked}
-use Rattle.proofs.proofs.comparing.accept.Goals as goal
+use Rattle.proofs.proofs.checking.accept.Goals as goal
 
 pub returns-in-Ok-clause-refused : goal.returns-in-Ok-clause-refused
 returns-in-Ok-clause-refused g c =

@@ -1,0 +1,17 @@
+#!/usr/bin/env bash
+# Measures `directoryd listen` over loopback with a directory of 100,000 names: look-ups,
+# registrations and requests for the head, one at a time and 64 in flight, beside the same through a
+# hub, and beside a bare exchange of as many bytes; and the server's memory.
+#
+#   bench/serve.sh
+#
+# Needs the kit (`rt` on the PATH) and Python 3, on Linux. Listens on 127.0.0.1 alone, on ports that
+# the system chooses. Takes about half a minute once both programs are proved and built, which it does
+# first, and is ended after ten. docs/SPEED.md says what the columns mean. The status is 0 unless
+# something could not be measured.
+set -euo pipefail
+cd "$(dirname "$0")/.."
+. bench/build.sh
+
+build directoryd measure
+timeout --kill-after=10 600 python3 bench/bench.py serve

@@ -1,0 +1,3 @@
+pub mod Contradicting
+pub mod Holding
+pub mod Spelled

@@ -1,0 +1,35 @@
+-- The chains that an auditor holds, each at the public key of its provider.
+use Rattle.std.specs.Prelude.{◌≡◌, ◌≢◌, ℕ, List, Option, Some, All}
+use Rattle.std.specs.BTreeMap.{is_at}
+use Rattle.std.specs.Cmp.Lexicographic.{slice_cmp}
+use Rattle.std.specs.List.{AllByRecursion}
+use Rattle.std.specs.Map.{lookup}
+use Rattle.std.specs.Ordering.{nat_cmp}
+use Rattle.std.specs.declared.cmp.Ordering.{Ordering}
+use Rattle.rootchain.specs.Chains.{KeyedRoots}
+use Rattle.rootchain.specs.SignedRoots.{IsSignedRoot}
+
+-- keys and their chains, in order of the keys' bytes
+abbrev pub Chains : Type 0
+Chains = List (List ℕ × KeyedRoots)
+
+-- keys compare as byte strings do
+abbrev pub key_cmp : List ℕ → List ℕ → Ordering
+key_cmp = slice_cmp nat_cmp
+
+-- the chain of a provider, if there is one
+abbrev pub chain_of : Chains → List ℕ → Option KeyedRoots
+chain_of chains key = lookup (is_at (key_cmp key)) chains
+
+-- this chain is now that of the provider, and those of all others are as before
+pub record NowHas (before : Chains) (key : List ℕ) (chain : KeyedRoots) (after : Chains) : Type 0 where
+  pub own : chain_of after key ≡ Some chain
+  pub others : (other : List ℕ) → other ≢ key → chain_of after other ≡ chain_of before other
+
+-- a chain that stands at its own key, of roots that have a spelling
+abbrev pub IsHeld : List ℕ → KeyedRoots → Type 0
+IsHeld key chain = (chain.key ≡ key) × All IsSignedRoot chain.roots
+
+-- each chain is such a one
+abbrev pub AreHeld : Chains → Type 0
+AreHeld chains = AllByRecursion (λ held. IsHeld held.0 held.1) chains

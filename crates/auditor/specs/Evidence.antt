@@ -1,0 +1,12 @@
+-- What shows anyone that a provider cheated (CONIKS, section 4).
+use Rattle.std.specs.Prelude.{ℕ, List}
+use Rattle.rootchain.specs.Evidence.{IsRootEvidence}
+use Rattle.proofs.specs.BrokenPromises.{IsBrokenPromise}
+use Rattle.auditor.specs.declared.evidence.Evidence.{Evidence}
+use Rattle.auditor.specs.declared.evidence.Evidence.TheVariants.{Root, Broken}
+
+module _ (hash : List ℕ → List ℕ) (accepted verified : List ℕ → List ℕ → List ℕ → Type 0) (key : List ℕ) where
+  -- two roots of this provider that no one chain has, or a promise of its that was broken
+  abbrev pub IsEvidence : Evidence → Type 0
+  IsEvidence (Root roots) = IsRootEvidence hash verified key roots
+  IsEvidence (Broken broken) = IsBrokenPromise hash accepted verified key broken.promise broken.root broken.proof

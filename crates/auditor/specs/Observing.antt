@@ -1,0 +1,118 @@
+-- What an auditor tells of a root, and what it then holds (CONIKS, section 4).
+use Rattle.std.specs.Prelude.{◌≡◌, ◌⊎◌, ℕ, List, [], ◌∷◌, Option, Some, None, Result, Ok, Err}
+use Rattle.encoding.specs.Fields.{Spells}
+use Rattle.rootchain.specs.declared.chain.placing.Place.{Place}
+use Rattle.rootchain.specs.declared.chain.placing.Place.TheVariants as place
+use Rattle.rootchain.specs.declared.evidence.RootEvidence.{RootEvidence}
+use Rattle.rootchain.specs.declared.evidence.RootEvidence.TheVariants.{Fork, Link, Skip}
+use Rattle.rootchain.specs.declared.refusal.Refusal.{Refusal}
+use Rattle.rootchain.specs.declared.refusal.Refusal.TheVariants.{Malformed, BadSignature, NotLater, BadLink, Memory}
+use Rattle.rootchain.specs.declared.signed_root.SignedRoot.{SignedRoot}
+use Rattle.rootchain.specs.Chains.{KeyedRoots, Verifies}
+use Rattle.rootchain.specs.Evidence.{IsRootEvidence}
+use Rattle.rootchain.specs.Places.{IsPlace}
+use Rattle.rootchain.specs.SignedRoots.{signed_root_bytes, IsSignedRoot}
+use Rattle.rootchain.specs.Taking.{with_root}
+use Rattle.auditor.specs.Chains.{Chains, NowHas, chain_of}
+use Rattle.auditor.specs.declared.auditor.Observed.{Observed}
+use Rattle.auditor.specs.declared.auditor.Observed.TheVariants.{Started, Extended, Known, Ahead, BeforeStart, Evidence}
+
+-- how an auditor tells where a root stands that it observes
+abbrev pub observed_as : Place → Observed
+observed_as place.Known = Known
+observed_as place.Next = Extended
+observed_as place.Ahead = Ahead
+observed_as place.BeforeStart = BeforeStart
+observed_as (place.Evidence evidence) = Evidence evidence
+
+-- and one that it only compares: a root that may follow is told as one that is ahead
+abbrev pub compared_as : Place → Place
+compared_as place.Known = place.Known
+compared_as place.Next = place.Ahead
+compared_as place.Ahead = place.Ahead
+compared_as place.BeforeStart = place.BeforeStart
+compared_as (place.Evidence evidence) = place.Evidence evidence
+
+module _ (hash : List ℕ → List ℕ) where
+  -- what is told of a root beside the chain of its provider, if there is one
+  abbrev pub IsObserved : Option KeyedRoots → SignedRoot → Observed → Type 0
+  IsObserved None root told = told ≡ Started
+  IsObserved (Some chain) root told = (stands : Place) × IsPlace hash chain root stands × (told ≡ observed_as stands)
+
+  abbrev pub IsCompared : Option KeyedRoots → SignedRoot → Place → Type 0
+  IsCompared None root told = told ≡ place.Ahead
+  IsCompared (Some chain) root told = (stands : Place) × IsPlace hash chain root stands × (told ≡ compared_as stands)
+
+-- the chains once this was told of a root: only at the first two does the provider have another chain
+abbrev pub HoldsAfter : Chains → List ℕ → SignedRoot → Observed → Chains → Type 0
+HoldsAfter before key root Started after = NowHas before key (record { key = key; roots = root ∷ [] }) after
+HoldsAfter before key root Extended after = (chain : KeyedRoots) × (chain_of before key ≡ Some chain) × NowHas before key (with_root chain root) after
+HoldsAfter before key root Known after = after ≡ before
+HoldsAfter before key root Ahead after = after ≡ before
+HoldsAfter before key root BeforeStart after = after ≡ before
+HoldsAfter before key root (Evidence evidence) after = after ≡ before
+
+-- the bytes spell this root
+abbrev pub SpellsRoot : List ℕ → SignedRoot → Type 0
+SpellsRoot = Spells signed_root_bytes IsSignedRoot
+
+module _ (hash : List ℕ → List ℕ) (verified : List ℕ → List ℕ → List ℕ → Type 0) where
+  -- when a root that was read is refused so: memory is wanted only to start a chain or to extend one
+  abbrev pub IsRefused : Option KeyedRoots → List ℕ → SignedRoot → Refusal → Type 0
+  IsRefused held key root Malformed = ⊥
+  IsRefused held key root BadSignature = ¬ Verifies verified key root
+  IsRefused held key root NotLater = ⊥
+  IsRefused held key root BadLink = ⊥
+  IsRefused held key root Memory = Verifies verified key root × (IsObserved hash held root Started ⊎ IsObserved hash held root Extended)
+
+  -- what comes of a root of a provider that is observed
+  abbrev pub ObservesRoot : Chains → List ℕ → SignedRoot → Result Observed Refusal → Chains → Type 0
+  ObservesRoot before key root (Ok told) after = Verifies verified key root × IsObserved hash (chain_of before key) root told × HoldsAfter before key root told after
+  ObservesRoot before key root (Err why) after = IsRefused (chain_of before key) key root why × (after ≡ before)
+
+  -- what comes of bytes that are observed: they spell a root, or else they are refused
+  abbrev pub Observes : Chains → List ℕ → List ℕ → Result Observed Refusal → Chains → Type 0
+  Observes before key bytes result after =
+      ((root : SignedRoot) × SpellsRoot bytes root × ObservesRoot before key root result after)
+      ⊎ (((root : SignedRoot) → ¬ SpellsRoot bytes root) × (result ≡ Err Malformed) × (after ≡ before))
+
+  -- what comes of a root of a provider that is compared
+  abbrev pub ComparesRoot : Chains → List ℕ → SignedRoot → Result Place Refusal → Type 0
+  ComparesRoot chains key root (Ok told) = Verifies verified key root × IsCompared hash (chain_of chains key) root told
+  ComparesRoot chains key root (Err Malformed) = ⊥
+  ComparesRoot chains key root (Err BadSignature) = ¬ Verifies verified key root
+  ComparesRoot chains key root (Err NotLater) = ⊥
+  ComparesRoot chains key root (Err BadLink) = ⊥
+  ComparesRoot chains key root (Err Memory) = ⊥
+
+  abbrev pub Compares : Chains → List ℕ → List ℕ → Result Place Refusal → Type 0
+  Compares chains key bytes result =
+      ((root : SignedRoot) × SpellsRoot bytes root × ComparesRoot chains key root result)
+      ⊎ (((root : SignedRoot) → ¬ SpellsRoot bytes root) × (result ≡ Err Malformed))
+
+-- this holds of both roots
+abbrev pub BothAre : (SignedRoot → Type 0) → RootEvidence → Type 0
+BothAre P (Fork one other) = P one × P other
+BothAre P (Link one other) = P one × P other
+BothAre P (Skip one other) = P one × P other
+
+module _ (hash : List ℕ → List ℕ) (verified : List ℕ → List ℕ → List ℕ → Type 0) (key : List ℕ) where
+  -- evidence against this provider, of roots that have a spelling
+  abbrev pub Holds : RootEvidence → Type 0
+  Holds evidence = IsRootEvidence hash verified key evidence × BothAre IsSignedRoot evidence
+
+  -- if evidence is told, it holds
+  abbrev pub ObservedHolds : Observed → Type 0
+  ObservedHolds Started = Unit
+  ObservedHolds Extended = Unit
+  ObservedHolds Known = Unit
+  ObservedHolds Ahead = Unit
+  ObservedHolds BeforeStart = Unit
+  ObservedHolds (Evidence evidence) = Holds evidence
+
+  abbrev pub PlaceHolds : Place → Type 0
+  PlaceHolds place.Known = Unit
+  PlaceHolds place.Next = Unit
+  PlaceHolds place.Ahead = Unit
+  PlaceHolds place.BeforeStart = Unit
+  PlaceHolds (place.Evidence evidence) = Holds evidence

@@ -1,0 +1,11 @@
+use Rattle.std.proofs.Common.{rules, ◌≡◌, ap, codes, false}
+use Rattle.std.specs.Str.{bytes_eq}
+use Rattle.directoryd.specs.Orders.{the_root}
+use Rattle.directoryd.proofs.order.named_order.Goals as goal
+
+pub returns-in_default : goal.returns-in_default
+returns-in_default c =
+    let prove : bytes_eq c.args.name.now (codes "prove") ≡ false = search rules in
+    let serve : bytes_eq c.args.name.now (codes "serve") ≡ false = search rules in
+    let listen : bytes_eq c.args.name.now (codes "listen") ≡ false = search rules in
+    rw (prove, serve, listen) (ap the_root c.root_order-in_default.ensures)
