@@ -12,11 +12,15 @@
 #![tactic(auto)]
 
 mod fault;
+mod judging;
+mod kinds;
 mod laws;
 mod reading;
 mod writing;
 
 pub use fault::ReadFault;
+pub use judging::{Verdict, judge_file};
+pub use kinds::JudgeOrder;
 pub use laws::{file_is_one_evidence, text_is_file};
 pub use reading::read_evidence;
 pub use writing::evidence_json;
