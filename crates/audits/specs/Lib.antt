@@ -4,5 +4,6 @@ pub mod Steps
 pub mod Faults
 pub mod StandIns
 pub mod Verdicts
+pub mod Auditing
 pub use Rattle.textio.specs.Digits
 pub use Rattle.textio.specs.Output

@@ -95,3 +95,6 @@ pub fn judge_file<W: Write>(
     let verifier = KeyedSign::new(key);
     judge_under(alloc, hash, &vuf, &verifier, &key, file, writer)
 }
+
+#[cfg(test)]
+mod tests;
