@@ -69,7 +69,7 @@ module _ (hash : List ℕ → List ℕ) (verified : List ℕ → List ℕ → Li
       by : (decoded : Result (List ℕ) FromHexError) → decode_of line ≡ decoded → ObservesDecoded hash verified key before decoded answer after
       by (Err fault) is = (refused, same)
       by (Ok bytes) is =
-          let twice : length line ≡ 2 * length bytes = (decode_of-ok line bytes is).2.0 in
+          let twice : length line ≡ 2 * length bytes = (decode_of-ok line bytes is).2 in
           inr ((λ root. too_long bytes root (omega (arith, twice, long))), refused, same)
 
   -- the first 809 bytes of a line are observed as the line is
@@ -129,32 +129,33 @@ module _ (hash : List ℕ → List ℕ) (verified : List ℕ → List ℕ → Li
     ended (lines, answers, takes, audits, wrote) rest none = (answers, (lines, now, takes_all input left rest lines takes none, audits), wrote)
 
     -- a line is answered, and its answer is written, or less of it
-    module _ (rest : Option (List ℕ)) (kept : List ℕ) (took : TakesLine 809 left rest (Some kept)) (answer : Answer) (after : Chains) where
-      abbrev IsObserved : Type 0
-      IsObserved = ObservesLine hash verified key now kept answer after × IsAnswer hash verified key answer
+    module _ (rest : Option (List ℕ)) (kept : List ℕ) (took : TakesLine 809 left rest (Some kept)) (after : Chains) (said : List ℕ) where
+      abbrev IsSaid : Type 0
+      IsSaid = (answer : Answer) × ObservesLine hash verified key now kept answer after × IsAnswer hash verified key answer × (said ≡ answer_line answer)
 
-      pub gone_on : (told : Option (List ℕ)) → IsObserved → Midway input old now left new → Appends new told (answer_line answer) → Midway input old after rest told
-      gone_on told observed (lines, answers, takes, audits, wrote) more =
+      pub gone_on : (told : Option (List ℕ)) → IsSaid → Midway input old now left new → Appends new told said → Midway input old after rest told
+      gone_on told (answer, observes, is, tells) (lines, answers, takes, audits, wrote) more =
           let line = takes_more input left rest lines kept takes took in (
             lines ++ line.0 ∷ [],
             answers ++ answer ∷ [],
             line.2,
-            audits_more [] lines answers now line.0 answer after audits (line.1 now answer after observed.0) observed.1,
-            subst (Appends old told) (sym (answer_lines_more answers answer)) (Appends-trans old new told _ _ wrote more),
+            audits_more [] lines answers now line.0 answer after audits (line.1 now answer after observes) is,
+            subst (Appends old told) (ap (λ (t : List ℕ). answer_lines answers ++ t) tells ∙ sym (answer_lines_more answers answer))
+            (Appends-trans old new told (answer_lines answers) said wrote more),
           )
 
-      pub unwritten : (told : Option (List ℕ)) → IsObserved → Midway input old now left new → WritesBeginning new told (answer_line answer) → AuditsInput hash verified key input old (Err CannotWrite) told
-      unwritten told observed (lines, answers, takes, audits, wrote) (unsaid, some, (front, split, appended)) =
+      pub unwritten : (told : Option (List ℕ)) → IsSaid → Midway input old now left new → WritesBeginning new told said → AuditsInput hash verified key input old (Err CannotWrite) told
+      unwritten told (answer, observes, is, tells) (lines, answers, takes, audits, wrote) (unsaid, some, (front, split, appended)) =
           let line = takes_more input left rest lines kept takes took in
           let later = takes_first input rest (lines ++ line.0 ∷ []) line.2 in (
             answers ++ answer ∷ [],
-            (lines ++ line.0 ∷ [], later.0, after, later.1, audits_more [] lines answers now line.0 answer after audits (line.1 now answer after observed.0) observed.1),
+            (lines ++ line.0 ∷ [], later.0, after, later.1, audits_more [] lines answers now line.0 answer after audits (line.1 now answer after observes) is),
             (
               unsaid,
               some,
               (
                 answer_lines answers ++ front,
-                answer_lines_more answers answer ∙ ap (λ (t : List ℕ). answer_lines answers ++ t) split ∙ sym (append_assoc (answer_lines answers) front unsaid),
+                answer_lines_more answers answer ∙ ap (λ (t : List ℕ). answer_lines answers ++ t) (sym tells ∙ split) ∙ sym (append_assoc (answer_lines answers) front unsaid),
                 Appends-trans old new told (answer_lines answers) front wrote appended,
               ),
             ),

@@ -44,5 +44,4 @@ module _ (hash : List ℕ → List ℕ) (verified : List ℕ → List ℕ → Li
   abbrev pub TellsLine : {X : Type 0} → (X → List ℕ) → Chains → List ℕ → Result X ProgramFault → Chains → Type 0
   TellsLine seen before line (Ok text) after = (answer : Result Observed Refusal)
       × ObservesLine hash verified key before line answer after × IsAnswer hash verified key answer × (seen text ≡ answer_line answer)
-  TellsLine seen before line (Err OutOfMemory) after = ⊤
-  TellsLine seen before line (Err _) after = ⊥
+  TellsLine seen before line (Err fault) after = fault ≡ OutOfMemory
