@@ -1,5 +1,5 @@
 -- An input that is audited, line by line.
-use Rattle.std.proofs.Common.{◌≡◌, ℕ, ◌+◌, ◌*◌, ◌≤◌, List, [], ◌∷◌, ◌++◌, length, take, Option, None, Some, IfSome, Result, Ok, Err, refl, sym, ap, subst, ◌∙◌, inl, inr, arith, append_assoc, append-nil, take_all, length-take-le}
+use Rattle.std.proofs.Common.{◌≡◌, ℕ, ◌*◌, ◌≤◌, List, [], ◌∷◌, ◌++◌, length, take, Option, None, Some, IfSome, Result, Ok, Err, refl, sym, ap, subst, ◌∙◌, inl, inr, arith, append_assoc, append-nil, take_all, length-take-le}
 use Rattle.std.proofs.lemmas.Bool.{cases_lt}
 use Rattle.std.specs.Prelude.{⊤, IsSomeAnd}
 use Rattle.std.specs.Io.KnownBytes.{Appends}
@@ -17,7 +17,7 @@ use Rattle.textio.specs.declared.program_fault.ProgramFault.TheVariants.{CannotR
 use Rattle.auditor.specs.declared.auditor.Observed.{Observed}
 use Rattle.auditor.specs.Chains.{Chains}
 use Rattle.auditor.specs.Observing.{SpellsRoot}
-use Rattle.audits.specs.Auditing.{answer_line, answer_lines, AnswersAll, AnswersFirst, Audits, AuditsInput, IsAnswer, ObservesDecoded, ObservesLine}
+use Rattle.audits.specs.Auditing.{answer_line, answer_lines, AnswersFirst, Audits, AuditsInput, IsAnswer, ObservesDecoded, ObservesLine}
 use Rattle.rootchain.specs.SignedRoots.{signed_root_bytes}
 use Rattle.audits.proofs.Forms.{length-signed_root_bytes}
 
@@ -141,7 +141,7 @@ module _ (hash : List ℕ → List ℕ) (verified : List ℕ → List ℕ → Li
             line.2,
             audits_more [] lines answers now line.0 answer after audits (line.1 now answer after observes) is,
             subst (Appends old told) (ap (λ (t : List ℕ). answer_lines answers ++ t) tells ∙ sym (answer_lines_more answers answer))
-            (Appends-trans old new told (answer_lines answers) said wrote more),
+                (Appends-trans old new told (answer_lines answers) said wrote more),
           )
 
       pub unwritten : (told : Option (List ℕ)) → IsSaid → Midway input old now left new → WritesBeginning new told said → AuditsInput hash verified key input old (Err CannotWrite) told

@@ -1,7 +1,5 @@
 use super::*;
-use crate::for_tests::{
-    KEY, OTHER_KEY, after, body, digits, forked, signed, unless_out_of_memory,
-};
+use crate::for_tests::{KEY, OTHER_KEY, after, body, digits, forked, signed, unless_out_of_memory};
 use encoding::Small;
 use rootchain::{Body, SignedRoot};
 use std::io::{BufReader, ErrorKind};
@@ -119,7 +117,11 @@ fn refused_lines(rt: HostRuntime) -> Result<(), Fail> {
         let input = format!(in alloc; "{line}\n{root}\n")?;
         let (answer, written) = told(alloc, ORDER, &mut input.as_bytes())?;
         assert_eq!(rt; answer, Ok(()), "at {line:?}");
-        assert_eq!(rt; written.as_slice(), b"refused 1\nstarted\n".as_slice(), "at {line:?}");
+        assert_eq!(rt;
+            written.as_slice(),
+            b"refused 1\nstarted\n".as_slice(),
+            "at {line:?}"
+        );
     }
     Ok(())
 }
@@ -173,7 +175,11 @@ fn one_read_fails(rt: HostRuntime) -> Result<(), Fail> {
         let mut reader = BufReader::with_capacity(alloc, 100, device)?;
         let (answer, written) = told(alloc, ORDER, &mut reader)?;
         assert_eq!(rt; answer, Ok(()), "at {call}");
-        assert_eq!(rt; written.as_slice(), b"started\nknown\n".as_slice(), "at {call}");
+        assert_eq!(rt;
+            written.as_slice(),
+            b"started\nknown\n".as_slice(),
+            "at {call}"
+        );
     }
     Ok(())
 }

@@ -35,14 +35,24 @@ fn file(alloc: Global, first: &str, kind: &str, second: &str) -> Result<String, 
 /// Two roots of one epoch, and a root that the later of two others skips.
 fn forked_file(alloc: Global) -> Result<String, AllocError> {
     let third = body(3, 0, Hash32::default());
-    file(alloc, &digits(alloc, &third)?, "fork", &digits(alloc, &forked(&third))?)
+    file(
+        alloc,
+        &digits(alloc, &third)?,
+        "fork",
+        &digits(alloc, &forked(&third))?,
+    )
 }
 
 fn skipped_file(alloc: Global) -> Result<String, AllocError> {
     let third = body(3, 0, Hash32::default());
     let seventh = after(&third, 7);
     let ninth = after(&seventh, 9);
-    file(alloc, &digits(alloc, &after(&seventh, 8))?, "skip", &digits(alloc, &ninth)?)
+    file(
+        alloc,
+        &digits(alloc, &after(&seventh, 8))?,
+        "skip",
+        &digits(alloc, &ninth)?,
+    )
 }
 
 #[test]
@@ -79,7 +89,11 @@ fn no_evidence(rt: HostRuntime) -> Result<(), Fail> {
     for file in &files {
         let (answer, written) = told(alloc, ORDER, file.as_bytes())?;
         assert_eq!(rt; answer, Ok(Verdict::NoEvidence), "at {file}");
-        assert_eq!(rt; written.as_slice(), b"no evidence\n".as_slice(), "at {file}");
+        assert_eq!(rt;
+            written.as_slice(),
+            b"no evidence\n".as_slice(),
+            "at {file}"
+        );
     }
     let file = forked_file(alloc)?;
     let (answer, _) = told(alloc, JudgeOrder { key: OTHER_KEY }, file.as_bytes())?;
@@ -189,8 +203,12 @@ fn one_write_fails(rt: HostRuntime) -> Result<(), Fail> {
     for call in 0..5 {
         for kind in [Some(ErrorKind::BrokenPipe), None] {
             let mut writer = CutWriter::new(alloc, 10, 2)?.fail_at(call, kind);
-            let answer =
-                unless_out_of_memory(judge_file(alloc, ORDER, file.as_bytes(), &mut writer))?;
+            let answer = unless_out_of_memory(judge_file(
+                alloc,
+                ORDER,
+                file.as_bytes(),
+                &mut writer,
+            ))?;
             assert_eq!(rt; answer, Err(ProgramFault::CannotWrite), "at {call}");
             let front = b"evidence\n".get(..2 * call);
             assert_eq!(rt; Some(writer.taken()), front, "at {call}");
