@@ -2,4 +2,3 @@ pub mod Files
 pub mod Forms
 pub mod Found
 pub mod Parts
-pub mod Midway
