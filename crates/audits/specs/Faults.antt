@@ -1,0 +1,9 @@
+-- Why a file was not read, as a fault of a program.
+use Rattle.textio.specs.declared.program_fault.ProgramFault.{ProgramFault}
+use Rattle.textio.specs.declared.program_fault.ProgramFault.TheVariants as program
+use Rattle.audits.specs.declared.fault.ReadFault.{ReadFault}
+use Rattle.audits.specs.declared.fault.ReadFault.TheVariants.{Memory, NotEvidence}
+
+abbrev pub of_reading : ReadFault → ProgramFault
+of_reading NotEvidence = program.NotEvidence
+of_reading Memory = program.OutOfMemory
