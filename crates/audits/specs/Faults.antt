@@ -2,8 +2,8 @@
 use Rattle.textio.specs.declared.program_fault.ProgramFault.{ProgramFault}
 use Rattle.textio.specs.declared.program_fault.ProgramFault.TheVariants as program
 use Rattle.audits.specs.declared.fault.ReadFault.{ReadFault}
-use Rattle.audits.specs.declared.fault.ReadFault.TheVariants.{Memory, NotEvidence}
+use Rattle.audits.specs.declared.fault.ReadFault.TheVariants.{OutOfMemory, NotEvidence}
 
 abbrev pub of_reading : ReadFault → ProgramFault
 of_reading NotEvidence = program.NotEvidence
-of_reading Memory = program.OutOfMemory
+of_reading OutOfMemory = program.OutOfMemory

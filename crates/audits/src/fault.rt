@@ -33,7 +33,7 @@ impl From<ReadFault> for ProgramFault {
     fn from(given: ReadFault) -> Self {
         match given {
             ReadFault::NotEvidence => ProgramFault::NotEvidence,
-            ReadFault::Memory => ProgramFault::OutOfMemory,
+            ReadFault::OutOfMemory => ProgramFault::OutOfMemory,
         }
     }
 }
