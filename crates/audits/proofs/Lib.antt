@@ -3,3 +3,4 @@ pub mod Forms
 pub mod Found
 pub mod Parts
 pub mod Midway
+pub mod Opened

@@ -1,11 +1,11 @@
 -- What `judge` says of a file.
-use Rattle.std.specs.Prelude.{◌≡◌, ℕ, List, Option, None, Some, Result, Ok, Err, codes}
+use Rattle.std.specs.Prelude.{◌≡◌, ℕ, List, Option, None, Some, Result, Ok, Err, IsSome, codes}
 use Rattle.std.specs.Io.KnownBytes.{Appends, Keeps}
 use Rattle.nodehash.specs.Sha256.{sha256}
 use Rattle.textio.specs.Digits.{hex32}
 use Rattle.textio.specs.Output.{WritesBeginning}
 use Rattle.textio.specs.declared.program_fault.ProgramFault.{ProgramFault}
-use Rattle.textio.specs.declared.program_fault.ProgramFault.TheVariants.{BadHex, NotEvidence, CannotWrite, OutOfMemory}
+use Rattle.textio.specs.declared.program_fault.ProgramFault.TheVariants.{BadHex, NotEvidence, CannotRead, CannotWrite, OutOfMemory}
 use Rattle.auditor.specs.declared.evidence.Evidence.{Evidence}
 use Rattle.auditor.specs.Evidence.{IsEvidence}
 use Rattle.audits.specs.declared.judging.Verdict.{Verdict}
@@ -48,3 +48,10 @@ JudgesUnder (Some key) file old result new = Judges sha256 KeyedAccepts KeyedVer
 
 abbrev pub JudgesFile : List ℕ → List ℕ → Option (List ℕ) → Result Verdict ProgramFault → Option (List ℕ) → Type 0
 JudgesFile key = JudgesUnder (hex32 key)
+
+-- What comes of a key's text and a file that is opened: what comes of its bytes, whichever they are; or it
+-- could not be read, or memory was wanting, and nothing is written. The key's text was then good.
+abbrev pub JudgesAt : List ℕ → Option (List ℕ) → Result Verdict ProgramFault → Option (List ℕ) → Type 0
+JudgesAt key old (Err CannotRead) new = IsSome (hex32 key) × Keeps old new
+JudgesAt key old (Err OutOfMemory) new = IsSome (hex32 key) × Keeps old new
+JudgesAt key old result new = (file : List ℕ) × JudgesFile key file old result new

@@ -1,13 +1,17 @@
 ghost use Rattle.std.specs.Prelude.{◌≡◌};
-ghost use Rattle.audits.specs.Verdicts.{verdict_line, verdict_status, IsVerdict, Judges, JudgesFile};
+ghost use Rattle.nodehash.specs.Sha256.{sha256};
+ghost use Rattle.audits.specs.StandIns.{KeyedAccepts, KeyedVerifies};
+ghost use Rattle.audits.specs.Verdicts.{verdict_line, verdict_status, IsVerdict, Judges, JudgesAt, JudgesFile};
 
 use crate::kinds::JudgeOrder;
+use crate::opening::file_bytes;
 use crate::reading::read_evidence;
 use auditor::{Evidence, judge};
 use encoding::Hash32;
 use nodehash::{NodeHash, Sha256Hash};
 use sigiface::{KeyedSign, Verifier};
 use std::alloc::Global;
+use std::fs::Files;
 use std::io::Write;
 use textio::{ProgramFault, option_hex32, write_text};
 use vrfiface::{KeyedVuf, VufCheck};
@@ -74,8 +78,23 @@ fn judge_under<H: NodeHash, V: VufCheck, S: Verifier, W: Write>(
     Ok(verdict)
 }
 
-/// Reads a file of evidence, and writes whether it is evidence against the provider of the order's key:
-/// `evidence` or `no evidence`.
+/// Judges a file by the stand-ins that check with this key.
+fn judge_keyed<W: Write>(
+    alloc: Global,
+    key: Hash32,
+    file: &[u8],
+    writer: &mut W,
+) -> Result<Verdict, ProgramFault>
+    ensures { Judges sha256 KeyedAccepts KeyedVerifies key file.now (W.contents writer.old) result (W.contents writer.new) }
+{
+    let hash = &mut Sha256Hash::new();
+    let vuf = KeyedVuf::new(key);
+    let verifier = KeyedSign::new(key);
+    judge_under(alloc, hash, &vuf, &verifier, &key, file, writer)
+}
+
+/// Reads the bytes of a file of evidence, and writes whether it is evidence against the provider of this
+/// public key, given as 64 hexadecimal digits: `evidence` or `no evidence`.
 ///
 /// # Errors
 ///
@@ -83,17 +102,33 @@ fn judge_under<H: NodeHash, V: VufCheck, S: Verifier, W: Write>(
 /// `OutOfMemory`; `CannotWrite`, with a beginning of the line written.
 pub fn judge_file<W: Write>(
     alloc: Global,
-    order: JudgeOrder<'_>,
+    key: &str,
     file: &[u8],
     writer: &mut W,
 ) -> Result<Verdict, ProgramFault>
-    ensures judges { JudgesFile order.entry.key.now file.now (W.contents writer.old) result (W.contents writer.new) }
+    ensures judges { JudgesFile key.now file.now (W.contents writer.old) result (W.contents writer.new) }
+{
+    let key = Hash32::new(option_hex32(key)?);
+    judge_keyed(alloc, key, file, writer)
+}
+
+/// Opens the file of the order's name, reads it whole, and judges it as `judge_file` does.
+///
+/// # Errors
+///
+/// `BadHex`, before the file is opened; `CannotRead` where the file cannot be opened or read; then those
+/// of `judge_file`.
+pub fn judge_at<F: Files, W: Write>(
+    alloc: Global,
+    files: &F,
+    order: JudgeOrder<'_>,
+    writer: &mut W,
+) -> Result<Verdict, ProgramFault>
+    ensures judges { JudgesAt order.entry.key.now (W.contents writer.old) result (W.contents writer.new) }
 {
     let key = Hash32::new(option_hex32(order.key)?);
-    let hash = &mut Sha256Hash::new();
-    let vuf = KeyedVuf::new(key);
-    let verifier = KeyedSign::new(key);
-    judge_under(alloc, hash, &vuf, &verifier, &key, file, writer)
+    let file = file_bytes(alloc, files, order.file)?;
+    judge_keyed(alloc, key, &file, writer)
 }
 
 #[cfg(test)]

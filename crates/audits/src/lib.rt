@@ -18,12 +18,13 @@ mod for_tests;
 mod judging;
 mod kinds;
 mod laws;
+mod opening;
 mod reading;
 mod writing;
 
 pub use auditing::audit;
 pub use fault::ReadFault;
-pub use judging::{Verdict, judge_file};
+pub use judging::{Verdict, judge_at, judge_file};
 pub use kinds::{AuditOrder, JudgeOrder};
 pub use laws::{file_is_one_evidence, text_is_file};
 pub use reading::read_evidence;

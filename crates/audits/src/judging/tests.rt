@@ -14,16 +14,14 @@ use std::test::Fail;
 use textio::CutWriter;
 use vrfiface::{Vuf, index_of};
 
-const ORDER: JudgeOrder<'static> = JudgeOrder { key: KEY };
-
 /// What `judge_file` answers and writes.
 fn told(
     alloc: Global,
-    order: JudgeOrder<'_>,
+    key: &str,
     file: &[u8],
 ) -> Result<(Result<Verdict, ProgramFault>, Vec<u8>), Fail> {
     let mut written = Vec::with_capacity(alloc, 64)?;
-    let answer = unless_out_of_memory(judge_file(alloc, order, file, &mut written))?;
+    let answer = unless_out_of_memory(judge_file(alloc, key, file, &mut written))?;
     Ok((answer, written))
 }
 
@@ -59,7 +57,7 @@ fn skipped_file(alloc: Global) -> Result<String, AllocError> {
 fn evidence_of_roots(rt: HostRuntime) -> Result<(), Fail> {
     let alloc = rt.alloc();
     for file in [forked_file(alloc)?, skipped_file(alloc)?] {
-        let (answer, written) = told(alloc, ORDER, file.as_bytes())?;
+        let (answer, written) = told(alloc, KEY, file.as_bytes())?;
         assert_eq!(rt; answer, Ok(Verdict::Evidence));
         assert_eq!(rt; written.as_slice(), b"evidence\n".as_slice());
     }
@@ -87,7 +85,7 @@ fn no_evidence(rt: HostRuntime) -> Result<(), Fail> {
         file(alloc, &one, "fork", &forged)?,
     ];
     for file in &files {
-        let (answer, written) = told(alloc, ORDER, file.as_bytes())?;
+        let (answer, written) = told(alloc, KEY, file.as_bytes())?;
         assert_eq!(rt; answer, Ok(Verdict::NoEvidence), "at {file}");
         assert_eq!(rt;
             written.as_slice(),
@@ -96,7 +94,7 @@ fn no_evidence(rt: HostRuntime) -> Result<(), Fail> {
         );
     }
     let file = forked_file(alloc)?;
-    let (answer, _) = told(alloc, JudgeOrder { key: OTHER_KEY }, file.as_bytes())?;
+    let (answer, _) = told(alloc, OTHER_KEY, file.as_bytes())?;
     assert_eq!(rt; answer, Ok(Verdict::NoEvidence));
     Ok(())
 }
@@ -154,10 +152,10 @@ fn promised(alloc: Global, has_key: bool) -> Result<String, Fail> {
 fn promise_that_was_kept_or_broken(rt: HostRuntime) -> Result<(), Fail> {
     let alloc = rt.alloc();
     let broken = promised(alloc, false)?;
-    let (answer, _) = told(alloc, ORDER, broken.as_bytes())?;
+    let (answer, _) = told(alloc, KEY, broken.as_bytes())?;
     assert_eq!(rt; answer, Ok(Verdict::Evidence));
     let kept = promised(alloc, true)?;
-    let (answer, _) = told(alloc, ORDER, kept.as_bytes())?;
+    let (answer, _) = told(alloc, KEY, kept.as_bytes())?;
     assert_eq!(rt; answer, Ok(Verdict::NoEvidence));
     Ok(())
 }
@@ -174,7 +172,7 @@ fn not_an_evidence_file(rt: HostRuntime) -> Result<(), Fail> {
         file(alloc, &root, "broken", &root)?,
     ];
     for file in &files {
-        let (answer, written) = told(alloc, ORDER, file.as_bytes())?;
+        let (answer, written) = told(alloc, KEY, file.as_bytes())?;
         assert_eq!(rt; answer, Err(ProgramFault::NotEvidence), "at {file}");
         assert!(rt; written.is_empty());
     }
@@ -188,7 +186,7 @@ fn bad_hex_before_the_file(rt: HostRuntime) -> Result<(), Fail> {
     let long = "0".repeat(alloc, 65)?;
     let other = format!(in alloc; "{short}g")?;
     for key in [short.as_str(), long.as_str(), other.as_str(), ""] {
-        let (answer, written) = told(alloc, JudgeOrder { key }, b"x")?;
+        let (answer, written) = told(alloc, key, b"x")?;
         assert_eq!(rt; answer, Err(ProgramFault::BadHex), "at {key:?}");
         assert!(rt; written.is_empty());
     }
@@ -205,7 +203,7 @@ fn one_write_fails(rt: HostRuntime) -> Result<(), Fail> {
             let mut writer = CutWriter::new(alloc, 10, 2)?.fail_at(call, kind);
             let answer = unless_out_of_memory(judge_file(
                 alloc,
-                ORDER,
+                KEY,
                 file.as_bytes(),
                 &mut writer,
             ))?;
