@@ -1,5 +1,5 @@
 -- What comes of a file that is opened, where its key's text is good.
-use Rattle.std.proofs.Common.{◌≡◌, ℕ, List, Option, Some, Result, Ok, Err}
+use Rattle.std.proofs.Common.{◌≡◌, ℕ, List, Option, Some, Result, Ok, Err, refl}
 use Rattle.nodehash.specs.Sha256.{sha256}
 use Rattle.textio.specs.Digits.{hex32}
 use Rattle.textio.specs.declared.program_fault.ProgramFault.{ProgramFault}
@@ -13,7 +13,7 @@ pub judged_at : (text key file : List ℕ) (old new : Option (List ℕ)) (result
 judged_at text key file old new (Ok verdict) is judged = (file, rw is judged)
 judged_at text key file old new (Err NotEvidence) is judged = (file, rw is judged)
 judged_at text key file old new (Err CannotWrite) is judged = (file, rw is judged)
-judged_at text key file old new (Err OutOfMemory) is judged = rw is (tt, judged)
+judged_at text key file old new (Err OutOfMemory) is judged = rw is (refl, judged)
 judged_at text key file old new (Err BadHex) is judged = absurd judged
 judged_at text key file old new (Err (BadItem line)) is judged = absurd judged
 judged_at text key file old new (Err (IndexRepeated line)) is judged = absurd judged
