@@ -26,7 +26,7 @@ pub use auditing::audit;
 pub use fault::ReadFault;
 pub use judging::{Verdict, judge_at, judge_file};
 pub use kinds::{AuditOrder, JudgeOrder};
-pub use laws::{file_is_one_evidence, text_is_file};
+pub use laws::{file_is_one_evidence, text_is_compact, text_is_file};
 pub use reading::read_evidence;
 pub use writing::evidence_json;
 
