@@ -4,3 +4,4 @@ pub mod Places
 pub mod RootLists
 pub mod Taking
 pub mod Telling
+pub mod Walks
