@@ -1,5 +1,7 @@
+pub mod BodyTexts
 pub mod Chains
 pub mod Clashes
+pub mod Compared
 pub mod Places
 pub mod RootLists
 pub mod Taking
