@@ -83,6 +83,7 @@ fn last_places(
     requires also_end { also_end ≤ length others.now }
     requires cleared { IsCleared ones.now others.now end also_end }
     ensures some { IfSome result (λ p. AreLastPlaces ones.now others.now p.0 p.1) }
+    ensures within { IfSome result (λ p. (p.0 < length ones.now) × (p.1 < length others.now)) }
     ensures none { IfNone result (IsCleared ones.now others.now 0 0) }
 {
     let mut i = end;
@@ -111,6 +112,7 @@ fn apart_below(
 ) -> Option<(usize, usize)>
     requires { AreLastPlaces ones.now others.now to also_to }
     ensures some { IfSome result (λ p. AreApartPlaces ones.now others.now to also_to p.0 p.1) }
+    ensures within { IfSome result (λ p. (p.0 < length ones.now) × (p.1 < length others.now)) }
     ensures none { IfNone result ((i j : ℕ) × IsRun ones.now others.now i j to also_to × ((i ≡ 0) ⊎ (j ≡ 0))) }
 {
     let mut i = to;
