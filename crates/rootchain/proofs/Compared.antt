@@ -1,6 +1,7 @@
 -- What two chains with a common range compare to, from the places that the walks down find.
-use Rattle.std.proofs.Common.{◌≡◌, ◌≢◌, ◌⊎◌, ℕ, ◌+◌, ◌-◌, ◌<◌, ◌≤◌, List, length, get_or, slice_get, Some, Contains, refl, sym, ap, subst, ◌∙◌, inl, inr, arith}
+use Rattle.std.proofs.Common.{◌≡◌, ◌≢◌, ◌⊎◌, ℕ, ◌+◌, ◌-◌, ◌<◌, ◌≤◌, List, length, get_or, slice_get, Some, Contains, max, min, refl, sym, ap, subst, ◌∙◌, inl, inr, arith}
 use Rattle.std.specs.List.Sorted.{IsPartitionPoint}
+use Rattle.std.proofs.Math.Nat.{max-eq_left, max-eq_right, min-eq_left, min-eq_right}
 use Rattle.std.proofs.lemmas.Bool.{cases_lt}
 use Rattle.std.proofs.lemmas.Option.{get_or_from_slice_get, slice_get-get_or, slice_get_within}
 use Rattle.rootchain.specs.declared.compare.Compare.{Compare}
@@ -365,6 +366,13 @@ unshared_given one other up up' ones others eo eo' first also from i j at at' lo
     let P : Roots → Roots → Type 0 = λ rs rs'. Parts rs from i → Parts rs' from j → IsCleared rs rs' 0 0 → (result : Compare) → IsDivergence rs rs' i j result → IsComparedWithin one other result in
     subst (λ rs. P rs others) (sym eo) (subst (λ rs. P one.roots rs) (sym eo')
     (λ split split' cleared result h. compared_unshared one other up up' first also from i j at at' low low' is split split' cleared result h))
+
+-- the greater and the smaller of two numbers are one of them
+pub one_of_max : (m n k : ℕ) → k ≡ max m n → (k ≡ m) ⊎ (k ≡ n)
+one_of_max m n k e = elim (cases_lt m n) [ inl less ↦ inr (e ∙ max-eq_right (omega (arith, less))) | inr more ↦ inl (e ∙ max-eq_left more) ]
+
+pub one_of_min : (m n k : ℕ) → k ≡ min m n → (k ≡ m) ⊎ (k ≡ n)
+one_of_min m n k e = elim (cases_lt m n) [ inl less ↦ inl (e ∙ min-eq_left (omega (arith, less))) | inr more ↦ inr (e ∙ min-eq_right more) ]
 
 -- from the places on whose roots are of later epochs than the earlier head no body is common
 pub cleared_ends : (one other : KeyedRoots) → Ascend one.roots → Ascend other.roots → (ones others : Roots) → ones ≡ one.roots → others ≡ other.roots → (head last : SignedRoot) (top i j : ℕ) →
