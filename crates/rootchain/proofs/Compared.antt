@@ -339,7 +339,7 @@ compared_apart hash verified one other is is' i j k l last apart x y ex ey diffe
 -- ---- where the roots are lent
 
 -- what was found apart is a collision
-pub collided : (hash : List ℕ → List ℕ) (verified : List ℕ → List ℕ → List ℕ → Type 0) (one other : KeyedRoots) → IsChain hash verified one → IsChain hash verified other →
+collided : (hash : List ℕ → List ℕ) (verified : List ℕ → List ℕ → List ℕ → Type 0) (one other : KeyedRoots) → IsChain hash verified one → IsChain hash verified other →
     (ones others : Roots) → ones ≡ one.roots → others ≡ other.roots → (i j k l : ℕ) → AreLastPlaces ones others i j → AreApartPlaces ones others i j k l →
     (root also : SignedRoot) → root ≡ get_or ones k root → also ≡ get_or others l also → (x y : List ℕ) → x ≡ body_bytes root.body → y ≡ body_bytes also.body → IsSized root.body → IsSized also.body →
     IsComparedWithin one other (Collision x y) × CollisionHolds hash one other (Collision x y)
@@ -352,6 +352,15 @@ collided hash verified one other is is' ones others eo eo' i j k l last apart ro
     let f : also ≡ apart'.other = one-first also apart'.other (slice_get other.roots l) there apart'.at-other in
     compared_apart hash verified one other is is' i j k l last' apart' x y (ex ∙ ap (λ (z : SignedRoot). body_bytes z.body) e) (ey ∙ ap (λ (z : SignedRoot). body_bytes z.body) f)
     (λ same. apart'.differ (ap (λ (z : SignedRoot). z.body) (sym e) ∙ same_text root.body also.body sized sized' (sym ex ∙ same ∙ ey) ∙ ap (λ (z : SignedRoot). z.body) f))
+
+pub collided_at : (hash : List ℕ → List ℕ) (verified : List ℕ → List ℕ → List ℕ → Type 0) (one other : KeyedRoots) → IsChain hash verified one → IsChain hash verified other →
+    (ones others : Roots) → ones ≡ one.roots → others ≡ other.roots → (i j k l : ℕ) → AreLastPlaces ones others i j → AreApartPlaces ones others i j k l →
+    (root also : SignedRoot) → root ≡ get_or ones k root → also ≡ get_or others l also → (x y : List ℕ) → x ≡ body_bytes (get_or ones k root).body → y ≡ body_bytes (get_or others l also).body →
+    IsSized (get_or ones k root).body → IsSized (get_or others l also).body → IsComparedWithin one other (Collision x y) × CollisionHolds hash one other (Collision x y)
+collided_at hash verified one other is is' ones others eo eo' i j k l last apart root also at at' x y ex ey sized sized' =
+    collided hash verified one other is is' ones others eo eo' i j k l last apart root also at at' x y
+    (ex ∙ ap (λ (z : SignedRoot). body_bytes z.body) (sym at)) (ey ∙ ap (λ (z : SignedRoot). body_bytes z.body) (sym at'))
+    (subst (λ (z : SignedRoot). IsSized z.body) (sym at) sized) (subst (λ (z : SignedRoot). IsSized z.body) (sym at') sized')
 
 pub shared_given : (one other : KeyedRoots) → Ascend one.roots → Ascend other.roots → (ones others : Roots) → ones ≡ one.roots → others ≡ other.roots → (i j : ℕ) → AreLastPlaces ones others i j →
     ((low low' : ℕ) × IsRun ones others low low' i j × ((low ≡ 0) ⊎ (low' ≡ 0))) → (result : Compare) → IsDivergence ones others (i + 1) (j + 1) result → IsComparedWithin one other result
