@@ -29,7 +29,7 @@ epochs : (x y : SignedRoot) → x.body ≡ y.body → x.body.epoch ≡ y.body.ep
 epochs x y e = ap (λ b. b.epoch) e
 
 -- the roots at places, and those that a list contains
-contains : (roots : Roots) (k : ℕ) (x : SignedRoot) → slice_get roots k ≡ Some x → Contains roots x
+pub contains : (roots : Roots) (k : ℕ) (x : SignedRoot) → slice_get roots k ≡ Some x → Contains roots x
 contains roots k x at = (k, slice_get_within roots k x at, get_or_from_slice_get roots k x x at)
 
 pub placed : (roots : Roots) (x : SignedRoot) (held : Contains roots x) → slice_get roots held.0 ≡ Some x

@@ -1,3 +1,4 @@
+pub mod Agreement
 pub mod BodyTexts
 pub mod Chains
 pub mod Clashes

@@ -1,7 +1,7 @@
 ghost use Rattle.std.specs.Prelude.{◌≡◌, ◌≢◌, ◌+◌, ◌≤◌, ◌<◌, ◌⊎◌, ◌↔◌, ℕ, MatchOption, IfSome, IfNone, All, length};
 ghost use Rattle.std.specs.List.Sorted.{IsPartitionPoint};
 ghost use Rattle.rootchain.specs.Bodies.{body_bytes, IsSized};
-ghost use Rattle.rootchain.specs.Chains.{Ascend, IsHead};
+ghost use Rattle.rootchain.specs.Chains.{Ascend, IsChain, IsHead};
 ghost use Rattle.rootchain.specs.Comparisons.{told_by_place, AreAlikeAt, AreOneAt, ChainsAgree, CollisionHolds, ComparedHolds, EvidenceIs, IsCollided, IsCommon, IsCompared, IsComparedWithin, IsHashNeeded, IsOfBoth};
 ghost use Rattle.rootchain.specs.Places.{IsFirst, IsPlaceAbove};
 ghost use Rattle.rootchain.specs.SignedRoots.{IsSignedRoot};
@@ -30,16 +30,41 @@ impl<H: NodeHash, S: Verifier> Chain<H, S> {
     pub fn compare(hash: &mut H, one: &Chain<H, S>, other: &Chain<H, S>) -> Compare
         requires key { one.now.key ≡ other.now.key }
         ensures compared { IsCompared H.digest_of one.now other.now result }
+        ensures equal { (result ≡ Equal) ↔ ChainsAgree H.digest_of one.now other.now }
+        ensures evidence { ComparedHolds H.digest_of S.verified one.now.key result }
+        ensures roots { IsOfBoth one.now other.now result }
+        ensures form { All IsSignedRoot one.now.roots → All IsSignedRoot other.now.roots → EvidenceIs IsSignedRoot result }
+        ensures collision { CollisionHolds H.digest_of one.now other.now result }
+        ensures collided { (last epoch : ℕ) → AreOneAt one.now other.now last → epoch < last → IsCommon one.now other.now epoch → ¬ AreAlikeAt one.now other.now epoch → IsCollided result }
         ensures counted { H.digests hash.new ≤ H.digests hash.old + 1 }
+        ensures spared { ¬ IsHashNeeded one.now other.now → ¬ IsHashNeeded other.now one.now → H.digests hash.new ≡ H.digests hash.old }
     {
-        if one.head().body.epoch < other.first().body.epoch {
-            return meet(hash, one.head(), other.first());
-        }
-        if other.head().body.epoch < one.first().body.epoch {
-            return meet(hash, other.head(), one.first());
-        }
-        compare_within(one, other)
+        compare_chains(hash, one, other)
     }
+}
+
+/// What two chains come to, whatever their keys.
+fn compare_chains<H: NodeHash, S: Verifier>(
+    hash: &mut H,
+    one: &Chain<H, S>,
+    other: &Chain<H, S>,
+) -> Compare
+    ensures compared { IsCompared H.digest_of one.now other.now result }
+    ensures collision { CollisionHolds H.digest_of one.now other.now result }
+    ensures counted { H.digests hash.new ≤ H.digests hash.old + 1 }
+    ensures spared { ¬ IsHashNeeded one.now other.now → ¬ IsHashNeeded other.now one.now → H.digests hash.new ≡ H.digests hash.old }
+    ensures one { IsChain H.digest_of S.verified one.now }
+    ensures other { IsChain H.digest_of S.verified other.now }
+{
+    let (first, head) = (one.first(), one.head());
+    let (also_first, also_head) = (other.first(), other.head());
+    if head.body.epoch < also_first.body.epoch {
+        return meet(hash, head, also_first);
+    }
+    if also_head.body.epoch < first.body.epoch {
+        return meet(hash, also_head, first);
+    }
+    compare_within(one, other)
 }
 
 /// What the head of a chain and the first root of a chain above it come to.
