@@ -1,5 +1,5 @@
 -- Whether a promise was kept in the next root (CONIKS, section 4, temporary bindings).
-use Rattle.std.specs.Prelude.{◌≡◌, ◌≢◌, ◌⊎◌, ℕ, ◌<◌, ◌≤◌, ◌++◌, List, Option, Some, None, Result, Ok, Err, slice_get, take, drop}
+use Rattle.std.specs.Prelude.{◌≡◌, ◌≢◌, ◌⊎◌, ℕ, suc, ◌<◌, ◌≤◌, ◌++◌, List, Option, Some, None, Result, Ok, Err, slice_get, take, drop}
 use Rattle.std.specs.List.{AllByRecursion}
 use Rattle.rootchain.specs.Chains.{KeyedRoots}
 use Rattle.rootchain.specs.Places.{IsNextAfter}

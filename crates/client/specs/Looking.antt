@@ -1,5 +1,5 @@
 -- What comes of a look (CONIKS, section 4: a client checks a reply against the signed root of an epoch).
-use Rattle.std.specs.Prelude.{◌≡◌, ℕ, ◌+◌, List, Option, Result, Ok, Err}
+use Rattle.std.specs.Prelude.{◌≡◌, ℕ, zero, suc, List, Result, Ok, Err}
 use Rattle.rootchain.specs.Chains.{IsAt, IsHead, KeyedRoots}
 use Rattle.rootchain.specs.declared.signed_root.SignedRoot.{SignedRoot}
 use Rattle.proofs.specs.Accepts.{stated}

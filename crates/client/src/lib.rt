@@ -17,8 +17,9 @@
 mod client;
 mod due;
 mod looks;
-mod promises;
+
 mod refusal;
+mod roots;
 
 pub use client::Client;
 pub use due::Due;
