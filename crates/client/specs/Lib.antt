@@ -1,0 +1,7 @@
+pub mod Clients
+pub mod Dues
+pub mod Looking
+pub mod Numbered
+pub mod Promising
+pub mod Refusals
+pub mod Starting
