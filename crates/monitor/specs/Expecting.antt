@@ -1,0 +1,40 @@
+-- Which changes of the key a monitor expects: those that the provider promised (CONIKS, section 4,
+-- temporary bindings).
+use Rattle.std.specs.Prelude.{◌≡◌, ℕ, ◌<◌, ◌≤◌, List, Some, Result, Ok, Err, All}
+use Rattle.rootchain.specs.declared.promise.Promise.{Promise}
+use Rattle.rootchain.specs.declared.signed_promise.SignedPromise.{SignedPromise}
+use Rattle.proofs.specs.Watches.{Watch, expected}
+use Rattle.client.specs.Promising.{IsGiven, ReadsPromise}
+use Rattle.client.specs.declared.refusal.Refusal.TheVariants.{Root, Proof, UnknownRoot, RootDiffers, Memory, NoPromise}
+use Rattle.monitor.specs.Monitors.{Monitor, with_change}
+use Rattle.monitor.specs.declared.refusal.Refusal.{Refusal}
+use Rattle.monitor.specs.declared.refusal.Refusal.TheVariants.{Client, OtherPromise}
+
+-- The promise is of this key for the watched name, each expected change was promised before it, and no
+-- epoch above its own was watched.
+pub record MayExpect (monitor : Monitor) (key : List ℕ) (promise : Promise) : Type 0 where
+  pub name : promise.name ≡ monitor.name
+  pub key : promise.key ≡ key
+  pub later : All (λ change. change.0 < promise.epoch) monitor.watch.changes
+  pub unwatched : monitor.watched ≤ promise.epoch
+
+module _ (hash : List ℕ → List ℕ) (verified : List ℕ → List ℕ → List ℕ → Type 0) (before : Monitor) (key bytes : List ℕ) where
+  -- the bytes spell such a promise, which the provider signed over a root of the chain
+  abbrev pub IsNew : SignedPromise → Type 0
+  IsNew signed = IsGiven hash verified before.client bytes signed × MayExpect before key signed.promise
+
+  -- what comes of a change that is to be expected, and the monitor after it
+  abbrev pub Expects : {A : Type 0} → Result A Refusal → Monitor → Type 0
+  Expects (Ok _) after = (signed : SignedPromise) × IsNew signed × (after ≡ with_change before signed)
+  Expects (Err OtherPromise) after = (signed : SignedPromise) × IsGiven hash verified before.client bytes signed × ¬ MayExpect before key signed.promise × (after ≡ before)
+  Expects (Err (Client Memory)) after = (signed : SignedPromise) × IsNew signed × (after ≡ before)
+  Expects (Err (Client (Root why))) after = ReadsPromise hash verified before.client bytes (Err (Root why)) × (after ≡ before)
+  Expects (Err (Client UnknownRoot)) after = ReadsPromise hash verified before.client bytes (Err UnknownRoot) × (after ≡ before)
+  Expects (Err (Client (Proof why))) after = ⊥
+  Expects (Err (Client (RootDiffers evidence))) after = ⊥
+  Expects (Err (Client NoPromise)) after = ⊥
+
+-- the key is expected at each epoch above this one, and up to it what was expected before
+pub record ExpectsAbove (before : Watch) (epoch : ℕ) (key : List ℕ) (after : Watch) : Type 0 where
+  pub above : (at : ℕ) → epoch < at → expected after at ≡ Some key
+  pub below : (at : ℕ) → at ≤ epoch → expected after at ≡ expected before at
