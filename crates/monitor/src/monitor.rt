@@ -1,4 +1,5 @@
-ghost use Rattle.std.specs.Prelude.{◌≡◌, ◌↔◌, ◌<◌, ◌≤◌, All, IsTrue, OnOk, option_map};
+ghost use Rattle.std.specs.Prelude.{◌≡◌, ◌↔◌, ◌<◌, ◌≤◌, AllPairs, IsTrue, OnOk, length, option_map};
+ghost use Rattle.std.specs.List.Sorted.{IsPartitionPoint};
 ghost use Rattle.rootchain.specs.declared.signed_promise.SignedPromise.{SignedPromise};
 ghost use Rattle.proofs.specs.Views.{key_stated};
 ghost use Rattle.proofs.specs.Watches.{expected};
@@ -92,7 +93,7 @@ impl<H: NodeHash, V: VufCheck, S: Verifier> Monitor<H, V, S> {
     pub fn next_epoch(&self) -> Option<u64>
         ensures { IsNextEpoch self.now result }
     {
-        let root = self.client.after(self.watched)?;
+        let root = self.client.chain().after(self.watched)?;
         Some(root.body.epoch)
     }
 
@@ -198,6 +199,15 @@ impl<H: NodeHash, V: VufCheck, S: Verifier> Monitor<H, V, S> {
             && promised_before(&self.changes, promise.epoch) == self.changes.len()
             && self.watched <= promise.epoch
     }
+}
+
+/// How many of the changes were promised before this epoch.
+fn promised_before(changes: &[Change], epoch: u64) -> usize
+    requires { AllPairs (λ earlier later. earlier.0 < later.0) changes.now }
+    ensures within { result ≤ length changes.now }
+    ensures point { IsPartitionPoint (λ change. change.0 < epoch) (λ change. epoch ≤ change.0) changes.now result }
+{
+    changes.partition_point(|change| change.epoch < epoch)
 }
 
 /// Whether the statement is the key that is expected, or absence where no key is.
