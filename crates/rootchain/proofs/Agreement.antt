@@ -161,7 +161,7 @@ module _ (hash : List ℕ → List ℕ) (verified : List ℕ → List ℕ → Li
     }
 
     -- the case that an answer is of
-    Cases : Compare → Type 0
+    abbrev Cases : Compare → Type 0
     Cases result =
         ((head first : SignedRoot) × LiesBelow one other head first × IsComparedApart hash one first result)
         ⊎ (((head first : SignedRoot) × LiesBelow other one head first × IsComparedApart hash other first result)
@@ -186,3 +186,172 @@ module _ (hash : List ℕ → List ℕ) (verified : List ℕ → List ℕ → Li
             ]
           ]
         ]
+
+    -- ---- agreement
+
+    agreed-below : (head first : SignedRoot) → LiesBelow one other head first → ¬ IsSkip head first × ¬ IsLink hash head first → ChainsAgree hash one other
+    agreed-below head first below none = record {
+      alike = λ epoch common. absurd (not-apart one other up up' head first below epoch common.0 common.1);
+      may-meet = λ head' first' below'.
+          let e = one-first head head' (slice_get one.roots (length one.roots - 1)) below.0 below'.0 in
+          let f = one-first first first' (slice_get other.roots 0) below.1 below'.1 in
+          subst (λ (x : SignedRoot). ¬ IsSkip head' x × ¬ IsLink hash head' x) f (subst (λ (x : SignedRoot). ¬ IsSkip x first × ¬ IsLink hash x first) e none);
+      may-meet-below = λ head' first' above. absurd (not-both one other up up' is.first is'.first head first head' first' below above);
+    }
+
+    agreed-above : (head first : SignedRoot) → LiesBelow other one head first → ¬ IsSkip head first × ¬ IsLink hash head first → ChainsAgree hash one other
+    agreed-above head first above none = record {
+      alike = λ epoch common. absurd (not-apart other one up' up head first above epoch common.1 common.0);
+      may-meet = λ head' first' below. absurd (not-both one other up up' is.first is'.first head' first' head first below above);
+      may-meet-below = λ head' first' above'.
+          let e = one-first head head' (slice_get other.roots (length other.roots - 1)) above.0 above'.0 in
+          let f = one-first first first' (slice_get one.roots 0) above.1 above'.1 in
+          subst (λ (x : SignedRoot). ¬ IsSkip head' x × ¬ IsLink hash head' x) f (subst (λ (x : SignedRoot). ¬ IsSkip x first × ¬ IsLink hash x first) e none);
+    }
+
+    agreed-within : (common : ℕ) → IsCommon one other common → IsComparedWithin one other Equal → ChainsAgree hash one other
+    agreed-within common shared h = record {
+      alike = λ epoch at. elim h.1 [
+        | inl searched ↦ elim (cases_order epoch searched.0) [
+          | inl same ↦ subst (λ n. AreAlikeAt one other n) (sym same) (alike-one one other up up' searched.0 searched.1.here)
+          | inr (inl less) ↦ searched.2 epoch less at
+          | inr (inr more) ↦ let start = searched.3 in let none = h.2 epoch at (omega (arith, start, more)) in alike-missing one other epoch none.0 none.1
+        ]
+        | inr searched ↦ let start = searched.1 in let none = h.2 epoch at (omega (arith, start)) in alike-missing one other epoch none.0 none.1
+      ];
+      may-meet = λ head first below. absurd (not-apart one other up up' head first below common shared.0 shared.1);
+      may-meet-below = λ head first above. absurd (not-apart other one up' up head first above common shared.1 shared.0);
+    }
+
+    equal-agrees : IsCompared hash one other Equal → ChainsAgree hash one other
+    equal-agrees h = elim (cases Equal h) [
+      | inl below ↦ agreed-below below.0 below.1 below.2 (no_evidence hash below.0 below.1 below.3.0 (below.3.1.above below.0 below.2.0 below.2.2) below.3.2)
+      | inr (inl above) ↦ agreed-above above.0 above.1 above.2 (no_evidence hash above.0 above.1 above.3.0 (above.3.1.above above.0 above.2.0 above.2.2) above.3.2)
+      | inr (inr within) ↦ agreed-within within.0 within.1 within.2
+    ]
+
+    within-agreed : (result : Compare) → ChainsAgree hash one other → IsComparedWithin one other result → result ≡ Equal
+    within-agreed Equal agreed h = refl
+    within-agreed (Collision x y) agreed h = let a = h.2 in absurd (not-two one other up' a.epoch h.0 h.1 a.at-one a.at-other a.differ (agreed.alike a.epoch))
+    within-agreed (Evidence (Fork root also)) agreed h = absurd (not-two one other up' h.1 root also h.4 h.5 h.6 (agreed.alike h.1))
+    within-agreed (Evidence (Skip root over)) agreed h =
+        let alike = agreed.alike h.1 h.3.common in
+        elim h.4 [
+          | inl k ↦ let also = alike.0 root k.0 in absurd (not-missing other h.1 also.0 also.1 k.1)
+          | inr k ↦ let also = alike.1 root k.0 in absurd (not-missing one h.1 also.0 also.1 k.1)
+        ]
+    within-agreed (Evidence (Link root over)) agreed h = absurd h
+
+    agreed-equal : (result : Compare) → IsCompared hash one other result → ChainsAgree hash one other → result ≡ Equal
+    agreed-equal result h agreed = elim (cases result h) [
+      | inl below ↦ below.3.2 ∙ told_equal hash below.0 below.1 below.3.0 below.2.2 (below.3.1.above below.0 below.2.0 below.2.2) (agreed.may-meet below.0 below.1 below.2)
+      | inr (inl above) ↦ above.3.2 ∙ told_equal hash above.0 above.1 above.3.0 above.2.2 (above.3.1.above above.0 above.2.0 above.2.2) (agreed.may-meet-below above.0 above.1 above.2)
+      | inr (inr within) ↦ within-agreed result agreed within.2
+    ]
+
+    -- they are equal exactly where they agree
+    pub equal_where_agreed : (result : Compare) → IsCompared hash one other result → (result ≡ Equal) ↔ ChainsAgree hash one other
+    equal_where_agreed result h = (λ e. equal-agrees (subst (IsCompared hash one other) e h), agreed-equal result h)
+
+    -- ---- a collision
+
+    -- where they have one body at an epoch and differ at an earlier one, the answer is a collision
+    module _ (last epoch : ℕ) (shared : AreOneAt one other last) (less : epoch < last) (common : IsCommon one other epoch) (differ : ¬ AreAlikeAt one other epoch) where
+      not-searched : (start : ℕ) → IsSearchedFrom one other start → ⊥
+      not-searched start searched = elim searched [
+        | inl s ↦ elim (cases_lt s.0 last) [
+          | inl more ↦ s.1.none-later last more shared
+          | inr low ↦ differ (s.2 epoch (omega (arith, low, less)) common)
+        ]
+        | inr s ↦ s.0 last shared
+      ]
+
+      collided-within : (result : Compare) → IsComparedWithin one other result → IsCollided result
+      collided-within (Collision x y) h = tt
+      collided-within Equal h = not-searched h.0 h.1
+      collided-within (Evidence (Fork root also)) h = not-searched h.0 h.2
+      collided-within (Evidence (Skip root over)) h = not-searched h.0 h.2
+      collided-within (Evidence (Link root over)) h = absurd h
+
+      pub collided_where_apart : (result : Compare) → IsCompared hash one other result → IsCollided result
+      collided_where_apart result h = collided-within result (h.within epoch common)
+
+    -- ---- evidence
+
+    apart-evidence : (lower upper : KeyedRoots) → IsChain hash verified lower → IsChain hash verified upper → (key : List ℕ) → lower.key ≡ key → upper.key ≡ key → (head first : SignedRoot) → LiesBelow lower upper head first →
+        (result : Compare) → IsComparedApart hash lower first result → ComparedHolds hash verified key result
+    apart-evidence lower upper il iu key e f head first below result h =
+        let signed = subst (λ k. Verifies verified k first) (f ∙ sym e) (held-verifies hash verified upper iu first (contains upper.roots 0 first below.1)) in
+        let holds = place_sound hash verified lower first h.0 il signed h.1 in
+        subst (ComparedHolds hash verified key) (sym h.2) (told_evidence hash verified key h.0 (subst (λ k. EvidenceHolds hash verified k h.0) e holds))
+
+    skip-evidence : (holder passer : KeyedRoots) → IsChain hash verified holder → IsChain hash verified passer → (key : List ℕ) → holder.key ≡ key → passer.key ≡ key → (epoch : ℕ) (root over : SignedRoot) → Spans passer epoch →
+        IsPassedOver holder passer epoch root over → IsRootEvidence hash verified key (Skip root over)
+    skip-evidence holder passer ih ip key e f epoch root over spans h =
+        let at = h.0 in
+        let ends' = ends passer.roots ip.first in
+        let low = up-to passer.roots (ascend-linked hash passer.roots ip.linked) 0 spans.has-low.0 ends'.first spans.low ends'.at-first (placed passer.roots spans.low spans.has-low) (omega arith) in
+        let bound = spans.not-later in
+        let same = at.1 in (
+          subst (λ k. Verifies verified k root) e (held-verifies hash verified holder ih root at.0),
+          subst (λ k. Verifies verified k over) f (held-verifies hash verified passer ip over h.2.0),
+          next-passes hash verified passer ip ends'.first root over ends'.at-first (omega (arith, low, bound, same)) (subst (λ n. IsMissing passer n) (sym same) h.1) (subst (λ n. IsNextAfter passer n over) (sym same) h.2),
+        )
+
+    within-evidence : one.key ≡ other.key → (result : Compare) → IsComparedWithin one other result → ComparedHolds hash verified one.key result
+    within-evidence e Equal h = tt
+    within-evidence e (Collision x y) h = tt
+    within-evidence e (Evidence (Fork root also)) h = (
+      held-verifies hash verified one is root h.4.0,
+      subst (λ k. Verifies verified k also) (sym e) (held-verifies hash verified other is' also h.5.0),
+      (h.4.1 ∙ sym h.5.1, h.6),
+    )
+    within-evidence e (Evidence (Skip root over)) h = elim h.4 [
+      | inl k ↦ skip-evidence one other is is' one.key refl (sym e) h.1 root over h.3.common.1 k
+      | inr k ↦ skip-evidence other one is' is one.key (sym e) refl h.1 root over h.3.common.0 k
+    ]
+    within-evidence e (Evidence (Link root over)) h = absurd h
+
+    -- the evidence holds under their key
+    pub compared_evidence : one.key ≡ other.key → (result : Compare) → IsCompared hash one other result → ComparedHolds hash verified one.key result
+    compared_evidence e result h = elim (cases result h) [
+      | inl below ↦ apart-evidence one other is is' one.key refl (sym e) below.0 below.1 below.2 result below.3
+      | inr (inl above) ↦ apart-evidence other one is' is one.key (sym e) refl above.0 above.1 above.2 result above.3
+      | inr (inr within) ↦ within-evidence e result within.2
+    ]
+
+    -- ---- the roots of evidence
+
+    within-roots : (result : Compare) → IsComparedWithin one other result → IsOfBoth one other result
+    within-roots Equal h = tt
+    within-roots (Collision x y) h = tt
+    within-roots (Evidence (Fork root also)) h = (h.4.0, h.5.0)
+    within-roots (Evidence (Skip root over)) h = elim h.4 [ inl k ↦ inl (k.0.0, k.2.0) | inr k ↦ inr (k.0.0, k.2.0) ]
+    within-roots (Evidence (Link root over)) h = absurd h
+
+    -- one root is of each chain
+    pub compared_roots : (result : Compare) → IsCompared hash one other result → IsOfBoth one other result
+    compared_roots result h = elim (cases result h) [
+      | inl below ↦ subst (IsOfBoth one other) (sym below.3.2)
+          (told_roots hash one other below.0 below.1 below.3.0 (inl (contains one.roots (length one.roots - 1) below.0 below.2.0, contains other.roots 0 below.1 below.2.1)) (below.3.1.above below.0 below.2.0 below.2.2))
+      | inr (inl above) ↦ subst (IsOfBoth one other) (sym above.3.2)
+          (told_roots hash one other above.0 above.1 above.3.0 (inr (contains other.roots (length other.roots - 1) above.0 above.2.0, contains one.roots 0 above.1 above.2.1)) (above.3.1.above above.0 above.2.0 above.2.2))
+      | inr (inr within) ↦ within-roots result within.2
+    ]
+
+-- so what holds of the roots of both chains holds of those of evidence
+all-of : (P : SignedRoot → Type 0) (roots : List SignedRoot) → All P roots → (root : SignedRoot) → Contains roots root → P root
+all-of P roots all root held = subst P held.2 (all held.0 root held.1)
+
+pair-of : (P : SignedRoot → Type 0) (one other : KeyedRoots) → All P one.roots → All P other.roots → (root also : SignedRoot) → AreOfBoth one other root also → P root × P also
+pair-of P one other all all' root also h = elim h [
+  | inl k ↦ (all-of P one.roots all root k.0, all-of P other.roots all' also k.1)
+  | inr k ↦ (all-of P other.roots all' root k.0, all-of P one.roots all also k.1)
+]
+
+pub evidence_is : (P : SignedRoot → Type 0) (one other : KeyedRoots) → All P one.roots → All P other.roots → (result : Compare) → IsOfBoth one other result → EvidenceIs P result
+evidence_is P one other all all' Equal h = tt
+evidence_is P one other all all' (Collision x y) h = tt
+evidence_is P one other all all' (Evidence (Fork root also)) h = (all-of P one.roots all root h.0, all-of P other.roots all' also h.1)
+evidence_is P one other all all' (Evidence (Link root also)) h = pair-of P one other all all' root also h
+evidence_is P one other all all' (Evidence (Skip root also)) h = pair-of P one other all all' root also h
