@@ -28,7 +28,7 @@ impl<H: NodeHash, S: Verifier> Chain<H, S> {
     ///
     /// This allocates nothing. It hashes at most one body, and goes over the roots of the common range once.
     pub fn compare(hash: &mut H, one: &Chain<H, S>, other: &Chain<H, S>) -> Compare
-        requires key { one.now.key ≡ other.now.key }
+        requires { one.now.key ≡ other.now.key }
         ensures compared { IsCompared H.digest_of one.now other.now result }
         ensures equal { (result ≡ Equal) ↔ ChainsAgree H.digest_of one.now other.now }
         ensures evidence { ComparedHolds H.digest_of S.verified one.now.key result }
