@@ -86,8 +86,14 @@ fn compare_within<H: NodeHash, S: Verifier>(one: &Chain<H, S>, other: &Chain<H, 
     let (ones, others) = (one.roots(), other.roots());
     let start = one.first().body.epoch.max(other.first().body.epoch);
     let end = one.head().body.epoch.min(other.head().body.epoch);
-    let Some((i, j)) = last_places(ones, others, not_after(ones, end), not_after(others, end)) else {
-        return diverge(ones, others, not_before(ones, start), not_before(others, start));
+    let Some((i, j)) = last_places(ones, others, not_after(ones, end), not_after(others, end))
+    else {
+        return diverge(
+            ones,
+            others,
+            not_before(ones, start),
+            not_before(others, start),
+        );
     };
     match apart_below(ones, others, i, j) {
         Some((k, l)) => Compare::Collision(text(&ones[k].body), text(&others[l].body)),
