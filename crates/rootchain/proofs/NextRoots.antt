@@ -25,15 +25,6 @@ parts-after-from roots epoch place point = (
 )
 
 module _ (roots : List SignedRoot) (key : List ℕ) (epoch place : ℕ) (up : Ascend roots) (split : PartsAfter roots epoch place) where
-  -- where all come first, none is after the epoch
-  pub all-before : place ≡ length roots → All (λ (root : SignedRoot). root.body.epoch ≤ epoch) roots
-  all-before end k d p = split.0 k d (omega (arith, p, end)) (omega (arith, p, end))
-
-  pub none-after : place ≡ length roots → (root : SignedRoot) → IsNextAfter (record { key = key; roots = roots }) epoch root → ⊥
-  none-after end root next =
-      let low = all-before end next.0.0 root next.0.1 in
-      omega (arith, next.1, rw next.0.2 at low)
-
   module _ (own : SignedRoot) (inside : place < length roots) (at : get_or roots place own ≡ own) where
     own-after : epoch < own.body.epoch
     own-after = subst (λ (x : SignedRoot). epoch < x.body.epoch) at (split.1 place own (omega arith) inside)
@@ -59,7 +50,3 @@ module _ (roots : List SignedRoot) (key : List ℕ) (epoch place : ℕ) (up : As
           let same : own.body.epoch ≡ root.body.epoch = omega (arith, low, high) in
           ap (λ (x : SignedRoot). Some x) (one-root roots up place next.0.0 own root inside next.0.1 at next.0.2 same),
     )
-
-    -- so not all are of the epoch or before
-    pub some-after : All (λ (root : SignedRoot). root.body.epoch ≤ epoch) roots → ⊥
-    some-after low = omega (arith, own-after, subst (λ (x : SignedRoot). x.body.epoch ≤ epoch) at (low place own inside))
