@@ -53,7 +53,7 @@ impl<H: NodeHash, V: VufCheck, S: Verifier> Client<H, V, S> {
     ) -> Result<Self, Refusal>
         ensures { Starts S.verified key bytes.now result }
     {
-        let root = SignedRoot::read(bytes)?;
+        let root = SignedRoot::read(bytes).map_err(Refusal::Root)?;
         match Chain::start(alloc, verifier, key, root) {
             Ok(chain) => Ok(Client {
                 chain,
@@ -144,7 +144,7 @@ impl<H: NodeHash, V: VufCheck, S: Verifier> Client<H, V, S> {
     ) -> Result<SignedPromise, Refusal>
         ensures { ReadsPromise H.digest_of S.verified self.now bytes.now result }
     {
-        let signed = SignedPromise::read(bytes)?;
+        let signed = SignedPromise::read(bytes).map_err(Refusal::Root)?;
         if !signed.verifies(verifier, self.chain.key()) {
             return Err(Refusal::Root(rootchain::Refusal::BadSignature));
         }

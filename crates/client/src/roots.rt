@@ -26,7 +26,7 @@ pub(crate) fn has_root_of<H: NodeHash, S: Verifier>(
     ensures { IsTrue result ↔ HasRootOf H.digest_of chain.now promise.now }
 {
     match chain.at(promise.epoch) {
-        Some(root) => hash.digest(root.body.write().bytes()) == promise.root_hash,
+        Some(root) => promise.root_hash == hash.digest(root.body.write().bytes()),
         None => false,
     }
 }
