@@ -1,5 +1,6 @@
 pub mod Chains
 pub mod Clashes
+pub mod NextRoots
 pub mod Places
 pub mod RootLists
 pub mod Taking

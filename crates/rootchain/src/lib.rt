@@ -28,7 +28,7 @@ mod signed_promise;
 mod signed_root;
 mod whole;
 
-pub use body::Body;
+pub use body::{Body, BodyText};
 pub use chain::{Chain, Place};
 pub use evidence::RootEvidence;
 pub use laws::{
@@ -39,7 +39,7 @@ pub use promise::Promise;
 pub use refusal::Refusal;
 pub use root_list::{MAX_ROOTS, RootList, list_len, write_list};
 pub use signed_promise::SignedPromise;
-pub use signed_root::SignedRoot;
+pub use signed_root::{SignedRoot, SignedRootText};
 
 #[cfg(test)]
 mod tests;
