@@ -13,8 +13,8 @@ use Rattle.monitor.specs.declared.refusal.Refusal.TheVariants.{Client, OtherProm
 -- The promise is of this key for the watched name, each expected change was promised before it, and no
 -- epoch above its own was watched.
 pub record MayExpect (monitor : Monitor) (key : List ℕ) (promise : Promise) : Type 0 where
-  pub name : promise.name ≡ monitor.name
-  pub key : promise.key ≡ key
+  pub named : promise.name ≡ monitor.name
+  pub keyed : promise.key ≡ key
   pub later : All (λ change. change.0 < promise.epoch) monitor.watch.changes
   pub unwatched : monitor.watched ≤ promise.epoch
 

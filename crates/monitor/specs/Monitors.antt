@@ -1,6 +1,6 @@
 -- What a monitor is to whoever sees it (CONIKS, section 4): a client, the name that it watches for its
 -- owner, what the owner expects, and how far it watched.
-use Rattle.std.specs.Prelude.{◌≡◌, ◌⊎◌, ℕ, ◌<◌, ◌≤◌, List, [], ◌∷◌, ◌++◌, Option, All, AllPairs, Contains}
+use Rattle.std.specs.Prelude.{◌≡◌, ◌⊎◌, ℕ, ◌<◌, ◌≤◌, List, [], ◌∷◌, ◌++◌, Option, AllPairs, Contains}
 use Rattle.rootchain.specs.Chains.{IsAt}
 use Rattle.rootchain.specs.Places.{IsNextAfter}
 use Rattle.rootchain.specs.declared.signed_promise.SignedPromise.{SignedPromise}
@@ -33,6 +33,10 @@ with_change monitor signed = record monitor {
   watch = record monitor.watch { changes = monitor.watch.changes ++ (signed.promise.epoch, signed.promise.key) ∷ [] };
 }
 
+-- the root is one of the chain, of an epoch that was watched
+abbrev pub IsWatched : Monitor → SignedRoot → Type 0
+IsWatched monitor root = Contains monitor.client.chain.roots root × (0 < root.body.epoch) × (root.body.epoch ≤ monitor.watched)
+
 -- the first root of the chain whose epoch is not yet watched
 abbrev pub IsNext : Monitor → SignedRoot → Type 0
 IsNext monitor root = IsNextAfter monitor.client.chain monitor.watched root
@@ -42,8 +46,8 @@ abbrev pub HasLook : Monitor → ℕ → Type 0
 HasLook monitor epoch = (look : Look) × Contains monitor.client.looks look × (look.name ≡ monitor.name) × (look.epoch ≡ epoch)
 
 -- What is true of each monitor: the changes ascend by the epochs of their promises, the epoch that was
--- watched last is one of the chain, and of each epoch up to it the client keeps a look.
+-- watched last is one of the chain, and of each epoch that was watched the client keeps a look.
 pub record IsWatching (monitor : Monitor) : Type 0 where
   pub ascends : AllPairs (λ earlier later. earlier.0 < later.0) monitor.watch.changes
   pub last : (monitor.watched ≡ 0) ⊎ ((root : SignedRoot) × IsAt monitor.client.chain monitor.watched root)
-  pub looked : All (λ root. root.body.epoch ≤ monitor.watched → HasLook monitor root.body.epoch) monitor.client.chain.roots
+  pub looked : (root : SignedRoot) → IsWatched monitor root → HasLook monitor root.body.epoch

@@ -5,7 +5,7 @@ use Rattle.proofs.specs.Accepts.{stated}
 use Rattle.proofs.specs.Comparisons.{IsAcceptedReply, Refuses}
 use Rattle.proofs.specs.Replies.{Reply}
 use Rattle.proofs.specs.Views.{key_stated}
-use Rattle.proofs.specs.Watches.{expected}
+use Rattle.proofs.specs.Watches.{Watch, expected}
 use Rattle.client.specs.declared.refusal.Refusal.TheVariants.{Root, Proof, UnknownRoot, RootDiffers, Memory, NoPromise}
 use Rattle.monitor.specs.Monitors.{Monitor, with_watched, IsNext}
 use Rattle.monitor.specs.declared.refusal.Refusal.{Refusal}
@@ -18,10 +18,10 @@ abbrev pub IsNextEpoch : Monitor → Option ℕ → Type 0
 IsNextEpoch monitor None = (root : SignedRoot) → ¬ IsNext monitor root
 IsNextEpoch monitor (Some epoch) = (root : SignedRoot) × IsNext monitor root × (root.body.epoch ≡ epoch)
 
--- what is told of the reply at an epoch: that it states what is expected, or else what it states
-abbrev pub Tells : Monitor → ℕ → Reply → Step → Type 0
-Tells monitor epoch reply Kept = stated reply.end ≡ expected monitor.watch epoch
-Tells monitor epoch reply (Alarm at found) = (stated reply.end ≢ expected monitor.watch epoch) × (at ≡ epoch) × (key_stated found ≡ stated reply.end)
+-- what is told of the statement at an epoch: that it is what is expected, or else what it is
+abbrev pub Tells : Watch → ℕ → Option (List ℕ) → Step → Type 0
+Tells watch epoch statement Kept = statement ≡ expected watch epoch
+Tells watch epoch statement (Alarm at found) = (statement ≢ expected watch epoch) × (at ≡ epoch) × (key_stated found ≡ statement)
 
 module _ (hash : List ℕ → List ℕ) (accepted : List ℕ → List ℕ → List ℕ → Type 0) (before : Monitor) (bytes : List ℕ) where
   -- the bytes are a reply for the watched name that is accepted under the next root
@@ -31,7 +31,7 @@ module _ (hash : List ℕ → List ℕ) (accepted : List ℕ → List ℕ → Li
   -- What a step tells, and the monitor after it. The epoch of the next root is then watched, also where
   -- the step is an alarm; a refusal watches nothing.
   abbrev pub Steps : Result Step Refusal → Monitor → Type 0
-  Steps (Ok step) after = (root : SignedRoot) × (reply : Reply) × IsFound root reply × Tells before root.body.epoch reply step
+  Steps (Ok step) after = (root : SignedRoot) × (reply : Reply) × IsFound root reply × Tells before.watch root.body.epoch (stated reply.end) step
       × (after ≡ with_watched before root.body.epoch bytes)
   Steps (Err (Client UnknownRoot)) after = ((root : SignedRoot) → ¬ IsNext before root) × (after ≡ before)
   Steps (Err (Client (Proof why))) after = (root : SignedRoot) × IsNext before root × Refuses hash accepted root.body before.name bytes why × (after ≡ before)

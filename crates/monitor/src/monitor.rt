@@ -7,7 +7,7 @@ ghost use Rattle.client.specs.Promising.{IsGiven};
 ghost use Rattle.client.specs.Updating.{Updates};
 ghost use Rattle.monitor.specs.Expecting.{Expects, ExpectsAbove, MayExpect};
 ghost use Rattle.monitor.specs.Monitors.{begun, IsWatching};
-ghost use Rattle.monitor.specs.Stepping.{IsNextEpoch, Steps};
+ghost use Rattle.monitor.specs.Stepping.{IsNextEpoch, Steps, Tells};
 
 use crate::{Refusal, Step};
 use client::Client;
@@ -169,13 +169,20 @@ impl<H: NodeHash, V: VufCheck, S: Verifier> Monitor<H, V, S> {
         match self.client.look(hash, vuf, &self.name, epoch, bytes) {
             Ok(found) => {
                 self.watched = epoch;
-                if is_expected(found, self.expected(epoch)) {
-                    Ok(Step::Kept)
-                } else {
-                    Ok(Step::Alarm { epoch, found })
-                }
+                Ok(self.tell(epoch, found))
             }
             Err(why) => Err(Refusal::Client(why)),
+        }
+    }
+
+    /// What is told of the statement at an epoch.
+    fn tell<'a>(&self, epoch: u64, found: Statement<'a>) -> Step<'a>
+        ensures { Tells self.now.watch epoch (key_stated found.entry) result }
+    {
+        if is_expected(found, self.expected(epoch)) {
+            Step::Kept
+        } else {
+            Step::Alarm { epoch, found }
         }
     }
 

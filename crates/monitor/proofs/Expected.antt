@@ -1,0 +1,51 @@
+-- What is expected of an epoch: the key of the last of the changes that are promised before it.
+use Rattle.std.proofs.Common.{◌≡◌, ℕ, zero, suc, ◌+◌, ◌<◌, ◌≤◌, List, [], ◌∷◌, ◌++◌, length, get_or, Bool, true, false, Option, Some, All, refl, arith, ◌∙◌}
+use Rattle.std.specs.Prelude.{nat_lt, if◌then◌else◌}
+use Rattle.std.specs.List.{AllWithin}
+use Rattle.std.specs.List.Sorted.{IsPartitionPoint, IsPartitionedBy}
+use Rattle.std.specs.Prelude.{AllPairs}
+use Rattle.std.proofs.lemmas.Bool.{cases_lt, le-ltb, lt-ltb, ltb-true}
+use Rattle.proofs.specs.Watches.{Watch, expected, expected_from}
+use Rattle.monitor.specs.Expecting.{ExpectsAbove}
+
+abbrev pub Changes : Type 0
+Changes = List (ℕ × List ℕ)
+
+abbrev pub Below : ℕ → ℕ × List ℕ → Type 0
+Below epoch change = change.0 < epoch
+
+abbrev pub NotBelow : ℕ → ℕ × List ℕ → Type 0
+NotBelow epoch change = epoch ≤ change.0
+
+-- where no change is promised before the epoch, it is what it is at the start
+pub expected-none : (start : Option (List ℕ)) (changes : Changes) (epoch : ℕ) → All (NotBelow epoch) changes → expected_from start changes epoch ≡ start
+expected-none start [] epoch all = refl
+expected-none start (change ∷ changes) epoch all = rw (le-ltb change.0 epoch (all 0 change (omega arith))) (expected-none start changes epoch (λ k d p. all (k + 1) d (omega (arith, p))))
+
+-- else the key of the last that is
+pub expected-last : (start : Option (List ℕ)) (changes : Changes) (epoch m : ℕ) (d : ℕ × List ℕ) → m < length changes → AllWithin (Below epoch) changes 0 (m + 1) → AllWithin (NotBelow epoch) changes (m + 1) (length changes)
+    → expected_from start changes epoch ≡ Some (get_or changes m d).1
+expected-last start [] epoch m d within before behind = absurd (omega (arith, within))
+expected-last start (change ∷ changes) epoch zero d within before behind = rw (lt-ltb change.0 epoch (before 0 change (omega arith) (omega arith)))
+    (expected-none (Some change.1) changes epoch (λ k e p. behind (k + 1) e (omega arith) (omega (arith, p))))
+expected-last start (change ∷ changes) epoch (suc m) d within before behind =
+    expected-last (if nat_lt change.0 epoch then Some change.1 else start) changes epoch m d (omega (arith, within)) (λ k e low p. before (k + 1) e (omega arith) (omega (arith, p))) (λ k e low p. behind (k + 1) e (omega (arith, low)) (omega (arith, p)))
+
+-- one more change is expected above its epoch
+expected-push : (start : Option (List ℕ)) (changes : Changes) (change : ℕ × List ℕ) (epoch : ℕ)
+    → expected_from start (changes ++ change ∷ []) epoch ≡ (if nat_lt change.0 epoch then Some change.1 else expected_from start changes epoch)
+expected-push start [] change epoch = refl
+expected-push start (first ∷ changes) change epoch = expected-push (if nat_lt first.0 epoch then Some first.1 else start) changes change epoch
+
+pub expects-above : (watch : Watch) (epoch : ℕ) (key : List ℕ) → ExpectsAbove watch epoch key (record watch { changes = watch.changes ++ (epoch, key) ∷ [] })
+expects-above watch epoch key = record {
+  above = λ at p. expected-push watch.start watch.changes (epoch, key) at ∙ rw (lt-ltb epoch at p) refl;
+  below = λ at p. expected-push watch.start watch.changes (epoch, key) at ∙ rw (le-ltb epoch at p) refl;
+}
+
+-- changes that ascend are parted at each epoch
+pub changes-parted : (changes : Changes) (epoch : ℕ) → AllPairs (λ earlier later. earlier.0 < later.0) changes → IsPartitionedBy (λ (change : ℕ × List ℕ). nat_lt change.0 epoch) changes
+changes-parted changes epoch up i j d p q low = elim (cases_lt i j) [
+  | inl less ↦ lt-ltb _ _ (omega (arith, up i j d less q, ltb-true _ _ low))
+  | inr same ↦ let e : i ≡ j = omega arith in rw e low
+]

@@ -1,0 +1,2 @@
+-- stepping
+use Rattle.std.proofs.Common.{refl}
