@@ -1,7 +1,11 @@
+pub mod Agreement
+pub mod BodyTexts
 pub mod Chains
 pub mod Clashes
 pub mod NextRoots
+pub mod Compared
 pub mod Places
 pub mod RootLists
 pub mod Taking
 pub mod Telling
+pub mod Walks

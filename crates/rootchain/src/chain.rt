@@ -9,6 +9,7 @@ use std::alloc::Global;
 use std::marker::{Model, PhantomData};
 
 mod next_root;
+mod comparing;
 mod placing;
 
 pub use placing::Place;

@@ -19,6 +19,7 @@
 
 mod body;
 mod chain;
+mod compare;
 mod evidence;
 mod laws;
 mod promise;
@@ -30,6 +31,7 @@ mod whole;
 
 pub use body::{Body, BodyText};
 pub use chain::{Chain, Place};
+pub use compare::Compare;
 pub use evidence::RootEvidence;
 pub use laws::{
     body_is_read, chain_is_no_evidence, epochs_ascend, place_tells_evidence, promise_is_read,
