@@ -4,4 +4,5 @@ pub mod NextRoots
 pub mod Places
 pub mod RootLists
 pub mod Taking
+pub mod TakingLists
 pub mod Telling

@@ -1,7 +1,7 @@
 ghost use Rattle.std.specs.Prelude.{◌≡◌};
 
 use crate::RootEvidence;
-use std::alloc::AllocFailed;
+use std::alloc::AllocError;
 use thiserror::Error;
 
 /// Why a chain refuses a list of roots.
@@ -23,12 +23,12 @@ pub enum Untaken {
     Memory,
 }
 
-impl<T: Drop> From<AllocFailed<T>> for Untaken {
+impl From<AllocError> for Untaken {
     ghost use Rattle.rootchain.specs.declared.untaken.Untaken.TheVariants.{Memory};
 
     ghost from_gives = { λ _ untaken. untaken ≡ Memory };
 
-    fn from(_failed: AllocFailed<T>) -> Untaken {
+    fn from(_failed: AllocError) -> Untaken {
         Untaken::Memory
     }
 }

@@ -25,15 +25,15 @@ impl<H: NodeHash, S: Verifier> Chain<H, S> {
         verifier: &S,
         list: RootList<'_>,
     ) -> Result<(), Untaken>
-        ensures taken { OnOk result (Takes H.digest_of S.verified self.old list self.new) }
+        ensures taken { OnOk result (Takes H.digest_of S.verified self.old list.entry self.new) }
         ensures grows { (more : List SignedRoot) × (self.new ≡ with_roots self.old more) }
-        ensures refused { IfErr result (IsListRefusal H.digest_of S.verified self.old list) }
+        ensures refused { IfErr result (IsListRefusal H.digest_of S.verified self.old list.entry) }
         ensures stays { OnErr result (self.new ≡ self.old) }
         ensures evidence { IfErr result (UntakenHolds H.digest_of S.verified self.old.key) }
-        ensures spelled { AllByRecursion IsSignedRoot self.old.roots → AllByRecursion IsSignedRoot list → IfErr result UntakenIsSpelled }
-        ensures form { AllByRecursion IsSignedRoot self.old.roots → AllByRecursion IsSignedRoot list → AllByRecursion IsSignedRoot self.new.roots }
+        ensures spelled { AllByRecursion IsSignedRoot self.old.roots → AllByRecursion IsSignedRoot list.entry → IfErr result UntakenIsSpelled }
+        ensures form { AllByRecursion IsSignedRoot self.old.roots → AllByRecursion IsSignedRoot list.entry → AllByRecursion IsSignedRoot self.new.roots }
         ensures chain { IsChain H.digest_of S.verified self.old }
-        ensures counted { H.digests hash.new ≤ H.digests hash.old + length list }
+        ensures counted { H.digests hash.new ≤ H.digests hash.old + length list.entry }
     {
         self.roots.reserve(list.len())?;
         let before = self.roots.len();
@@ -53,9 +53,8 @@ impl<H: NodeHash, S: Verifier> Chain<H, S> {
         verifier: &S,
         list: RootList<'_>,
     ) -> Result<(), Untaken>
-        ensures each { TakesEach H.digest_of S.verified self.old list result self.new }
-        ensures chain { IsChain H.digest_of S.verified self.old }
-        ensures counted { H.digests hash.new ≤ H.digests hash.old + length list }
+        ensures each { TakesEach H.digest_of S.verified self.old list.entry result self.new }
+        ensures counted { H.digests hash.new ≤ H.digests hash.old + length list.entry }
     {
         let mut list = list;
         while let Some(root) = list.next() {
@@ -67,7 +66,6 @@ impl<H: NodeHash, S: Verifier> Chain<H, S> {
     /// Takes one root of a list.
     fn take_one(&mut self, hash: &mut H, verifier: &S, root: SignedRoot) -> Result<(), Untaken>
         ensures one { TakesOne H.digest_of S.verified self.old root result self.new }
-        ensures chain { IsChain H.digest_of S.verified self.old }
         ensures counted { H.digests hash.new ≤ H.digests hash.old + 1 }
     {
         match self.take(hash, verifier, root) {
