@@ -2,19 +2,19 @@
 -- how a whole list is refused.
 use Rattle.std.proofs.Common.{◌≡◌, ℕ, ◌<◌, List, [], ◌∷◌, ◌++◌, length, All, Contains, Result, Ok, Err, refl, sym, ap, subst, ◌∙◌, inl, inr, arith, rules}
 use Rattle.std.specs.List.{AllByRecursion}
-use Rattle.std.proofs.lemmas.Bool.{cases_lt}
+use Rattle.std.proofs.lemmas.List.{append-nil, append_assoc}
+use Rattle.std.proofs.lemmas.List.Elements.{All-from_recursion}
 use Rattle.rootchain.specs.declared.chain.placing.Place.{Place}
 use Rattle.rootchain.specs.declared.chain.placing.Place.TheVariants as place
-use Rattle.rootchain.specs.declared.evidence.RootEvidence.{RootEvidence}
-use Rattle.rootchain.specs.declared.evidence.RootEvidence.TheVariants.{Fork, Link, Skip}
 use Rattle.rootchain.specs.declared.signed_root.SignedRoot.{SignedRoot}
 use Rattle.rootchain.specs.declared.untaken.Untaken.{Untaken}
 use Rattle.rootchain.specs.declared.untaken.Untaken.TheVariants.{BadSignature, BeforeStart, Ahead, Evidence, Memory}
 use Rattle.rootchain.specs.Chains.{IsChain, KeyedRoots}
 use Rattle.rootchain.specs.Places.{IsPlace}
 use Rattle.rootchain.specs.SignedRoots.{IsSignedRoot}
-use Rattle.rootchain.specs.TakingLists.{with_roots, AreSpelled, IsListRefusal, IsUntaken, Passes, StopsAt, Takes, TakesEach, UntakenHolds, UntakenIsSpelled}
-use Rattle.rootchain.proofs.Places.{ends, place_sound}
+use Rattle.rootchain.specs.TakingLists.{with_roots, IsListRefusal, IsUntaken, Passes, StopsAt, Takes, TakesEach, UntakenHolds, UntakenIsSpelled}
+use Rattle.rootchain.proofs.Places.{place_sound}
+use Rattle.rootchain.proofs.Spelled.{place-given}
 use Rattle.rootchain.proofs.Taking.{next_stays}
 
 module _ (hash : List ℕ → List ℕ) (verified : List ℕ → List ℕ → List ℕ → Type 0) where
@@ -53,3 +53,67 @@ module _ (hash : List ℕ → List ℕ) (verified : List ℕ → List ℕ → Li
   pub takes-chain : (roots : List SignedRoot) (chain after : KeyedRoots) → IsChain hash verified chain → Takes hash verified chain roots after → IsChain hash verified after
   takes-chain [] chain after is takes = rw takes is
   takes-chain (root ∷ roots) chain after is takes = takes-chain roots takes.0 after (passes-chain chain root takes.0 is takes.1) takes.2
+
+  -- it has its key, and its roots followed by others
+  pub takes-grows : (roots : List SignedRoot) (chain after : KeyedRoots) → Takes hash verified chain roots after → (more : List SignedRoot) × (after ≡ with_roots chain more)
+  takes-grows [] chain after takes = ([], takes ∙ ap (λ (rs : List SignedRoot). record chain { roots = rs }) (sym (append-nil chain.roots)))
+  takes-grows (root ∷ roots) chain after takes =
+      let grown = takes-grows roots takes.0 after takes.2 in
+      elim takes.1.1 [
+        | inl known ↦ (grown.0, grown.1 ∙ ap (λ (c : KeyedRoots). with_roots c grown.0) known.1)
+        | inr next ↦ (
+          root ∷ grown.0,
+          grown.1 ∙ ap (λ (c : KeyedRoots). with_roots c grown.0) next.1 ∙ ap (λ (rs : List SignedRoot). record chain { roots = rs }) (append_assoc chain.roots (root ∷ []) grown.0),
+        )
+      ]
+
+  -- ---- roots that have a spelling
+
+  spelled-push : (roots : List SignedRoot) (root : SignedRoot) → AllByRecursion IsSignedRoot roots → IsSignedRoot root → AllByRecursion IsSignedRoot (roots ++ root ∷ [])
+  spelled-push [] root all one = (one, tt)
+  spelled-push (first ∷ roots) root all one = (all.0, spelled-push roots root all.1 one)
+
+  spelled-front : (front : List SignedRoot) (root : SignedRoot) (rest : List SignedRoot) → AllByRecursion IsSignedRoot (front ++ root ∷ rest) → AllByRecursion IsSignedRoot front × IsSignedRoot root
+  spelled-front [] root rest all = (tt, all.0)
+  spelled-front (first ∷ front) root rest all = let more = spelled-front front root rest all.1 in ((all.0, more.0), more.1)
+
+  pub takes-spelled : (roots : List SignedRoot) (chain after : KeyedRoots) → AllByRecursion IsSignedRoot chain.roots → AllByRecursion IsSignedRoot roots
+      → Takes hash verified chain roots after → AllByRecursion IsSignedRoot after.roots
+  takes-spelled [] chain after own given takes = rw takes own
+  takes-spelled (root ∷ roots) chain after own given takes = takes-spelled roots takes.0 after (elim takes.1.1 [
+    | inl known ↦ rw known.1 own
+    | inr next ↦ rw next.1 (spelled-push chain.roots root own given.0)
+  ]) given.1 takes.2
+
+  -- ---- why a list is refused
+
+  untaken-holds : (chain : KeyedRoots) (root : SignedRoot) (why : Untaken) → IsChain hash verified chain → IsUntaken hash verified chain root why → UntakenHolds hash verified chain.key why
+  untaken-holds chain root (Evidence evidence) is untaken = place_sound hash verified chain root (place.Evidence evidence) is untaken.0 untaken.1
+  untaken-holds chain root BadSignature is untaken = tt
+  untaken-holds chain root BeforeStart is untaken = tt
+  untaken-holds chain root Ahead is untaken = tt
+  untaken-holds chain root Memory is untaken = tt
+
+  pub stop-holds : (chain : KeyedRoots) (roots : List SignedRoot) (why : Untaken) (after : KeyedRoots) → IsChain hash verified chain → StopsAt hash verified chain roots why after → UntakenHolds hash verified chain.key why
+  stop-holds chain roots why after is stops =
+      let same : after.key ≡ chain.key = ap (λ (c : KeyedRoots). c.key) (takes-grows stops.0 chain after stops.4).1 in
+      subst (λ (key : List ℕ). UntakenHolds hash verified key why) same (untaken-holds after stops.1 why (takes-chain stops.0 chain after is stops.4) stops.5)
+
+  untaken-spelled : (chain : KeyedRoots) (root : SignedRoot) (why : Untaken) → 0 < length chain.roots → All IsSignedRoot chain.roots → IsSignedRoot root → IsUntaken hash verified chain root why → UntakenIsSpelled why
+  untaken-spelled chain root (Evidence evidence) some own given untaken =
+      place-given hash IsSignedRoot chain root (place.Evidence evidence) some (λ held among. subst IsSignedRoot among.2 (own among.0 held among.1)) given untaken.1
+  untaken-spelled chain root BadSignature some own given untaken = tt
+  untaken-spelled chain root BeforeStart some own given untaken = tt
+  untaken-spelled chain root Ahead some own given untaken = tt
+  untaken-spelled chain root Memory some own given untaken = tt
+
+  pub stop-spelled : (chain : KeyedRoots) (roots : List SignedRoot) (why : Untaken) (after : KeyedRoots) → IsChain hash verified chain → AllByRecursion IsSignedRoot chain.roots → AllByRecursion IsSignedRoot roots
+      → StopsAt hash verified chain roots why after → UntakenIsSpelled why
+  stop-spelled chain roots why after is own given stops =
+      let front = spelled-front stops.0 stops.1 stops.2 (rw stops.3 at given) in
+      let after-is = takes-chain stops.0 chain after is stops.4 in
+      untaken-spelled after stops.1 why after-is.first (All-from_recursion IsSignedRoot after.roots (takes-spelled stops.0 chain after own front.0 stops.4)) front.1 stops.5
+
+  pub memory-refused : (chain : KeyedRoots) (roots : List SignedRoot) → 0 < length roots → IsListRefusal hash verified chain roots Memory
+  memory-refused chain [] some = absurd (omega (arith, some))
+  memory-refused chain (root ∷ roots) some = (chain, [], root, roots, refl, refl, tt)

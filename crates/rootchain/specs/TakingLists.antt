@@ -1,13 +1,11 @@
 -- A list of roots that a chain takes whole, or refuses (after CONIKS, section 3).
 use Rattle.std.specs.Prelude.{◌≡◌, ◌⊎◌, ℕ, List, [], ◌∷◌, ◌++◌, Result, Ok, Err}
 use Rattle.rootchain.specs.declared.chain.placing.Place.TheVariants as place
-use Rattle.rootchain.specs.declared.evidence.RootEvidence.{RootEvidence}
-use Rattle.rootchain.specs.declared.evidence.RootEvidence.TheVariants.{Fork, Link, Skip}
 use Rattle.rootchain.specs.declared.signed_root.SignedRoot.{SignedRoot}
 use Rattle.rootchain.specs.declared.untaken.Untaken.{Untaken}
 use Rattle.rootchain.specs.declared.untaken.Untaken.TheVariants.{BadSignature, BeforeStart, Ahead, Evidence, Memory}
 use Rattle.rootchain.specs.Chains.{KeyedRoots, Verifies}
-use Rattle.rootchain.specs.Evidence.{IsRootEvidence}
+use Rattle.rootchain.specs.Evidence.{BothAre, IsRootEvidence}
 use Rattle.rootchain.specs.Places.{IsPlace}
 use Rattle.rootchain.specs.SignedRoots.{IsSignedRoot}
 use Rattle.rootchain.specs.Taking.{with_root}
@@ -62,15 +60,9 @@ module _ (hash : List ℕ → List ℕ) (verified : List ℕ → List ℕ → Li
   UntakenHolds key Ahead = Unit
   UntakenHolds key Memory = Unit
 
--- both roots of the evidence have a spelling
-abbrev pub AreSpelled : RootEvidence → Type 0
-AreSpelled (Fork one other) = IsSignedRoot one × IsSignedRoot other
-AreSpelled (Link one other) = IsSignedRoot one × IsSignedRoot other
-AreSpelled (Skip one other) = IsSignedRoot one × IsSignedRoot other
-
 -- if evidence is told, its roots have a spelling
 abbrev pub UntakenIsSpelled : Untaken → Type 0
-UntakenIsSpelled (Evidence evidence) = AreSpelled evidence
+UntakenIsSpelled (Evidence evidence) = BothAre IsSignedRoot evidence
 UntakenIsSpelled BadSignature = Unit
 UntakenIsSpelled BeforeStart = Unit
 UntakenIsSpelled Ahead = Unit
