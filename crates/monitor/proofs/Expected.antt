@@ -1,10 +1,10 @@
 -- What is expected of an epoch: the key of the last of the changes that are promised before it.
-use Rattle.std.proofs.Common.{◌≡◌, ℕ, zero, suc, ◌+◌, ◌<◌, ◌≤◌, List, [], ◌∷◌, ◌++◌, length, get_or, Bool, true, false, Option, Some, All, refl, arith, ◌∙◌}
-use Rattle.std.specs.Prelude.{nat_lt, if◌then◌else◌}
+use Rattle.std.proofs.Common.{◌≡◌, ℕ, zero, suc, ◌+◌, ◌<◌, ◌≤◌, List, [], ◌∷◌, ◌++◌, length, get_or, Bool, true, false, Bor, Option, Some, None, All, IsTrue, ◌↔◌, eqb, inl, inr, refl, sym, ap, arith, ◌∙◌}
+use Rattle.std.specs.Prelude.{nat_lt, if◌then◌else◌, option_copied, option_map}
 use Rattle.std.specs.List.{AllWithin}
 use Rattle.std.specs.List.Sorted.{IsPartitionPoint, IsPartitionedBy}
 use Rattle.std.specs.Prelude.{AllPairs}
-use Rattle.std.proofs.lemmas.Bool.{cases_lt, le-ltb, lt-ltb, ltb-true}
+use Rattle.std.proofs.lemmas.Bool.{cases_lt, eq-eqb, eqb-true, le-ltb, lt-ltb, ltb-false, ltb-true}
 use Rattle.proofs.specs.Watches.{Watch, expected, expected_from}
 use Rattle.monitor.specs.Expecting.{ExpectsAbove}
 
@@ -20,16 +20,16 @@ NotBelow epoch change = epoch ≤ change.0
 -- where no change is promised before the epoch, it is what it is at the start
 pub expected-none : (start : Option (List ℕ)) (changes : Changes) (epoch : ℕ) → All (NotBelow epoch) changes → expected_from start changes epoch ≡ start
 expected-none start [] epoch all = refl
-expected-none start (change ∷ changes) epoch all = rw (le-ltb change.0 epoch (all 0 change (omega arith))) (expected-none start changes epoch (λ k d p. all (k + 1) d (omega (arith, p))))
+expected-none start (change ∷ changes) epoch all = rw (le-ltb change.0 epoch (all 0 change (omega arith))) (expected-none start changes epoch (λ k d p. all (suc k) d (omega (arith, p))))
 
 -- else the key of the last that is
 pub expected-last : (start : Option (List ℕ)) (changes : Changes) (epoch m : ℕ) (d : ℕ × List ℕ) → m < length changes → AllWithin (Below epoch) changes 0 (m + 1) → AllWithin (NotBelow epoch) changes (m + 1) (length changes)
     → expected_from start changes epoch ≡ Some (get_or changes m d).1
 expected-last start [] epoch m d within before behind = absurd (omega (arith, within))
 expected-last start (change ∷ changes) epoch zero d within before behind = rw (lt-ltb change.0 epoch (before 0 change (omega arith) (omega arith)))
-    (expected-none (Some change.1) changes epoch (λ k e p. behind (k + 1) e (omega arith) (omega (arith, p))))
+    (expected-none (Some change.1) changes epoch (λ k e p. behind (suc k) e (omega arith) (omega (arith, p))))
 expected-last start (change ∷ changes) epoch (suc m) d within before behind =
-    expected-last (if nat_lt change.0 epoch then Some change.1 else start) changes epoch m d (omega (arith, within)) (λ k e low p. before (k + 1) e (omega arith) (omega (arith, p))) (λ k e low p. behind (k + 1) e (omega (arith, low)) (omega (arith, p)))
+    expected-last (if nat_lt change.0 epoch then Some change.1 else start) changes epoch m d (omega (arith, within)) (λ k e low p. before (suc k) e (omega arith) (omega (arith, p))) (λ k e low p. behind (suc k) e (omega (arith, low)) (omega (arith, p)))
 
 -- one more change is expected above its epoch
 expected-push : (start : Option (List ℕ)) (changes : Changes) (change : ℕ × List ℕ) (epoch : ℕ)
@@ -49,3 +49,40 @@ changes-parted changes epoch up i j d p q low = elim (cases_lt i j) [
   | inl less ↦ lt-ltb _ _ (omega (arith, up i j d less q, ltb-true _ _ low))
   | inr same ↦ let e : i ≡ j = omega arith in rw e low
 ]
+
+-- the changes before the place are promised before the epoch, and those behind it are not
+abbrev pub Parts : Changes → ℕ → ℕ → Type 0
+Parts changes epoch place = IsPartitionPoint (Below epoch) (NotBelow epoch) changes place
+
+pub parts-from : (changes : Changes) (epoch place : ℕ) → IsPartitionPoint (λ (change : ℕ × List ℕ). nat_lt change.0 epoch ≡ true) (λ (change : ℕ × List ℕ). nat_lt change.0 epoch ≡ false) changes place → Parts changes epoch place
+parts-from changes epoch place point = (
+  λ k d a b. ltb-true (get_or changes k d).0 epoch (point.0 k d a b),
+  λ k d a b. ltb-false (get_or changes k d).0 epoch (point.1 k d a b),
+)
+
+pub expected-at_none : (start : Option (List ℕ)) (changes : Changes) (epoch place : ℕ) → Parts changes epoch place → (1 ≤ place → ⊥) → expected_from start changes epoch ≡ start
+expected-at_none start changes epoch place parts none = expected-none start changes epoch (λ k d p. parts.1 k d (elim (cases_lt k place) [ | inl some ↦ absurd (none (omega (arith, some))) | inr all ↦ all ]) p)
+
+pub expected-at_last : (start : Option (List ℕ)) (changes : Changes) (epoch place last : ℕ) (change : ℕ × List ℕ) → Parts changes epoch place → place ≤ length changes → place ≡ last + 1 → change ≡ get_or changes last change
+    → expected_from start changes epoch ≡ Some change.1
+expected-at_last start changes epoch place last change parts within same at =
+    expected-last start changes epoch last change (omega (arith, within, same)) (λ k d low p. parts.0 k d low (omega (arith, same, p))) (λ k d low p. parts.1 k d (omega (arith, same, low)) p)
+    ∙ ap (λ (c : ℕ × List ℕ). Some c.1) (sym at)
+
+-- all are promised before the epoch where no place is left behind
+pub all-before : (changes : Changes) (epoch place : ℕ) (test : Bool) → Parts changes epoch place → place ≤ length changes → test ≡ eqb place (length changes) → IsTrue test ↔ All (Below epoch) changes
+all-before changes epoch place test parts within is = (
+  λ yes. λ k d p. parts.0 k d (omega arith) (omega (arith, eqb-true place (length changes) (sym is ∙ yes), p)),
+  λ all. elim (cases_lt place (length changes)) [
+    | inl less ↦ absurd (before-not less all)
+    | inr full ↦ is ∙ eq-eqb place (length changes) (omega (arith, within, full))
+  ],
+)
+  where
+    before-not : place < length changes → All (Below epoch) changes → ⊥
+    before-not less all = omega (arith, parts.1 place (0, []) (omega arith) less, all place (0, []) less)
+
+-- the key behind a reference is the key
+pub mapped-copied : (found : Option (Bor (List ℕ))) (key : Option (List ℕ)) → option_copied found ≡ key → option_map (λ (k : Bor (List ℕ)). k.now) found ≡ key
+mapped-copied None key is = is
+mapped-copied (Some found) key is = is

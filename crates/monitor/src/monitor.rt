@@ -1,4 +1,4 @@
-ghost use Rattle.std.specs.Prelude.{◌≡◌, ◌↔◌, ◌<◌, ◌≤◌, AllPairs, IsTrue, OnOk, length, option_map};
+ghost use Rattle.std.specs.Prelude.{◌≡◌, ◌↔◌, ◌<◌, ◌≤◌, All, AllPairs, IsTrue, OnOk, length, option_map};
 ghost use Rattle.std.specs.List.Sorted.{IsPartitionPoint};
 ghost use Rattle.rootchain.specs.declared.signed_promise.SignedPromise.{SignedPromise};
 ghost use Rattle.proofs.specs.Views.{key_stated};
@@ -203,7 +203,7 @@ impl<H: NodeHash, V: VufCheck, S: Verifier> Monitor<H, V, S> {
     {
         promise.name == self.name
             && promise.key == *key
-            && promised_before(&self.changes, promise.epoch) == self.changes.len()
+            && are_before(&self.changes, promise.epoch)
             && self.watched <= promise.epoch
     }
 }
@@ -215,6 +215,14 @@ fn promised_before(changes: &[Change], epoch: u64) -> usize
     ensures point { IsPartitionPoint (λ change. change.0 < epoch) (λ change. epoch ≤ change.0) changes.now result }
 {
     changes.partition_point(|change| change.epoch < epoch)
+}
+
+/// Whether all of the changes were promised before this epoch.
+fn are_before(changes: &[Change], epoch: u64) -> bool
+    requires { AllPairs (λ earlier later. earlier.0 < later.0) changes.now }
+    ensures { IsTrue result ↔ All (λ change. change.0 < epoch) changes.now }
+{
+    promised_before(changes, epoch) == changes.len()
 }
 
 /// Whether the statement is the key that is expected, or absence where no key is.
