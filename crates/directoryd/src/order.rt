@@ -153,12 +153,7 @@ fn count_arg<'a>(alloc: Global) -> Arg<'a>
 }
 
 /// A value that stands alone, and has to be given.
-fn positional_arg<'a>(
-    alloc: Global,
-    name: &'a str,
-    shown: &'a str,
-    help: &'a str,
-) -> Arg<'a>
+fn positional_arg<'a>(alloc: Global, name: &'a str, shown: &'a str, help: &'a str) -> Arg<'a>
     ensures rule { rule_of result ≡ positional_rule name.entry.now }
     ensures local { result.global ≡ false }
 {

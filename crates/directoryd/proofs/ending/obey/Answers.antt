@@ -19,7 +19,9 @@ returns-in_err-audit-in-Audit g c =
     rw (passed, c.in-Audit.is) (tt, Keeps-refl _, c.in_err-audit-in-Audit.ensures.audits)
 
 pub returns-in-Judge : goal.returns-in-Judge
-returns-in-Judge g c = rw c.in-Judge.is (Keeps-refl _, c.judge-in-Judge.ensures)
+returns-in-Judge g c =
+    let told = c.judge.ensures in
+    rw c.in-Judge.is (Keeps-refl _, told.0, told.1, told.2)
 
 pub returns-in_err-serve_directory-in-Serve : goal.returns-in_err-serve_directory-in-Serve
 returns-in_err-serve_directory-in-Serve g c =
