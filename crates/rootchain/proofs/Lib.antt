@@ -3,6 +3,7 @@ pub mod BodyTexts
 pub mod Chains
 pub mod Clashes
 pub mod Compared
+pub mod OneAnswer
 pub mod Places
 pub mod RootLists
 pub mod Taking

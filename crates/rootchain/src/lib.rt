@@ -32,7 +32,7 @@ mod whole;
 
 pub use body::Body;
 pub use chain::{Chain, Place};
-pub use compare::Compare;
+pub use compare::{Compare, comparison_is_unique};
 pub use evidence::RootEvidence;
 pub use laws::{
     body_is_read, chain_is_no_evidence, epochs_ascend, place_tells_evidence, promise_is_read,
