@@ -1,7 +1,8 @@
 -- A chain that takes roots in order stays one and grows at its end; and the root at which it stops tells
 -- how a whole list is refused.
-use Rattle.std.proofs.Common.{◌≡◌, ℕ, ◌<◌, List, [], ◌∷◌, ◌++◌, length, All, Contains, Result, Ok, Err, refl, sym, ap, subst, ◌∙◌, inl, inr, arith, rules}
+use Rattle.std.proofs.Common.{◌≡◌, ℕ, ◌<◌, List, [], ◌∷◌, ◌++◌, length, take, All, refl, sym, ap, subst, ◌∙◌, inl, inr, arith}
 use Rattle.std.specs.List.{AllByRecursion}
+use Rattle.std.proofs.Math.Seq.{take-append_seam}
 use Rattle.std.proofs.lemmas.List.{append-nil, append_assoc}
 use Rattle.std.proofs.lemmas.List.Elements.{All-from_recursion}
 use Rattle.rootchain.specs.declared.chain.placing.Place.{Place}
@@ -116,4 +117,20 @@ module _ (hash : List ℕ → List ℕ) (verified : List ℕ → List ℕ → Li
 
   pub memory-refused : (chain : KeyedRoots) (roots : List SignedRoot) → 0 < length roots → IsListRefusal hash verified chain roots Memory
   memory-refused chain [] some = absurd (omega (arith, some))
-  memory-refused chain (root ∷ roots) some = (chain, [], root, roots, refl, refl, tt)
+  memory-refused chain (root ∷ roots) some = (chain, ([], root, roots, refl, refl, tt))
+
+-- ---- the roots that were taken are taken off again
+
+pub grows-nothing : (chain : KeyedRoots) → chain ≡ with_roots chain []
+grows-nothing chain = ap (λ (rs : List SignedRoot). record chain { roots = rs }) (sym (append-nil chain.roots))
+
+pub taken-off : (chain after : KeyedRoots) (key : List ℕ) (roots more : List SignedRoot) (before : ℕ) → record { key = key; roots = roots } ≡ after → after ≡ with_roots chain more → before ≡ length chain.roots
+    → record { key = key; roots = take before roots } ≡ chain
+taken-off chain after key roots more before is grown same =
+    let all : record { key = key; roots = roots } ≡ with_roots chain more = is ∙ grown in
+    let keys : key ≡ chain.key = ap (λ (c : KeyedRoots). c.key) all in
+    let longer : roots ≡ chain.roots ++ more = ap (λ (c : KeyedRoots). c.roots) all in
+    let cut : take before roots ≡ chain.roots = rw (longer, same) (take-append_seam chain.roots more) in
+    let K : List ℕ → KeyedRoots = λ k. record { key = k; roots = take before roots } in
+    let R : List SignedRoot → KeyedRoots = λ rs. record { key = chain.key; roots = rs } in
+    ap K keys ∙ ap R cut
