@@ -5,15 +5,13 @@ use Rattle.std.specs.List.{AllByRecursion}
 use Rattle.std.proofs.Math.Seq.{take-append_seam}
 use Rattle.std.proofs.lemmas.List.{append-nil, append_assoc}
 use Rattle.std.proofs.lemmas.List.Elements.{All-from_recursion}
-use Rattle.rootchain.specs.declared.chain.placing.Place.{Place}
 use Rattle.rootchain.specs.declared.chain.placing.Place.TheVariants as place
 use Rattle.rootchain.specs.declared.signed_root.SignedRoot.{SignedRoot}
 use Rattle.rootchain.specs.declared.untaken.Untaken.{Untaken}
 use Rattle.rootchain.specs.declared.untaken.Untaken.TheVariants.{BadSignature, BeforeStart, Ahead, Evidence, Memory}
 use Rattle.rootchain.specs.Chains.{IsChain, KeyedRoots}
-use Rattle.rootchain.specs.Places.{IsPlace}
 use Rattle.rootchain.specs.SignedRoots.{IsSignedRoot}
-use Rattle.rootchain.specs.TakingLists.{with_roots, IsListRefusal, IsUntaken, Passes, StopsAt, Takes, TakesEach, UntakenHolds, UntakenIsSpelled}
+use Rattle.rootchain.specs.TakingLists.{with_roots, IsListRefusal, IsUntaken, Passes, StopsAt, Takes, UntakenHolds, UntakenIsSpelled}
 use Rattle.rootchain.proofs.Places.{place_sound}
 use Rattle.rootchain.proofs.Spelled.{place-given}
 use Rattle.rootchain.proofs.Taking.{next_stays}

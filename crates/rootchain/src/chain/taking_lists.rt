@@ -47,12 +47,7 @@ impl<H: NodeHash, S: Verifier> Chain<H, S> {
     }
 
     /// Takes the roots of a list up to the first that is refused.
-    fn take_each(
-        &mut self,
-        hash: &mut H,
-        verifier: &S,
-        list: RootList<'_>,
-    ) -> Result<(), Untaken>
+    fn take_each(&mut self, hash: &mut H, verifier: &S, list: RootList<'_>) -> Result<(), Untaken>
         ensures each { TakesEach H.digest_of S.verified self.old list.entry result self.new }
         ensures counted { H.digests hash.new ≤ H.digests hash.old + length list.entry }
     {
