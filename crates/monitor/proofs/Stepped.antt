@@ -8,7 +8,8 @@ use Rattle.client.specs.Clients.{Client}
 use Rattle.client.specs.Looking.{IsAsked, Looks}
 use Rattle.client.specs.declared.refusal.Refusal.{Refusal}
 use Rattle.client.specs.declared.refusal.Refusal.TheVariants.{Root, Proof, UnknownRoot, RootDiffers, Memory, NoPromise}
-use Rattle.monitor.specs.Monitors.{Monitor, with_watched, IsNext}
+use Rattle.monitor.specs.Monitors.{Monitor, with_watched, IsNext, IsWatching}
+use Rattle.monitor.proofs.Watching.{watched-watching}
 use Rattle.monitor.specs.Stepping.{IsNextEpoch, Steps, Tells}
 use Rattle.monitor.specs.declared.refusal.Refusal.TheVariants as refusal
 use Rattle.monitor.specs.declared.step.Step.{Step}
@@ -40,6 +41,11 @@ module _ (monitor : Monitor) (epoch : ℕ) (is : IsNextEpoch monitor (Some epoch
     step-told found step (root, reply, answered, states, kept) tells =
         let at = asked-at monitor.client.chain epoch root positive answered.0 in
         (root, reply, (next-at root at, answered.1), rw (at.1, ← states) tells, rw (at.1, rw at.1 at kept) refl)
+
+    pub step-watching : IsWatching monitor → (found : Statement) → Looks hash accepted monitor.client monitor.name epoch bytes (Ok found) client → IsWatching (record monitor { client = client; watched = epoch })
+    step-watching watching found (root, reply, answered, states, kept) =
+        let at = asked-at monitor.client.chain epoch root positive answered.0 in
+        rw (rw at.1 at kept) (watched-watching monitor watching epoch bytes root (next-at root at) at.1)
 
     pub step-refused : (why : Refusal) → Looks hash accepted monitor.client monitor.name epoch bytes (Err why) client
         → Steps hash accepted monitor bytes (Err (refusal.Client why)) (record monitor { client = client })

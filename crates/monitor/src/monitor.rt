@@ -132,18 +132,21 @@ impl<H: NodeHash, V: VufCheck, S: Verifier> Monitor<H, V, S> {
         ensures above { (signed : SignedPromise) → IsGiven H.digest_of S.verified self.old.client promise_bytes.now signed
             → OnOk result (ExpectsAbove self.old.watch signed.promise.epoch key.now self.new.watch) }
     {
-        let signed = self.client.read_promise(hash, verifier, promise_bytes)?;
+        let signed = self
+            .client
+            .read_promise(hash, verifier, promise_bytes)
+            .map_err(Refusal::Client)?;
         if !self.may_expect(key, &signed.promise) {
             return Err(Refusal::OtherPromise);
         }
         let change = Change {
             epoch: signed.promise.epoch,
-            key: key.copied(),
+            key: signed.promise.key.copied(),
         };
         if self.changes.reserve(1).is_err() {
             return Err(Refusal::Client(client::Refusal::Memory));
         }
-        self.client.keep_read(signed)?;
+        self.client.keep_read(signed).map_err(Refusal::Client)?;
         self.changes.push(change).unwrap();
         Ok(())
     }
