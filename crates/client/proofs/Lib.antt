@@ -1,3 +1,4 @@
 pub mod Numbering
 pub mod Rooted
 pub mod Keeping
+pub mod Tested

@@ -5,3 +5,4 @@ pub mod Numbered
 pub mod Promising
 pub mod Refusals
 pub mod Starting
+pub mod Testing

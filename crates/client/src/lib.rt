@@ -17,7 +17,7 @@
 mod client;
 mod due;
 mod looks;
-
+mod promises;
 mod refusal;
 mod roots;
 
