@@ -46,34 +46,42 @@ fn takes_a_list(rt: HostRuntime) -> Result<(), Fail> {
     Ok(())
 }
 
+/// What the chain answers to the list of these two roots.
+fn taken_both(
+    alloc: Global,
+    chain: &mut Chain<SumHash, KeyedSign>,
+    first: SignedRoot,
+    second: SignedRoot,
+) -> Result<&'static str, AllocError> {
+    let mut roots = Vec::new(alloc);
+    roots.push(first)?;
+    roots.push(second)?;
+    let bytes = list_bytes(alloc, roots.as_slice())?;
+    taken(chain, bytes.as_slice())
+}
+
 #[test]
 fn refuses_a_list(rt: HostRuntime) -> Result<(), Fail> {
     let signer = provider();
     let zeros = Hash32::default();
-    let hash = SumHash::new().digest(signed(&signer, 3, 2, zeros).body.write().bytes());
-    for (root, told) in [
-        (signed(&KeyedSign::new(zeros), 9, 7, zeros), "bad signature"),
-        (signed(&signer, 12, 10, zeros), "ahead"),
-        (signed(&signer, 9, 7, zeros), "evidence"),
-        (signed(&signer, 1, 0, zeros), "before start"),
+    let first = signed(&signer, 3, 2, zeros);
+    let third = SumHash::new().digest(first.body.write().bytes());
+    let chain = unless_out_of_memory(Chain::start(rt.alloc(), &signer, signer.public(), first))?;
+    let mut chain: Chain<SumHash, KeyedSign> = chain.expect(&rt, "the root verifies");
+    for (epoch, previous_epoch, told) in [
+        (12, 10, "ahead"),
+        (9, 7, "evidence"),
+        (1, 0, "before start"),
     ] {
-        let first = signed(&signer, 3, 2, zeros);
-        let chain = unless_out_of_memory(Chain::start(
-            rt.alloc(),
-            &signer,
-            signer.public(),
-            first,
-        ))?;
-        let mut chain: Chain<SumHash, KeyedSign> = chain.expect(&rt, "the root verifies");
-        let mut roots = Vec::new(rt.alloc());
-        roots.push(signed(&signer, 7, 3, hash))?;
-        let bytes = list_bytes(rt.alloc(), roots.as_slice())?;
-        roots.push(root)?;
-        let refused = list_bytes(rt.alloc(), roots.as_slice())?;
-        assert_eq!(rt; taken(&mut chain, refused.as_slice())?, told);
+        let next = signed(&signer, 7, 3, third);
+        let root = signed(&signer, epoch, previous_epoch, zeros);
+        assert_eq!(rt; taken_both(rt.alloc(), &mut chain, next, root)?, told);
         assert_eq!(rt; chain.head().body.epoch, 3, "{told}");
-        assert_eq!(rt; taken(&mut chain, bytes.as_slice())?, "taken");
-        assert_eq!(rt; chain.head().body.epoch, 7);
     }
+    let next = signed(&signer, 7, 3, third);
+    let forged = signed(&KeyedSign::new(zeros), 9, 7, zeros);
+    let answer = taken_both(rt.alloc(), &mut chain, next, forged)?;
+    assert_eq!(rt; answer, "bad signature");
+    assert_eq!(rt; chain.head().body.epoch, 3);
     Ok(())
 }
