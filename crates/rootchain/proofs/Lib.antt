@@ -3,5 +3,7 @@ pub mod Clashes
 pub mod NextRoots
 pub mod Places
 pub mod RootLists
+pub mod Spelled
 pub mod Taking
+pub mod TakingLists
 pub mod Telling
