@@ -1,5 +1,5 @@
 -- A promise that is told as broken is evidence.
-use Rattle.std.proofs.Common.{◌≡◌, ◌≢◌, ℕ, zero, suc, ◌+◌, ◌<◌, ◌≤◌, List, [], ◌∷◌, length, get_or, slice_get, Some, Ok, Contains, refl, sym, ap, subst, ◌∙◌, inl, inr, arith}
+use Rattle.std.proofs.Common.{◌≡◌, ◌≢◌, ℕ, zero, suc, ◌+◌, ◌<◌, ◌≤◌, List, [], ◌∷◌, length, get_or, slice_get, Some, Ok, Err, Contains, refl, sym, ap, subst, ◌∙◌, inl, inr, arith}
 use Rattle.std.specs.List.{AllAdjacentBelow, AllByRecursion}
 use Rattle.std.proofs.lemmas.Bool.{cases_lt}
 use Rattle.std.proofs.lemmas.List.{get_or_default}
@@ -13,9 +13,11 @@ use Rattle.rootchain.proofs.Chains.{ascend-linked, one-root}
 use Rattle.rootchain.proofs.Places.{rising}
 use Rattle.proofs.specs.Accepts.{stated, States}
 use Rattle.client.specs.Clients.{Client, HasRootOf, IsPromised, IsSound}
-use Rattle.client.specs.Dues.{DueHolds, IsTested, Tests}
+use Rattle.client.specs.Dues.{DueHolds, Dues, IsTested, Tests}
 use Rattle.client.specs.declared.due.Due.{Due}
 use Rattle.client.specs.declared.due.Due.TheVariants.{Kept, Broken, OtherIndex}
+use Rattle.client.specs.declared.refusal.Refusal.{Refusal}
+use Rattle.client.specs.declared.refusal.Refusal.TheVariants.{Root, Proof, UnknownRoot, RootDiffers, Memory, NoPromise}
 
 pub all-at : {A : Type 0} (P : A → Type 0) (xs : List A) (k : ℕ) (x : A) → AllByRecursion P xs → slice_get xs k ≡ Some x → P x
 all-at P [] k x all is = absurd cc
@@ -71,3 +73,13 @@ module _ (hash : List ℕ → List ℕ) (accepted verified : List ℕ → List �
         promised.form,
         All-contains IsSignedRoot before.chain.roots root (All-from_recursion IsSignedRoot before.chain.roots sound.roots) next.0,
       )
+
+-- a reply that is refused
+module _ (hash : List ℕ → List ℕ) (accepted : List ℕ → List ℕ → List ℕ → Type 0) (before : Client) (name bytes : List ℕ) where
+  pub refused : (place : ℕ) (signed : SignedPromise) → IsTested before.promises name place signed → (why : Refusal) → Tests hash accepted before.chain name bytes signed (Err why) → Dues hash accepted before name bytes (Err why) before
+  refused place signed is UnknownRoot tests = (place, (signed, is, tests), refl)
+  refused place signed is (Proof why) tests = (place, (signed, is, tests), refl)
+  refused place signed is (Root why) tests = absurd tests
+  refused place signed is (RootDiffers evidence) tests = absurd tests
+  refused place signed is Memory tests = absurd tests
+  refused place signed is NoPromise tests = absurd tests

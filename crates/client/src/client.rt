@@ -18,6 +18,7 @@ use std::marker::{Model, PhantomData};
 use vrfiface::VufCheck;
 
 mod dues;
+mod updating;
 
 /// A client of one provider, under the functions of `H`, `V` and `S`: the chain of the provider's roots,
 /// the looks that were accepted under them, and the promises that are to be tested.

@@ -41,13 +41,14 @@ impl<H: NodeHash, V: VufCheck, S: Verifier> Client<H, V, S> {
         let Some((place, signed)) = tested(&self.promises, name) else {
             return Err(Refusal::NoPromise);
         };
-        let due = match test(&self.chain, signed, hash, vuf, name, bytes) {
-            Ok(due) => due,
-            Err(why) => return Err(why),
-        };
-        if let Due::Kept = due {
-            let _ = self.promises.remove(place);
+        match test(&self.chain, signed, hash, vuf, name, bytes) {
+            Ok(Due::Kept) => {
+                let _ = self.promises.remove(place);
+                Ok(Due::Kept)
+            }
+            Ok(Due::Broken(broken)) => Ok(Due::Broken(broken)),
+            Ok(Due::OtherIndex) => Ok(Due::OtherIndex),
+            Err(why) => Err(why),
         }
-        Ok(due)
     }
 }
