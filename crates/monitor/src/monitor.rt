@@ -5,7 +5,7 @@ ghost use Rattle.proofs.specs.Views.{key_stated};
 ghost use Rattle.proofs.specs.Watches.{expected};
 ghost use Rattle.client.specs.Promising.{IsGiven};
 ghost use Rattle.client.specs.Updating.{Updates};
-ghost use Rattle.monitor.specs.Expecting.{Expects, ExpectsAbove, MayExpect};
+ghost use Rattle.monitor.specs.Expecting.{Expects, ExpectsAbove, MayExpect, ReadsChange};
 ghost use Rattle.monitor.specs.Monitors.{begun, IsWatching};
 ghost use Rattle.monitor.specs.Stepping.{IsNextEpoch, Steps, Tells};
 
@@ -14,7 +14,7 @@ use client::Client;
 use encoding::{KeyData, Name};
 use nodehash::NodeHash;
 use proofs::Statement;
-use rootchain::Promise;
+use rootchain::{Promise, SignedPromise};
 use sigiface::Verifier;
 use std::alloc::Global;
 use std::marker::Model;
@@ -129,24 +129,20 @@ impl<H: NodeHash, V: VufCheck, S: Verifier> Monitor<H, V, S> {
         promise_bytes: &[u8],
     ) -> Result<(), Refusal>
         ensures expects { Expects H.digest_of S.verified self.old key.now promise_bytes.now result self.new }
-        ensures above { (signed : SignedPromise) → IsGiven H.digest_of S.verified self.old.client promise_bytes.now signed
-            → OnOk result (ExpectsAbove self.old.watch signed.promise.epoch key.now self.new.watch) }
+        ensures above { OnOk result ((signed : SignedPromise) × IsGiven H.digest_of S.verified self.old.client promise_bytes.now signed
+            × ExpectsAbove self.old.watch signed.promise.epoch key.now self.new.watch) }
     {
-        let signed = self
-            .client
-            .read_promise(hash, verifier, promise_bytes)
-            .map_err(Refusal::Client)?;
-        if !self.may_expect(key, &signed.promise) {
-            return Err(Refusal::OtherPromise);
-        }
+        let signed = self.read_change(hash, verifier, key, promise_bytes)?;
         let change = Change {
             epoch: signed.promise.epoch,
-            key: signed.promise.key.copied(),
+            key: key.copied(),
         };
         if self.changes.reserve(1).is_err() {
             return Err(Refusal::Client(client::Refusal::Memory));
         }
-        self.client.keep_read(signed).map_err(Refusal::Client)?;
+        if self.client.keep_read(signed).is_err() {
+            return Err(Refusal::Client(client::Refusal::Memory));
+        }
         self.changes.push(change).unwrap();
         Ok(())
     }
@@ -173,6 +169,28 @@ impl<H: NodeHash, V: VufCheck, S: Verifier> Monitor<H, V, S> {
             Ok(found) => {
                 self.watched = epoch;
                 Ok(self.tell(epoch, found))
+            }
+            Err(why) => Err(Refusal::Client(why)),
+        }
+    }
+
+    /// Reads the signed promise of a change that may be expected.
+    fn read_change(
+        &self,
+        hash: &mut H,
+        verifier: &S,
+        key: &KeyData,
+        bytes: &[u8],
+    ) -> Result<SignedPromise, Refusal>
+        ensures { ReadsChange H.digest_of S.verified self.now key.now bytes.now result }
+    {
+        match self.client.read_promise(hash, verifier, bytes) {
+            Ok(signed) => {
+                if self.may_expect(key, &signed.promise) {
+                    Ok(signed)
+                } else {
+                    Err(Refusal::OtherPromise)
+                }
             }
             Err(why) => Err(Refusal::Client(why)),
         }
