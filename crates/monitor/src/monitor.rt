@@ -170,7 +170,7 @@ impl<H: NodeHash, V: VufCheck, S: Verifier> Monitor<H, V, S> {
                 self.watched = epoch;
                 Ok(self.tell(epoch, found))
             }
-            Err(why) => Err(Refusal::Client(why)),
+            Err(refusal) => Err(Refusal::Client(refusal)),
         }
     }
 

@@ -17,5 +17,5 @@ returns-in-Ok g c =
 
 pub returns-in-Err : goal.returns-in-Err
 returns-in-Err g c =
-    subst (λ (m : Monitor). Steps g.H.NodeHash.digest_of g.V.VufCheck.accepted m c.args.bytes.now (Err (refusal.Client c.in-Err.why)) (record (monitor_of c.self.inside) { client = c.look.new.self })) c.self.view_is
-    (step-refused (monitor_of c.self.inside) c.in-Some.epoch (rw (← c.self.view_is) at c.in-Some.ensures) g.H.NodeHash.digest_of g.V.VufCheck.accepted c.args.bytes.now c.look.new.self c.in-Err.why c.in-Err.ensures)
+    subst (λ (m : Monitor). Steps g.H.NodeHash.digest_of g.V.VufCheck.accepted m c.args.bytes.now (Err (refusal.Client c.in-Err.refusal)) (record (monitor_of c.self.inside) { client = c.look.new.self })) c.self.view_is
+    (step-refused (monitor_of c.self.inside) c.in-Some.epoch (rw (← c.self.view_is) at c.in-Some.ensures) g.H.NodeHash.digest_of g.V.VufCheck.accepted c.args.bytes.now c.look.new.self c.in-Err.refusal c.in-Err.ensures)
