@@ -1,12 +1,13 @@
 -- What is expected of an epoch: the key of the last of the changes that are promised before it.
-use Rattle.std.proofs.Common.{◌≡◌, ℕ, zero, suc, ◌+◌, ◌<◌, ◌≤◌, List, [], ◌∷◌, ◌++◌, length, get_or, Bool, true, false, Bor, Option, Some, None, All, IsTrue, ◌↔◌, eqb, inl, inr, refl, sym, ap, arith, ◌∙◌}
+use Rattle.std.proofs.Common.{◌≡◌, ℕ, zero, suc, ◌+◌, ◌<◌, ◌≤◌, List, [], ◌∷◌, ◌++◌, length, get_or, Bool, true, false, Bor, Option, Some, None, All, Contains, ◌⊎◌, IsTrue, ◌↔◌, eqb, inl, inr, refl, sym, ap, arith, ◌∙◌}
 use Rattle.std.specs.Prelude.{nat_lt, if◌then◌else◌, option_copied, option_map}
 use Rattle.std.specs.List.{AllWithin}
 use Rattle.std.specs.List.Sorted.{IsPartitionPoint, IsPartitionedBy}
 use Rattle.std.specs.Prelude.{AllPairs}
 use Rattle.std.proofs.lemmas.Bool.{cases_lt, eq-eqb, eqb-true, le-ltb, lt-ltb, ltb-false, ltb-true}
 use Rattle.proofs.specs.Watches.{Watch, expected, expected_from}
-use Rattle.monitor.specs.Expecting.{ExpectsAbove}
+use Rattle.std.proofs.lemmas.List.Elements.{All-cons, All-contains, All-nil}
+use Rattle.monitor.specs.Expecting.{ExpectsAbove, IsExpected}
 
 abbrev pub Changes : Type 0
 Changes = List (ℕ × List ℕ)
@@ -86,3 +87,42 @@ all-before changes epoch place test parts within is = (
 pub mapped-copied : (found : Option (Bor (List ℕ))) (key : Option (List ℕ)) → option_copied found ≡ key → option_map (λ (k : Bor (List ℕ)). k.now) found ≡ key
 mapped-copied None key is = is
 mapped-copied (Some found) key is = is
+
+-- ---- the greatest promise epoch below
+
+tail-ascends : (change : ℕ × List ℕ) (changes : Changes) → AllPairs (λ earlier later. earlier.0 < later.0) (change ∷ changes) → AllPairs (λ earlier later. earlier.0 < later.0) changes
+tail-ascends change changes up i j d p q = up (suc i) (suc j) d (omega (arith, p)) (omega (arith, q))
+
+head-least : (change other : ℕ × List ℕ) (changes : Changes) → AllPairs (λ earlier later. earlier.0 < later.0) (change ∷ changes) → Contains changes other → change.0 < other.0
+head-least change other changes up has = rw has.2 at (up 0 (suc has.0) other (omega arith) (omega (arith, has.1)))
+
+later-there : (change other : ℕ × List ℕ) (changes : Changes) → Contains changes other → Contains (change ∷ changes) other
+later-there change other changes has = (suc has.0, omega (arith, has.1), has.2)
+
+first-or-later : (change other : ℕ × List ℕ) (changes : Changes) → Contains (change ∷ changes) other → (change ≡ other) ⊎ Contains changes other
+first-or-later change other changes (zero, within, at) = inl at
+first-or-later change other changes (suc k, within, at) = inr (k, omega (arith, within), at)
+
+greatest-from : (start : Option (List ℕ)) (changes : Changes) (epoch : ℕ) → AllPairs (λ earlier later. earlier.0 < later.0) changes
+    → IsExpected (record { start = start; changes = changes }) epoch (expected_from start changes epoch)
+greatest-from start [] epoch up = inr (All-nil (NotBelow epoch), refl)
+greatest-from start (change ∷ changes) epoch up = by (cases_lt change.0 epoch)
+  where
+    by : (change.0 < epoch) ⊎ (epoch ≤ change.0) → IsExpected (record { start = start; changes = change ∷ changes }) epoch (expected_from start (change ∷ changes) epoch)
+    by (inl below) = rw (lt-ltb change.0 epoch below) (elim (greatest-from (Some change.1) changes epoch (tail-ascends change changes up)) [
+      | inl last ↦ inl (last.0, later-there change last.0 changes last.1, last.2, (λ other has low. elim (first-or-later change other changes has) [
+          | inl same ↦ rw (← same) (omega (arith, head-least change last.0 changes up last.1))
+          | inr later ↦ last.3 other later low
+        ]), last.4)
+      | inr none ↦ inl (change, (0, omega arith, refl), below, (λ other has low. elim (first-or-later change other changes has) [
+          | inl same ↦ rw same (omega arith)
+          | inr later ↦ absurd (omega (arith, low, All-contains (NotBelow epoch) changes other none.0 later))
+        ]), none.1)
+    ])
+    by (inr behind) = rw (le-ltb change.0 epoch behind) (elim (greatest-from start changes epoch (tail-ascends change changes up)) [
+      | inl last ↦ absurd (omega (arith, behind, last.2, head-least change last.0 changes up last.1))
+      | inr none ↦ inr (All-cons (NotBelow epoch) change changes behind none.0, none.1)
+    ])
+
+pub expected-greatest : (watch : Watch) (epoch : ℕ) → AllPairs (λ earlier later. earlier.0 < later.0) watch.changes → IsExpected watch epoch (expected watch epoch)
+expected-greatest watch epoch up = greatest-from watch.start watch.changes epoch up

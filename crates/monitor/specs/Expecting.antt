@@ -1,6 +1,6 @@
 -- Which changes of the key a monitor expects: those that the provider promised (CONIKS, section 4,
 -- temporary bindings).
-use Rattle.std.specs.Prelude.{◌≡◌, ℕ, ◌<◌, ◌≤◌, List, Some, Result, Ok, Err, All}
+use Rattle.std.specs.Prelude.{◌≡◌, ◌⊎◌, ℕ, ◌<◌, ◌≤◌, List, Option, Some, Result, Ok, Err, All, Contains}
 use Rattle.rootchain.specs.declared.promise.Promise.{Promise}
 use Rattle.rootchain.specs.declared.signed_promise.SignedPromise.{SignedPromise}
 use Rattle.proofs.specs.Watches.{Watch, expected}
@@ -39,6 +39,14 @@ module _ (hash : List ℕ → List ℕ) (verified : List ℕ → List ℕ → Li
   Expects (Err (Client (Proof why))) after = ⊥
   Expects (Err (Client (RootDiffers evidence))) after = ⊥
   Expects (Err (Client NoPromise)) after = ⊥
+
+-- What a watch expects of an epoch: the key of the change with the greatest promise epoch below it, or,
+-- where no change is promised below it, what was given at the start.
+abbrev pub IsExpected : Watch → ℕ → Option (List ℕ) → Type 0
+IsExpected watch epoch key =
+    ((change : ℕ × List ℕ) × Contains watch.changes change × (change.0 < epoch)
+      × ((other : ℕ × List ℕ) → Contains watch.changes other → other.0 < epoch → other.0 ≤ change.0) × (key ≡ Some change.1))
+    ⊎ (All (λ change. epoch ≤ change.0) watch.changes × (key ≡ watch.start))
 
 -- the key is expected at each epoch above this one, and up to it what was expected before
 pub record ExpectsAbove (before : Watch) (epoch : ℕ) (key : List ℕ) (after : Watch) : Type 0 where

@@ -5,7 +5,7 @@ ghost use Rattle.proofs.specs.Views.{key_stated};
 ghost use Rattle.proofs.specs.Watches.{expected};
 ghost use Rattle.client.specs.Promising.{IsGiven};
 ghost use Rattle.client.specs.Updating.{Updates};
-ghost use Rattle.monitor.specs.Expecting.{Expects, ExpectsAbove, MayExpect, ReadsChange};
+ghost use Rattle.monitor.specs.Expecting.{Expects, ExpectsAbove, IsExpected, MayExpect, ReadsChange};
 ghost use Rattle.monitor.specs.Monitors.{begun, IsWatching};
 ghost use Rattle.monitor.specs.Stepping.{IsNextEpoch, Steps, Tells};
 
@@ -95,6 +95,18 @@ impl<H: NodeHash, V: VufCheck, S: Verifier> Monitor<H, V, S> {
     {
         let root = self.client.chain().after(self.watched)?;
         Some(root.body.epoch)
+    }
+
+    /// What is expected of an epoch: the key of the last change that was promised before it, else what was
+    /// expected at the start.
+    pub fn expected(&self, epoch: u64) -> Option<&KeyData>
+        ensures value { option_map (λ key. key.now) result ≡ expected self.now.watch epoch }
+        ensures greatest { IsExpected self.now.watch epoch (expected self.now.watch epoch) }
+    {
+        match promised_before(&self.changes, epoch).checked_sub(1) {
+            Some(last) => Some(&self.changes[last].key),
+            None => self.start.as_ref(),
+        }
     }
 
     /// Updates the chain of the client.
@@ -204,17 +216,6 @@ impl<H: NodeHash, V: VufCheck, S: Verifier> Monitor<H, V, S> {
             Step::Kept
         } else {
             Step::Alarm { epoch, found }
-        }
-    }
-
-    /// What is expected of an epoch: the key of the last change that was promised before it, else what was
-    /// expected at the start.
-    fn expected(&self, epoch: u64) -> Option<&KeyData>
-        ensures { option_map (λ key. key.now) result ≡ expected self.now.watch epoch }
-    {
-        match promised_before(&self.changes, epoch).checked_sub(1) {
-            Some(last) => Some(&self.changes[last].key),
-            None => self.start.as_ref(),
         }
     }
 
