@@ -24,3 +24,6 @@ mod step;
 pub use monitor::Monitor;
 pub use refusal::Refusal;
 pub use step::Step;
+
+#[cfg(test)]
+mod tests;
