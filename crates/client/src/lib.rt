@@ -17,12 +17,14 @@
 mod client;
 mod due;
 mod looks;
+mod outcome;
 mod promises;
 mod refusal;
 mod roots;
 
 pub use client::Client;
 pub use due::Due;
+pub use outcome::Outcome;
 pub use refusal::Refusal;
 
 #[cfg(test)]
