@@ -2,3 +2,4 @@ pub mod Numbering
 pub mod Rooted
 pub mod Keeping
 pub mod Tested
+pub mod Groups

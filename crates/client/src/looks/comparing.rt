@@ -34,11 +34,11 @@ fn statement(reply: &[u8]) -> Statement<'_>
 }
 
 /// Whether an accepted reply states this.
-fn states(reply: &[u8], stated: &Statement<'_>) -> bool
+fn states(reply: &[u8], told: &Statement<'_>) -> bool
     requires { SpellsOne reply.now }
-    ensures { (read : Reply) → Spells reply.entry.now read → IsTrue result ↔ (stated read.end ≡ key_stated stated.entry.now) }
+    ensures { (read : Reply) → Spells reply.entry.now read → IsTrue result ↔ (stated read.end ≡ key_stated told.entry.now) }
 {
-    statement(reply) == *stated
+    statement(reply) == *told
 }
 
 impl LookPlace {
@@ -58,15 +58,15 @@ impl LookPlace {
 
 impl Looks {
     /// The reply of the first look for the name and epoch of a place that does not state this.
-    fn first_other<'a>(&'a self, place: &LookPlace, stated: &Statement<'_>) -> Option<&'a [u8]>
+    fn first_other<'a>(&'a self, place: &LookPlace, told: &Statement<'_>) -> Option<&'a [u8]>
         requires { AllByRecursion (λ look. SpellsOne look.reply) self.now }
         ensures { MatchOption result
-            (AllState self.entry.now place.entry.now.asked.name place.entry.now.asked.epoch (key_stated stated.entry.now))
-            (λ reply. IsFirstOther self.entry.now place.entry.now.asked.name place.entry.now.asked.epoch (key_stated stated.entry.now) reply.now) }
+            (AllState self.entry.now place.entry.now.asked.name place.entry.now.asked.epoch (key_stated told.entry.now))
+            (λ reply. IsFirstOther self.entry.now place.entry.now.asked.name place.entry.now.asked.epoch (key_stated told.entry.now) reply.now) }
     {
-        let (first, last) = (place.numbered(0), place.numbered(usize::MAX));
-        for (_, reply) in self.replies.range(&first..=&last) {
-            if !states(reply, stated) {
+        let (first, end) = (place.numbered(0), place.numbered(self.replies.len()));
+        for (_, reply) in self.replies.range(&first..&end) {
+            if !states(reply, told) {
                 return Some(reply);
             }
         }
