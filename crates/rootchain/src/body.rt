@@ -1,7 +1,7 @@
 ghost use Rattle.std.specs.Prelude.{◌≡◌, length, IsOkUnless};
 ghost use Rattle.encoding.specs.Fields.{ReadsWhole};
 ghost use Rattle.rootchain.specs.declared.refusal.Refusal.TheVariants.{Malformed};
-ghost use Rattle.rootchain.specs.Bodies.{body_bytes, is_well_formed, read_body, IsBody, IsWellFormed};
+ghost use Rattle.rootchain.specs.Bodies.{body_bytes, is_well_formed, read_body, IsBody, IsSized, IsWellFormed};
 
 use crate::Refusal;
 use crate::whole::whole;
@@ -46,6 +46,7 @@ impl Body {
     pub fn write(&self) -> BodyText
         ensures value { result ≡ body_bytes self.now }
         ensures len { length result ≡ 146 }
+        ensures sized { IsSized self.now }
         ensures form { IsWellFormed self.now → IsBody self.now }
     {
         let mut text = BodyText::new();

@@ -8,6 +8,7 @@ use sigiface::Verifier;
 use std::alloc::Global;
 use std::marker::{Model, PhantomData};
 
+mod comparing;
 mod next_root;
 mod placing;
 

@@ -1,4 +1,4 @@
-ghost use Rattle.std.specs.Prelude.{◌≡◌, ◌↔◌, ◌+◌, ◌<◌, ◌≤◌, length, IfOk, IsOk, IsOkUnless};
+ghost use Rattle.std.specs.Prelude.{◌≡◌, ◌≢◌, ◌↔◌, ◌+◌, ◌<◌, ◌≤◌, length, IfOk, IsOk, IsOkUnless};
 ghost use Rattle.std.specs.List.Sorted.{IsPartitionPoint};
 ghost use Rattle.rootchain.specs.declared.refusal.Refusal.TheVariants.{BadSignature};
 ghost use Rattle.rootchain.specs.Chains.{Ascend, IsChain, IsHead, Verifies};
@@ -87,7 +87,7 @@ impl<H: NodeHash, S: Verifier> Chain<H, S> {
     }
 
     /// The first root.
-    fn first(&self) -> &SignedRoot
+    pub(super) fn first(&self) -> &SignedRoot
         ensures { IsFirst self.now result.now }
     {
         &self.roots[0]
@@ -109,9 +109,10 @@ fn place_below<H: NodeHash>(hash: &mut H, first: &SignedRoot, root: &SignedRoot)
 }
 
 /// The place of a root of a later epoch than the head.
-fn place_above<H: NodeHash>(hash: &mut H, head: &SignedRoot, root: &SignedRoot) -> Place
+pub(super) fn place_above<H: NodeHash>(hash: &mut H, head: &SignedRoot, root: &SignedRoot) -> Place
     ensures place { IsPlaceAbove H.digest_of head.now root.now result }
     ensures counted { H.digests hash.new ≤ H.digests hash.old + 1 }
+    ensures spared { root.now.body.previous_epoch ≢ head.now.body.epoch → H.digests hash.new ≡ H.digests hash.old }
 {
     if root.body.previous_epoch < head.body.epoch {
         return Place::Evidence(RootEvidence::Skip(head.copied(), root.copied()));
@@ -127,7 +128,7 @@ fn place_above<H: NodeHash>(hash: &mut H, head: &SignedRoot, root: &SignedRoot) 
 }
 
 /// How many of the roots have an epoch before this one.
-fn not_before(roots: &[SignedRoot], epoch: u64) -> usize
+pub(super) fn not_before(roots: &[SignedRoot], epoch: u64) -> usize
     requires { Ascend roots.now }
     ensures within { result ≤ length roots.now }
     ensures point { IsPartitionPoint (λ root. root.body.epoch < epoch) (λ root. epoch ≤ root.body.epoch) roots.now result }
