@@ -49,7 +49,7 @@ next-names hash roots key own root linked has next = elim (cases_lt has.0 next.0
 module _ (hash : List ℕ → List ℕ) (accepted verified : List ℕ → List ℕ → List ℕ → Type 0) (before : Client) (name bytes : List ℕ) where
   pub due-holds : IsChain hash verified before.chain → IsSound hash accepted verified before → (place : ℕ) (signed : SignedPromise) → IsTested before.promises name place signed
       → (due : Due) → Tests hash accepted before.chain name bytes signed (Ok due) → DueHolds hash accepted verified before.chain.key due
-  unfolding (HasRootOf, Names)
+  unfolding HasRootOf Names
   due-holds chain sound place signed is Kept tests = tt
   due-holds chain sound place signed is OtherIndex tests = tt
   due-holds chain sound place signed is (Broken broken) (root, (reply, (next, (accepts, (index, (differs, same)))))) =

@@ -1,6 +1,7 @@
-use Rattle.std.proofs.Common.{◌≡◌, ◌<◌, length}
+use Rattle.std.proofs.Common.{◌≡◌, ◌<◌, Ok, length, refl}
 use Rattle.std.proofs.lemmas.Option.{slice_get_within}
-use Rattle.client.specs.Dues.{IsTested}
+use Rattle.client.specs.Dues.{IsTested, Tests}
+use Rattle.client.specs.declared.due.Due.TheVariants.{Kept, Broken, OtherIndex}
 use Rattle.client.proofs.Breaking.{due-holds, refused}
 use Rattle.client.proofs.Growing.{dropped}
 use Rattle.client.proofs.client.Client.due.Goals as goal
