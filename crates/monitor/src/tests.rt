@@ -116,8 +116,12 @@ fn expect(monitor: &mut Watching, key: &[u8], promise: &ProofText) -> Result<Res
 }
 
 /// What the monitor tells of the reply of a page.
-fn told<'a>(monitor: &mut Watching, page: &'a Page) -> Result<Step<'a>, Refusal> {
-    monitor.step(&mut SumHash::new(), &PlainVuf, page.reply.bytes())
+fn told<'a>(monitor: &mut Watching, page: &'a Page) -> Result<Step<'a>, Fail> {
+    match monitor.step(&mut SumHash::new(), &PlainVuf, page.reply.bytes()) {
+        Ok(step) => Ok(step),
+        Err(Refusal::Client(client::Refusal::Memory)) => Err(Fail::from(AllocError)),
+        Err(why) => Err(Fail::from(why)),
+    }
 }
 
 /// Whether the step is refused with this number.
@@ -128,14 +132,17 @@ fn is_refused(step: Result<Step<'_>, Refusal>, number: u8) -> bool {
     }
 }
 
-/// Whether the step is an alarm of this key at this epoch.
+/// Whether the step is an alarm of this key at this epoch, where no byte stands for no key.
 fn is_alarm(step: Step<'_>, at: u64, key: &[u8]) -> bool {
     match step {
-        Step::Alarm {
-            epoch,
-            found: Statement::Present(found),
-        } => epoch == at && found == key,
-        _ => false,
+        Step::Kept => false,
+        Step::Alarm { epoch, found } => {
+            epoch == at
+                && match found {
+                    Statement::Present(found) => found == key,
+                    Statement::Absent => key.is_empty(),
+                }
+        }
     }
 }
 
@@ -148,16 +155,16 @@ fn a_change_that_its_owner_asked_for_and_one_that_nobody_did(rt: HostRuntime) ->
     let mut monitor = watching(alloc, &first)?;
     assert_eq!(rt; monitor.name().bytes(), b"a".as_slice());
     assert_eq!(rt; monitor.next_epoch(), Some(1));
-    assert!(rt; matches!(told(&mut monitor, &first), Ok(Step::Kept)));
+    assert!(rt; told(&mut monitor, &first)? == Step::Kept);
     assert_eq!(rt; monitor.next_epoch(), None);
 
     let promised = promise(&first, b"a", b"k")?;
     assert_eq!(rt; expect(&mut monitor, b"k", &promised)?, Ok(()));
     take(alloc, &mut monitor, &second)?;
-    assert!(rt; matches!(told(&mut monitor, &second), Ok(Step::Kept)));
+    assert!(rt; told(&mut monitor, &second)? == Step::Kept);
     take(alloc, &mut monitor, &fifth)?;
     assert_eq!(rt; monitor.next_epoch(), Some(5));
-    assert!(rt; told(&mut monitor, &fifth).is_ok_and(|step| is_alarm(step, 5, b"l")));
+    assert!(rt; is_alarm(told(&mut monitor, &fifth)?, 5, b"l"));
     assert_eq!(rt; monitor.next_epoch(), None);
     assert_eq!(rt; monitor.client().chain().head().body.epoch, 5);
     Ok(())
@@ -171,9 +178,9 @@ fn a_promised_key_that_does_not_come(rt: HostRuntime) -> Result<(), Fail> {
     let promised = promise(&first, b"a", b"k")?;
     let mut monitor = watching(alloc, &first)?;
     assert_eq!(rt; expect(&mut monitor, b"k", &promised)?, Ok(()));
-    assert!(rt; matches!(told(&mut monitor, &first), Ok(Step::Kept)));
+    assert!(rt; told(&mut monitor, &first)? == Step::Kept);
     take(alloc, &mut monitor, &without)?;
-    assert!(rt; matches!(told(&mut monitor, &without), Ok(Step::Alarm { epoch: 2, found: Statement::Absent })));
+    assert!(rt; is_alarm(told(&mut monitor, &without)?, 2, b""));
     Ok(())
 }
 
@@ -183,7 +190,8 @@ fn refusals_leave_the_monitor_as_it_was(rt: HostRuntime) -> Result<(), Fail> {
     let first = page(alloc, 1, None, None)?;
     let second = page(alloc, 2, Some(&first), Some(b"k"))?;
     let mut monitor = watching(alloc, &first)?;
-    assert!(rt; is_refused(told(&mut monitor, &second), 3));
+    let step = monitor.step(&mut SumHash::new(), &PlainVuf, second.reply.bytes());
+    assert!(rt; is_refused(step, 3));
     assert_eq!(rt; monitor.next_epoch(), Some(1));
     for (name, key, of, number) in [
         (b"b".as_slice(), b"k".as_slice(), &first, 24),
