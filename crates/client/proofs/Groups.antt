@@ -1,5 +1,5 @@
 -- The entries for one name and epoch, in a map by places.
-use Rattle.std.proofs.Common.{◌≡◌, ◌⊎◌, inl, inr, ℕ, zero, suc, ◌<◌, ◌≤◌, ◌&&◌, not, is_gt, List, [], ◌∷◌, ◌++◌, filter, Bool, true, false, cond, refl, sym, ap, subst, ◌∙◌, arith}
+use Rattle.std.proofs.Common.{◌≡◌, ◌⊎◌, inl, inr, ℕ, zero, suc, ◌<◌, ◌≤◌, ◌&&◌, not, is_gt, List, [], ◌∷◌, ◌++◌, append_assoc, filter, Bool, true, false, cond, refl, sym, ap, subst, ◌∙◌, arith}
 use Rattle.std.specs.List.{AllByRecursion}
 use Rattle.std.specs.List.Sorted.{IsStrictlySortedBy}
 use Rattle.std.specs.Map.{keys_of}
@@ -69,8 +69,8 @@ not-le most n Greater low is = refl
 pub equal-between : (o : Ordering) (most n : ℕ) → o ≡ Equal → n < most → is_between o most n ≡ true
 equal-between o most n same low = rw (same, le-from-0 n _ refl, not-le most n _ low refl) refl
 
-pub forward : (o : Ordering) (most : ℕ) → o ≡ Equal → is_gt (ordering_then o (nat_cmp 0 most)) ≡ false
-forward o most same = rw same (by (nat_cmp 0 most) refl)
+pub forward : (asked : Asked) (most : ℕ) → is_gt (cmp_place (record { asked = asked; number = 0 }) (record { asked = asked; number = most })) ≡ false
+forward asked most = rw (same-equal (record { asked = asked; number = 0 }) (record { asked = asked; number = most }) (refl, refl)) (by (nat_cmp 0 most) refl)
   where
     by : (r : Ordering) → r ≡ nat_cmp 0 most → is_gt r ≡ false
     by Less is = refl
@@ -94,9 +94,9 @@ module _ {E : Type 0} where
   each-of P (x ∷ xs) every = (every x (inl refl), each-of P xs (λ e is. every e (inr is)))
 
   pub in-filter : (p : E → Bool) (xs : List E) (e : E) → IsIn xs e → p e ≡ true → IsIn (filter p xs) e
-  in-filter p [] e is yes = absurd is
-  in-filter p (x ∷ xs) e (inl same) yes = rw same (rw yes (inl refl))
-  in-filter p (x ∷ xs) e (inr is) yes = by (p x) (in-filter p xs e is yes)
+  in-filter p [] e is passes = absurd is
+  in-filter p (x ∷ xs) e (inl same) passes = rw same (rw passes (inl refl))
+  in-filter p (x ∷ xs) e (inr is) passes = by (p x) (in-filter p xs e is passes)
     where
       by : (b : Bool) → IsIn (filter p xs) e → IsIn (cond b (x ∷ filter p xs) (filter p xs)) e
       by true is = inr is
@@ -104,12 +104,12 @@ module _ {E : Type 0} where
 
   pub from-filter : (p : E → Bool) (xs : List E) (e : E) → IsIn (filter p xs) e → IsIn xs e × (p e ≡ true)
   from-filter p [] e is = absurd is
-  from-filter p (x ∷ xs) e is = by (p x) refl is
+  from-filter p (x ∷ xs) e is = by (p x) refl is (λ more. from-filter p xs e more)
     where
-      by : (b : Bool) → p x ≡ b → IsIn (cond b (x ∷ filter p xs) (filter p xs)) e → IsIn (x ∷ xs) e × (p e ≡ true)
-      by true yes (inl same) = (inl same, subst (λ (y : E). p y ≡ true) same yes)
-      by true yes (inr is) = let f = from-filter p xs e is in (inr f.0, f.1)
-      by false no is = let f = from-filter p xs e is in (inr f.0, f.1)
+      by : (b : Bool) → p x ≡ b → IsIn (cond b (x ∷ filter p xs) (filter p xs)) e → (IsIn (filter p xs) e → IsIn xs e × (p e ≡ true)) → IsIn (x ∷ xs) e × (p e ≡ true)
+      by true passes (inl same) next = (inl same, subst (λ (y : E). p y ≡ true) same passes)
+      by true passes (inr is) next = (inr (next is).0, (next is).1)
+      by false fails is next = (inr (next is).0, (next is).1)
 
   pub in-parts : (xs ys : List E) (e : E) → IsIn (xs ++ ys) e → IsIn xs e ⊎ IsIn ys e
   in-parts [] ys e is = inr is
@@ -122,28 +122,29 @@ module _ {E : Type 0} where
 
 -- ---- entries in order
 
+abbrev pub Entries : Type 0 → Type 0
+Entries X = List (LookPlace × X)
+
 module _ {X : Type 0} where
-  abbrev Entries : Type 0
-  Entries = List (LookPlace × X)
 
   -- each place comes before those after it
-  abbrev pub AreSorted : Entries → Type 0
+  abbrev pub AreSorted : Entries X → Type 0
   AreSorted [] = Unit {0}
   AreSorted (e ∷ es) = AllByRecursion (λ (other : LookPlace × X). cmp_place e.0 other.0 ≡ Less) es × AreSorted es
 
-  keys-less : (e : LookPlace × X) (es : Entries) → AllByRecursion (λ k. cmp_place e.0 k ≡ Less) (keys_of es) → AllByRecursion (λ (other : LookPlace × X). cmp_place e.0 other.0 ≡ Less) es
+  keys-less : (e : LookPlace × X) (es : Entries X) → AllByRecursion (λ k. cmp_place e.0 k ≡ Less) (keys_of es) → AllByRecursion (λ (other : LookPlace × X). cmp_place e.0 other.0 ≡ Less) es
   keys-less e [] all = tt
   keys-less e (x ∷ es) all = (all.0, keys-less e es all.1)
 
-  pub sorted : (es : Entries) → IsStrictlySortedBy cmp_place (keys_of es) → AreSorted es
+  pub sorted : (es : Entries X) → IsStrictlySortedBy cmp_place (keys_of es) → AreSorted es
   unfolding IsStrictlySortedBy
   sorted [] is = tt
   sorted (e ∷ es) is = (keys-less e es is.0, sorted es is.1)
 
-  filter-all : (P : LookPlace × X → Type 0) (p : LookPlace × X → Bool) (es : Entries) → AllByRecursion P es → AllByRecursion P (filter p es)
+  filter-all : (P : LookPlace × X → Type 0) (p : LookPlace × X → Bool) (es : Entries X) → AllByRecursion P es → AllByRecursion P (filter p es)
   filter-all P p es all = each-of P (filter p es) (λ e is. of-each P es e all (from-filter p es e is).0)
 
-  pub filter-sorted : (p : LookPlace × X → Bool) (es : Entries) → AreSorted es → AreSorted (filter p es)
+  pub filter-sorted : (p : LookPlace × X → Bool) (es : Entries X) → AreSorted es → AreSorted (filter p es)
   filter-sorted p [] is = tt
   filter-sorted p (e ∷ es) is = by (p e) (filter-all _ p es is.0) (filter-sorted p es is.1)
     where
@@ -151,14 +152,38 @@ module _ {X : Type 0} where
       by true less more = (less, more)
       by false less more = more
 
-  pub sorted-end : (done rest : Entries) → AreSorted (done ++ rest) → AreSorted rest
+  pub sorted-end : (done rest : Entries X) → AreSorted (done ++ rest) → AreSorted rest
   sorted-end [] rest is = is
   sorted-end (e ∷ done) rest is = sorted-end done rest is.1
 
   -- of one name and epoch, what comes later has a greater number
-  pub later-number : (place : LookPlace) (x e : LookPlace × X) (rest : Entries) → AreSorted (x ∷ rest) → IsIn rest e → IsSameAsked place x.0 → IsSameAsked place e.0 → x.0.number < e.0.number
+  pub later-number : (place : LookPlace) (x e : LookPlace × X) (rest : Entries X) → AreSorted (x ∷ rest) → IsIn rest e → IsSameAsked place x.0 → IsSameAsked place e.0 → x.0.number < e.0.number
   later-number place x e rest is later one other =
       let same : cmp_asked x.0.asked e.0.asked ≡ Equal = same-equal x.0 e.0 (other.0 ∙ sym one.0, other.1 ∙ sym one.1) in
       let less : cmp_place x.0 e.0 ≡ Less = of-each _ rest e is.0 later in
       let numbers : nat_cmp x.0.number e.0.number ≡ Less = ap (λ (o : Ordering). ordering_then o (nat_cmp x.0.number e.0.number)) (sym same) ∙ less in
       ranked x.0.number e.0.number Less (sym numbers)
+
+-- the entries of the name and epoch of a place, of whose numbers all are below this one
+abbrev pub group_of : {X : Type 0} → LookPlace → ℕ → Entries X → Entries X
+group_of place most es = filter (λ e. is_between (cmp_asked place.asked e.0.asked) most e.0.number) es
+
+-- those that were gone through are such
+pub record AreGone {X : Type 0} (States : LookPlace × X → Type 0) (group rest : Entries X) : Type 0 where
+  pub done : Entries X
+  pub parts : done ++ rest ≡ group
+  pub each : AllByRecursion States done
+
+pub none-gone : {X : Type 0} (States : LookPlace × X → Type 0) (group rest : Entries X) → rest ≡ group → AreGone States group rest
+none-gone States group rest same = record { done = []; parts = same; each = tt }
+
+one-more : {E : Type 0} (P : E → Type 0) (xs : List E) (x : E) → AllByRecursion P xs → P x → AllByRecursion P (xs ++ x ∷ [])
+one-more P [] x all is = (is, tt)
+one-more P (y ∷ xs) x all is = (all.0, one-more P xs x all.1 is)
+
+pub more-gone : {X : Type 0} (States : LookPlace × X → Type 0) (group rest : Entries X) (x : LookPlace × X) (more : Entries X) → AreGone States group rest → rest ≡ x ∷ more → States x → AreGone States group more
+more-gone States group rest x more gone is states = record {
+  done = gone.done ++ x ∷ [];
+  parts = append_assoc gone.done (x ∷ []) more ∙ ap (λ (es : List _). gone.done ++ es) (sym is) ∙ gone.parts;
+  each = one-more States gone.done x gone.each states;
+}

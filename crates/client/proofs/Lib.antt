@@ -3,3 +3,5 @@ pub mod Rooted
 pub mod Keeping
 pub mod Tested
 pub mod Groups
+pub mod Seen
+pub mod Others
