@@ -30,7 +30,6 @@ impl<H: NodeHash, S: Verifier> Chain<H, S> {
     /// # Errors
     ///
     /// `BadSignature` if the root does not verify under the chain's key.
-    #[tactic(auto, using(crate::proofs::Places::place_sound))]
     pub fn place(&self, hash: &mut H, verifier: &S, root: &SignedRoot) -> Result<Place, Refusal>
         ensures verifies { IsOk result ↔ Verifies S.verified self.now.key root.now }
         ensures refused { IsOkUnless result BadSignature }
