@@ -5,12 +5,17 @@ use Rattle.rootchain.specs.declared.chain.placing.Place.{Place}
 use Rattle.rootchain.specs.declared.chain.placing.Place.TheVariants.{Known, Evidence, Next, Ahead, BeforeStart}
 use Rattle.rootchain.specs.declared.evidence.RootEvidence.TheVariants.{Fork, Link, Skip}
 use Rattle.rootchain.specs.declared.signed_root.SignedRoot.{SignedRoot}
+use Rattle.rootchain.specs.Bodies.{IsWellFormed}
 use Rattle.rootchain.specs.Chains.{IsAt, IsHead, KeyedRoots, Names}
 use Rattle.rootchain.specs.Evidence.{AreEvidence, IsLink, IsRootEvidence}
 
 -- the first of the roots
 abbrev pub IsFirst : KeyedRoots → SignedRoot → Type 0
 IsFirst chain root = slice_get chain.roots 0 ≡ Some root
+
+-- the first of the roots is well formed
+abbrev pub StartsWellFormed : KeyedRoots → Type 0
+StartsWellFormed chain = (first : SignedRoot) → IsFirst chain first → IsWellFormed first.body
 
 -- the chain has no root of the epoch
 abbrev pub IsMissing : KeyedRoots → ℕ → Type 0
