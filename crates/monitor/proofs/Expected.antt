@@ -106,10 +106,10 @@ first-or-later change other changes (suc k, within, at) = inr (k, omega (arith, 
 greatest-from : (start : Option (List ℕ)) (changes : Changes) (epoch : ℕ) → AllPairs (λ earlier later. earlier.0 < later.0) changes
     → IsExpected (record { start = start; changes = changes }) epoch (expected_from start changes epoch)
 greatest-from start [] epoch up = inr (All-nil (NotBelow epoch), refl)
-greatest-from start (change ∷ changes) epoch up = by (cases_lt change.0 epoch)
+greatest-from start (change ∷ changes) epoch up = by (λ begin. greatest-from begin changes epoch (tail-ascends change changes up)) (cases_lt change.0 epoch)
   where
-    by : (change.0 < epoch) ⊎ (epoch ≤ change.0) → IsExpected (record { start = start; changes = change ∷ changes }) epoch (expected_from start (change ∷ changes) epoch)
-    by (inl below) = rw (lt-ltb change.0 epoch below) (elim (greatest-from (Some change.1) changes epoch (tail-ascends change changes up)) [
+    by : ((begin : Option (List ℕ)) → IsExpected (record { start = begin; changes = changes }) epoch (expected_from begin changes epoch)) → (change.0 < epoch) ⊎ (epoch ≤ change.0) → IsExpected (record { start = start; changes = change ∷ changes }) epoch (expected_from start (change ∷ changes) epoch)
+    by rest (inl below) = rw (lt-ltb change.0 epoch below) (elim (rest (Some change.1)) [
       | inl last ↦ inl (last.0, later-there change last.0 changes last.1, last.2, (λ other has low. elim (first-or-later change other changes has) [
           | inl same ↦ rw (← same) (omega (arith, head-least change last.0 changes up last.1))
           | inr later ↦ last.3 other later low
@@ -119,7 +119,7 @@ greatest-from start (change ∷ changes) epoch up = by (cases_lt change.0 epoch)
           | inr later ↦ absurd (omega (arith, low, All-contains (NotBelow epoch) changes other none.0 later))
         ]), none.1)
     ])
-    by (inr behind) = rw (le-ltb change.0 epoch behind) (elim (greatest-from start changes epoch (tail-ascends change changes up)) [
+    by rest (inr behind) = rw (le-ltb change.0 epoch behind) (elim (rest start) [
       | inl last ↦ absurd (omega (arith, behind, last.2, head-least change last.0 changes up last.1))
       | inr none ↦ inr (All-cons (NotBelow epoch) change changes behind none.0, none.1)
     ])
