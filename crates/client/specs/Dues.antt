@@ -1,5 +1,5 @@
 -- Whether a promise was kept in the next root (CONIKS, section 4, temporary bindings).
-use Rattle.std.specs.Prelude.{◌≡◌, ◌≢◌, ◌⊎◌, ℕ, ◌<◌, ◌≤◌, ◌++◌, List, Option, Some, None, Result, Ok, Err, slice_get, take, drop}
+use Rattle.std.specs.Prelude.{◌≡◌, ◌≢◌, ◌⊎◌, ℕ, ◌<◌, ◌≤◌, List, Option, Some, None, Result, Ok, Err, slice_get, remove}
 use Rattle.std.specs.List.{AllByRecursion}
 use Rattle.rootchain.specs.Chains.{KeyedRoots}
 use Rattle.rootchain.specs.Places.{IsNextAfter}
@@ -29,45 +29,56 @@ pub record IsTested (promises : List SignedPromise) (name : List ℕ) (place : �
   pub least : (k : ℕ) (other : SignedPromise) → slice_get promises k ≡ Some other → other.promise.name ≡ name → signed.promise.epoch ≤ other.promise.epoch
   pub first : (k : ℕ) (other : SignedPromise) → k < place → slice_get promises k ≡ Some other → other.promise.name ≡ name → signed.promise.epoch < other.promise.epoch
 
--- the client without the promise at a place
-abbrev pub without : Client → ℕ → Client
-without client place = record client { promises = take place client.promises ++ drop (suc place) client.promises }
+module _ (hash : List ℕ → List ℕ) (accepted : List ℕ → List ℕ → List ℕ → Type 0) where
+  module _ (signed : SignedPromise) (root : SignedRoot) (bytes : List ℕ) (reply : Reply) where
+    -- what an accepted reply under the next root tells of a promise
+    abbrev pub IsTold : Due → Type 0
+    IsTold OtherIndex = hash reply.value ≢ signed.promise.index
+    IsTold Kept = (hash reply.value ≡ signed.promise.index) × (stated reply.end ≡ Some signed.promise.key)
+    IsTold (Broken broken) = (hash reply.value ≡ signed.promise.index) × (stated reply.end ≢ Some signed.promise.key)
+        × (broken ≡ record { promise = signed; root = root; proof = bytes })
 
-module _ (client : Client) (name : List ℕ) where
-  -- a name's promise is tested against the chain's first root after its epoch
-  pub record IsDue (place : ℕ) (signed : SignedPromise) (root : SignedRoot) : Type 0 where
-    pub tested : IsTested client.promises name place signed
-    pub next : IsNextAfter client.chain signed.promise.epoch root
+  -- What comes of a reply that a promise is tested by: the root that it is to be accepted under is the
+  -- chain's first one after that of the promise.
+  module _ (chain : KeyedRoots) (name bytes : List ℕ) (signed : SignedPromise) where
+    abbrev pub Tests : Result Due Refusal → Type 0
+    Tests (Ok due) = (root : SignedRoot) × (reply : Reply) × IsNextAfter chain signed.promise.epoch root
+        × IsAcceptedReply hash accepted root.body name bytes reply × IsTold signed root bytes reply due
+    Tests (Err UnknownRoot) = (root : SignedRoot) → ¬ IsNextAfter chain signed.promise.epoch root
+    Tests (Err (Proof why)) = (root : SignedRoot) × IsNextAfter chain signed.promise.epoch root × Refuses hash accepted root.body name bytes why
+    Tests (Err (Root why)) = ⊥
+    Tests (Err (RootDiffers evidence)) = ⊥
+    Tests (Err Memory) = ⊥
+    Tests (Err NoPromise) = ⊥
 
-  -- a promise for the name is kept, but the chain has no root after the one that is to be tested
-  abbrev pub IsEarly : Type 0
-  IsEarly = (place : ℕ) × (signed : SignedPromise) × IsTested client.promises name place signed
-      × ((root : SignedRoot) → ¬ IsNextAfter client.chain signed.promise.epoch root)
-
-  -- the epoch of that root, if there are both
-  abbrev pub IsDueEpoch : Option ℕ → Type 0
-  IsDueEpoch None = HasNone client.promises name ⊎ IsEarly
-  IsDueEpoch (Some epoch) = (place : ℕ) × (signed : SignedPromise) × (root : SignedRoot) × IsDue place signed root × (root.body.epoch ≡ epoch)
+-- the client once this was told of the promise at a place: only one that was kept is dropped
+abbrev pub left : Client → ℕ → Due → Client
+left client place Kept = record client { promises = remove client.promises place }
+left client place (Broken broken) = client
+left client place OtherIndex = client
 
 module _ (hash : List ℕ → List ℕ) (accepted : List ℕ → List ℕ → List ℕ → Type 0) (before : Client) (name bytes : List ℕ) where
-  -- what an accepted reply tells of the promise, and the client after it: only a promise that was kept goes
-  abbrev pub Tells : ℕ → SignedPromise → SignedRoot → Reply → Due → Client → Type 0
-  Tells place signed root reply OtherIndex after = (hash reply.value ≢ signed.promise.index) × (after ≡ before)
-  Tells place signed root reply Kept after = (hash reply.value ≡ signed.promise.index) × (stated reply.end ≡ Some signed.promise.key) × (after ≡ without before place)
-  Tells place signed root reply (Broken broken) after = (hash reply.value ≡ signed.promise.index) × (stated reply.end ≢ Some signed.promise.key)
-      × (broken ≡ record { promise = signed; root = root; proof = bytes }) × (after ≡ before)
+  -- the promise that is tested, and what comes of the reply
+  abbrev pub TestsOne : ℕ → Result Due Refusal → Type 0
+  TestsOne place result = (signed : SignedPromise) × IsTested before.promises name place signed × Tests hash accepted before.chain name bytes signed result
 
   -- the answer, and the client after it
   abbrev pub Dues : Result Due Refusal → Client → Type 0
-  Dues (Ok due) after = (place : ℕ) × (signed : SignedPromise) × (root : SignedRoot) × (reply : Reply) × IsDue before name place signed root
-      × IsAcceptedReply hash accepted root.body name bytes reply × Tells place signed root reply due after
+  Dues (Ok due) after = (place : ℕ) × TestsOne place (Ok due) × (after ≡ left before place due)
   Dues (Err NoPromise) after = HasNone before.promises name × (after ≡ before)
-  Dues (Err UnknownRoot) after = IsEarly before name × (after ≡ before)
-  Dues (Err (Proof why)) after = (place : ℕ) × (signed : SignedPromise) × (root : SignedRoot) × IsDue before name place signed root
-      × Refuses hash accepted root.body name bytes why × (after ≡ before)
+  Dues (Err UnknownRoot) after = (place : ℕ) × TestsOne place (Err UnknownRoot) × (after ≡ before)
+  Dues (Err (Proof why)) after = (place : ℕ) × TestsOne place (Err (Proof why)) × (after ≡ before)
   Dues (Err (Root why)) after = ⊥
   Dues (Err (RootDiffers evidence)) after = ⊥
   Dues (Err Memory) after = ⊥
+
+-- the epoch of the root that the next reply is tested under, if a promise is kept and there is the root
+module _ (client : Client) (name : List ℕ) where
+  abbrev pub IsDueEpoch : Option ℕ → Type 0
+  IsDueEpoch None = HasNone client.promises name
+      ⊎ ((place : ℕ) × (signed : SignedPromise) × IsTested client.promises name place signed × ((root : SignedRoot) → ¬ IsNextAfter client.chain signed.promise.epoch root))
+  IsDueEpoch (Some epoch) = (place : ℕ) × (signed : SignedPromise) × (root : SignedRoot) × IsTested client.promises name place signed
+      × IsNextAfter client.chain signed.promise.epoch root × (root.body.epoch ≡ epoch)
 
 -- what is told as broken is evidence under the key, and has a spelling
 abbrev pub DueHolds : (List ℕ → List ℕ) → (List ℕ → List ℕ → List ℕ → Type 0) → (List ℕ → List ℕ → List ℕ → Type 0) → List ℕ → Due → Type 0

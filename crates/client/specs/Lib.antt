@@ -5,3 +5,5 @@ pub mod Numbered
 pub mod Promising
 pub mod Refusals
 pub mod Starting
+pub mod Testing
+pub mod Updating

@@ -1,5 +1,5 @@
 -- What comes of a look (CONIKS, section 4: a client checks a reply against the signed root of an epoch).
-use Rattle.std.specs.Prelude.{◌≡◌, ℕ, ◌+◌, List, Option, Result, Ok, Err}
+use Rattle.std.specs.Prelude.{◌≡◌, ℕ, zero, suc, List, Result, Ok, Err}
 use Rattle.rootchain.specs.Chains.{IsAt, IsHead, KeyedRoots}
 use Rattle.rootchain.specs.declared.signed_root.SignedRoot.{SignedRoot}
 use Rattle.proofs.specs.Accepts.{stated}
@@ -18,7 +18,7 @@ IsAsked chain (suc n) root = IsAt chain (suc n) root
 
 module _ (hash : List ℕ → List ℕ) (accepted : List ℕ → List ℕ → List ℕ → Type 0) (before : Client) (name : List ℕ) (epoch : ℕ) (bytes : List ℕ) where
   -- the bytes are a reply for the name that is accepted under the root that is asked
-  abbrev pub IsAnswered : SignedRoot → Reply → Type 0
+  unfoldable pub IsAnswered : SignedRoot → Reply → Type 0
   IsAnswered root reply = IsAsked before.chain epoch root × IsAcceptedReply hash accepted root.body name bytes reply
 
   -- The answer to a look and the client after it. Only a look that is accepted and kept changes the client.

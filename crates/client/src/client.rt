@@ -1,14 +1,13 @@
-ghost use Rattle.std.specs.Prelude.{◌≡◌, ◌↔◌, IfErr, IfOk, IsOkUnless, MatchOption, OnOk, Some, option_copied};
-ghost use Rattle.rootchain.specs.declared.signed_root.SignedRoot.{SignedRoot};
+ghost use Rattle.std.specs.Prelude.{◌≡◌, IsOkUnless, OnErr, OnOk};
 ghost use Rattle.client.specs.Clients.{with_promise, IsPromised, IsSound};
-ghost use Rattle.client.specs.Dues.{DueHolds, Dues, IsDueEpoch};
-ghost use Rattle.client.specs.Looking.{IsAsked, Looks as LooksUp};
+ghost use Rattle.client.specs.Looking.{Looks as LooksUp};
 ghost use Rattle.client.specs.Promising.{Keeps, ReadsPromise};
 ghost use Rattle.client.specs.Starting.{Starts};
 ghost use Rattle.client.specs.declared.refusal.Refusal.TheVariants.{Memory};
 
+use crate::Refusal;
 use crate::looks::Looks;
-use crate::{Due, Refusal};
+use crate::roots::{asked, has_root_of};
 use encoding::{Hash32, Name};
 use nodehash::NodeHash;
 use proofs::{Statement, accept};
@@ -17,6 +16,9 @@ use sigiface::Verifier;
 use std::alloc::Global;
 use std::marker::{Model, PhantomData};
 use vrfiface::VufCheck;
+
+mod dues;
+mod updating;
 
 /// A client of one provider, under the functions of `H`, `V` and `S`: the chain of the provider's roots,
 /// the looks that were accepted under them, and the promises that are to be tested.
@@ -54,7 +56,7 @@ impl<H: NodeHash, V: VufCheck, S: Verifier> Client<H, V, S> {
     ) -> Result<Self, Refusal>
         ensures { Starts S.verified key bytes.now result }
     {
-        let root = SignedRoot::read(bytes)?;
+        let root = SignedRoot::read(bytes).map_err(Refusal::Root)?;
         match Chain::start(alloc, verifier, key, root) {
             Ok(chain) => Ok(Client {
                 chain,
@@ -145,7 +147,7 @@ impl<H: NodeHash, V: VufCheck, S: Verifier> Client<H, V, S> {
     ) -> Result<SignedPromise, Refusal>
         ensures { ReadsPromise H.digest_of S.verified self.now bytes.now result }
     {
-        let signed = SignedPromise::read(bytes)?;
+        let signed = SignedPromise::read(bytes).map_err(Refusal::Root)?;
         if !signed.verifies(verifier, self.chain.key()) {
             return Err(Refusal::Root(rootchain::Refusal::BadSignature));
         }
@@ -170,50 +172,5 @@ impl<H: NodeHash, V: VufCheck, S: Verifier> Client<H, V, S> {
             return Err(Refusal::Memory);
         }
         Ok(())
-    }
-
-    /// The epoch whose reply `due` will test for a name, if a promise for it is kept and the chain has a
-    /// root after that of the promise.
-    pub fn due_epoch(&self, name: &Name) -> Option<u64>
-        ensures { IsDueEpoch self.now name.now result }
-    {
-        let place = tested(&self.promises, name)?;
-        let root = self.chain.after(self.promises[place].promise.epoch)?;
-        Some(root.body.epoch)
-    }
-
-    /// Tests whether the provider kept its promise for this name: of those that are kept for it, the one of
-    /// the least epoch, and of equals the first kept. These bytes are a reply to a look-up of the name under
-    /// the chain's next root. A promise that the provider kept is dropped, and else it stays.
-    ///
-    /// # Errors
-    ///
-    /// `NoPromise` where no promise for the name is kept, `UnknownRoot` where the chain has no root after the
-    /// promise's yet, the refusal of the reply: the first that applies. The client then stays as it was.
-    pub fn due(
-        &mut self,
-        hash: &mut H,
-        vuf: &V,
-        name: &Name,
-        bytes: &[u8],
-    ) -> Result<Due, Refusal>
-        ensures due { Dues H.digest_of V.accepted self.old name.now bytes.now result self.new }
-        ensures evidence { IfOk result (DueHolds H.digest_of V.accepted S.verified self.old.chain.key) }
-    {
-        let Some(place) = tested(&self.promises, name) else {
-            return Err(Refusal::NoPromise);
-        };
-        let signed = &self.promises[place];
-        let Some(root) = self.chain.after(signed.promise.epoch) else {
-            return Err(Refusal::UnknownRoot);
-        };
-        let due = match accept::<H, V>(hash, vuf, &root.body, name, bytes) {
-            Ok(accepted) => told(&accepted, signed, root, bytes),
-            Err(why) => return Err(Refusal::Proof(why)),
-        };
-        if let Due::Kept = due {
-            let _ = self.promises.remove(place);
-        }
-        Ok(due)
     }
 }

@@ -19,6 +19,7 @@ mod due;
 mod looks;
 mod promises;
 mod refusal;
+mod roots;
 
 pub use client::Client;
 pub use due::Due;

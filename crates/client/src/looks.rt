@@ -1,4 +1,5 @@
 ghost use Rattle.std.specs.Prelude.{◌≡◌, ◌++◌, ◌∷◌, [], IfOk, OnErr, OnOk};
+ghost use Rattle.encoding.specs.Limits.{IsName};
 
 use encoding::Name;
 use std::alloc::{AllocError, Global};
@@ -60,6 +61,7 @@ impl Looks {
     ) -> Result<(), AllocError>
         ensures ok { OnOk result (self.new ≡ self.old ++ (record { name = name.now; epoch = epoch; reply = reply.now }) ∷ []) }
         ensures err { OnErr result (self.new ≡ self.old) }
+        ensures named { OnOk result (IsName name.now) }
     {
         let place = LookPlace {
             asked: Asked {

@@ -8,5 +8,6 @@ pub mod Refusals
 pub mod RootLists
 pub mod SignedRoots
 pub mod Taking
+pub mod TakingLists
 pub use Rattle.encoding.specs.Forms
 pub use Rattle.encoding.specs.Reading

@@ -8,6 +8,7 @@ use sigiface::Verifier;
 use std::alloc::Global;
 use std::marker::{Model, PhantomData};
 
+mod next_root;
 mod placing;
 
 pub use placing::Place;
@@ -122,5 +123,6 @@ impl<H: NodeHash, S: Verifier> Chain<H, S> {
 }
 
 mod taking;
+mod taking_lists;
 #[cfg(test)]
 mod tests;

@@ -26,9 +26,10 @@ mod refusal;
 mod root_list;
 mod signed_promise;
 mod signed_root;
+mod untaken;
 mod whole;
 
-pub use body::Body;
+pub use body::{Body, BodyText};
 pub use chain::{Chain, Place};
 pub use evidence::RootEvidence;
 pub use laws::{
@@ -39,7 +40,8 @@ pub use promise::Promise;
 pub use refusal::Refusal;
 pub use root_list::{MAX_ROOTS, RootList, list_len, write_list};
 pub use signed_promise::SignedPromise;
-pub use signed_root::SignedRoot;
+pub use signed_root::{SignedRoot, SignedRootText};
+pub use untaken::Untaken;
 
 #[cfg(test)]
 mod tests;

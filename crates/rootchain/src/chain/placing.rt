@@ -78,7 +78,7 @@ impl<H: NodeHash, S: Verifier> Chain<H, S> {
     }
 
     /// The roots, whose epochs ascend.
-    fn roots(&self) -> &[SignedRoot]
+    pub(super) fn roots(&self) -> &[SignedRoot]
         ensures value { result.now ≡ self.now.roots }
         ensures chain { IsChain H.digest_of S.verified self.now }
         ensures ascend { Ascend result.now }
