@@ -52,12 +52,12 @@ module _ (hash : List ℕ → List ℕ) (accepted verified : List ℕ → List �
   unfolding HasRootOf Names
   due-holds chain sound place signed is Kept tests = tt
   due-holds chain sound place signed is OtherIndex tests = tt
-  due-holds chain sound place signed is (Broken broken) (root, (reply, (next, (accepts, (index, (differs, same)))))) =
+  due-holds chain sound place signed is (Broken broken) (root, reply, next, accepts, told) =
       let promised : IsPromised hash verified before.chain signed = all-at _ before.promises place signed sound.promises is.at in
       let own = promised.rooted.0 in
       let at = promised.rooted.1 in
       let names : Names hash own root = next-names hash before.chain.roots before.chain.key own root chain.linked at.0 (subst (λ (e : ℕ). IsNextAfter before.chain e root) (sym at.1) next) in
-      rw same (
+      rw told.2 (
         record {
           signed = promised.verifies;
           rooted = All-contains (Verifies verified before.chain.key) before.chain.roots root chain.signed next.0;
@@ -66,8 +66,8 @@ module _ (hash : List ℕ → List ℕ) (accepted verified : List ℕ → List �
           contradicts = record {
             statement = stated reply.end;
             passes = rw is.named (reply, accepts.0, subst (λ b. States hash accepted b name reply (stated reply.end)) accepts.1 accepts.2);
-            index = (reply, accepts.0, index);
-            broken = differs;
+            index = (reply, accepts.0, told.0);
+            broken = told.1;
           };
         },
         promised.form,
