@@ -1,5 +1,5 @@
 -- The looks for one name and epoch, gone through in order.
-use Rattle.std.proofs.Common.{◌≡◌, ◌≢◌, ◌↔◌, ◌⊎◌, inl, inr, ℕ, zero, suc, not, ◌<◌, List, [], ◌∷◌, ◌++◌, length, slice_get, Option, Some, Bool, true, false, IsTrue, refl, sym, ap, subst, ◌∙◌, arith}
+use Rattle.std.proofs.Common.{◌≡◌, ◌≢◌, ◌↔◌, ◌⊎◌, inl, inr, ℕ, zero, suc, not, ◌<◌, List, [], ◌∷◌, ◌++◌, length, slice_get, Global, Vec, Option, Some, Bool, true, false, IsTrue, refl, sym, ap, subst, ◌∙◌, arith}
 use Rattle.std.specs.List.{AllByRecursion}
 use Rattle.std.specs.List.Sorted.{IsStrictlySortedBy}
 use Rattle.std.specs.Map.{keys_of}
@@ -12,6 +12,9 @@ use Rattle.client.specs.Numbered.{AreNumbered, in_order}
 use Rattle.client.specs.declared.looks.LookPlace.{LookPlace}
 use Rattle.client.proofs.Groups.{cmp_asked, cmp_place, each-of, equal-between, equal-same, filter-sorted, from-filter, group_of, in-filter, in-parts, in-second, is_between, between-equal, later-number, of-each, same-equal, sorted, sorted-end, AreGone, AreSorted, Entries, IsIn, IsSameAsked}
 use Rattle.client.proofs.Seen.{seen, stored, IsStored}
+
+abbrev pub items_of : Vec ℕ Global → List ℕ
+items_of reply = reply.items
 
 module _ {X : Type 0} (bytes : X → List ℕ) where
   abbrev pub look_of : LookPlace × X → Look
@@ -29,14 +32,14 @@ module _ {X : Type 0} (bytes : X → List ℕ) where
       → IsGroup (in_order (λ p. p.number) look_of entries) place (group_of place (length entries) entries)
   group-is entries place numbered ordered = record {
     sorted = filter-sorted _ entries (sorted entries ordered);
-    asked = λ e is. equal-same place e.0 (between-equal _ _ _ (from-filter _ entries e is).1);
+    asked = λ e is. equal-same place e.0 (between-equal _ (length entries) e.0.number (from-filter _ entries e is).1);
     seen = λ e is. seen (λ p. p.number) look_of entries numbered e (from-filter _ entries e is).0;
     whole = λ n look at named of_epoch.
         let s = stored (λ p. p.number) look_of entries numbered n look at in
         let name : s.entry.0.asked.name ≡ place.asked.name = ap (λ (l : Look). l.name) s.same ∙ named in
         let epoch : s.entry.0.asked.epoch ≡ place.asked.epoch = ap (λ (l : Look). l.epoch) s.same ∙ of_epoch in
         let low : s.entry.0.number < length entries = of-each _ entries s.entry numbered.below s.in_entries in
-        (s.entry, in-filter _ entries s.entry s.in_entries (equal-between _ _ _ (same-equal place s.entry.0 (name, epoch)) low), s.numbered_so, s.same);
+        (s.entry, in-filter _ entries s.entry s.in_entries (equal-between _ (length entries) s.entry.0.number (same-equal place s.entry.0 (name, epoch)) low), s.numbered_so, s.same);
   }
 
   abbrev pub States : Option (List ℕ) → LookPlace × X → Type 0
@@ -66,15 +69,15 @@ module _ {X : Type 0} (bytes : X → List ℕ) where
       pub x-in : IsIn group x
       x-in = subst (λ (es : Entries X). IsIn es x) gone.parts (in-second gone.done (x ∷ rest) x (inl refl))
 
-      pub first-other : (test : Bool) → IsTrue test → ((read : Reply) → Spells (bytes x.1) read → IsTrue (not test) ↔ (stated read.end ≡ told)) → IsFirstOther looks place.asked.name place.asked.epoch told (bytes x.1)
-      first-other test fails answer = record {
+      pub first-other : (answer : Bool) → answer ≡ false → ((read : Reply) → Spells (bytes x.1) read → IsTrue answer ↔ (stated read.end ≡ told)) → IsFirstOther looks place.asked.name place.asked.epoch told (bytes x.1)
+      first-other answer fails test = record {
         number = x.0.number;
         look = look_of x;
         at = is.seen x x-in;
         named = (is.asked x x-in).0;
         of_epoch = (is.asked x x-in).1;
         is = refl;
-        other = λ states. never test fails ((answer states.0 states.1).1 states.2);
+        other = λ states. let holds : answer ≡ true = (test states.0 states.1).1 states.2 in absurd cc;
         before = λ n earlier low at named of_epoch.
             let w = is.whole n earlier at named of_epoch in
             let place-of = in-parts gone.done (x ∷ rest) w.0 (subst (λ (es : Entries X). IsIn es w.0) (sym gone.parts) w.1) in
@@ -91,7 +94,3 @@ module _ {X : Type 0} (bytes : X → List ℕ) where
               ]
             ];
       }
-        where
-          never : (t : Bool) → IsTrue t → ¬ IsTrue (not t)
-          never true yes-it is-not = is-not
-          never false yes-it is-not = yes-it

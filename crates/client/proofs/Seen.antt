@@ -1,6 +1,6 @@
 -- What is stored under a number stands at that place of the list that is seen.
-use Rattle.std.proofs.Common.{◌≡◌, ℕ, zero, suc, ◌+◌, ◌<◌, ◌≤◌, ◌⊎◌, inl, inr, List, [], ◌∷◌, ◌++◌, length, map, filter, slice_get, Some, Bool, true, nat_eq, eq-eqb, eqb-eq, length-append, refl, sym, ap, subst, ◌∙◌, arith}
-use Rattle.std.proofs.lemmas.Bool.{cases_lt}
+use Rattle.std.proofs.Common.{◌≡◌, ℕ, zero, suc, ◌+◌, ◌<◌, ◌≤◌, ◌⊎◌, inl, inr, List, [], ◌∷◌, ◌++◌, length, map, filter, slice_get, Some, Bool, true, false, nat_eq, eq-eqb, ne_eqb, length-append, refl, sym, ap, subst, ◌∙◌, arith}
+use Rattle.std.proofs.lemmas.Bool.{cases_eq, cases_lt}
 use Rattle.std.proofs.lemmas.Option.{slice_get_within}
 use Rattle.client.specs.Numbered.{AreNumbered, first_numbered, in_order, is_numbered}
 use Rattle.client.proofs.Groups.{IsIn, from-filter, in-filter, of-each}
@@ -24,7 +24,10 @@ sole (x ∷ []) one = record { x = x; is = refl }
 sole (x ∷ y ∷ xs) one = absurd (omega (arith, one))
 
 own-number : {K : Type 0} {X : Type 0} (number : K → ℕ) (n : ℕ) (e : K × X) → is_numbered number n e ≡ true → number e.0 ≡ n
-own-number number n e is = eqb-eq (number e.0) n is
+own-number number n e is = elim (cases_eq (number e.0) n) [
+  | inl same ↦ same
+  | inr differ ↦ let not : nat_eq (number e.0) n ≡ false = ne_eqb (number e.0) n differ in absurd cc
+]
 
 module _ {K X L : Type 0} (number : K → ℕ) (look : K × X → L) (entries : List (K × X)) (numbered : AreNumbered number entries) where
   the-sole : (n : ℕ) → n < length entries → IsSole (filter (is_numbered number n) entries)
@@ -34,7 +37,9 @@ module _ {K X L : Type 0} (number : K → ℕ) (look : K × X → L) (entries : 
   length-first zero few = refl
   length-first (suc m) few =
       let one = the-sole m few in
-      rw one.is (length-append (first_numbered number look entries m) (look one.x ∷ []) ∙ ap (λ k. k + 1) (length-first m (omega (arith, few))))
+      let more = length-append (first_numbered number look entries m) (look one.x ∷ []) in
+      let before = length-first m (omega (arith, few)) in
+      rw one.is (omega (arith, more, before))
 
   at-first : (m n : ℕ) (few : m ≤ length entries) (low : n < m) (e : K × X) → filter (is_numbered number n) entries ≡ e ∷ [] → slice_get (first_numbered number look entries m) n ≡ Some (look e)
   at-first zero n few low e is = absurd (omega (arith, low))
