@@ -1,7 +1,8 @@
-use Rattle.std.proofs.Common.{◌≡◌, List, length, sym, subst, ◌∙◌}
+use Rattle.std.proofs.Common.{◌≡◌, ℕ, List, Vec, Global, length, sym, subst, ◌∙◌}
 use Rattle.proofs.specs.Replies.{Spells}
 use Rattle.proofs.specs.Views.{key_stated}
 use Rattle.client.specs.Clients.{Look}
+use Rattle.client.specs.declared.looks.LookPlace.{LookPlace}
 use Rattle.client.proofs.Groups.{forward, group_of, more-gone, none-gone, AreGone}
 use Rattle.client.proofs.Others.{all-state, first-other, group-is, items_of, look_of, spells, x-in, IsGroup, States}
 use Rattle.client.proofs.looks.Looks.first_other.Goals as goal
@@ -24,7 +25,7 @@ loop-reply-init c =
 pub states-requires : goal.states-requires
 states-requires c =
     let inv = c.loop-reply.invariant in
-    let x = (c.in-Some.field-0-0.now, c.in-Some.reply.now) in
+    let x : LookPlace × Vec ℕ Global = (c.in-Some.field-0-0.now, c.in-Some.reply.now) in
     let gone = subst (AreGone (States items_of (key_stated c.args.told.now)) inv.0) c.in-Some.ensures.steps inv.2 in
     rw c.deref.ensures.value
     (spells items_of c.args.self.now c.args.place.now (key_stated c.args.told.now) c.requires inv.0 inv.1 x
@@ -33,7 +34,7 @@ states-requires c =
 pub returns-then-not-states : goal.returns-then-not-states
 returns-then-not-states c =
     let inv = c.loop-reply.invariant in
-    let x = (c.in-Some.field-0-0.now, c.in-Some.reply.now) in
+    let x : LookPlace × Vec ℕ Global = (c.in-Some.field-0-0.now, c.in-Some.reply.now) in
     let gone = subst (AreGone (States items_of (key_stated c.args.told.now)) inv.0) c.in-Some.ensures.steps inv.2 in
     rw c.deref-then-not-states.ensures.value
     (first-other items_of c.args.self.now c.args.place.now (key_stated c.args.told.now) c.requires inv.0 inv.1 x c.next.new.self gone c.states.result c.if-not-states.true
@@ -42,7 +43,7 @@ returns-then-not-states c =
 pub loop-reply-preserved : goal.loop-reply-preserved
 loop-reply-preserved c =
     let inv = c.loop-reply.invariant in
-    let x = (c.in-Some.field-0-0.now, c.in-Some.reply.now) in
+    let x : LookPlace × Vec ℕ Global = (c.in-Some.field-0-0.now, c.in-Some.reply.now) in
     (
       inv.0,
       inv.1,
