@@ -177,7 +177,7 @@ pub record AreGone {X : Type 0} (States : LookPlace × X → Type 0) (group rest
 pub none-gone : {X : Type 0} (States : LookPlace × X → Type 0) (group rest : Entries X) → rest ≡ group → AreGone States group rest
 none-gone States group rest same = record { done = []; parts = same; each = tt }
 
-one-more : {E : Type 0} (P : E → Type 0) (xs : List E) (x : E) → AllByRecursion P xs → P x → AllByRecursion P (xs ++ x ∷ [])
+pub one-more : {E : Type 0} (P : E → Type 0) (xs : List E) (x : E) → AllByRecursion P xs → P x → AllByRecursion P (xs ++ x ∷ [])
 one-more P [] x all is = (is, tt)
 one-more P (y ∷ xs) x all is = (all.0, one-more P xs x all.1 is)
 

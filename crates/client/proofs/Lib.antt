@@ -5,3 +5,4 @@ pub mod Tested
 pub mod Groups
 pub mod Seen
 pub mod Others
+pub mod Unlikes

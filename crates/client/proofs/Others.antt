@@ -16,6 +16,11 @@ use Rattle.client.proofs.Seen.{seen, stored, IsStored}
 abbrev pub items_of : Vec ℕ Global → List ℕ
 items_of reply = reply.items
 
+pub spelled-at : (ls : List Look) → AllByRecursion (λ look. SpellsOne look.reply) ls → (n : ℕ) (look : Look) → slice_get ls n ≡ Some look → SpellsOne look.reply
+spelled-at [] all n look at = absurd cc
+spelled-at (l ∷ ls) all zero look at = let same : l ≡ look = cc in subst (λ (x : Look). SpellsOne x.reply) same all.0
+spelled-at (l ∷ ls) all (suc n) look at = spelled-at ls all.1 n look at
+
 module _ {X : Type 0} (bytes : X → List ℕ) where
   abbrev pub look_of : LookPlace × X → Look
   look_of e = record { name = e.0.asked.name; epoch = e.0.asked.epoch; reply = bytes e.1 }
@@ -46,11 +51,6 @@ module _ {X : Type 0} (bytes : X → List ℕ) where
   States told e = (read : Reply) → Spells (bytes e.1) read → stated read.end ≡ told
 
   module _ (looks : List Look) (place : LookPlace) (told : Option (List ℕ)) (spelled : AllByRecursion (λ look. SpellsOne look.reply) looks) (group : Entries X) (is : IsGroup looks place group) where
-    spelled-at : (ls : List Look) → AllByRecursion (λ look. SpellsOne look.reply) ls → (n : ℕ) (look : Look) → slice_get ls n ≡ Some look → SpellsOne look.reply
-    spelled-at [] all n look at = absurd cc
-    spelled-at (l ∷ ls) all zero look at = let same : l ≡ look = cc in subst (λ (x : Look). SpellsOne x.reply) same all.0
-    spelled-at (l ∷ ls) all (suc n) look at = spelled-at ls all.1 n look at
-
     pub spells : (e : LookPlace × X) → IsIn group e → SpellsOne (bytes e.1)
     spells e in_group = spelled-at looks spelled e.0.number (look_of e) (is.seen e in_group)
 

@@ -87,14 +87,15 @@ impl Looks {
             if is_before(&found, place.number) {
                 continue;
             }
-            if let Some(other) = others.first_other(place, &statement(reply)) {
-                found = Some(Unlike {
-                    number: place.number,
-                    name: &place.asked.name,
-                    one: reply,
-                    other,
-                });
-            }
+            let Some(other) = others.first_other(place, &statement(reply)) else {
+                continue;
+            };
+            found = Some(Unlike {
+                number: place.number,
+                name: &place.asked.name,
+                one: reply,
+                other,
+            });
         }
         found
     }

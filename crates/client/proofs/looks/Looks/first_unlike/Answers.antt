@@ -1,0 +1,2 @@
+use Rattle.client.proofs.Unlikes.{agree}
+use Rattle.client.proofs.looks.Looks.first_unlike.Goals as goal
