@@ -16,6 +16,7 @@ use vrfiface::{PlainVuf, Vuf, index_of};
 type Watching = Client<SumHash, PlainVuf, KeyedSign>;
 
 /// The signed root of an epoch, and the reply to a look-up of the name `a` under it.
+#[derive(Drop)]
 struct Page {
     root: SignedRoot,
     reply: ProofText,
@@ -48,7 +49,7 @@ fn signed(signer: &KeyedSign, body: Body) -> SignedRoot {
 }
 
 /// The page of an epoch behind the one of this root, which binds this key to the name, if any.
-fn page(
+fn signed_page(
     alloc: Global,
     epoch: u64,
     before: &Body,
@@ -140,7 +141,13 @@ fn looked_up(
     epoch: u64,
     reply: &ProofText,
 ) -> Result<Result<Option<KeyData>, Refusal>, AllocError> {
-    match client.look(&mut SumHash::new(), &PlainVuf, &name()?, epoch, reply.bytes()) {
+    match client.look(
+        &mut SumHash::new(),
+        &PlainVuf,
+        &name()?,
+        epoch,
+        reply.bytes(),
+    ) {
         Ok(Statement::Present(key)) => Ok(Ok(KeyData::new(key).ok())),
         Ok(Statement::Absent) => Ok(Ok(None)),
         Err(Refusal::Memory) => Err(AllocError),
@@ -167,14 +174,29 @@ fn tested_by(client: &mut Watching, reply: &ProofText) -> Result<u8, AllocError>
 
 #[test]
 fn client_starts_with_a_root(rt: HostRuntime) -> Result<(), Fail> {
-    let first = page(rt.alloc(), 3, &earlier(), None)?;
+    let first = signed_page(rt.alloc(), 3, &earlier(), None)?;
     let client = started(rt.alloc(), &first.root)?;
     assert_eq!(rt; client.chain().head().body.epoch, 3);
     assert_eq!(rt; *client.key(), provider().public());
     let forged = signed(&stranger(), first.root.body).write();
-    let refused: Result<Watching, Refusal> = Client::start(rt.alloc(), &provider(), provider().public(), forged.bytes());
-    assert!(rt; matches!(refused, Err(Refusal::Root(rootchain::Refusal::BadSignature))));
-    let refused: Result<Watching, Refusal> = Client::start(rt.alloc(), &provider(), provider().public(), b"R");
+    let refused: Result<Watching, Refusal> = Client::start(
+        rt.alloc(),
+        &provider(),
+        provider().public(),
+        forged.bytes(),
+    );
+    assert!(rt;
+        matches!(
+            refused,
+            Err(Refusal::Root(rootchain::Refusal::BadSignature))
+        )
+    );
+    let refused: Result<Watching, Refusal> = Client::start(
+        rt.alloc(),
+        &provider(),
+        provider().public(),
+        b"R",
+    );
     assert!(rt; matches!(refused, Err(Refusal::Root(rootchain::Refusal::Malformed))));
     Ok(())
 }
@@ -182,13 +204,19 @@ fn client_starts_with_a_root(rt: HostRuntime) -> Result<(), Fail> {
 #[test]
 fn looks_at_an_epoch_and_at_the_head(rt: HostRuntime) -> Result<(), Fail> {
     let key = KeyData::new(b"k1")?;
-    let first = page(rt.alloc(), 3, &earlier(), None)?;
-    let next = page(rt.alloc(), 7, &first.root.body, Some(&key))?;
+    let first = signed_page(rt.alloc(), 3, &earlier(), None)?;
+    let next = signed_page(rt.alloc(), 7, &first.root.body, Some(&key))?;
     let mut client = started(rt.alloc(), &first.root)?;
-    assert_eq!(rt; looked_up(&mut client, 7, &next.reply)?, Err(Refusal::UnknownRoot));
+    assert_eq!(rt;
+        looked_up(&mut client, 7, &next.reply)?,
+        Err(Refusal::UnknownRoot)
+    );
     assert_eq!(rt; updated(rt.alloc(), &mut client, 1, &[&next.root])?, Ok(()));
     assert_eq!(rt; looked_up(&mut client, 3, &first.reply)?, Ok(None));
-    assert_eq!(rt; looked_up(&mut client, 7, &next.reply)?, Ok(Some(key.copied())));
+    assert_eq!(rt;
+        looked_up(&mut client, 7, &next.reply)?,
+        Ok(Some(key.copied()))
+    );
     assert_eq!(rt; looked_up(&mut client, 0, &next.reply)?, Ok(Some(key)));
     let other = Refusal::Proof(proofs::Refusal::OtherRoot);
     assert_eq!(rt; looked_up(&mut client, 0, &first.reply)?, Err(other));
@@ -198,7 +226,7 @@ fn looks_at_an_epoch_and_at_the_head(rt: HostRuntime) -> Result<(), Fail> {
 /// A body that gives up after some looks meets every clause.
 #[test]
 fn hundreds_of_looks(rt: HostRuntime) -> Result<(), Fail> {
-    let first = page(rt.alloc(), 3, &earlier(), None)?;
+    let first = signed_page(rt.alloc(), 3, &earlier(), None)?;
     let mut client = started(rt.alloc(), &first.root)?;
     for _ in 0..300 {
         assert_eq!(rt; looked_up(&mut client, 0, &first.reply)?, Ok(None));
@@ -208,17 +236,26 @@ fn hundreds_of_looks(rt: HostRuntime) -> Result<(), Fail> {
 
 #[test]
 fn lists_of_roots(rt: HostRuntime) -> Result<(), Fail> {
-    let first = page(rt.alloc(), 3, &earlier(), None)?;
-    let next = page(rt.alloc(), 7, &first.root.body, None)?;
-    let last = page(rt.alloc(), 9, &next.root.body, None)?;
+    let first = signed_page(rt.alloc(), 3, &earlier(), None)?;
+    let next = signed_page(rt.alloc(), 7, &first.root.body, None)?;
+    let last = signed_page(rt.alloc(), 9, &next.root.body, None)?;
     let mut client = started(rt.alloc(), &first.root)?;
     let ahead = Refusal::Root(rootchain::Refusal::BadLink);
-    assert_eq!(rt; updated(rt.alloc(), &mut client, 1, &[&last.root])?, Err(ahead));
+    assert_eq!(rt;
+        updated(rt.alloc(), &mut client, 1, &[&last.root])?,
+        Err(ahead)
+    );
     let forged = signed(&stranger(), last.root.body);
     let refused = Refusal::Root(rootchain::Refusal::BadSignature);
-    assert_eq!(rt; updated(rt.alloc(), &mut client, 2, &[&next.root, &forged])?, Err(refused));
+    assert_eq!(rt;
+        updated(rt.alloc(), &mut client, 2, &[&next.root, &forged])?,
+        Err(refused)
+    );
     assert_eq!(rt; client.chain().head().body.epoch, 3);
-    assert_eq!(rt; updated(rt.alloc(), &mut client, 2, &[&first.root, &next.root])?, Ok(()));
+    assert_eq!(rt;
+        updated(rt.alloc(), &mut client, 2, &[&first.root, &next.root])?,
+        Ok(())
+    );
     assert_eq!(rt; updated(rt.alloc(), &mut client, 1, &[&last.root])?, Ok(()));
     assert_eq!(rt; client.chain().head().body.epoch, 9);
     Ok(())
@@ -227,8 +264,8 @@ fn lists_of_roots(rt: HostRuntime) -> Result<(), Fail> {
 #[test]
 fn fork_is_evidence(rt: HostRuntime) -> Result<(), Fail> {
     let key = KeyData::new(b"k1")?;
-    let first = page(rt.alloc(), 3, &earlier(), None)?;
-    let other = page(rt.alloc(), 3, &earlier(), Some(&key))?;
+    let first = signed_page(rt.alloc(), 3, &earlier(), None)?;
+    let other = signed_page(rt.alloc(), 3, &earlier(), Some(&key))?;
     let mut client = started(rt.alloc(), &first.root)?;
     let fork = RootEvidence::Fork(first.root.copied(), other.root.copied());
     let told = updated(rt.alloc(), &mut client, 1, &[&other.root])?;
@@ -239,9 +276,9 @@ fn fork_is_evidence(rt: HostRuntime) -> Result<(), Fail> {
 #[test]
 fn promise_and_the_next_root(rt: HostRuntime) -> Result<(), Fail> {
     let key = KeyData::new(b"k1")?;
-    let first = page(rt.alloc(), 3, &earlier(), None)?;
-    let without = page(rt.alloc(), 7, &first.root.body, None)?;
-    let with = page(rt.alloc(), 7, &first.root.body, Some(&key))?;
+    let first = signed_page(rt.alloc(), 3, &earlier(), None)?;
+    let without = signed_page(rt.alloc(), 7, &first.root.body, None)?;
+    let with = signed_page(rt.alloc(), 7, &first.root.body, Some(&key))?;
     let promise = promise(&first.root, &key)?;
 
     let mut client = started(rt.alloc(), &first.root)?;
@@ -249,7 +286,10 @@ fn promise_and_the_next_root(rt: HostRuntime) -> Result<(), Fail> {
     assert_eq!(rt; kept(&mut client, &promise)?, Ok(()));
     assert_eq!(rt; client.due_epoch(&name()?), None);
     assert_eq!(rt; tested_by(&mut client, &without.reply)?, 20);
-    assert_eq!(rt; updated(rt.alloc(), &mut client, 1, &[&without.root])?, Ok(()));
+    assert_eq!(rt;
+        updated(rt.alloc(), &mut client, 1, &[&without.root])?,
+        Ok(())
+    );
     assert_eq!(rt; client.due_epoch(&name()?), Some(7));
     assert_eq!(rt; tested_by(&mut client, &with.reply)?, 3);
     assert_eq!(rt; tested_by(&mut client, &without.reply)?, 1);
@@ -266,8 +306,8 @@ fn promise_and_the_next_root(rt: HostRuntime) -> Result<(), Fail> {
 #[test]
 fn promises_that_are_not_kept(rt: HostRuntime) -> Result<(), Fail> {
     let key = KeyData::new(b"k1")?;
-    let first = page(rt.alloc(), 3, &earlier(), None)?;
-    let next = page(rt.alloc(), 7, &first.root.body, None)?;
+    let first = signed_page(rt.alloc(), 3, &earlier(), None)?;
+    let next = signed_page(rt.alloc(), 7, &first.root.body, None)?;
     let mut client = started(rt.alloc(), &first.root)?;
     let unknown = promise(&next.root, &key)?;
     assert_eq!(rt; kept(&mut client, &unknown)?, Err(Refusal::UnknownRoot));
