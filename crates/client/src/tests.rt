@@ -32,6 +32,11 @@ fn stranger() -> KeyedSign {
     KeyedSign::new(Hash32::new([9; 32]))
 }
 
+/// The root of this body, signed by another signer.
+fn forged(root: &SignedRoot) -> SignedRoot {
+    signed(&stranger(), root.body)
+}
+
 /// The name `a`.
 fn name() -> Result<Name, AllocError> {
     Name::new(b"a").map_err(|_| AllocError)
@@ -177,7 +182,7 @@ fn client_starts_with_a_root(rt: HostRuntime) -> Result<(), Fail> {
     let client = started(rt.alloc(), &first.root)?;
     assert_eq!(rt; client.chain().head().body.epoch, 3);
     assert_eq!(rt; *client.key(), provider().public());
-    let forged = signed(&stranger(), first.root.body).write();
+    let forged = forged(&first.root).write();
     let refused: Result<Watching, Refusal> = Client::start(
         rt.alloc(),
         &provider(),
@@ -247,7 +252,7 @@ fn lists_of_roots(rt: HostRuntime) -> Result<(), Fail> {
         updated(rt.alloc(), &mut client, &first.root, &last.root)?,
         Err(ahead)
     );
-    let forged = signed(&stranger(), last.root.body);
+    let forged = forged(&last.root);
     let refused = Refusal::Root(rootchain::Refusal::BadSignature);
     assert_eq!(rt;
         updated(rt.alloc(), &mut client, &next.root, &forged)?,
