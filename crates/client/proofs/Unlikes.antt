@@ -1,5 +1,5 @@
 -- All looks of one client, gone through for the first that has an unlike partner.
-use Rattle.std.proofs.Common.{◌≡◌, ◌≢◌, ◌⊎◌, inl, inr, ℕ, zero, suc, ◌<◌, ◌≤◌, List, [], ◌∷◌, ◌++◌, append_assoc, length, slice_get, Option, Some, None, IsSomeAnd, refl, sym, ap, subst, ◌∙◌, arith}
+use Rattle.std.proofs.Common.{◌≡◌, ◌≢◌, ◌⊎◌, inl, inr, ℕ, zero, suc, ◌<◌, ◌≤◌, List, [], ◌∷◌, ◌++◌, append_assoc, length, slice_get, Option, Some, None, IsSomeAnd, MatchOption, refl, sym, ap, subst, ◌∙◌, arith}
 use Rattle.std.specs.List.{AllByRecursion}
 use Rattle.std.proofs.lemmas.Bool.{cases_lt}
 use Rattle.std.proofs.lemmas.List.{append-nil}
@@ -27,8 +27,8 @@ found_of None = None
 found_of (Some unlike) = Some (record { number = unlike.number; name = unlike.name.now; one = unlike.one.now; other = unlike.other.now })
 
 pub not-before : (found : Option Unlike) (n : ℕ) → ¬ IsSomeAnd found (λ u. u.number < n) → ¬ IsSomeAnd (found_of found) (λ u. u.number < n)
-not-before None n no = no
-not-before (Some u) n no = no
+not-before None n apart = apart
+not-before (Some u) n apart = apart
 
 pub is-before : (found : Option Unlike) (n : ℕ) → IsSomeAnd found (λ u. u.number < n) → IsSomeAnd (found_of found) (λ u. u.number < n)
 is-before None n is = is
@@ -74,7 +74,11 @@ module _ {X : Type 0} (bytes : X → List ℕ) where
       parts : (before.done ++ x ∷ []) ++ more ≡ entries
       parts = append_assoc before.done (x ∷ []) more ∙ ap (λ (es : Entries X). before.done ++ es) (sym is) ∙ before.parts
 
+      pub there : IsIn entries x
+      there = subst (λ (es : Entries X). IsIn es x) before.parts (in-second before.done rest x (subst (λ (es : Entries X). IsIn es x) (sym is) (inl refl)))
+
       in-more : (done : Entries X) (e : LookPlace × X) → IsIn done e → IsIn (done ++ x ∷ []) e
+      in-more [] e is = absurd is
       in-more (d ∷ done) e (inl same) = inl same
       in-more (d ∷ done) e (inr there) = inr (in-more done e there)
 
@@ -89,12 +93,12 @@ module _ {X : Type 0} (bytes : X → List ℕ) where
 
       weaker : (u : Found) → IsOf x u → (f : Option Found) → IsLeast before.done f → ¬ IsSomeAnd f (λ v. v.number < x.0.number) → (done : Entries X) → (f ≡ None → AllByRecursion HasNone done)
           → ((v : Found) → f ≡ Some v → AllByRecursion (λ y. y.0.number < v.number → HasNone y) done) → AllByRecursion (λ y. y.0.number < u.number → HasNone y) done
-      weaker u of f least no [] none some = tt
-      weaker u of None least no (d ∷ done) none some = (λ low. (none refl).0, weaker u of None least no done (λ e. (none e).1) (λ v e. absurd cc))
-      weaker u of (Some v) least no (d ∷ done) none some =
+      weaker u of f least apart [] none some = tt
+      weaker u of None least apart (d ∷ done) none some = (λ low. (none refl).0, weaker u of None least apart done (λ e. (none e).1) (λ v e. absurd cc))
+      weaker u of (Some v) least apart (d ∷ done) none some =
           (
-            λ low. (some v refl).0 (elim (cases_lt d.0.number v.number) [ inl below ↦ below | inr above ↦ absurd (no (let at = of.number in omega (arith, at, low, above))) ]),
-            weaker u of (Some v) least no done (λ e. absurd cc) (λ w e. (some w e).1),
+            λ low. (some v refl).0 (elim (cases_lt d.0.number v.number) [ inl below ↦ below | inr above ↦ absurd (apart (let at = of.number in omega (arith, at, low, above))) ]),
+            weaker u of (Some v) least apart done (λ e. absurd cc) (λ w e. (some w e).1),
           )
 
       nones : (f : Option Found) → IsLeast before.done f → f ≡ None → AllByRecursion HasNone before.done
@@ -106,14 +110,14 @@ module _ {X : Type 0} (bytes : X → List ℕ) where
       somes (Some w) least v e = let same : w ≡ v = cc in subst (λ (u : Found). AllByRecursion (λ y. y.0.number < u.number → HasNone y) before.done) same least.3
 
       pub taken : (u : Found) → IsOf x u → ¬ IsSomeAnd found (λ v. v.number < x.0.number) → IsLeastSoFar entries more (Some u)
-      taken u of no = record {
+      taken u of apart = record {
         done = before.done ++ x ∷ [];
         parts = parts;
         least = (
           x,
           in-second before.done (x ∷ []) x (inl refl),
           of,
-          one-more _ before.done x (weaker u of found before.least no before.done (nones found before.least) (somes found before.least)) (λ low. absurd (let at = of.number in omega (arith, at, low))),
+          one-more _ before.done x (weaker u of found before.least apart before.done (nones found before.least) (somes found before.least)) (λ low. absurd (let at = of.number in omega (arith, at, low))),
         );
       }
 
@@ -187,3 +191,10 @@ module _ {X : Type 0} (bytes : X → List ℕ) where
             one = of.one;
             other = sym f.is;
           }
+
+      pub answer : (found : Option Unlike) → IsLeastSoFar entries [] (found_of found) → MatchOption found (LooksAgree looks others)
+          (λ unlike. (look also : Look) × AreFirstUnlike looks others look also × (unlike.name.now ≡ look.name) × (unlike.one.now ≡ look.reply) × (unlike.other.now ≡ also.reply))
+      answer None gone = agree gone
+      answer (Some unlike) gone =
+          let t = told (record { number = unlike.number; name = unlike.name.now; one = unlike.one.now; other = unlike.other.now }) gone in
+          (t.look, t.also, t.first, t.name, t.one, t.other)
