@@ -1,4 +1,4 @@
-use Rattle.std.proofs.Common.{◌≡◌, ℕ, List, Option, Vec, Global, inl, inr, refl, sym, subst, ◌∙◌}
+use Rattle.std.proofs.Common.{◌≡◌, ℕ, List, [], Option, Vec, Global, inl, inr, refl, sym, subst, ◌∙◌}
 use Rattle.proofs.specs.Replies.{Reply, Spells}
 use Rattle.client.specs.Agreements.{AllState, IsFirstOther}
 use Rattle.client.specs.Clients.{Look}
