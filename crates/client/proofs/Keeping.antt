@@ -1,4 +1,4 @@
--- A client stays sound when it keeps one more look, or one more promise.
+-- A client stays sound when it keeps one more look.
 use Rattle.std.proofs.Common.{◌≡◌, ℕ, zero, suc, ◌-◌, ◌<◌, List, [], ◌∷◌, ◌++◌, length, slice_get, Some, refl, sym, ap, subst, ◌∙◌, arith}
 use Rattle.std.specs.List.{AllByRecursion}
 use Rattle.encoding.specs.Limits.{IsName}
@@ -42,6 +42,3 @@ module _ (hash : List ℕ → List ℕ) (accepted verified : List ℕ → List �
       looks = one-more _ before.looks _ sound.looks (record { named = named; root = root; at = asked-epoch before.chain epoch root asked; reply = reply; is = is });
       promises = sound.promises;
     }
-
-  pub promise-kept : (signed : SignedPromise) → IsPromised hash verified before.chain signed → IsSound hash accepted verified before → IsSound hash accepted verified (with_promise before signed)
-  promise-kept signed is sound = record { roots = sound.roots; looks = sound.looks; promises = one-more _ before.promises signed sound.promises is }

@@ -72,6 +72,7 @@ module _ {K X : Type 0} (number : K → ℕ) (cmp : K → K → Ordering) (key :
       low : (es : Entries) → After es → AllByRecursion (λ (entry : K × X). number entry.0 < most) es
       low [] a = tt
       low (e ∷ es) a = (omega (arith, a.0, below), low es a.1)
+
       by : (order : Ordering) → cmp key entry.0 ≡ order → AllByRecursion (λ (entry : K × X). number entry.0 < most) (more entries)
           → AllByRecursion (λ (entry : K × X). number entry.0 < most) (match_ordering order ((key, value) ∷ entry ∷ entries) ((entry.0, value) ∷ entries) (entry ∷ more entries))
       by Less is next = (below, low (entry ∷ entries) after)

@@ -1,9 +1,10 @@
 -- Which promise is tested once one more comes behind the others.
-use Rattle.std.proofs.Common.{◌≡◌, ◌≢◌, ◌⊎◌, inl, inr, ℕ, zero, suc, ◌<◌, ◌≤◌, List, [], ◌∷◌, ◌++◌, length, slice_get, Some, refl, sym, ap, subst, ◌∙◌, arith}
+use Rattle.std.proofs.Common.{◌≡◌, ◌≢◌, ◌⊎◌, inl, inr, ℕ, zero, suc, ◌<◌, ◌≤◌, List, [], ◌∷◌, ◌++◌, length, slice_get, Option, Some, None, Bor, refl, sym, ap, subst, ◌∙◌, arith}
 use Rattle.std.specs.List.{AllByRecursion}
 use Rattle.std.proofs.lemmas.Option.{slice_get_within}
 use Rattle.rootchain.specs.declared.signed_promise.SignedPromise.{SignedPromise}
 use Rattle.client.specs.Dues.{HasNone, IsTested}
+use Rattle.client.specs.Testing.{IsTestedAmong}
 use Rattle.client.proofs.Keeping.{one-more}
 
 module _ {A : Type 0} (x : A) where
@@ -97,3 +98,8 @@ module _ (promises : List SignedPromise) (signed : SignedPromise) (name : List �
         | inr new ↦ absurd (omega (arith, before, new.0))
       ];
     }
+
+module _ (promises : List SignedPromise) (signed : SignedPromise) (name : List ℕ) where
+  pub skipped-among : signed.promise.name ≢ name → (least : Option (ℕ × Bor SignedPromise)) → IsTestedAmong promises name least → IsTestedAmong (promises ++ signed ∷ []) name least
+  skipped-among other None none = none-skipped promises signed name other none
+  skipped-among other (Some (place, least)) is = skipped promises signed name other place least.now is

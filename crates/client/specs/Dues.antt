@@ -1,5 +1,5 @@
 -- Whether a promise was kept in the next root (CONIKS, section 4, temporary bindings).
-use Rattle.std.specs.Prelude.{◌≡◌, ◌≢◌, ◌⊎◌, ℕ, suc, ◌<◌, ◌≤◌, ◌++◌, List, Option, Some, None, Result, Ok, Err, slice_get, take, drop}
+use Rattle.std.specs.Prelude.{◌≡◌, ◌≢◌, ◌⊎◌, ℕ, ◌<◌, ◌≤◌, List, Option, Some, None, Result, Ok, Err, slice_get, remove}
 use Rattle.std.specs.List.{AllByRecursion}
 use Rattle.rootchain.specs.Chains.{KeyedRoots}
 use Rattle.rootchain.specs.Places.{IsNextAfter}
@@ -53,7 +53,7 @@ module _ (hash : List ℕ → List ℕ) (accepted : List ℕ → List ℕ → Li
 
 -- the client once this was told of the promise at a place: only one that was kept is dropped
 abbrev pub left : Client → ℕ → Due → Client
-left client place Kept = record client { promises = take place client.promises ++ drop (suc place) client.promises }
+left client place Kept = record client { promises = remove client.promises place }
 left client place (Broken broken) = client
 left client place OtherIndex = client
 

@@ -7,3 +7,4 @@ pub mod Promising
 pub mod Refusals
 pub mod Starting
 pub mod Testing
+pub mod Updating

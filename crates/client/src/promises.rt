@@ -10,7 +10,7 @@ use crate::{Due, Refusal};
 use encoding::{KeyData, Name, ProofText};
 use nodehash::NodeHash;
 use proofs::{Accepted, BrokenPromise, Statement, accept};
-use rootchain::{Chain, Promise, SignedPromise, SignedRoot};
+use rootchain::{Chain, SignedPromise, SignedRoot};
 use sigiface::Verifier;
 use vrfiface::VufCheck;
 
@@ -91,7 +91,7 @@ fn tell<H: NodeHash, V: VufCheck>(
     let mut proof = ProofText::new();
     proof.push_slice(bytes);
     Due::Broken(BrokenPromise {
-        promise: copied(signed),
+        promise: signed.copied(),
         root: root.copied(),
         proof,
     })
@@ -104,22 +104,5 @@ fn is_of_key(statement: Statement<'_>, key: &KeyData) -> bool
     match statement {
         Statement::Present(stated) => stated == key.bytes(),
         Statement::Absent => false,
-    }
-}
-
-/// The same signed promise once more.
-fn copied(signed: &SignedPromise) -> SignedPromise
-    ensures { result ≡ signed.now }
-{
-    let promise = &signed.promise;
-    SignedPromise {
-        promise: Promise {
-            epoch: promise.epoch,
-            root_hash: promise.root_hash,
-            index: promise.index,
-            name: promise.name.copied(),
-            key: promise.key.copied(),
-        },
-        signature: signed.signature.copied(),
     }
 }

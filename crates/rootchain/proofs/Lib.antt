@@ -6,6 +6,8 @@ pub mod NextRoots
 pub mod Compared
 pub mod Places
 pub mod RootLists
+pub mod Spelled
 pub mod Taking
+pub mod TakingLists
 pub mod Telling
 pub mod Walks

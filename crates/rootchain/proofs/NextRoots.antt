@@ -1,11 +1,11 @@
 -- The root where the roots after an epoch begin is the chain's first root after it.
-use Rattle.std.proofs.Common.{◌≡◌, ◌↔◌, ℕ, ◌<◌, ◌≤◌, List, length, get_or, leb, true, false, All, Some, None, sym, ap, subst, ◌∙◌, inl, inr, arith, rules}
+use Rattle.std.proofs.Common.{◌≡◌, ◌↔◌, ℕ, ◌<◌, ◌≤◌, List, length, get_or, leb, true, false, Some, sym, ap, subst, ◌∙◌, inl, inr, arith, rules}
 use Rattle.std.specs.List.Sorted.{IsPartitionedBy, IsPartitionPoint}
 use Rattle.std.proofs.lemmas.Bool.{cases_lt, leb-true, leb-false}
 use Rattle.std.proofs.lemmas.List.{get_or_default}
 use Rattle.std.proofs.lemmas.List.Sorted.{IsPartitionedBy-leb}
 use Rattle.rootchain.specs.declared.signed_root.SignedRoot.{SignedRoot}
-use Rattle.rootchain.specs.Chains.{Ascend, KeyedRoots}
+use Rattle.rootchain.specs.Chains.{Ascend}
 use Rattle.rootchain.specs.Places.{IsNextAfter}
 use Rattle.rootchain.proofs.Chains.{one-root}
 use Rattle.rootchain.proofs.Places.{rising}

@@ -10,5 +10,6 @@ pub mod RootLists
 pub mod SignedRoots
 pub mod Taking
 pub mod Walks
+pub mod TakingLists
 pub use Rattle.encoding.specs.Forms
 pub use Rattle.encoding.specs.Reading

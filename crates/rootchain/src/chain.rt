@@ -124,5 +124,6 @@ impl<H: NodeHash, S: Verifier> Chain<H, S> {
 }
 
 mod taking;
+mod taking_lists;
 #[cfg(test)]
 mod tests;

@@ -27,6 +27,7 @@ mod refusal;
 mod root_list;
 mod signed_promise;
 mod signed_root;
+mod untaken;
 mod whole;
 
 pub use body::{Body, BodyText};
@@ -42,6 +43,7 @@ pub use refusal::Refusal;
 pub use root_list::{MAX_ROOTS, RootList, list_len, write_list};
 pub use signed_promise::SignedPromise;
 pub use signed_root::{SignedRoot, SignedRootText};
+pub use untaken::Untaken;
 
 #[cfg(test)]
 mod tests;

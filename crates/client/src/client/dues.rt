@@ -28,26 +28,21 @@ impl<H: NodeHash, V: VufCheck, S: Verifier> Client<H, V, S> {
     ///
     /// `NoPromise` where no promise for the name is kept, `UnknownRoot` where the chain has no root after the
     /// promise's yet, the refusal of the reply: the first that applies. The client then stays as it was.
-    pub fn due(
-        &mut self,
-        hash: &mut H,
-        vuf: &V,
-        name: &Name,
-        bytes: &[u8],
-    ) -> Result<Due, Refusal>
+    pub fn due(&mut self, hash: &mut H, vuf: &V, name: &Name, bytes: &[u8]) -> Result<Due, Refusal>
         ensures due { Dues H.digest_of V.accepted self.old name.now bytes.now result self.new }
         ensures evidence { IfOk result (DueHolds H.digest_of V.accepted S.verified self.old.chain.key) }
     {
         let Some((place, signed)) = tested(&self.promises, name) else {
             return Err(Refusal::NoPromise);
         };
-        let due = match test(&self.chain, signed, hash, vuf, name, bytes) {
-            Ok(due) => due,
-            Err(why) => return Err(why),
-        };
-        if let Due::Kept = due {
-            let _ = self.promises.remove(place);
+        match test(&self.chain, signed, hash, vuf, name, bytes) {
+            Ok(Due::Kept) => {
+                let _ = self.promises.remove(place);
+                Ok(Due::Kept)
+            }
+            Ok(Due::Broken(broken)) => Ok(Due::Broken(broken)),
+            Ok(Due::OtherIndex) => Ok(Due::OtherIndex),
+            Err(why) => Err(why),
         }
-        Ok(due)
     }
 }
