@@ -2,7 +2,7 @@
 """Times the built programs and prints the tables of the scripts beside it. docs/SPEED.md says what
 the columns mean.
 
-usage: bench/bench.py root|tree|changes|replies|epochs|hub|serve, at the top of the repository
+usage: bench/bench.py root|tree|changes|replies|reconcile|epochs|hub|serve, at the top of the repository
 
 BEFORE, if it is set, is the top of another clone, in which directoryd and measure are built. `root`
 then times the programs of both, in turn.
@@ -46,6 +46,8 @@ CHANGE_ROUNDS = {1: (500, 40), 10: (50, 40), 1_000: (1, 100), 100_000: (1, 6)}
 SIBLINGS, REPLY_RUNS = (10, 20, 256), 10
 # How many replies are measured, and about how many digests the checks of a run take.
 REPLIES, CHECK_DIGESTS = 1_000, 800_000
+# The roots of each of two chains, how often they are compared in a run, and the runs.
+CHAIN_ROOTS, CHAIN_ROUNDS, CHAIN_RUNS = 100_000, 20, 10
 # How often each size of a directory is measured. In a run: the epochs with changes, the changes of
 # each, the look-ups of a step, and the steps of look-ups.
 EPOCH_RUNS = {1_000: 10, 10_000: 10, 100_000: 10, 1_000_000: 5}
@@ -478,6 +480,33 @@ def replies(_folder):
     table(title, [*head, "value, us", "a digest, ns"], rows)
 
 
+def chain_times(shared):
+    """The times of comparing two chains of which so many first roots are the same: their bodies as
+    byte strings, and the chains."""
+    agree = shared == CHAIN_ROOTS
+    wanted = [CHAIN_ROUNDS if agree else 0, 0 if agree else CHAIN_ROUNDS * (shared + 1)]
+    times = [[], []]
+    for _ in range(CHAIN_RUNS):
+        _, run_steps = steps(2, "chains", CHAIN_ROOTS, shared, CHAIN_ROUNDS)
+        if [step.number for step in run_steps] != wanted:
+            sys.exit(f"chains: {[step.number for step in run_steps]}, and {wanted} was wanted")
+        for kept, step in zip(times, run_steps):
+            kept.append(step.seconds)
+    return [Spread(taken, CHAIN_ROUNDS) for taken in times]
+
+
+def reconcile(_folder):
+    parts = {"they agree": CHAIN_ROOTS, "at the end": CHAIN_ROOTS - 1}
+    parts |= {"in the middle": CHAIN_ROOTS // 2, "at the first epoch": 0}
+    taken = {where: chain_times(shared) for where, shared in parts.items()}
+    strings = taken["they agree"][0]
+    rows = [["byte strings", *strings.cells(1e3, 2), "1.00"]]
+    for where, (_, chains) in taken.items():
+        rows.append([where, *chains.cells(1e3, 2), f"{chains.least / strings.least:.2f}"])
+    title = f"two chains of {CHAIN_ROOTS:,} roots compared, by where they part; milliseconds"
+    table(title, ["", "least", "median", "greatest", "ratio"], rows)
+
+
 def index_of_name(number):
     """The index of a name of `measure epochs`."""
     spread = number * 0x9E3779B97F4A7C15 % 2**64
@@ -836,7 +865,7 @@ def main(which):
     with tempfile.TemporaryDirectory() as folder:
         print_machine()
         of = {"root": root, "tree": tree, "changes": changes, "replies": replies}
-        of |= {"epochs": epochs, "hub": hub, "serve": serve}
+        of |= {"reconcile": reconcile, "epochs": epochs, "hub": hub, "serve": serve}
         of[which](folder)
     print(f"\nload at the end {os.getloadavg()[0]:.2f}")
 

@@ -6,6 +6,7 @@
 //! reads how much time and memory the process has used.
 #![tactic(auto)]
 
+mod chains;
 mod changes;
 mod digests;
 mod directory;
@@ -26,7 +27,7 @@ use std::net::{Net, TcpListener, TcpStream};
 const USAGE: &str = "usage: measure digests BYTES COUNT | texts COUNT ROUNDS \
     | tree GROWN MORE DIGESTS | whole ITEMS TIMES DIGESTS \
     | changes ITEMS CHANGES LISTS ROUNDS DIGESTS | replies SIBLINGS REPLIES ROUNDS DIGESTS \
-    | epochs NAMES CHANGES ROUNDS LOOK_UPS LOOK_UP_ROUNDS DIGESTS \
+    | chains ROOTS SHARED ROUNDS | epochs NAMES CHANGES ROUNDS LOOK_UPS LOOK_UP_ROUNDS DIGESTS \
     | hub NAMES FRAMES PIECE ROUNDS | feed FRAMES TIMES | all \
     | ask PORT NAMES FRAMES IN_FLIGHT ROUNDS | exchange PORT NAMES FRAMES ROUNDS \
     | answer REQUEST REPLY";
@@ -76,6 +77,14 @@ fn run(rt: &(impl Print + Input), alloc: Global, program: &str, numbers: &[usize
                 digests,
             };
             replies::measure(rt, alloc, &look_ups)
+        }
+        ("chains", &[roots, shared, rounds]) => {
+            let histories = chains::Histories {
+                roots,
+                shared,
+                rounds,
+            };
+            chains::measure(rt, alloc, &histories)
         }
         _ => run_on_directory(rt, alloc, program, numbers),
     }
@@ -159,6 +168,7 @@ fn run_all(rt: &(impl Print + Input), alloc: Global) -> Result<()> {
     run(rt, alloc, "whole", &[5, 2, 1])?;
     run(rt, alloc, "changes", &[5, 3, 2, 2, 1])?;
     run(rt, alloc, "replies", &[4, 3, 2, 1])?;
+    run(rt, alloc, "chains", &[5, 3, 2])?;
     run(rt, alloc, "epochs", &[5, 3, 2, 4, 2, 1])?;
     run(rt, alloc, "hub", &[5, 3, 16, 2])?;
     run(rt, alloc, "feed", &[3, 2])

@@ -1,6 +1,6 @@
 -- What a comparison of two chains tells: that they agree, that two roots are evidence, or that two
 -- bodies have one digest.
-use Rattle.std.proofs.Common.{◌≡◌, ◌≢◌, ◌⊎◌, ◌↔◌, ℕ, ◌+◌, ◌-◌, ◌<◌, ◌≤◌, List, length, slice_get, Contains, All, refl, sym, ap, subst, ◌∙◌, inl, inr, arith}
+use Rattle.std.proofs.Common.{◌≡◌, ◌≢◌, ◌⊎◌, ◌↔◌, ℕ, ◌-◌, ◌<◌, ◌≤◌, List, length, slice_get, Contains, All, refl, sym, ap, subst, ◌∙◌, inl, inr, arith}
 use Rattle.std.proofs.lemmas.Bool.{cases_lt, cases_order}
 use Rattle.rootchain.specs.declared.chain.placing.Place.{Place}
 use Rattle.rootchain.specs.declared.chain.placing.Place.TheVariants as place
@@ -9,7 +9,7 @@ use Rattle.rootchain.specs.declared.compare.Compare.TheVariants.{Equal, Evidence
 use Rattle.rootchain.specs.declared.evidence.RootEvidence.TheVariants.{Fork, Link, Skip}
 use Rattle.rootchain.specs.declared.signed_root.SignedRoot.{SignedRoot}
 use Rattle.rootchain.specs.Chains.{Ascend, IsAt, IsChain, IsHead, KeyedRoots, Names, Verifies}
-use Rattle.rootchain.specs.Comparisons.{told_by_place, AreAlikeAt, AreOfBoth, AreOneAt, ChainsAgree, CollisionHolds, ComparedHolds, EvidenceIs, IsCollided, IsCommon, IsCompared, IsComparedApart, IsComparedWithin, IsOfBoth, IsPassedOver, IsSearchedFrom, LiesBelow, MayMeet, Spans}
+use Rattle.rootchain.specs.Comparisons.{told_by_place, AreAlikeAt, AreOfBoth, AreOneAt, ChainsAgree, CollisionHolds, ComparedHolds, EvidenceIs, IsCollided, IsCommon, IsCompared, IsComparedApart, IsComparedWithin, IsOfBoth, IsPassedOver, IsSearchedFrom, LiesBelow, Spans}
 use Rattle.rootchain.specs.Evidence.{IsLink, IsRootEvidence, IsSkip}
 use Rattle.rootchain.specs.Places.{EvidenceHolds, IsFirst, IsMissing, IsNextAfter, IsPlace, IsPlaceAbove}
 use Rattle.rootchain.proofs.Chains.{ascend-linked, one-root}
@@ -20,13 +20,13 @@ use Rattle.rootchain.proofs.Walks.{up-to}
 -- ---- the ranges of two chains
 
 -- one epoch has one root
-unique : (chain : KeyedRoots) → Ascend chain.roots → (epoch : ℕ) (x y : SignedRoot) → IsAt chain epoch x → IsAt chain epoch y → x ≡ y
+pub unique : (chain : KeyedRoots) → Ascend chain.roots → (epoch : ℕ) (x y : SignedRoot) → IsAt chain epoch x → IsAt chain epoch y → x ≡ y
 unique chain up epoch x y hx hy = one-root chain.roots up hx.0.0 hy.0.0 x y hx.0.1 hy.0.1 hx.0.2 hy.0.2 (hx.1 ∙ sym hy.1)
 
-spans-at : (chain : KeyedRoots) (epoch : ℕ) (x : SignedRoot) → IsAt chain epoch x → Spans chain epoch
+pub spans-at : (chain : KeyedRoots) (epoch : ℕ) (x : SignedRoot) → IsAt chain epoch x → Spans chain epoch
 spans-at chain epoch x held = let e = held.1 in record { low = x; high = x; has-low = held.0; has-high = held.0; not-later = omega (arith, e); not-earlier = omega (arith, e) }
 
-not-missing : (chain : KeyedRoots) (epoch : ℕ) (x : SignedRoot) → IsAt chain epoch x → IsMissing chain epoch → ⊥
+pub not-missing : (chain : KeyedRoots) (epoch : ℕ) (x : SignedRoot) → IsAt chain epoch x → IsMissing chain epoch → ⊥
 not-missing chain epoch x held missing = missing held.0.0 x held.0.1 (ap (λ (z : SignedRoot). z.body.epoch) held.0.2 ∙ held.1)
 
 -- chains that lie one below the other have no common range
@@ -61,7 +61,7 @@ alike-one one other up up' epoch shared = (
   λ root held. (shared.0, shared.2, ap (λ (z : SignedRoot). z.body) (unique other up' epoch root shared.1 held shared.3) ∙ sym shared.4),
 )
 
-not-two : (one other : KeyedRoots) → Ascend other.roots → (epoch : ℕ) (x y : SignedRoot) → IsAt one epoch x → IsAt other epoch y → x.body ≢ y.body → (IsCommon one other epoch → AreAlikeAt one other epoch) → ⊥
+pub not-two : (one other : KeyedRoots) → Ascend other.roots → (epoch : ℕ) (x y : SignedRoot) → IsAt one epoch x → IsAt other epoch y → x.body ≢ y.body → (IsCommon one other epoch → AreAlikeAt one other epoch) → ⊥
 not-two one other up' epoch x y hx hy differ alike =
     let also = (alike (spans-at one epoch x hx, spans-at other epoch y hy)).0 x hx in
     differ (also.2 ∙ ap (λ (z : SignedRoot). z.body) (unique other up' epoch also.0 y also.1 hy))
@@ -161,13 +161,13 @@ module _ (hash : List ℕ → List ℕ) (verified : List ℕ → List ℕ → Li
     }
 
     -- the case that an answer is of
-    abbrev Cases : Compare → Type 0
+    abbrev pub Cases : Compare → Type 0
     Cases result =
         ((head first : SignedRoot) × LiesBelow one other head first × IsComparedApart hash one first result)
         ⊎ (((head first : SignedRoot) × LiesBelow other one head first × IsComparedApart hash other first result)
         ⊎ ((epoch : ℕ) × IsCommon one other epoch × IsComparedWithin one other result))
 
-    cases : (result : Compare) → IsCompared hash one other result → Cases result
+    pub cases : (result : Compare) → IsCompared hash one other result → Cases result
     cases result h =
         let e = ends one.roots is.first in
         let e' = ends other.roots is'.first in

@@ -9,7 +9,7 @@ use Rattle.rootchain.specs.declared.compare.Compare.TheVariants.{Equal, Evidence
 use Rattle.rootchain.specs.declared.evidence.RootEvidence.TheVariants.{Fork, Link, Skip}
 use Rattle.rootchain.specs.declared.signed_root.SignedRoot.{SignedRoot}
 use Rattle.rootchain.specs.Bodies.{body_bytes, IsSized}
-use Rattle.rootchain.specs.Chains.{Ascend, IsAt, IsChain, IsHead, KeyedRoots, Names}
+use Rattle.rootchain.specs.Chains.{Ascend, IsChain, IsHead, KeyedRoots, Names}
 use Rattle.rootchain.specs.Comparisons.{AreAlikeAt, CollisionHolds, HasAlso, IsCommon, IsComparedWithin, IsFirstHeld, IsLastOne, IsSearchedFrom, Spans}
 use Rattle.rootchain.specs.Places.{IsFirst, IsMissing, IsNextAfter}
 use Rattle.rootchain.specs.Walks.{AreApartPlaces, AreLastPlaces, IsCleared, IsDivergence, IsRun}
@@ -312,29 +312,31 @@ compared_apart hash verified one other is is' i j k l last apart x y ex ey diffe
     let epoch : apart.one.body.epoch ≡ apart.other.body.epoch = sym named.0 ∙ ap (λ b. b.previous_epoch) same ∙ named'.0 in
     let shared : last.one.body.epoch ≡ last.other.body.epoch = epochs last.one last.other last.same in
     let has = contains one.roots k apart.one apart.at-one in
-    let has' = contains other.roots l apart.other apart.at-other in
-    ((
-      apart.one,
-      apart.other,
-      record {
-        epoch = apart.one.body.epoch;
-        last = last.one.body.epoch;
-        is-last = last-one one other up i j last;
-        below = up-at one.roots up k i apart.one last.one apart.at-one last.at-one (omega (arith, low));
-        at-one = (has, refl);
-        at-other = (has', sym epoch);
-        differ = apart.differ;
-        alike = λ m more less common. (
-          also-above one other up up' (k + 1) (l + 1) i j last.one last.other last.at-one last.at-other run m (omega (arith, less)) k apart.one refl apart.at-one more,
-          also-above other one up' up (l + 1) (k + 1) j i last.other last.one last.at-other last.at-one (turned one.roots other.roots (k + 1) (l + 1) i j run) m (omega (arith, less, shared)) l apart.other refl apart.at-other (omega (arith, more, epoch)),
-        );
-      },
-      ex,
-      ey,
-    ), (
-      record { differ = differ; same = ap hash ex ∙ sym named.1 ∙ ap (λ b. b.previous_hash) same ∙ named'.1 ∙ ap hash (sym ey) },
-      (apart.one, apart.other, has, has', ex, ey),
-    ))
+    let has' = contains other.roots l apart.other apart.at-other in (
+      (
+        apart.one,
+        apart.other,
+        record {
+          epoch = apart.one.body.epoch;
+          last = last.one.body.epoch;
+          is-last = last-one one other up i j last;
+          below = up-at one.roots up k i apart.one last.one apart.at-one last.at-one (omega (arith, low));
+          at-one = (has, refl);
+          at-other = (has', sym epoch);
+          differ = apart.differ;
+          alike = λ m more less common. (
+            also-above one other up up' (k + 1) (l + 1) i j last.one last.other last.at-one last.at-other run m (omega (arith, less)) k apart.one refl apart.at-one more,
+            also-above other one up' up (l + 1) (k + 1) j i last.other last.one last.at-other last.at-one (turned one.roots other.roots (k + 1) (l + 1) i j run) m (omega (arith, less, shared)) l apart.other refl apart.at-other (omega (arith, more, epoch)),
+          );
+        },
+        ex,
+        ey,
+      ),
+      (
+        record { differ = differ; same = ap hash ex ∙ sym named.1 ∙ ap (λ b. b.previous_hash) same ∙ named'.1 ∙ ap hash (sym ey) },
+        (apart.one, apart.other, has, has', ex, ey),
+      ),
+    )
 
 -- ---- where the roots are lent
 

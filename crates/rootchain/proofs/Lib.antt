@@ -4,6 +4,7 @@ pub mod Chains
 pub mod Clashes
 pub mod NextRoots
 pub mod Compared
+pub mod OneAnswer
 pub mod Places
 pub mod RootLists
 pub mod Spelled

@@ -1,12 +1,11 @@
 -- Two chains of one key compared: they agree, or two of their roots are evidence, or two of their
 -- bodies have one digest (after CONIKS, section 4).
-use Rattle.std.specs.Prelude.{◌≡◌, ◌≢◌, ◌⊎◌, ℕ, ◌+◌, ◌<◌, ◌≤◌, List, All, Contains}
+use Rattle.std.specs.Prelude.{◌≡◌, ◌≢◌, ◌⊎◌, ℕ, ◌+◌, ◌<◌, ◌≤◌, List, Contains}
 use Rattle.nodehash.specs.Collisions.{IsCollision}
 use Rattle.rootchain.specs.declared.chain.placing.Place.{Place}
 use Rattle.rootchain.specs.declared.chain.placing.Place.TheVariants as place
 use Rattle.rootchain.specs.declared.compare.Compare.{Compare}
 use Rattle.rootchain.specs.declared.compare.Compare.TheVariants.{Equal, Evidence, Collision}
-use Rattle.rootchain.specs.declared.evidence.RootEvidence.{RootEvidence}
 use Rattle.rootchain.specs.declared.evidence.RootEvidence.TheVariants.{Fork, Link, Skip}
 use Rattle.rootchain.specs.declared.signed_root.SignedRoot.{SignedRoot}
 use Rattle.rootchain.specs.Bodies.{body_bytes}
@@ -37,7 +36,7 @@ HasAlso other one epoch = (root : SignedRoot) → IsAt one epoch root → (also 
 abbrev pub AreAlikeAt : KeyedRoots → KeyedRoots → ℕ → Type 0
 AreAlikeAt one other epoch = HasAlso other one epoch × HasAlso one other epoch
 
--- all of one chain is before all of the other: its head and the other's first root
+-- the one chain ends before the other starts: these are its head and the other's first root
 abbrev pub LiesBelow : KeyedRoots → KeyedRoots → SignedRoot → SignedRoot → Type 0
 LiesBelow lower upper head first = IsHead lower head × IsFirst upper first × (head.body.epoch < first.body.epoch)
 

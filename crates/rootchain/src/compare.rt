@@ -1,8 +1,11 @@
 ghost use Rattle.std.specs.Prelude.{◌≡◌};
-ghost use Rattle.rootchain.specs.Comparisons.{told_by_place};
+ghost use Rattle.rootchain.specs.Chains.{IsChain, KeyedRoots};
+ghost use Rattle.rootchain.specs.Comparisons.{told_by_place, IsCompared};
 
 use crate::{Place, RootEvidence};
 use encoding::Text;
+use nodehash::NodeHash;
+use sigiface::Verifier;
 
 /// What two chains of one key come to.
 #[derive(Debug, Drop)]
@@ -26,3 +29,11 @@ impl Compare {
         }
     }
 }
+
+/// Two chains come to one answer alone.
+pub fn comparison_is_unique<H: NodeHash, S: Verifier>()
+    ensures { (one other : KeyedRoots) (answer also : Compare)
+        → IsChain H.digest_of S.verified one → IsChain H.digest_of S.verified other
+        → IsCompared H.digest_of one other answer → IsCompared H.digest_of one other also
+        → answer ≡ also }
+{}

@@ -4,8 +4,8 @@
 //! Callers can rely on this: `read` accepts exactly the bytes of a form, each value has one spelling,
 //! and `write` produces it. The roots of a chain verify under one key, each root names the one before
 //! it, and a root that may not follow is refused. Where a root stands to a chain is answered exactly,
-//! and so is whether two roots are evidence against their provider. Only chains allocate, to keep their
-//! roots.
+//! and so are what two chains come to and whether two roots are evidence against their provider. Only
+//! chains allocate, to keep their roots.
 //!
 //! ```
 //! let first = SignedRoot::read(first_bytes)?;
@@ -14,6 +14,7 @@
 //! chain.extend(&mut hash, &verifier, next)?;
 //! let root = chain.at(7);
 //! let place = chain.place(&mut hash, &verifier, &seen_elsewhere)?;
+//! let answer = Chain::compare(&mut hash, &chain, &chain_of_another_client);
 //! ```
 #![tactic(auto)]
 
@@ -32,7 +33,7 @@ mod whole;
 
 pub use body::{Body, BodyText};
 pub use chain::{Chain, Place};
-pub use compare::Compare;
+pub use compare::{Compare, comparison_is_unique};
 pub use evidence::RootEvidence;
 pub use laws::{
     body_is_read, chain_is_no_evidence, epochs_ascend, place_tells_evidence, promise_is_read,

@@ -86,8 +86,14 @@ fn compare_within<H: NodeHash, S: Verifier>(one: &Chain<H, S>, other: &Chain<H, 
     let (ones, others) = (one.roots(), other.roots());
     let start = one.first().body.epoch.max(other.first().body.epoch);
     let end = one.head().body.epoch.min(other.head().body.epoch);
-    let Some((i, j)) = last_places(ones, others, not_after(ones, end), not_after(others, end)) else {
-        return diverge(ones, others, not_before(ones, start), not_before(others, start));
+    let Some((i, j)) = last_places(ones, others, not_after(ones, end), not_after(others, end))
+    else {
+        return diverge(
+            ones,
+            others,
+            not_before(ones, start),
+            not_before(others, start),
+        );
     };
     match apart_below(ones, others, i, j) {
         Some((k, l)) => Compare::Collision(text(&ones[k].body), text(&others[l].body)),
@@ -140,16 +146,16 @@ fn apart_below(
     ensures within { IfSome result (λ p. (p.0 < length ones.now) × (p.1 < length others.now)) }
     ensures none { IfNone result ((i j : ℕ) × IsRun ones.now others.now i j to also_to × ((i ≡ 0) ⊎ (j ≡ 0))) }
 {
-    let mut i = to;
-    let mut j = also_to;
-    while i > 0 && j > 0 {
-        let one = &ones[i - 1];
-        let other = &others[j - 1];
+    let mut low = to;
+    let mut also_low = also_to;
+    while low > 0 && also_low > 0 {
+        let one = &ones[low - 1];
+        let other = &others[also_low - 1];
         if one.body != other.body {
-            return Some((i - 1, j - 1));
+            return Some((low - 1, also_low - 1));
         }
-        i -= 1;
-        j -= 1;
+        low -= 1;
+        also_low -= 1;
     }
     None
 }

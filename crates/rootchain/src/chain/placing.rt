@@ -109,11 +109,7 @@ fn place_below<H: NodeHash>(hash: &mut H, first: &SignedRoot, root: &SignedRoot)
 }
 
 /// The place of a root of a later epoch than the head.
-pub(super) fn place_above<H: NodeHash>(
-    hash: &mut H,
-    head: &SignedRoot,
-    root: &SignedRoot,
-) -> Place
+pub(super) fn place_above<H: NodeHash>(hash: &mut H, head: &SignedRoot, root: &SignedRoot) -> Place
     ensures place { IsPlaceAbove H.digest_of head.now root.now result }
     ensures counted { H.digests hash.new ≤ H.digests hash.old + 1 }
     ensures spared { root.now.body.previous_epoch ≢ head.now.body.epoch → H.digests hash.new ≡ H.digests hash.old }
