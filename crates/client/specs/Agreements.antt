@@ -65,19 +65,30 @@ module _ (hash : List ℕ → List ℕ) (accepted : List ℕ → List ℕ → Li
   RepliesAnswer look also answer = (reply other : Reply) × Spells look.reply reply × Spells also.reply other
       × Answers hash accepted (record { name = look.name; reply = reply }) (record { name = also.name; reply = other }) answer
 
-  module _ (one other : Client) where
-    -- the chains tell nothing, and of the pairs of looks for one name and epoch, in their order, the first
-    -- that is not the same has this answer
-    abbrev pub IsToldByLooks : SameOr → Type 0
-    IsToldByLooks answer = IsCompared hash one.chain other.chain chains.Equal
-        × ((look also : Look) × AreFirstUnlike one.looks other.looks look also × RepliesAnswer look also answer)
+  -- what the chains of two clients compare to, if they do not agree
+  abbrev pub IsToldByChains : Client → Client → Outcome → Type 0
+  IsToldByChains one other Agree = ⊥
+  IsToldByChains one other (Evidence evidence) = IsCompared hash one.chain other.chain (chains.Evidence evidence)
+  IsToldByChains one other (Collision x y) = IsCompared hash one.chain other.chain (chains.Collision x y)
+  IsToldByChains one other TwoValues = ⊥
 
-    -- first what the chains compare to, then what the looks tell
-    abbrev pub IsReconciled : Outcome → Type 0
-    IsReconciled Agree = IsCompared hash one.chain other.chain chains.Equal × LooksAgree one.looks other.looks
-    IsReconciled (Evidence evidence) = IsCompared hash one.chain other.chain (chains.Evidence evidence)
-    IsReconciled (Collision x y) = IsCompared hash one.chain other.chain (chains.Collision x y) ⊎ IsToldByLooks (replies.Collision x y)
-    IsReconciled TwoValues = IsToldByLooks replies.TwoValues
+  module _ (ones others : List Look) where
+    -- of the pairs of looks for one name and epoch, in their order, the first that is not the same has this
+    -- answer
+    abbrev pub IsToldByLooks : SameOr → Type 0
+    IsToldByLooks answer = (look also : Look) × AreFirstUnlike ones others look also × RepliesAnswer look also answer
+
+    -- what the looks of two clients come to whose chains agree
+    abbrev pub AreReconciled : Outcome → Type 0
+    AreReconciled Agree = LooksAgree ones others
+    AreReconciled (Evidence evidence) = ⊥
+    AreReconciled (Collision x y) = IsToldByLooks (replies.Collision x y)
+    AreReconciled TwoValues = IsToldByLooks replies.TwoValues
+
+  -- First what the chains compare to. If that is nothing, then what the looks tell.
+  abbrev pub IsReconciled : Client → Client → Outcome → Type 0
+  IsReconciled one other outcome =
+      IsToldByChains one other outcome ⊎ (IsCompared hash one.chain other.chain chains.Equal × AreReconciled one.looks other.looks outcome)
 
 -- ---- what an answer is
 

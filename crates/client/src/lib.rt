@@ -19,12 +19,14 @@ mod due;
 mod looks;
 mod outcome;
 mod promises;
+mod reconciling;
 mod refusal;
 mod roots;
 
 pub use client::Client;
 pub use due::Due;
 pub use outcome::Outcome;
+pub use reconciling::reconcile;
 pub use refusal::Refusal;
 
 #[cfg(test)]
