@@ -1,6 +1,6 @@
 -- What a comparison of two chains tells: that they agree, that two roots are evidence, or that two
 -- bodies have one digest.
-use Rattle.std.proofs.Common.{◌≡◌, ◌≢◌, ◌⊎◌, ◌↔◌, ℕ, ◌+◌, ◌-◌, ◌<◌, ◌≤◌, List, length, slice_get, Contains, All, refl, sym, ap, subst, ◌∙◌, inl, inr, arith}
+use Rattle.std.proofs.Common.{◌≡◌, ◌≢◌, ◌⊎◌, ◌↔◌, ℕ, ◌-◌, ◌<◌, ◌≤◌, List, length, slice_get, Contains, All, refl, sym, ap, subst, ◌∙◌, inl, inr, arith}
 use Rattle.std.proofs.lemmas.Bool.{cases_lt, cases_order}
 use Rattle.rootchain.specs.declared.chain.placing.Place.{Place}
 use Rattle.rootchain.specs.declared.chain.placing.Place.TheVariants as place
@@ -9,7 +9,7 @@ use Rattle.rootchain.specs.declared.compare.Compare.TheVariants.{Equal, Evidence
 use Rattle.rootchain.specs.declared.evidence.RootEvidence.TheVariants.{Fork, Link, Skip}
 use Rattle.rootchain.specs.declared.signed_root.SignedRoot.{SignedRoot}
 use Rattle.rootchain.specs.Chains.{Ascend, IsAt, IsChain, IsHead, KeyedRoots, Names, Verifies}
-use Rattle.rootchain.specs.Comparisons.{told_by_place, AreAlikeAt, AreOfBoth, AreOneAt, ChainsAgree, CollisionHolds, ComparedHolds, EvidenceIs, IsCollided, IsCommon, IsCompared, IsComparedApart, IsComparedWithin, IsOfBoth, IsPassedOver, IsSearchedFrom, LiesBelow, MayMeet, Spans}
+use Rattle.rootchain.specs.Comparisons.{told_by_place, AreAlikeAt, AreOfBoth, AreOneAt, ChainsAgree, CollisionHolds, ComparedHolds, EvidenceIs, IsCollided, IsCommon, IsCompared, IsComparedApart, IsComparedWithin, IsOfBoth, IsPassedOver, IsSearchedFrom, LiesBelow, Spans}
 use Rattle.rootchain.specs.Evidence.{IsLink, IsRootEvidence, IsSkip}
 use Rattle.rootchain.specs.Places.{EvidenceHolds, IsFirst, IsMissing, IsNextAfter, IsPlace, IsPlaceAbove}
 use Rattle.rootchain.proofs.Chains.{ascend-linked, one-root}

@@ -9,7 +9,7 @@ use Rattle.rootchain.specs.declared.compare.Compare.TheVariants.{Equal, Evidence
 use Rattle.rootchain.specs.declared.evidence.RootEvidence.TheVariants.{Fork, Link, Skip}
 use Rattle.rootchain.specs.declared.signed_root.SignedRoot.{SignedRoot}
 use Rattle.rootchain.specs.Bodies.{body_bytes, IsSized}
-use Rattle.rootchain.specs.Chains.{Ascend, IsAt, IsChain, IsHead, KeyedRoots, Names}
+use Rattle.rootchain.specs.Chains.{Ascend, IsChain, IsHead, KeyedRoots, Names}
 use Rattle.rootchain.specs.Comparisons.{AreAlikeAt, CollisionHolds, HasAlso, IsCommon, IsComparedWithin, IsFirstHeld, IsLastOne, IsSearchedFrom, Spans}
 use Rattle.rootchain.specs.Places.{IsFirst, IsMissing, IsNextAfter}
 use Rattle.rootchain.specs.Walks.{AreApartPlaces, AreLastPlaces, IsCleared, IsDivergence, IsRun}

@@ -1,12 +1,11 @@
 -- Two chains of one key compared: they agree, or two of their roots are evidence, or two of their
 -- bodies have one digest (after CONIKS, section 4).
-use Rattle.std.specs.Prelude.{◌≡◌, ◌≢◌, ◌⊎◌, ℕ, ◌+◌, ◌<◌, ◌≤◌, List, All, Contains}
+use Rattle.std.specs.Prelude.{◌≡◌, ◌≢◌, ◌⊎◌, ℕ, ◌+◌, ◌<◌, ◌≤◌, List, Contains}
 use Rattle.nodehash.specs.Collisions.{IsCollision}
 use Rattle.rootchain.specs.declared.chain.placing.Place.{Place}
 use Rattle.rootchain.specs.declared.chain.placing.Place.TheVariants as place
 use Rattle.rootchain.specs.declared.compare.Compare.{Compare}
 use Rattle.rootchain.specs.declared.compare.Compare.TheVariants.{Equal, Evidence, Collision}
-use Rattle.rootchain.specs.declared.evidence.RootEvidence.{RootEvidence}
 use Rattle.rootchain.specs.declared.evidence.RootEvidence.TheVariants.{Fork, Link, Skip}
 use Rattle.rootchain.specs.declared.signed_root.SignedRoot.{SignedRoot}
 use Rattle.rootchain.specs.Bodies.{body_bytes}

@@ -1,5 +1,4 @@
-use Rattle.std.proofs.Common.{rules, arith}
-use Rattle.rootchain.proofs.Agreement.{compared_above, compared_below, compared_meeting, told_holds}
+use Rattle.rootchain.proofs.Agreement.{compared_above, compared_below, told_holds}
 use Rattle.rootchain.proofs.chain.comparing.compare_chains.Goals as goal
 
 pub returns-then-head-also_first-clause-compared : goal.returns-then-head-also_first-clause-compared
