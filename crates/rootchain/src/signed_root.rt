@@ -1,4 +1,4 @@
-ghost use Rattle.std.specs.Prelude.{◌≡◌, ◌≤◌, ◌↔◌, ◌+◌, length, IsOkUnless, IsTrue};
+ghost use Rattle.std.specs.Prelude.{◌≡◌, ◌≢◌, ◌≤◌, ◌↔◌, ◌+◌, length, IsOkUnless, IsTrue};
 ghost use Rattle.encoding.specs.Fields.{ReadsWhole};
 ghost use Rattle.rootchain.specs.declared.refusal.Refusal.TheVariants.{Malformed};
 ghost use Rattle.rootchain.specs.Bodies.{IsWellFormed};
@@ -69,6 +69,7 @@ impl SignedRoot {
     pub(crate) fn names<H: NodeHash>(&self, hash: &mut H, earlier: &SignedRoot) -> bool
         ensures value { IsTrue result ↔ Names H.digest_of earlier.now self.now }
         ensures counted { H.digests hash.new ≤ H.digests hash.old + 1 }
+        ensures spared { self.now.body.previous_epoch ≢ earlier.now.body.epoch → H.digests hash.new ≡ H.digests hash.old }
     {
         self.body.previous_epoch == earlier.body.epoch
             && self.body.previous_hash == hash.digest(earlier.body.write().bytes())

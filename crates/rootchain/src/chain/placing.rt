@@ -1,8 +1,8 @@
-ghost use Rattle.std.specs.Prelude.{◌≡◌, ◌≢◌, ◌↔◌, ◌+◌, ◌<◌, ◌≤◌, length, IfOk, IsOk, IsOkUnless};
+ghost use Rattle.std.specs.Prelude.{◌≡◌, ◌≢◌, ◌↔◌, ◌+◌, ◌<◌, ◌≤◌, length, IfOk, IsOk, IsOkUnless, OnErr};
 ghost use Rattle.std.specs.List.Sorted.{IsPartitionPoint};
 ghost use Rattle.rootchain.specs.declared.refusal.Refusal.TheVariants.{BadSignature};
 ghost use Rattle.rootchain.specs.Chains.{Ascend, IsChain, IsHead, Verifies};
-ghost use Rattle.rootchain.specs.Places.{EvidenceHolds, IsFirst, IsPlace, IsPlaceAbove, IsPlaceBelow, IsPlaceWithin};
+ghost use Rattle.rootchain.specs.Places.{EvidenceHolds, IsFirst, IsHashed, IsPlace, IsPlaceAbove, IsPlaceBelow, IsPlaceWithin};
 
 use super::Chain;
 use crate::{Refusal, RootEvidence, SignedRoot};
@@ -30,7 +30,6 @@ impl<H: NodeHash, S: Verifier> Chain<H, S> {
     /// # Errors
     ///
     /// `BadSignature` if the root does not verify under the chain's key.
-    #[tactic(auto, using(crate::proofs::Places::place_sound))]
     pub fn place(&self, hash: &mut H, verifier: &S, root: &SignedRoot) -> Result<Place, Refusal>
         ensures verifies { IsOk result ↔ Verifies S.verified self.now.key root.now }
         ensures refused { IsOkUnless result BadSignature }
@@ -38,6 +37,8 @@ impl<H: NodeHash, S: Verifier> Chain<H, S> {
         ensures evidence { IfOk result (EvidenceHolds H.digest_of S.verified self.now.key) }
         ensures chain { IsChain H.digest_of S.verified self.now }
         ensures counted { H.digests hash.new ≤ H.digests hash.old + 1 }
+        ensures spared { ¬ IsHashed self.now root.now → H.digests hash.new ≡ H.digests hash.old }
+        ensures unverified { OnErr result (H.digests hash.new ≡ H.digests hash.old) }
     {
         if !root.verifies(verifier, &self.key) {
             return Err(Refusal::BadSignature);
@@ -49,6 +50,7 @@ impl<H: NodeHash, S: Verifier> Chain<H, S> {
     pub(super) fn place_of(&self, hash: &mut H, root: &SignedRoot) -> Place
         ensures place { IsPlace H.digest_of self.now root.now result }
         ensures counted { H.digests hash.new ≤ H.digests hash.old + 1 }
+        ensures spared { ¬ IsHashed self.now root.now → H.digests hash.new ≡ H.digests hash.old }
     {
         let (first, head) = (self.first(), self.head());
         if root.body.epoch < first.body.epoch {
@@ -98,6 +100,7 @@ impl<H: NodeHash, S: Verifier> Chain<H, S> {
 fn place_below<H: NodeHash>(hash: &mut H, first: &SignedRoot, root: &SignedRoot) -> Place
     ensures place { IsPlaceBelow H.digest_of first.now root.now result }
     ensures counted { H.digests hash.new ≤ H.digests hash.old + 1 }
+    ensures spared { first.now.body.previous_epoch ≢ root.now.body.epoch → H.digests hash.new ≡ H.digests hash.old }
 {
     if first.body.previous_epoch < root.body.epoch {
         return Place::Evidence(RootEvidence::Skip(root.copied(), first.copied()));
