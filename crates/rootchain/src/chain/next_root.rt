@@ -1,6 +1,6 @@
 ghost use Rattle.std.specs.Prelude.{◌≡◌, ◌↔◌, ◌<◌, ◌≤◌, length, All, None, Some, option_copied};
 ghost use Rattle.std.specs.List.Sorted.{IsPartitionPoint};
-ghost use Rattle.rootchain.specs.Chains.{Ascend};
+ghost use Rattle.rootchain.specs.Chains.{Ascend, IsChain};
 ghost use Rattle.rootchain.specs.Places.{IsNextAfter};
 
 use super::Chain;
@@ -13,6 +13,7 @@ impl<H: NodeHash, S: Verifier> Chain<H, S> {
     pub fn after(&self, epoch: u64) -> Option<&SignedRoot>
         ensures next { (root : SignedRoot) → (option_copied result ≡ Some root) ↔ IsNextAfter self.now epoch root }
         ensures none { (option_copied result ≡ None) ↔ All (λ root. root.body.epoch ≤ epoch) self.now.roots }
+        ensures chain { IsChain H.digest_of S.verified self.now }
     {
         // Epochs ascend along a chain, so the roots that are not after the epoch come first.
         let roots = self.roots();
