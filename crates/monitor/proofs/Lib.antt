@@ -1,0 +1,4 @@
+pub mod Changing
+pub mod Expected
+pub mod Stepped
+pub mod Watching
