@@ -1,5 +1,4 @@
 ghost use Rattle.std.specs.Prelude.{◌≡◌, ◌≢◌, ◌+◌, ◌≤◌, ◌<◌, ◌⊎◌, ◌↔◌, ℕ, MatchOption, IfSome, IfNone, All, length};
-ghost use Rattle.std.specs.List.Sorted.{IsPartitionPoint};
 ghost use Rattle.rootchain.specs.Bodies.{body_bytes, IsSized};
 ghost use Rattle.rootchain.specs.Chains.{Ascend, IsChain, IsHead};
 ghost use Rattle.rootchain.specs.Comparisons.{told_by_place, AreAlikeAt, AreOneAt, ChainsAgree, CollisionHolds, ComparedHolds, EvidenceIs, IsCollided, IsCommon, IsCompared, IsComparedWithin, IsHashNeeded, IsOfBoth};
@@ -10,6 +9,7 @@ ghost use Rattle.rootchain.specs.declared.chain.placing.Place.{Place};
 ghost use Rattle.rootchain.specs.declared.compare.Compare.TheVariants.{Equal};
 
 use super::Chain;
+use super::next_root::not_after;
 use super::placing::{not_before, place_above};
 use crate::{Body, Compare, RootEvidence, SignedRoot};
 use encoding::Text;
@@ -176,21 +176,10 @@ fn diverge(ones: &[SignedRoot], others: &[SignedRoot], i: usize, j: usize) -> Co
     })
 }
 
-/// How many of the roots have an epoch up to this one.
-fn not_after(roots: &[SignedRoot], epoch: u64) -> usize
-    requires { Ascend roots.now }
-    ensures within { result ≤ length roots.now }
-    ensures point { IsPartitionPoint (λ root. root.body.epoch ≤ epoch) (λ root. epoch < root.body.epoch) roots.now result }
-{
-    roots.partition_point(|root| root.body.epoch <= epoch)
-}
-
 /// The bytes of a body as a text.
 fn text(body: &Body) -> Text
     ensures value { result ≡ body_bytes body.now }
     ensures sized { IsSized body.now }
 {
-    let mut text = Text::new();
-    text.push_slice(body.write().bytes());
-    text
+    body.write().copied()
 }

@@ -26,7 +26,7 @@ impl<H: NodeHash, S: Verifier> Chain<H, S> {
 }
 
 /// How many of the roots have this epoch or one before it.
-fn not_after(roots: &[SignedRoot], epoch: u64) -> usize
+pub(super) fn not_after(roots: &[SignedRoot], epoch: u64) -> usize
     requires { Ascend roots.now }
     ensures within { result ≤ length roots.now }
     ensures point { IsPartitionPoint (λ root. root.body.epoch ≤ epoch) (λ root. epoch < root.body.epoch) roots.now result }
