@@ -8,8 +8,8 @@ use Rattle.rootchain.specs.SignedRoots.{IsSignedRoot}
 use Rattle.rootchain.specs.TakingLists.{IsListRefusal, Takes}
 use Rattle.rootchain.specs.declared.refusal.Refusal.TheVariants as root
 use Rattle.rootchain.specs.declared.signed_root.SignedRoot.{SignedRoot}
-use Rattle.rootchain.specs.declared.untaken.Untaken.{Untaken}
-use Rattle.rootchain.specs.declared.untaken.Untaken.TheVariants as untaken
+use Rattle.rootchain.specs.declared.list_refusal.ListRefusal.{ListRefusal}
+use Rattle.rootchain.specs.declared.list_refusal.ListRefusal.TheVariants as untaken
 use Rattle.client.specs.Clients.{Client}
 use Rattle.client.specs.declared.refusal.Refusal.{Refusal}
 use Rattle.client.specs.declared.refusal.Refusal.TheVariants.{Root, Proof, UnknownRoot, RootDiffers, Memory, NoPromise}
@@ -19,7 +19,7 @@ abbrev pub SpellsRoots : List ℕ → List SignedRoot → Type 0
 SpellsRoots = Spells root_list_bytes IsRootList
 
 -- how a client tells why its chain refuses a list
-abbrev pub told_as : Untaken → Refusal
+abbrev pub told_as : ListRefusal → Refusal
 told_as untaken.BadSignature = Root root.BadSignature
 told_as untaken.BeforeStart = Root root.NotLater
 told_as untaken.Ahead = Root root.BadLink
@@ -34,7 +34,7 @@ module _ (hash : List ℕ → List ℕ) (verified : List ℕ → List ℕ → Li
       × (after ≡ record before { chain = chain })
   Updates (Err why) after = (after ≡ before)
       × ((((roots : List SignedRoot) → ¬ SpellsRoots bytes roots) × (why ≡ Root root.Malformed))
-      ⊎ ((roots : List SignedRoot) × (reason : Untaken) × SpellsRoots bytes roots × IsListRefusal hash verified before.chain roots reason × (why ≡ told_as reason)))
+      ⊎ ((roots : List SignedRoot) × (reason : ListRefusal) × SpellsRoots bytes roots × IsListRefusal hash verified before.chain roots reason × (why ≡ told_as reason)))
 
 -- if evidence is told, it holds under the key, and its roots have spellings
 abbrev pub RefusalHolds : (List ℕ → List ℕ) → (List ℕ → List ℕ → List ℕ → Type 0) → List ℕ → Refusal → Type 0

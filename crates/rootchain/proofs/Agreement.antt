@@ -9,7 +9,7 @@ use Rattle.rootchain.specs.declared.compare.Compare.TheVariants.{Equal, Evidence
 use Rattle.rootchain.specs.declared.evidence.RootEvidence.TheVariants.{Fork, Link, Skip}
 use Rattle.rootchain.specs.declared.signed_root.SignedRoot.{SignedRoot}
 use Rattle.rootchain.specs.Chains.{Ascend, IsAt, IsChain, IsHead, KeyedRoots, Names, Verifies}
-use Rattle.rootchain.specs.Comparisons.{told_by_place, AreAlikeAt, AreOfBoth, AreOneAt, ChainsAgree, CollisionHolds, ComparedHolds, EvidenceIs, IsCollided, IsCommon, IsCompared, IsComparedApart, IsComparedWithin, IsOfBoth, IsPassedOver, IsSearchedFrom, LiesBelow, Spans}
+use Rattle.rootchain.specs.Comparisons.{told_by_place, AreAlikeAt, AreOfBoth, AreOneAt, ChainsAgree, CollisionHolds, ComparedHolds, EvidenceIs, IsCollided, IsCommon, IsCompared, IsComparedApart, IsComparedWithin, IsOfBoth, IsPassedOver, IsDecidedFrom, LiesBelow, Spans}
 use Rattle.rootchain.specs.Evidence.{IsLink, IsRootEvidence, IsSkip}
 use Rattle.rootchain.specs.Places.{EvidenceHolds, IsFirst, IsMissing, IsNextAfter, IsPlace, IsPlaceAbove}
 use Rattle.rootchain.proofs.Chains.{ascend-linked, one-root}
@@ -257,7 +257,7 @@ module _ (hash : List ℕ → List ℕ) (verified : List ℕ → List ℕ → Li
 
     -- where they have one body at an epoch and differ at an earlier one, the answer is a collision
     module _ (last epoch : ℕ) (shared : AreOneAt one other last) (less : epoch < last) (common : IsCommon one other epoch) (differ : ¬ AreAlikeAt one other epoch) where
-      not-searched : (start : ℕ) → IsSearchedFrom one other start → ⊥
+      not-searched : (start : ℕ) → IsDecidedFrom one other start → ⊥
       not-searched start searched = elim searched [
         | inl s ↦ elim (cases_lt s.0 last) [
           | inl more ↦ s.1.none-later last more shared

@@ -10,7 +10,7 @@ use Rattle.rootchain.specs.declared.evidence.RootEvidence.TheVariants.{Fork, Lin
 use Rattle.rootchain.specs.declared.signed_root.SignedRoot.{SignedRoot}
 use Rattle.rootchain.specs.Bodies.{body_bytes, IsSized}
 use Rattle.rootchain.specs.Chains.{Ascend, IsChain, IsHead, KeyedRoots, Names}
-use Rattle.rootchain.specs.Comparisons.{AreAlikeAt, CollisionHolds, HasAlso, IsCommon, IsComparedWithin, IsFirstHeld, IsLastOne, IsSearchedFrom, Spans}
+use Rattle.rootchain.specs.Comparisons.{AreAlikeAt, CollisionHolds, HasAlso, IsCommon, IsComparedWithin, IsFirstHeld, IsLastOne, IsDecidedFrom, Spans}
 use Rattle.rootchain.specs.Places.{IsFirst, IsMissing, IsNextAfter}
 use Rattle.rootchain.specs.Walks.{AreApartPlaces, AreLastPlaces, IsCleared, IsDivergence, IsRun}
 use Rattle.rootchain.proofs.BodyTexts.{same_text}
@@ -121,7 +121,7 @@ module _ (one other : KeyedRoots) (up : Ascend one.roots) (up' : Ascend other.ro
   }
 
   -- what diverges is evidence, or neither chain has a root in the range from the split on
-  diverged : IsSearchedFrom one other start → ((x y : SignedRoot) → slice_get one.roots i ≡ Some x → slice_get other.roots j ≡ Some y → x.body ≢ y.body) →
+  diverged : IsDecidedFrom one other start → ((x y : SignedRoot) → slice_get one.roots i ≡ Some x → slice_get other.roots j ≡ Some y → x.body ≢ y.body) →
       (result : Compare) → IsDivergence one.roots other.roots i j result → IsComparedWithin one other result
   diverged searched differ Equal h = (
     start,

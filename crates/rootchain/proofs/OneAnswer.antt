@@ -9,7 +9,7 @@ use Rattle.rootchain.specs.declared.evidence.RootEvidence.TheVariants.{Fork, Lin
 use Rattle.rootchain.specs.declared.signed_root.SignedRoot.{SignedRoot}
 use Rattle.rootchain.specs.Bodies.{body_bytes}
 use Rattle.rootchain.specs.Chains.{Ascend, IsAt, IsChain, KeyedRoots, Names}
-use Rattle.rootchain.specs.Comparisons.{told_by_place, IsCommon, IsCompared, IsComparedApart, IsComparedWithin, IsFirstHeld, IsLastApart, IsLastOne, IsPassedOver, IsSearchedFrom, LiesBelow}
+use Rattle.rootchain.specs.Comparisons.{told_by_place, IsCommon, IsCompared, IsComparedApart, IsComparedWithin, IsFirstHeld, IsLastApart, IsLastOne, IsPassedOver, IsDecidedFrom, LiesBelow}
 use Rattle.rootchain.specs.Places.{IsMissing, IsNextAfter, IsPlaceAbove}
 use Rattle.rootchain.proofs.Agreement.{cases, not-missing, not-two, unique}
 use Rattle.rootchain.proofs.Chains.{ascend-linked}
@@ -70,7 +70,7 @@ module _ (one other : KeyedRoots) (up : Ascend one.roots) (up' : Ascend other.ro
     | inr (inr more) ↦ absurd (h'.none-later last more h.here)
   ]
 
-  start-once : (start start' : ℕ) → IsSearchedFrom one other start → IsSearchedFrom one other start' → start ≡ start'
+  start-once : (start start' : ℕ) → IsDecidedFrom one other start → IsDecidedFrom one other start' → start ≡ start'
   start-once start start' h h' = elim h [
     | inl s ↦ elim h' [
       | inl s' ↦ s.3 ∙ ap (λ n. n + 1) (last-once s.0 s'.0 s.1 s'.1) ∙ sym s'.3
@@ -92,14 +92,14 @@ module _ (one other : KeyedRoots) (up : Ascend one.roots) (up' : Ascend other.ro
   held-skip : (root over : SignedRoot) (h : IsComparedWithin one other (Evidence (Skip root over))) → Held h.1
   held-skip root over h missing = elim h.4 [ inl k ↦ not-missing one h.1 root k.0 missing.0 | inr k ↦ not-missing other h.1 root k.0 missing.1 ]
 
-  none-held : (start start' epoch : ℕ) → IsSearchedFrom one other start → ((epoch : ℕ) → IsCommon one other epoch → start ≤ epoch → IsMissing one epoch × IsMissing other epoch) →
-      IsSearchedFrom one other start' → IsFirstHeld one other start' epoch → Held epoch → ⊥
+  none-held : (start start' epoch : ℕ) → IsDecidedFrom one other start → ((epoch : ℕ) → IsCommon one other epoch → start ≤ epoch → IsMissing one epoch × IsMissing other epoch) →
+      IsDecidedFrom one other start' → IsFirstHeld one other start' epoch → Held epoch → ⊥
   none-held start start' epoch searched none searched' first held =
       let e = start-once start start' searched searched' in
       let from = first.from in
       held (none epoch first.common (omega (arith, e, from)))
 
-  epoch-once : (start start' epoch epoch' : ℕ) → IsSearchedFrom one other start → IsSearchedFrom one other start' → IsFirstHeld one other start epoch → IsFirstHeld one other start' epoch' → Held epoch → Held epoch' → epoch ≡ epoch'
+  epoch-once : (start start' epoch epoch' : ℕ) → IsDecidedFrom one other start → IsDecidedFrom one other start' → IsFirstHeld one other start epoch → IsFirstHeld one other start' epoch' → Held epoch → Held epoch' → epoch ≡ epoch'
   epoch-once start start' epoch epoch' searched searched' first first' held held' =
       let e = start-once start start' searched searched' in
       let from = first.from in
@@ -111,7 +111,7 @@ module _ (one other : KeyedRoots) (up : Ascend one.roots) (up' : Ascend other.ro
       ]
 
   -- chains that differ below the last one body are not searched
-  apart-searched : (root also : SignedRoot) → IsLastApart one other root also → (start : ℕ) → IsSearchedFrom one other start → ⊥
+  apart-searched : (root also : SignedRoot) → IsLastApart one other root also → (start : ℕ) → IsDecidedFrom one other start → ⊥
   apart-searched root also a start searched = elim searched [
     | inl s ↦
         let e = last-once s.0 a.last s.1 a.is-last in

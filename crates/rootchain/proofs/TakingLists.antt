@@ -7,11 +7,11 @@ use Rattle.std.proofs.lemmas.List.{append-nil, append_assoc}
 use Rattle.std.proofs.lemmas.List.Elements.{All-from_recursion}
 use Rattle.rootchain.specs.declared.chain.placing.Place.TheVariants as place
 use Rattle.rootchain.specs.declared.signed_root.SignedRoot.{SignedRoot}
-use Rattle.rootchain.specs.declared.untaken.Untaken.{Untaken}
-use Rattle.rootchain.specs.declared.untaken.Untaken.TheVariants.{BadSignature, BeforeStart, Ahead, Evidence, Memory}
+use Rattle.rootchain.specs.declared.list_refusal.ListRefusal.{ListRefusal}
+use Rattle.rootchain.specs.declared.list_refusal.ListRefusal.TheVariants.{BadSignature, BeforeStart, Ahead, Evidence, Memory}
 use Rattle.rootchain.specs.Chains.{IsChain, KeyedRoots}
 use Rattle.rootchain.specs.SignedRoots.{IsSignedRoot}
-use Rattle.rootchain.specs.TakingLists.{with_roots, IsListRefusal, IsUntaken, Passes, StopsAt, Takes, UntakenHolds, UntakenIsSpelled}
+use Rattle.rootchain.specs.TakingLists.{with_roots, IsListRefusal, IsRefusedRoot, Passes, StopsAt, Takes, RefusalHolds, RefusalIsSpelled}
 use Rattle.rootchain.proofs.Places.{place_sound}
 use Rattle.rootchain.proofs.Spelled.{place-given}
 use Rattle.rootchain.proofs.Taking.{next_stays}
@@ -22,7 +22,7 @@ module _ (hash : List ℕ → List ℕ) (verified : List ℕ → List ℕ → Li
   -- what comes of the roots that are left leads to what comes of all of them
   pub record Leads (start : KeyedRoots) (all : List SignedRoot) (now : KeyedRoots) (left : List SignedRoot) : Type 0 where
     pub taken : (after : KeyedRoots) → Takes hash verified now left after → Takes hash verified start all after
-    pub stopped : (why : Untaken) (after : KeyedRoots) → StopsAt hash verified now left why after → StopsAt hash verified start all why after
+    pub stopped : (why : ListRefusal) (after : KeyedRoots) → StopsAt hash verified now left why after → StopsAt hash verified start all why after
 
   pub leads-begin : (start : KeyedRoots) (all : List SignedRoot) → Leads start all start all
   leads-begin start all = record { taken = λ after t. t; stopped = λ why after s. s }
@@ -37,8 +37,8 @@ module _ (hash : List ℕ → List ℕ) (verified : List ℕ → List ℕ → Li
   pub leads-end : (start : KeyedRoots) (all : List SignedRoot) (now : KeyedRoots) (left : List SignedRoot) → left ≡ [] → Leads start all now left → Takes hash verified start all now
   leads-end start all now left none leads = leads.taken now (rw none refl)
 
-  pub leads-stop : (start : KeyedRoots) (all : List SignedRoot) (now : KeyedRoots) (left : List SignedRoot) (root : SignedRoot) (rest : List SignedRoot) (why : Untaken) (after : KeyedRoots)
-      → left ≡ root ∷ rest → IsUntaken hash verified now root why → after ≡ now → Leads start all now left → StopsAt hash verified start all why after
+  pub leads-stop : (start : KeyedRoots) (all : List SignedRoot) (now : KeyedRoots) (left : List SignedRoot) (root : SignedRoot) (rest : List SignedRoot) (why : ListRefusal) (after : KeyedRoots)
+      → left ≡ root ∷ rest → IsRefusedRoot hash verified now root why → after ≡ now → Leads start all now left → StopsAt hash verified start all why after
   leads-stop start all now left root rest why after same untaken stays leads = leads.stopped why after ([], root, rest, same, stays, rw stays untaken)
 
   -- ---- what a chain is once it took roots
@@ -86,19 +86,19 @@ module _ (hash : List ℕ → List ℕ) (verified : List ℕ → List ℕ → Li
 
   -- ---- why a list is refused
 
-  untaken-holds : (chain : KeyedRoots) (root : SignedRoot) (why : Untaken) → IsChain hash verified chain → IsUntaken hash verified chain root why → UntakenHolds hash verified chain.key why
+  untaken-holds : (chain : KeyedRoots) (root : SignedRoot) (why : ListRefusal) → IsChain hash verified chain → IsRefusedRoot hash verified chain root why → RefusalHolds hash verified chain.key why
   untaken-holds chain root (Evidence evidence) is untaken = place_sound hash verified chain root (place.Evidence evidence) is untaken.0 untaken.1
   untaken-holds chain root BadSignature is untaken = tt
   untaken-holds chain root BeforeStart is untaken = tt
   untaken-holds chain root Ahead is untaken = tt
   untaken-holds chain root Memory is untaken = tt
 
-  pub stop-holds : (chain : KeyedRoots) (roots : List SignedRoot) (why : Untaken) (after : KeyedRoots) → IsChain hash verified chain → StopsAt hash verified chain roots why after → UntakenHolds hash verified chain.key why
+  pub stop-holds : (chain : KeyedRoots) (roots : List SignedRoot) (why : ListRefusal) (after : KeyedRoots) → IsChain hash verified chain → StopsAt hash verified chain roots why after → RefusalHolds hash verified chain.key why
   stop-holds chain roots why after is stops =
       let same : after.key ≡ chain.key = ap (λ (c : KeyedRoots). c.key) (takes-grows stops.0 chain after stops.4).1 in
-      subst (λ (key : List ℕ). UntakenHolds hash verified key why) same (untaken-holds after stops.1 why (takes-chain stops.0 chain after is stops.4) stops.5)
+      subst (λ (key : List ℕ). RefusalHolds hash verified key why) same (untaken-holds after stops.1 why (takes-chain stops.0 chain after is stops.4) stops.5)
 
-  untaken-spelled : (chain : KeyedRoots) (root : SignedRoot) (why : Untaken) → 0 < length chain.roots → All IsSignedRoot chain.roots → IsSignedRoot root → IsUntaken hash verified chain root why → UntakenIsSpelled why
+  untaken-spelled : (chain : KeyedRoots) (root : SignedRoot) (why : ListRefusal) → 0 < length chain.roots → All IsSignedRoot chain.roots → IsSignedRoot root → IsRefusedRoot hash verified chain root why → RefusalIsSpelled why
   untaken-spelled chain root (Evidence evidence) some own given untaken =
       place-given hash IsSignedRoot chain root (place.Evidence evidence) some (λ held among. subst IsSignedRoot among.2 (own among.0 held among.1)) given untaken.1
   untaken-spelled chain root BadSignature some own given untaken = tt
@@ -106,8 +106,8 @@ module _ (hash : List ℕ → List ℕ) (verified : List ℕ → List ℕ → Li
   untaken-spelled chain root Ahead some own given untaken = tt
   untaken-spelled chain root Memory some own given untaken = tt
 
-  pub stop-spelled : (chain : KeyedRoots) (roots : List SignedRoot) (why : Untaken) (after : KeyedRoots) → IsChain hash verified chain → AllByRecursion IsSignedRoot chain.roots → AllByRecursion IsSignedRoot roots
-      → StopsAt hash verified chain roots why after → UntakenIsSpelled why
+  pub stop-spelled : (chain : KeyedRoots) (roots : List SignedRoot) (why : ListRefusal) (after : KeyedRoots) → IsChain hash verified chain → AllByRecursion IsSignedRoot chain.roots → AllByRecursion IsSignedRoot roots
+      → StopsAt hash verified chain roots why after → RefusalIsSpelled why
   stop-spelled chain roots why after is own given stops =
       let front = spelled-front stops.0 stops.1 stops.2 (rw stops.3 at given) in
       let after-is = takes-chain stops.0 chain after is stops.4 in

@@ -82,10 +82,10 @@ pub record IsLastApart (one other : KeyedRoots) (root also : SignedRoot) : Type 
   pub differ : root.body ≢ also.body
   pub alike : (between : ℕ) → epoch < between → between < last → IsCommon one other between → AreAlikeAt one other between
 
--- if the chains are alike below the last one body, they are searched from the next epoch on; and if they
--- have no one body, from the start
-abbrev pub IsSearchedFrom : KeyedRoots → KeyedRoots → ℕ → Type 0
-IsSearchedFrom one other start =
+-- if the chains are alike below the last one body, the epochs above it decide; and if they have no one
+-- body, all epochs do
+abbrev pub IsDecidedFrom : KeyedRoots → KeyedRoots → ℕ → Type 0
+IsDecidedFrom one other start =
     ((last : ℕ) × IsLastOne one other last × ((epoch : ℕ) → epoch < last → IsCommon one other epoch → AreAlikeAt one other epoch) × (start ≡ last + 1))
     ⊎ (((epoch : ℕ) → ¬ AreOneAt one other epoch) × (start ≡ 0))
 
@@ -103,12 +103,12 @@ IsPassedOver one other epoch root over = IsAt one epoch root × IsMissing other 
 abbrev pub IsComparedWithin : KeyedRoots → KeyedRoots → Compare → Type 0
 IsComparedWithin one other (Collision x y) = (root also : SignedRoot) × IsLastApart one other root also × (x ≡ body_bytes root.body) × (y ≡ body_bytes also.body)
 IsComparedWithin one other (Evidence (Fork root also)) =
-    (start epoch : ℕ) × IsSearchedFrom one other start × IsFirstHeld one other start epoch × IsAt one epoch root × IsAt other epoch also × (root.body ≢ also.body)
+    (start epoch : ℕ) × IsDecidedFrom one other start × IsFirstHeld one other start epoch × IsAt one epoch root × IsAt other epoch also × (root.body ≢ also.body)
 IsComparedWithin one other (Evidence (Skip root over)) =
-    (start epoch : ℕ) × IsSearchedFrom one other start × IsFirstHeld one other start epoch × (IsPassedOver one other epoch root over ⊎ IsPassedOver other one epoch root over)
+    (start epoch : ℕ) × IsDecidedFrom one other start × IsFirstHeld one other start epoch × (IsPassedOver one other epoch root over ⊎ IsPassedOver other one epoch root over)
 IsComparedWithin one other (Evidence (Link root over)) = ⊥
 IsComparedWithin one other Equal =
-    (start : ℕ) × IsSearchedFrom one other start × ((epoch : ℕ) → IsCommon one other epoch → start ≤ epoch → IsMissing one epoch × IsMissing other epoch)
+    (start : ℕ) × IsDecidedFrom one other start × ((epoch : ℕ) → IsCommon one other epoch → start ≤ epoch → IsMissing one epoch × IsMissing other epoch)
 
 module _ (hash : List ℕ → List ℕ) where
   -- what two chains compare to of which the one lies below the other: the place of the upper one's first

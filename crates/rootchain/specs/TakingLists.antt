@@ -2,8 +2,8 @@
 use Rattle.std.specs.Prelude.{◌≡◌, ◌⊎◌, ℕ, List, [], ◌∷◌, ◌++◌, Result, Ok, Err}
 use Rattle.rootchain.specs.declared.chain.placing.Place.TheVariants as place
 use Rattle.rootchain.specs.declared.signed_root.SignedRoot.{SignedRoot}
-use Rattle.rootchain.specs.declared.untaken.Untaken.{Untaken}
-use Rattle.rootchain.specs.declared.untaken.Untaken.TheVariants.{BadSignature, BeforeStart, Ahead, Evidence, Memory}
+use Rattle.rootchain.specs.declared.list_refusal.ListRefusal.{ListRefusal}
+use Rattle.rootchain.specs.declared.list_refusal.ListRefusal.TheVariants.{BadSignature, BeforeStart, Ahead, Evidence, Memory}
 use Rattle.rootchain.specs.Chains.{KeyedRoots, Verifies}
 use Rattle.rootchain.specs.Evidence.{BothAre, IsRootEvidence}
 use Rattle.rootchain.specs.Places.{IsPlace}
@@ -26,44 +26,44 @@ module _ (hash : List ℕ → List ℕ) (verified : List ℕ → List ℕ → Li
   Takes chain (root ∷ roots) after = (middle : KeyedRoots) × Passes chain root middle × Takes middle roots after
 
   -- when a root of a list is refused so; memory is wanted before the first root, so its refusal tells nothing of a root
-  abbrev pub IsUntaken : KeyedRoots → SignedRoot → Untaken → Type 0
-  IsUntaken chain root BadSignature = ¬ Verifies verified chain.key root
-  IsUntaken chain root BeforeStart = Verifies verified chain.key root × IsPlace hash chain root place.BeforeStart
-  IsUntaken chain root Ahead = Verifies verified chain.key root × IsPlace hash chain root place.Ahead
-  IsUntaken chain root (Evidence evidence) = Verifies verified chain.key root × IsPlace hash chain root (place.Evidence evidence)
-  IsUntaken chain root Memory = Unit
+  abbrev pub IsRefusedRoot : KeyedRoots → SignedRoot → ListRefusal → Type 0
+  IsRefusedRoot chain root BadSignature = ¬ Verifies verified chain.key root
+  IsRefusedRoot chain root BeforeStart = Verifies verified chain.key root × IsPlace hash chain root place.BeforeStart
+  IsRefusedRoot chain root Ahead = Verifies verified chain.key root × IsPlace hash chain root place.Ahead
+  IsRefusedRoot chain root (Evidence evidence) = Verifies verified chain.key root × IsPlace hash chain root (place.Evidence evidence)
+  IsRefusedRoot chain root Memory = Unit
 
   -- a root of the list is refused so, by the chain as the roots before it left it
-  abbrev pub StopsAt : KeyedRoots → List SignedRoot → Untaken → KeyedRoots → Type 0
+  abbrev pub StopsAt : KeyedRoots → List SignedRoot → ListRefusal → KeyedRoots → Type 0
   StopsAt chain roots why after = (front : List SignedRoot) × (root : SignedRoot) × (rest : List SignedRoot)
-      × (roots ≡ front ++ root ∷ rest) × Takes chain front after × IsUntaken after root why
+      × (roots ≡ front ++ root ∷ rest) × Takes chain front after × IsRefusedRoot after root why
 
   -- when a list is refused so
-  abbrev pub IsListRefusal : KeyedRoots → List SignedRoot → Untaken → Type 0
+  abbrev pub IsListRefusal : KeyedRoots → List SignedRoot → ListRefusal → Type 0
   IsListRefusal chain roots why = (after : KeyedRoots) × StopsAt chain roots why after
 
   -- what comes of a root of a list
-  abbrev pub TakesOne : {A : Type 0} → KeyedRoots → SignedRoot → Result A Untaken → KeyedRoots → Type 0
+  abbrev pub TakesOne : {A : Type 0} → KeyedRoots → SignedRoot → Result A ListRefusal → KeyedRoots → Type 0
   TakesOne chain root (Ok _) after = Passes chain root after
-  TakesOne chain root (Err why) after = IsUntaken chain root why × (after ≡ chain)
+  TakesOne chain root (Err why) after = IsRefusedRoot chain root why × (after ≡ chain)
 
   -- what comes of a list, up to the first root that is refused
-  abbrev pub TakesEach : {A : Type 0} → KeyedRoots → List SignedRoot → Result A Untaken → KeyedRoots → Type 0
+  abbrev pub TakesEach : {A : Type 0} → KeyedRoots → List SignedRoot → Result A ListRefusal → KeyedRoots → Type 0
   TakesEach chain roots (Ok _) after = Takes chain roots after
   TakesEach chain roots (Err why) after = StopsAt chain roots why after
 
   -- if evidence is told, it is evidence under the key
-  abbrev pub UntakenHolds : List ℕ → Untaken → Type 0
-  UntakenHolds key (Evidence evidence) = IsRootEvidence hash verified key evidence
-  UntakenHolds key BadSignature = Unit
-  UntakenHolds key BeforeStart = Unit
-  UntakenHolds key Ahead = Unit
-  UntakenHolds key Memory = Unit
+  abbrev pub RefusalHolds : List ℕ → ListRefusal → Type 0
+  RefusalHolds key (Evidence evidence) = IsRootEvidence hash verified key evidence
+  RefusalHolds key BadSignature = Unit
+  RefusalHolds key BeforeStart = Unit
+  RefusalHolds key Ahead = Unit
+  RefusalHolds key Memory = Unit
 
 -- if evidence is told, its roots have a spelling
-abbrev pub UntakenIsSpelled : Untaken → Type 0
-UntakenIsSpelled (Evidence evidence) = BothAre IsSignedRoot evidence
-UntakenIsSpelled BadSignature = Unit
-UntakenIsSpelled BeforeStart = Unit
-UntakenIsSpelled Ahead = Unit
-UntakenIsSpelled Memory = Unit
+abbrev pub RefusalIsSpelled : ListRefusal → Type 0
+RefusalIsSpelled (Evidence evidence) = BothAre IsSignedRoot evidence
+RefusalIsSpelled BadSignature = Unit
+RefusalIsSpelled BeforeStart = Unit
+RefusalIsSpelled Ahead = Unit
+RefusalIsSpelled Memory = Unit

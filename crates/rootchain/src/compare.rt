@@ -7,7 +7,7 @@ use encoding::Text;
 use nodehash::NodeHash;
 use sigiface::Verifier;
 
-/// What two chains of one key come to.
+/// The result of comparing two chains of one provider.
 #[derive(Debug, Drop)]
 pub enum Compare {
     /// They agree.
@@ -19,7 +19,8 @@ pub enum Compare {
 }
 
 impl Compare {
-    /// What the place of the first root of a chain tells, in a chain that lies below it.
+    /// The result for two chains without a common epoch, from the place of the upper chain's first root in
+    /// the lower chain.
     pub(crate) fn from_place(place: Place) -> Compare
         ensures { result ≡ told_by_place place }
     {
@@ -30,7 +31,7 @@ impl Compare {
     }
 }
 
-/// Two chains come to one answer alone.
+/// The definition allows exactly one result for two chains.
 pub fn comparison_is_unique<H: NodeHash, S: Verifier>()
     ensures { (one other : KeyedRoots) (answer also : Compare)
         → IsChain H.digest_of S.verified one → IsChain H.digest_of S.verified other

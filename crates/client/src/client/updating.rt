@@ -4,7 +4,7 @@ ghost use Rattle.client.specs.Updating.{told_as, RefusalHolds, Updates};
 use super::Client;
 use crate::Refusal;
 use nodehash::NodeHash;
-use rootchain::{RootList, Untaken};
+use rootchain::{RootList, ListRefusal};
 use sigiface::Verifier;
 use vrfiface::VufCheck;
 
@@ -34,14 +34,14 @@ impl<H: NodeHash, V: VufCheck, S: Verifier> Client<H, V, S> {
 }
 
 /// How the client tells why its chain refuses a list.
-fn tell(why: Untaken) -> Refusal
+fn tell(why: ListRefusal) -> Refusal
     ensures { result ≡ told_as why }
 {
     match why {
-        Untaken::BadSignature => Refusal::Root(rootchain::Refusal::BadSignature),
-        Untaken::BeforeStart => Refusal::Root(rootchain::Refusal::NotLater),
-        Untaken::Ahead => Refusal::Root(rootchain::Refusal::BadLink),
-        Untaken::Evidence(evidence) => Refusal::RootDiffers(evidence),
-        Untaken::Memory => Refusal::Memory,
+        ListRefusal::BadSignature => Refusal::Root(rootchain::Refusal::BadSignature),
+        ListRefusal::BeforeStart => Refusal::Root(rootchain::Refusal::NotLater),
+        ListRefusal::Ahead => Refusal::Root(rootchain::Refusal::BadLink),
+        ListRefusal::Evidence(evidence) => Refusal::RootDiffers(evidence),
+        ListRefusal::Memory => Refusal::Memory,
     }
 }

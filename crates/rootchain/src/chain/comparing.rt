@@ -17,14 +17,14 @@ use nodehash::NodeHash;
 use sigiface::Verifier;
 
 impl<H: NodeHash, S: Verifier> Chain<H, S> {
-    /// What two chains of one key come to, where both have roots of the same epochs: from the later of
-    /// their first epochs to the earlier of their heads' (after CONIKS, section 4).
+    /// Compares two chains of one key over their common range, from the later of their first epochs to the
+    /// earlier of their heads' (after CONIKS, section 4).
     ///
-    /// If one chain ends before the other starts, this is the place of the upper chain's first root in the
-    /// lower one. Else they are gone through from the top down. Below a body that both have, two bodies of
-    /// one epoch that differ are a collision, since the roots after them name both by one hash. With no
-    /// such collision, the first epoch after the last such body tells: the chains have two bodies there, or
-    /// one of them passes it over.
+    /// If one chain ends before the other starts, the place of the upper chain's first root in the lower
+    /// chain decides. Else the chains are compared from the top down. If they differ below a body that both
+    /// have, two of their bodies have one hash, since equal roots name both: that is a collision. If they
+    /// differ above the last such body only, they have two bodies at one epoch, a fork, or one of them
+    /// passes an epoch over, a skip.
     ///
     /// This allocates nothing. It hashes at most one body, and goes over the roots of the common range once.
     pub fn compare(hash: &mut H, one: &Chain<H, S>, other: &Chain<H, S>) -> Compare
@@ -43,7 +43,7 @@ impl<H: NodeHash, S: Verifier> Chain<H, S> {
     }
 }
 
-/// What two chains come to, whatever their keys.
+/// Compares two chains, whatever their keys.
 fn compare_chains<H: NodeHash, S: Verifier>(
     hash: &mut H,
     one: &Chain<H, S>,
@@ -57,17 +57,17 @@ fn compare_chains<H: NodeHash, S: Verifier>(
     ensures other { IsChain H.digest_of S.verified other.now }
 {
     let (first, head) = (one.first(), one.head());
-    let (also_first, also_head) = (other.first(), other.head());
-    if head.body.epoch < also_first.body.epoch {
-        return meet(hash, head, also_first);
+    let (other_first, other_head) = (other.first(), other.head());
+    if head.body.epoch < other_first.body.epoch {
+        return meet(hash, head, other_first);
     }
-    if also_head.body.epoch < first.body.epoch {
-        return meet(hash, also_head, first);
+    if other_head.body.epoch < first.body.epoch {
+        return meet(hash, other_head, first);
     }
     compare_within(one, other)
 }
 
-/// What the head of a chain and the first root of a chain above it come to.
+/// Compares two chains without a common epoch, by the lower one's head and the upper one's first root.
 fn meet<H: NodeHash>(hash: &mut H, head: &SignedRoot, first: &SignedRoot) -> Compare
     ensures told { (place : Place) × IsPlaceAbove H.digest_of head.now first.now place × (result ≡ told_by_place place) }
     ensures counted { H.digests hash.new ≤ H.digests hash.old + 1 }
@@ -76,7 +76,7 @@ fn meet<H: NodeHash>(hash: &mut H, head: &SignedRoot, first: &SignedRoot) -> Com
     Compare::from_place(place_above(hash, head, first))
 }
 
-/// What two chains come to that have a common range.
+/// Compares two chains with a common range.
 fn compare_within<H: NodeHash, S: Verifier>(one: &Chain<H, S>, other: &Chain<H, S>) -> Compare
     requires one { (head first : SignedRoot) → IsHead one.now head → IsFirst other.now first → first.body.epoch ≤ head.body.epoch }
     requires other { (head first : SignedRoot) → IsHead other.now head → IsFirst one.now first → first.body.epoch ≤ head.body.epoch }
@@ -106,19 +106,19 @@ fn last_places(
     ones: &[SignedRoot],
     others: &[SignedRoot],
     end: usize,
-    also_end: usize,
+    other_end: usize,
 ) -> Option<(usize, usize)>
     requires ones { Ascend ones.now }
     requires others { Ascend others.now }
     requires end { end ≤ length ones.now }
-    requires also_end { also_end ≤ length others.now }
-    requires cleared { IsCleared ones.now others.now end also_end }
+    requires other_end { other_end ≤ length others.now }
+    requires cleared { IsCleared ones.now others.now end other_end }
     ensures some { IfSome result (λ p. AreLastPlaces ones.now others.now p.0 p.1) }
     ensures within { IfSome result (λ p. (p.0 < length ones.now) × (p.1 < length others.now)) }
     ensures none { IfNone result (IsCleared ones.now others.now 0 0) }
 {
     let mut i = end;
-    let mut j = also_end;
+    let mut j = other_end;
     while i > 0 && j > 0 {
         let one = &ones[i - 1];
         let other = &others[j - 1];
@@ -139,23 +139,23 @@ fn apart_below(
     ones: &[SignedRoot],
     others: &[SignedRoot],
     to: usize,
-    also_to: usize,
+    other_to: usize,
 ) -> Option<(usize, usize)>
-    requires { AreLastPlaces ones.now others.now to also_to }
-    ensures some { IfSome result (λ p. AreApartPlaces ones.now others.now to also_to p.0 p.1) }
+    requires { AreLastPlaces ones.now others.now to other_to }
+    ensures some { IfSome result (λ p. AreApartPlaces ones.now others.now to other_to p.0 p.1) }
     ensures within { IfSome result (λ p. (p.0 < length ones.now) × (p.1 < length others.now)) }
-    ensures none { IfNone result ((i j : ℕ) × IsRun ones.now others.now i j to also_to × ((i ≡ 0) ⊎ (j ≡ 0))) }
+    ensures none { IfNone result ((i j : ℕ) × IsRun ones.now others.now i j to other_to × ((i ≡ 0) ⊎ (j ≡ 0))) }
 {
     let mut low = to;
-    let mut also_low = also_to;
-    while low > 0 && also_low > 0 {
+    let mut other_low = other_to;
+    while low > 0 && other_low > 0 {
         let one = &ones[low - 1];
-        let other = &others[also_low - 1];
+        let other = &others[other_low - 1];
         if one.body != other.body {
-            return Some((low - 1, also_low - 1));
+            return Some((low - 1, other_low - 1));
         }
         low -= 1;
-        also_low -= 1;
+        other_low -= 1;
     }
     None
 }

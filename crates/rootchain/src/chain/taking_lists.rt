@@ -3,10 +3,10 @@ ghost use Rattle.std.specs.List.{AllByRecursion};
 ghost use Rattle.rootchain.specs.declared.signed_root.SignedRoot.{SignedRoot};
 ghost use Rattle.rootchain.specs.Chains.{IsChain};
 ghost use Rattle.rootchain.specs.SignedRoots.{IsSignedRoot};
-ghost use Rattle.rootchain.specs.TakingLists.{with_roots, IsListRefusal, Takes, TakesEach, TakesOne, UntakenHolds, UntakenIsSpelled};
+ghost use Rattle.rootchain.specs.TakingLists.{with_roots, IsListRefusal, Takes, TakesEach, TakesOne, RefusalHolds, RefusalIsSpelled};
 
 use super::Chain;
-use crate::{Place, Refusal, RootList, SignedRoot, Untaken};
+use crate::{ListRefusal, Place, Refusal, RootList, SignedRoot};
 use nodehash::NodeHash;
 use sigiface::Verifier;
 
@@ -24,13 +24,13 @@ impl<H: NodeHash, S: Verifier> Chain<H, S> {
         hash: &mut H,
         verifier: &S,
         list: RootList<'_>,
-    ) -> Result<(), Untaken>
+    ) -> Result<(), ListRefusal>
         ensures taken { OnOk result (Takes H.digest_of S.verified self.old list.entry self.new) }
         ensures grows { (more : List SignedRoot) × (self.new ≡ with_roots self.old more) }
         ensures refused { IfErr result (IsListRefusal H.digest_of S.verified self.old list.entry) }
         ensures stays { OnErr result (self.new ≡ self.old) }
-        ensures evidence { IfErr result (UntakenHolds H.digest_of S.verified self.old.key) }
-        ensures spelled { AllByRecursion IsSignedRoot self.old.roots → AllByRecursion IsSignedRoot list.entry → IfErr result UntakenIsSpelled }
+        ensures evidence { IfErr result (RefusalHolds H.digest_of S.verified self.old.key) }
+        ensures spelled { AllByRecursion IsSignedRoot self.old.roots → AllByRecursion IsSignedRoot list.entry → IfErr result RefusalIsSpelled }
         ensures form { AllByRecursion IsSignedRoot self.old.roots → AllByRecursion IsSignedRoot list.entry → AllByRecursion IsSignedRoot self.new.roots }
         ensures chain { IsChain H.digest_of S.verified self.old }
         ensures counted { H.digests hash.new ≤ H.digests hash.old + length list.entry }
@@ -47,7 +47,12 @@ impl<H: NodeHash, S: Verifier> Chain<H, S> {
     }
 
     /// Takes the roots of a list up to the first that is refused.
-    fn take_each(&mut self, hash: &mut H, verifier: &S, list: RootList<'_>) -> Result<(), Untaken>
+    fn take_each(
+        &mut self,
+        hash: &mut H,
+        verifier: &S,
+        list: RootList<'_>,
+    ) -> Result<(), ListRefusal>
         ensures each { TakesEach H.digest_of S.verified self.old list.entry result self.new }
         ensures counted { H.digests hash.new ≤ H.digests hash.old + length list.entry }
     {
@@ -59,17 +64,17 @@ impl<H: NodeHash, S: Verifier> Chain<H, S> {
     }
 
     /// Takes one root of a list.
-    fn take_one(&mut self, hash: &mut H, verifier: &S, root: SignedRoot) -> Result<(), Untaken>
+    fn take_one(&mut self, hash: &mut H, verifier: &S, root: SignedRoot) -> Result<(), ListRefusal>
         ensures one { TakesOne H.digest_of S.verified self.old root result self.new }
         ensures counted { H.digests hash.new ≤ H.digests hash.old + 1 }
     {
         match self.take(hash, verifier, root) {
             Ok(Place::Known | Place::Next) => Ok(()),
-            Ok(Place::BeforeStart) => Err(Untaken::BeforeStart),
-            Ok(Place::Ahead) => Err(Untaken::Ahead),
-            Ok(Place::Evidence(evidence)) => Err(Untaken::Evidence(evidence)),
-            Err(Refusal::BadSignature) => Err(Untaken::BadSignature),
-            Err(_) => Err(Untaken::Memory),
+            Ok(Place::BeforeStart) => Err(ListRefusal::BeforeStart),
+            Ok(Place::Ahead) => Err(ListRefusal::Ahead),
+            Ok(Place::Evidence(evidence)) => Err(ListRefusal::Evidence(evidence)),
+            Err(Refusal::BadSignature) => Err(ListRefusal::BadSignature),
+            Err(_) => Err(ListRefusal::Memory),
         }
     }
 }

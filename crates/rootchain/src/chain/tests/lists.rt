@@ -1,7 +1,7 @@
 //! Lists of roots that a chain takes. Hashes are byte sums.
 
 use super::*;
-use crate::{MAX_ROOTS, RootList, Untaken, write_list};
+use crate::{ListRefusal, MAX_ROOTS, RootList, write_list};
 
 /// The list of these roots, as bytes.
 fn list_bytes(alloc: Global, roots: &[SignedRoot]) -> Result<Vec<u8>, AllocError> {
@@ -19,11 +19,11 @@ fn taken(chain: &mut Chain<SumHash, KeyedSign>, bytes: &[u8]) -> Result<&'static
     };
     match chain.take_list(&mut SumHash::new(), &provider(), list) {
         Ok(()) => Ok("taken"),
-        Err(Untaken::BadSignature) => Ok("bad signature"),
-        Err(Untaken::BeforeStart) => Ok("before start"),
-        Err(Untaken::Ahead) => Ok("ahead"),
-        Err(Untaken::Evidence(_)) => Ok("evidence"),
-        Err(Untaken::Memory) => Err(AllocError),
+        Err(ListRefusal::BadSignature) => Ok("bad signature"),
+        Err(ListRefusal::BeforeStart) => Ok("before start"),
+        Err(ListRefusal::Ahead) => Ok("ahead"),
+        Err(ListRefusal::Evidence(_)) => Ok("evidence"),
+        Err(ListRefusal::Memory) => Err(AllocError),
     }
 }
 
