@@ -4,11 +4,10 @@ use Rattle.std.specs.Prelude.{◌≡◌, ◌≢◌, ◌⊎◌, ℕ, ◌<◌, Lis
 use Rattle.nodehash.specs.Collisions.{IsCollision}
 use Rattle.rootchain.specs.Chains.{KeyedRoots}
 use Rattle.rootchain.specs.Comparisons.{ChainsAgree, IsCompared}
-use Rattle.rootchain.specs.Evidence.{IsRootEvidence}
+use Rattle.rootchain.specs.Evidence.{BothAre, IsRootEvidence}
 use Rattle.rootchain.specs.SignedRoots.{IsSignedRoot}
 use Rattle.rootchain.specs.declared.compare.Compare.TheVariants as chains
 use Rattle.rootchain.specs.declared.evidence.RootEvidence.{RootEvidence}
-use Rattle.rootchain.specs.declared.evidence.RootEvidence.TheVariants.{Fork, Link, Skip}
 use Rattle.proofs.specs.Accepts.{stated}
 use Rattle.proofs.specs.Comparisons.{Answers}
 use Rattle.proofs.specs.Replies.{Reply, Spells}
@@ -107,9 +106,7 @@ OutcomeHolds hash accepted verified key TwoValues = AreTwoValuesFor accepted
 -- if it is evidence, both its roots have spellings
 abbrev pub OutcomeIsSpelled : Outcome → Type 0
 OutcomeIsSpelled Agree = Unit
-OutcomeIsSpelled (Evidence (Fork root also)) = IsSignedRoot root × IsSignedRoot also
-OutcomeIsSpelled (Evidence (Link root also)) = IsSignedRoot root × IsSignedRoot also
-OutcomeIsSpelled (Evidence (Skip root also)) = IsSignedRoot root × IsSignedRoot also
+OutcomeIsSpelled (Evidence evidence) = BothAre IsSignedRoot evidence
 OutcomeIsSpelled (Collision x y) = Unit
 OutcomeIsSpelled TwoValues = Unit
 
