@@ -24,21 +24,39 @@ fn first() -> Body {
     body(3, 2, Hash32::new([7; 32]))
 }
 
+fn seventh() -> Body {
+    after(&first(), 7)
+}
+
+fn ninth() -> Body {
+    after(&seventh(), 9)
+}
+
+fn other_seventh() -> Body {
+    forked(&seventh())
+}
+
+fn eighth() -> Body {
+    after(&seventh(), 8)
+}
+
+/// It names another body than the ninth root's.
+fn mislinked() -> Body {
+    after(&forked(&ninth()), 10)
+}
+
 #[test]
 fn chain_is_followed(rt: HostRuntime) -> Result<(), Fail> {
     let alloc = rt.alloc();
-    let third = first();
-    let seventh = after(&third, 7);
-    let ninth = after(&seventh, 9);
     let rows = [
-        (third, "started"),
-        (seventh, "extended"),
-        (third, "known"),
+        (first(), "started"),
+        (seventh(), "extended"),
+        (first(), "known"),
         (body(11, 10, Hash32::new([7; 32])), "ahead"),
-        (ninth, "extended"),
-        (seventh, "known"),
+        (ninth(), "extended"),
+        (seventh(), "known"),
         (body(1, 0, Hash32::default()), "before start"),
-        (ninth, "known"),
+        (ninth(), "known"),
     ];
     let mut input = String::new(alloc);
     let mut answers = String::new(alloc);
@@ -59,22 +77,16 @@ fn chain_is_followed(rt: HostRuntime) -> Result<(), Fail> {
 #[test]
 fn fork_link_and_skip(rt: HostRuntime) -> Result<(), Fail> {
     let alloc = rt.alloc();
-    let third = first();
-    let seventh = after(&third, 7);
-    let ninth = after(&seventh, 9);
-    let other_seventh = forked(&seventh);
-    let eighth = after(&seventh, 8);
-    let mislinked = after(&forked(&ninth), 10);
     let rows = [
-        (other_seventh, seventh, "fork", other_seventh),
-        (eighth, eighth, "skip", ninth),
-        (mislinked, ninth, "link", mislinked),
+        (other_seventh(), seventh(), "fork", other_seventh()),
+        (eighth(), eighth(), "skip", ninth()),
+        (mislinked(), ninth(), "link", mislinked()),
     ];
     let chain = format!(in alloc;
         "{}\n{}\n{}\n",
-        digits(alloc, &third)?,
-        digits(alloc, &seventh)?,
-        digits(alloc, &ninth)?
+        digits(alloc, &first())?,
+        digits(alloc, &seventh())?,
+        digits(alloc, &ninth())?
     )?;
     for (root, one, kind, other) in &rows {
         let root = digits(alloc, root)?;
