@@ -90,7 +90,11 @@ fn compare_chains(one: &History, other: &History, rounds: usize) -> Result<u64> 
     let mut hash = Sha256Hash::new();
     let mut epochs: u64 = 0;
     for round in 0..rounds {
-        let (one, other) = if round % 2 == 0 { (one, other) } else { (other, one) };
+        let (one, other) = if round % 2 == 0 {
+            (one, other)
+        } else {
+            (other, one)
+        };
         if *one.chain.key() != *other.chain.key() {
             bail!("the chains are of two providers");
         }

@@ -36,7 +36,7 @@ HasAlso other one epoch = (root : SignedRoot) → IsAt one epoch root → (also 
 abbrev pub AreAlikeAt : KeyedRoots → KeyedRoots → ℕ → Type 0
 AreAlikeAt one other epoch = HasAlso other one epoch × HasAlso one other epoch
 
--- all of one chain is before all of the other: its head and the other's first root
+-- the one chain ends before the other starts: these are its head and the other's first root
 abbrev pub LiesBelow : KeyedRoots → KeyedRoots → SignedRoot → SignedRoot → Type 0
 LiesBelow lower upper head first = IsHead lower head × IsFirst upper first × (head.body.epoch < first.body.epoch)
 
