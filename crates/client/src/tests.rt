@@ -32,6 +32,11 @@ fn stranger() -> KeyedSign {
     KeyedSign::new(Hash32::new([9; 32]))
 }
 
+/// The root of this body, signed by another signer.
+fn forged(root: &SignedRoot) -> SignedRoot {
+    signed(&stranger(), root.body)
+}
+
 /// The name `a`.
 fn name() -> Result<Name, AllocError> {
     Name::new(b"a").map_err(|_| AllocError)
@@ -120,18 +125,17 @@ fn started(alloc: Global, root: &SignedRoot) -> Result<Watching, AllocError> {
     Client::start(alloc, &provider(), provider().public(), bytes.bytes()).map_err(|_| AllocError)
 }
 
-/// What comes of the list of these roots.
+/// What comes of the list of these two roots.
 fn updated(
     alloc: Global,
     client: &mut Watching,
-    count: u8,
-    roots: &[&SignedRoot],
+    one: &SignedRoot,
+    other: &SignedRoot,
 ) -> Result<Result<(), Refusal>, AllocError> {
     let mut list = Vec::new(alloc);
-    list.extend_from_slice(&[0, count])?;
-    for root in roots {
-        list.extend_from_slice(root.write().bytes())?;
-    }
+    list.extend_from_slice(&[0, 2])?;
+    list.extend_from_slice(one.write().bytes())?;
+    list.extend_from_slice(other.write().bytes())?;
     unless_out_of_memory(client.update(&mut SumHash::new(), &provider(), &list))
 }
 
@@ -178,7 +182,7 @@ fn client_starts_with_a_root(rt: HostRuntime) -> Result<(), Fail> {
     let client = started(rt.alloc(), &first.root)?;
     assert_eq!(rt; client.chain().head().body.epoch, 3);
     assert_eq!(rt; *client.key(), provider().public());
-    let forged = signed(&stranger(), first.root.body).write();
+    let forged = forged(&first.root).write();
     let refused: Result<Watching, Refusal> = Client::start(
         rt.alloc(),
         &provider(),
@@ -211,7 +215,10 @@ fn looks_at_an_epoch_and_at_the_head(rt: HostRuntime) -> Result<(), Fail> {
         looked_up(&mut client, 7, &next.reply)?,
         Err(Refusal::UnknownRoot)
     );
-    assert_eq!(rt; updated(rt.alloc(), &mut client, 1, &[&next.root])?, Ok(()));
+    assert_eq!(rt;
+        updated(rt.alloc(), &mut client, &first.root, &next.root)?,
+        Ok(())
+    );
     assert_eq!(rt; looked_up(&mut client, 3, &first.reply)?, Ok(None));
     assert_eq!(rt;
         looked_up(&mut client, 7, &next.reply)?,
@@ -242,21 +249,24 @@ fn lists_of_roots(rt: HostRuntime) -> Result<(), Fail> {
     let mut client = started(rt.alloc(), &first.root)?;
     let ahead = Refusal::Root(rootchain::Refusal::BadLink);
     assert_eq!(rt;
-        updated(rt.alloc(), &mut client, 1, &[&last.root])?,
+        updated(rt.alloc(), &mut client, &first.root, &last.root)?,
         Err(ahead)
     );
-    let forged = signed(&stranger(), last.root.body);
+    let forged = forged(&last.root);
     let refused = Refusal::Root(rootchain::Refusal::BadSignature);
     assert_eq!(rt;
-        updated(rt.alloc(), &mut client, 2, &[&next.root, &forged])?,
+        updated(rt.alloc(), &mut client, &next.root, &forged)?,
         Err(refused)
     );
     assert_eq!(rt; client.chain().head().body.epoch, 3);
     assert_eq!(rt;
-        updated(rt.alloc(), &mut client, 2, &[&first.root, &next.root])?,
+        updated(rt.alloc(), &mut client, &first.root, &next.root)?,
         Ok(())
     );
-    assert_eq!(rt; updated(rt.alloc(), &mut client, 1, &[&last.root])?, Ok(()));
+    assert_eq!(rt;
+        updated(rt.alloc(), &mut client, &first.root, &last.root)?,
+        Ok(())
+    );
     assert_eq!(rt; client.chain().head().body.epoch, 9);
     Ok(())
 }
@@ -268,7 +278,7 @@ fn fork_is_evidence(rt: HostRuntime) -> Result<(), Fail> {
     let other = signed_page(rt.alloc(), 3, &earlier(), Some(&key))?;
     let mut client = started(rt.alloc(), &first.root)?;
     let fork = RootEvidence::Fork(first.root.copied(), other.root.copied());
-    let told = updated(rt.alloc(), &mut client, 1, &[&other.root])?;
+    let told = updated(rt.alloc(), &mut client, &first.root, &other.root)?;
     assert_eq!(rt; told, Err(Refusal::RootDiffers(fork)));
     Ok(())
 }
@@ -287,7 +297,7 @@ fn promise_and_the_next_root(rt: HostRuntime) -> Result<(), Fail> {
     assert_eq!(rt; client.due_epoch(&name()?), None);
     assert_eq!(rt; tested_by(&mut client, &without.reply)?, 20);
     assert_eq!(rt;
-        updated(rt.alloc(), &mut client, 1, &[&without.root])?,
+        updated(rt.alloc(), &mut client, &first.root, &without.root)?,
         Ok(())
     );
     assert_eq!(rt; client.due_epoch(&name()?), Some(7));
@@ -297,7 +307,10 @@ fn promise_and_the_next_root(rt: HostRuntime) -> Result<(), Fail> {
 
     let mut client = started(rt.alloc(), &first.root)?;
     assert_eq!(rt; kept(&mut client, &promise)?, Ok(()));
-    assert_eq!(rt; updated(rt.alloc(), &mut client, 1, &[&with.root])?, Ok(()));
+    assert_eq!(rt;
+        updated(rt.alloc(), &mut client, &first.root, &with.root)?,
+        Ok(())
+    );
     assert_eq!(rt; tested_by(&mut client, &with.reply)?, 0);
     assert_eq!(rt; tested_by(&mut client, &with.reply)?, 23);
     Ok(())
