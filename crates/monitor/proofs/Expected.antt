@@ -62,7 +62,7 @@ parts-from changes epoch place point = (
 )
 
 pub expected-at_none : (start : Option (List ℕ)) (changes : Changes) (epoch place : ℕ) → Parts changes epoch place → (1 ≤ place → ⊥) → expected_from start changes epoch ≡ start
-expected-at_none start changes epoch place parts none = expected-none start changes epoch (λ k d p. parts.1 k d (elim (cases_lt k place) [ | inl some ↦ absurd (none (omega (arith, some))) | inr all ↦ all ]) p)
+expected-at_none start changes epoch place parts none = expected-none start changes epoch (λ k d p. parts.1 k d (elim (cases_lt k place) [ inl some ↦ absurd (none (omega (arith, some))) | inr all ↦ all ]) p)
 
 pub expected-at_last : (start : Option (List ℕ)) (changes : Changes) (epoch place last : ℕ) (change : ℕ × List ℕ) → Parts changes epoch place → place ≤ length changes → place ≡ last + 1 → change ≡ get_or changes last change
     → expected_from start changes epoch ≡ Some change.1
@@ -110,14 +110,26 @@ greatest-from start (change ∷ changes) epoch up = by (λ begin. greatest-from 
   where
     by : ((begin : Option (List ℕ)) → IsExpected (record { start = begin; changes = changes }) epoch (expected_from begin changes epoch)) → (change.0 < epoch) ⊎ (epoch ≤ change.0) → IsExpected (record { start = start; changes = change ∷ changes }) epoch (expected_from start (change ∷ changes) epoch)
     by rest (inl below) = rw (lt-ltb change.0 epoch below) (elim (rest (Some change.1)) [
-      | inl last ↦ inl (last.0, later-there change last.0 changes last.1, last.2, (λ other has low. elim (first-or-later change other changes has) [
+      | inl last ↦ inl (
+        last.0,
+        later-there change last.0 changes last.1,
+        last.2,
+        (λ other has low. elim (first-or-later change other changes has) [
           | inl same ↦ rw (← same) (omega (arith, head-least change last.0 changes up last.1))
           | inr later ↦ last.3 other later low
-        ]), last.4)
-      | inr none ↦ inl (change, (0, omega arith, refl), below, (λ other has low. elim (first-or-later change other changes has) [
+        ]),
+        last.4,
+      )
+      | inr none ↦ inl (
+        change,
+        (0, omega arith, refl),
+        below,
+        (λ other has low. elim (first-or-later change other changes has) [
           | inl same ↦ rw same (omega arith)
           | inr later ↦ absurd (omega (arith, low, All-contains (NotBelow epoch) changes other none.0 later))
-        ]), none.1)
+        ]),
+        none.1,
+      )
     ])
     by rest (inr behind) = rw (le-ltb change.0 epoch behind) (elim (rest start) [
       | inl last ↦ absurd (omega (arith, behind, last.2, head-least change last.0 changes up last.1))

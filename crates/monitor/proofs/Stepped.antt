@@ -5,7 +5,7 @@ use Rattle.rootchain.specs.declared.signed_root.SignedRoot.{SignedRoot}
 use Rattle.proofs.specs.Views.{key_stated}
 use Rattle.proofs.specs.declared.statement.Statement.{Statement}
 use Rattle.client.specs.Clients.{Client}
-use Rattle.client.specs.Looking.{IsAsked, Looks}
+use Rattle.client.specs.Looking.{IsAnswered, IsAsked, Looks}
 use Rattle.client.specs.declared.refusal.Refusal.{Refusal}
 use Rattle.client.specs.declared.refusal.Refusal.TheVariants.{Root, Proof, UnknownRoot, RootDiffers, Memory, NoPromise}
 use Rattle.monitor.specs.Monitors.{Monitor, with_watched, IsNext, IsWatching}
@@ -38,17 +38,20 @@ module _ (monitor : Monitor) (epoch : ℕ) (is : IsNextEpoch monitor (Some epoch
   module _ (hash : List ℕ → List ℕ) (accepted : List ℕ → List ℕ → List ℕ → Type 0) (bytes : List ℕ) (client : Client) where
     pub step-told : (found : Statement) (step : Step) → Looks hash accepted monitor.client monitor.name epoch bytes (Ok found) client → Tells monitor.watch epoch (key_stated found) step
         → Steps hash accepted monitor bytes (Ok step) (record monitor { client = client; watched = epoch })
+    unfolding IsAnswered
     step-told found step (root, reply, answered, states, kept) tells =
         let at = asked-at monitor.client.chain epoch root positive answered.0 in
         (root, reply, (next-at root at, answered.1), rw (at.1, ← states) tells, rw (at.1, rw at.1 at kept) refl)
 
     pub step-watching : IsWatching monitor → (found : Statement) → Looks hash accepted monitor.client monitor.name epoch bytes (Ok found) client → IsWatching (record monitor { client = client; watched = epoch })
+    unfolding IsAnswered
     step-watching watching found (root, reply, answered, states, kept) =
         let at = asked-at monitor.client.chain epoch root positive answered.0 in
         rw (rw at.1 at kept) (watched-watching monitor watching epoch bytes root (next-at root at) at.1)
 
     pub step-refused : (why : Refusal) → Looks hash accepted monitor.client monitor.name epoch bytes (Err why) client
         → Steps hash accepted monitor bytes (Err (refusal.Client why)) (record monitor { client = client })
+    unfolding IsAnswered
     step-refused UnknownRoot (none, same) = absurd (none is.0 (at-asked monitor.client.chain epoch is.0 positive (is.1.0, is.2)))
     step-refused (Proof why) (root, asked, refuses, same) = (root, next-at root (asked-at monitor.client.chain epoch root positive asked), refuses, rw same refl)
     step-refused Memory (root, reply, answered, same) = (root, reply, (next-at root (asked-at monitor.client.chain epoch root positive answered.0), answered.1), rw same refl)

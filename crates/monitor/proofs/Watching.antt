@@ -1,15 +1,16 @@
 -- What a monitor watched stays watched when it watches the next epoch, when its chain grows and when it
 -- expects a change.
-use Rattle.std.proofs.Common.{◌≡◌, ◌⊎◌, ℕ, ◌+◌, ◌<◌, ◌≤◌, List, [], ◌∷◌, ◌++◌, length, length-append, get_or, Option, All, Contains, refl, sym, ap, Result, Ok, Err, arith, ◌∙◌, inl, inr}
+use Rattle.std.proofs.Common.{◌≡◌, ◌⊎◌, ℕ, ◌+◌, ◌<◌, ◌≤◌, List, [], ◌∷◌, ◌++◌, length, length-append, get_or, Option, All, Contains, refl, sym, ap, Result, Ok, Err, OnOk, arith, ◌∙◌, inl, inr}
 use Rattle.std.specs.Prelude.{AllPairs}
 use Rattle.std.proofs.lemmas.Bool.{cases_lt}
 use Rattle.std.proofs.lemmas.List.{get_or_append_left, get_or-append_right, get_or_default}
 use Rattle.std.proofs.lemmas.List.Elements.{Contains-append_cases, Contains-append_left, Contains-push}
 use Rattle.std.proofs.lemmas.List.Quantifiers.{all_pairs_push}
-use Rattle.rootchain.specs.Chains.{Ascend, IsAt}
+use Rattle.rootchain.specs.Chains.{Ascend, IsAt, IsChain}
 use Rattle.rootchain.specs.declared.signed_promise.SignedPromise.{SignedPromise}
 use Rattle.rootchain.specs.declared.signed_root.SignedRoot.{SignedRoot}
 use Rattle.rootchain.proofs.Chains.{ascend-linked}
+use Rattle.rootchain.proofs.TakingLists.{takes-grows}
 use Rattle.client.specs.Clients.{Client, Look}
 use Rattle.client.specs.Updating.{Updates}
 use Rattle.client.specs.declared.refusal.Refusal.{Refusal}
@@ -77,8 +78,11 @@ module _ (monitor : Monitor) (is : IsWatching monitor) (more : List SignedRoot) 
     ];
   }
 
--- the chain is updated, or it stays
+-- the client is updated, or it stays
 pub updated-watching : (hash : List ℕ → List ℕ) (verified : List ℕ → List ℕ → List ℕ → Type 0) (monitor : Monitor) → IsWatching monitor → (client : Client) (bytes : List ℕ) (result : Result Unit Refusal) → Updates hash verified monitor.client bytes result client
-    → IsWatching (record monitor { client = client })
-updated-watching hash verified monitor is client bytes (Ok done) updates = rw updates.1 (grown-watching monitor is updates.0 (rw updates.1 at (ascend-linked hash client.chain.roots updates.2.linked)))
-updated-watching hash verified monitor is client bytes (Err why) updates = rw updates is
+    → OnOk result (IsChain hash verified client.chain) → IsWatching (record monitor { client = client })
+updated-watching hash verified monitor is client bytes (Ok done) (roots, chain, spelled, takes, same) linked =
+    let grown = takes-grows hash verified roots monitor.client.chain chain takes in
+    let up : Ascend chain.roots = ascend-linked hash chain.roots (rw same at linked).linked in
+    rw (same, grown.1) (grown-watching monitor is grown.0 (rw grown.1 at up))
+updated-watching hash verified monitor is client bytes (Err why) updates linked = rw updates.0 is

@@ -45,7 +45,7 @@ module _ (hash : List ℕ → List ℕ) (verified : List ℕ → List ℕ → Li
 abbrev pub IsExpected : Watch → ℕ → Option (List ℕ) → Type 0
 IsExpected watch epoch key =
     ((change : ℕ × List ℕ) × Contains watch.changes change × (change.0 < epoch)
-      × ((other : ℕ × List ℕ) → Contains watch.changes other → other.0 < epoch → other.0 ≤ change.0) × (key ≡ Some change.1))
+    × ((other : ℕ × List ℕ) → Contains watch.changes other → other.0 < epoch → other.0 ≤ change.0) × (key ≡ Some change.1))
     ⊎ (All (λ change. epoch ≤ change.0) watch.changes × (key ≡ watch.start))
 
 -- the key is expected at each epoch above this one, and up to it what was expected before

@@ -166,12 +166,7 @@ impl<H: NodeHash, V: VufCheck, S: Verifier> Monitor<H, V, S> {
     ///
     /// `Client` with `UnknownRoot` where each epoch of the chain was watched, else with the refusal of
     /// `Client::look`. The monitor then stays as it was.
-    pub fn step<'a>(
-        &mut self,
-        hash: &mut H,
-        vuf: &V,
-        bytes: &'a [u8],
-    ) -> Result<Step<'a>, Refusal>
+    pub fn step<'a>(&mut self, hash: &mut H, vuf: &V, bytes: &'a [u8]) -> Result<Step<'a>, Refusal>
         ensures { Steps H.digest_of V.accepted self.old bytes.entry.now result self.new }
     {
         let Some(epoch) = self.next_epoch() else {

@@ -6,8 +6,5 @@ pub enum Step<'a> {
     /// The reply states what is expected.
     Kept,
     /// The reply states something else.
-    Alarm {
-        epoch: u64,
-        found: Statement<'a>,
-    },
+    Alarm { epoch: u64, found: Statement<'a> },
 }

@@ -28,21 +28,27 @@ fn hash_of(body: &Body) -> Hash32 {
 }
 
 /// The root of an epoch, and the reply to a look-up of the name `a` under it.
+#[derive(Drop)]
 struct Page {
     root: SignedRoot,
     reply: ProofText,
 }
 
 /// The page of an epoch that follows this one, if any, and binds this key to the name, if any.
-fn page(alloc: Global, epoch: u64, before: Option<&Page>, key: Option<&[u8]>) -> Result<Page, Fail> {
+fn next_page(
+    alloc: Global,
+    epoch: u64,
+    before: Option<&Page>,
+    bound: Option<&KeyData>,
+) -> Result<Page, Fail> {
     let (signer, mut hash, name) = (provider(), SumHash::new(), Name::new(b"a")?);
     let value = PlainVuf.value(&name);
     let index = index_of(&mut hash, value.bytes());
+    let salt = Hash32::default();
     let mut tree = Tree::new(alloc, &mut hash, Hash32::default())?;
     let mut end = End::Empty;
-    if let Some(key) = key {
-        let (salt, key) = (Hash32::default(), KeyData::new(key)?);
-        let commitment = commit(&mut hash, &salt, &name, &key);
+    if let Some(key) = bound {
+        let commitment = commit(&mut hash, &salt, &name, key);
         tree = tree.with(alloc, &mut hash, index, commitment)?;
         end = End::Present { salt, key };
     }
@@ -109,7 +115,11 @@ fn take(alloc: Global, monitor: &mut Watching, page: &Page) -> Result<(), Fail> 
 }
 
 /// The monitor expects the key of this promise.
-fn expect(monitor: &mut Watching, key: &[u8], promise: &ProofText) -> Result<Result<(), Refusal>, Fail> {
+fn expect(
+    monitor: &mut Watching,
+    key: &[u8],
+    promise: &ProofText,
+) -> Result<Result<(), Refusal>, Fail> {
     let key = KeyData::new(key)?;
     let answer = monitor.expect_change(&mut SumHash::new(), &provider(), &key, promise.bytes());
     Ok(unless_out_of_memory(answer)?)
@@ -149,9 +159,9 @@ fn is_alarm(step: Step<'_>, at: u64, key: &[u8]) -> bool {
 #[test]
 fn a_change_that_its_owner_asked_for_and_one_that_nobody_did(rt: HostRuntime) -> Result<(), Fail> {
     let alloc = rt.alloc();
-    let first = page(alloc, 1, None, None)?;
-    let second = page(alloc, 2, Some(&first), Some(b"k"))?;
-    let fifth = page(alloc, 5, Some(&second), Some(b"l"))?;
+    let first = next_page(alloc, 1, None, None)?;
+    let second = next_page(alloc, 2, Some(&first), Some(&KeyData::new(b"k")?))?;
+    let fifth = next_page(alloc, 5, Some(&second), Some(&KeyData::new(b"l")?))?;
     let mut monitor = watching(alloc, &first)?;
     assert_eq!(rt; monitor.name().bytes(), b"a".as_slice());
     assert_eq!(rt; monitor.next_epoch(), Some(1));
@@ -173,8 +183,8 @@ fn a_change_that_its_owner_asked_for_and_one_that_nobody_did(rt: HostRuntime) ->
 #[test]
 fn a_promised_key_that_does_not_come(rt: HostRuntime) -> Result<(), Fail> {
     let alloc = rt.alloc();
-    let first = page(alloc, 1, None, None)?;
-    let without = page(alloc, 2, Some(&first), None)?;
+    let first = next_page(alloc, 1, None, None)?;
+    let without = next_page(alloc, 2, Some(&first), None)?;
     let promised = promise(&first, b"a", b"k")?;
     let mut monitor = watching(alloc, &first)?;
     assert_eq!(rt; expect(&mut monitor, b"k", &promised)?, Ok(()));
@@ -187,8 +197,8 @@ fn a_promised_key_that_does_not_come(rt: HostRuntime) -> Result<(), Fail> {
 #[test]
 fn refusals_leave_the_monitor_as_it_was(rt: HostRuntime) -> Result<(), Fail> {
     let alloc = rt.alloc();
-    let first = page(alloc, 1, None, None)?;
-    let second = page(alloc, 2, Some(&first), Some(b"k"))?;
+    let first = next_page(alloc, 1, None, None)?;
+    let second = next_page(alloc, 2, Some(&first), Some(&KeyData::new(b"k")?))?;
     let mut monitor = watching(alloc, &first)?;
     let step = monitor.step(&mut SumHash::new(), &PlainVuf, second.reply.bytes());
     assert!(rt; is_refused(step, 3));
@@ -203,6 +213,9 @@ fn refusals_leave_the_monitor_as_it_was(rt: HostRuntime) -> Result<(), Fail> {
     }
     let promised = promise(&first, b"a", b"k")?;
     assert_eq!(rt; expect(&mut monitor, b"k", &promised)?, Ok(()));
-    assert_eq!(rt; expect(&mut monitor, b"k", &promised)?, Err(Refusal::OtherPromise));
+    assert_eq!(rt;
+        expect(&mut monitor, b"k", &promised)?,
+        Err(Refusal::OtherPromise)
+    );
     Ok(())
 }

@@ -1,4 +1,5 @@
-ghost use Rattle.std.specs.Prelude.{◌≡◌, IfErr};
+ghost use Rattle.std.specs.Prelude.{◌≡◌, IfErr, OnOk};
+ghost use Rattle.rootchain.specs.Chains.{IsChain};
 ghost use Rattle.client.specs.Updating.{told_as, RefusalHolds, Updates};
 
 use super::Client;
@@ -20,6 +21,7 @@ impl<H: NodeHash, V: VufCheck, S: Verifier> Client<H, V, S> {
     /// evidence. The client then stays as it was.
     pub fn update(&mut self, hash: &mut H, verifier: &S, bytes: &[u8]) -> Result<(), Refusal>
         ensures updates { Updates H.digest_of S.verified self.old bytes.now result self.new }
+        ensures chain { OnOk result (IsChain H.digest_of S.verified self.new.chain) }
         ensures evidence { IfErr result (RefusalHolds H.digest_of S.verified self.old.chain.key) }
     {
         let list = match RootList::read(bytes) {

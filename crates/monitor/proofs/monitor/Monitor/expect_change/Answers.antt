@@ -16,5 +16,8 @@ invariant_of-self-2 g c =
 pub returns-clause-above : goal.returns-clause-above
 returns-clause-above g c =
     let items : c.push.new.self.items ≡ c.self.inside.changes.items ++ (c.in_ok-signed.signed.promise.epoch, c.args.key.now) ∷ [] = search rules in
-    rw (← c.self.view_is) (c.in_ok-signed.signed, rw (← c.self.view_is) at c.in_ok-signed.ensures.0,
-    rw items (expects-above (monitor_of c.self.inside).watch c.in_ok-signed.signed.promise.epoch c.args.key.now))
+    rw (← c.self.view_is) (
+      c.in_ok-signed.signed,
+      rw (← c.self.view_is) at c.in_ok-signed.ensures.0,
+      rw items (expects-above (monitor_of c.self.inside).watch c.in_ok-signed.signed.promise.epoch c.args.key.now),
+    )
