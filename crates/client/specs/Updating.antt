@@ -9,7 +9,7 @@ use Rattle.rootchain.specs.TakingLists.{IsListRefusal, Takes}
 use Rattle.rootchain.specs.declared.refusal.Refusal.TheVariants as root
 use Rattle.rootchain.specs.declared.signed_root.SignedRoot.{SignedRoot}
 use Rattle.rootchain.specs.declared.list_refusal.ListRefusal.{ListRefusal}
-use Rattle.rootchain.specs.declared.list_refusal.ListRefusal.TheVariants as untaken
+use Rattle.rootchain.specs.declared.list_refusal.ListRefusal.TheVariants as list
 use Rattle.client.specs.Clients.{Client}
 use Rattle.client.specs.declared.refusal.Refusal.{Refusal}
 use Rattle.client.specs.declared.refusal.Refusal.TheVariants.{Root, Proof, UnknownRoot, RootDiffers, Memory, NoPromise}
@@ -20,11 +20,11 @@ SpellsRoots = Spells root_list_bytes IsRootList
 
 -- how a client tells why its chain refuses a list
 abbrev pub told_as : ListRefusal → Refusal
-told_as untaken.BadSignature = Root root.BadSignature
-told_as untaken.BeforeStart = Root root.NotLater
-told_as untaken.Ahead = Root root.BadLink
-told_as (untaken.Evidence evidence) = RootDiffers evidence
-told_as untaken.Memory = Memory
+told_as list.BadSignature = Root root.BadSignature
+told_as list.BeforeStart = Root root.NotLater
+told_as list.Ahead = Root root.BadLink
+told_as (list.Evidence evidence) = RootDiffers evidence
+told_as list.Memory = Memory
 
 module _ (hash : List ℕ → List ℕ) (verified : List ℕ → List ℕ → List ℕ → Type 0) (before : Client) (bytes : List ℕ) where
   -- The answer, and the client after it: its chain takes each root of the list in order, or the client stays

@@ -11,7 +11,7 @@ use Rattle.rootchain.specs.declared.list_refusal.ListRefusal.{ListRefusal}
 use Rattle.rootchain.specs.declared.list_refusal.ListRefusal.TheVariants.{BadSignature, BeforeStart, Ahead, Evidence, Memory}
 use Rattle.rootchain.specs.Chains.{IsChain, KeyedRoots}
 use Rattle.rootchain.specs.SignedRoots.{IsSignedRoot}
-use Rattle.rootchain.specs.TakingLists.{with_roots, IsListRefusal, IsRefusedRoot, Passes, StopsAt, Takes, RefusalHolds, RefusalIsSpelled}
+use Rattle.rootchain.specs.TakingLists.{with_roots, IsListRefusal, IsRefusedRoot, Passes, StopsAt, Takes, ListRefusalHolds, ListRefusalIsSpelled}
 use Rattle.rootchain.proofs.Places.{place_sound}
 use Rattle.rootchain.proofs.Spelled.{place-given}
 use Rattle.rootchain.proofs.Taking.{next_stays}
@@ -39,7 +39,7 @@ module _ (hash : List ℕ → List ℕ) (verified : List ℕ → List ℕ → Li
 
   pub leads-stop : (start : KeyedRoots) (all : List SignedRoot) (now : KeyedRoots) (left : List SignedRoot) (root : SignedRoot) (rest : List SignedRoot) (why : ListRefusal) (after : KeyedRoots)
       → left ≡ root ∷ rest → IsRefusedRoot hash verified now root why → after ≡ now → Leads start all now left → StopsAt hash verified start all why after
-  leads-stop start all now left root rest why after same untaken stays leads = leads.stopped why after ([], root, rest, same, stays, rw stays untaken)
+  leads-stop start all now left root rest why after same refusal stays leads = leads.stopped why after ([], root, rest, same, stays, rw stays refusal)
 
   -- ---- what a chain is once it took roots
 
@@ -86,32 +86,32 @@ module _ (hash : List ℕ → List ℕ) (verified : List ℕ → List ℕ → Li
 
   -- ---- why a list is refused
 
-  untaken-holds : (chain : KeyedRoots) (root : SignedRoot) (why : ListRefusal) → IsChain hash verified chain → IsRefusedRoot hash verified chain root why → RefusalHolds hash verified chain.key why
-  untaken-holds chain root (Evidence evidence) is untaken = place_sound hash verified chain root (place.Evidence evidence) is untaken.0 untaken.1
-  untaken-holds chain root BadSignature is untaken = tt
-  untaken-holds chain root BeforeStart is untaken = tt
-  untaken-holds chain root Ahead is untaken = tt
-  untaken-holds chain root Memory is untaken = tt
+  refusal-holds : (chain : KeyedRoots) (root : SignedRoot) (why : ListRefusal) → IsChain hash verified chain → IsRefusedRoot hash verified chain root why → ListRefusalHolds hash verified chain.key why
+  refusal-holds chain root (Evidence evidence) is refusal = place_sound hash verified chain root (place.Evidence evidence) is refusal.0 refusal.1
+  refusal-holds chain root BadSignature is refusal = tt
+  refusal-holds chain root BeforeStart is refusal = tt
+  refusal-holds chain root Ahead is refusal = tt
+  refusal-holds chain root Memory is refusal = tt
 
-  pub stop-holds : (chain : KeyedRoots) (roots : List SignedRoot) (why : ListRefusal) (after : KeyedRoots) → IsChain hash verified chain → StopsAt hash verified chain roots why after → RefusalHolds hash verified chain.key why
+  pub stop-holds : (chain : KeyedRoots) (roots : List SignedRoot) (why : ListRefusal) (after : KeyedRoots) → IsChain hash verified chain → StopsAt hash verified chain roots why after → ListRefusalHolds hash verified chain.key why
   stop-holds chain roots why after is stops =
       let same : after.key ≡ chain.key = ap (λ (c : KeyedRoots). c.key) (takes-grows stops.0 chain after stops.4).1 in
-      subst (λ (key : List ℕ). RefusalHolds hash verified key why) same (untaken-holds after stops.1 why (takes-chain stops.0 chain after is stops.4) stops.5)
+      subst (λ (key : List ℕ). ListRefusalHolds hash verified key why) same (refusal-holds after stops.1 why (takes-chain stops.0 chain after is stops.4) stops.5)
 
-  untaken-spelled : (chain : KeyedRoots) (root : SignedRoot) (why : ListRefusal) → 0 < length chain.roots → All IsSignedRoot chain.roots → IsSignedRoot root → IsRefusedRoot hash verified chain root why → RefusalIsSpelled why
-  untaken-spelled chain root (Evidence evidence) some own given untaken =
-      place-given hash IsSignedRoot chain root (place.Evidence evidence) some (λ held among. subst IsSignedRoot among.2 (own among.0 held among.1)) given untaken.1
-  untaken-spelled chain root BadSignature some own given untaken = tt
-  untaken-spelled chain root BeforeStart some own given untaken = tt
-  untaken-spelled chain root Ahead some own given untaken = tt
-  untaken-spelled chain root Memory some own given untaken = tt
+  refusal-spelled : (chain : KeyedRoots) (root : SignedRoot) (why : ListRefusal) → 0 < length chain.roots → All IsSignedRoot chain.roots → IsSignedRoot root → IsRefusedRoot hash verified chain root why → ListRefusalIsSpelled why
+  refusal-spelled chain root (Evidence evidence) some own given refusal =
+      place-given hash IsSignedRoot chain root (place.Evidence evidence) some (λ held among. subst IsSignedRoot among.2 (own among.0 held among.1)) given refusal.1
+  refusal-spelled chain root BadSignature some own given refusal = tt
+  refusal-spelled chain root BeforeStart some own given refusal = tt
+  refusal-spelled chain root Ahead some own given refusal = tt
+  refusal-spelled chain root Memory some own given refusal = tt
 
   pub stop-spelled : (chain : KeyedRoots) (roots : List SignedRoot) (why : ListRefusal) (after : KeyedRoots) → IsChain hash verified chain → AllByRecursion IsSignedRoot chain.roots → AllByRecursion IsSignedRoot roots
-      → StopsAt hash verified chain roots why after → RefusalIsSpelled why
+      → StopsAt hash verified chain roots why after → ListRefusalIsSpelled why
   stop-spelled chain roots why after is own given stops =
       let front = spelled-front stops.0 stops.1 stops.2 (rw stops.3 at given) in
       let after-is = takes-chain stops.0 chain after is stops.4 in
-      untaken-spelled after stops.1 why after-is.first (All-from_recursion IsSignedRoot after.roots (takes-spelled stops.0 chain after own front.0 stops.4)) front.1 stops.5
+      refusal-spelled after stops.1 why after-is.first (All-from_recursion IsSignedRoot after.roots (takes-spelled stops.0 chain after own front.0 stops.4)) front.1 stops.5
 
   pub memory-refused : (chain : KeyedRoots) (roots : List SignedRoot) → 0 < length roots → IsListRefusal hash verified chain roots Memory
   memory-refused chain [] some = absurd (omega (arith, some))

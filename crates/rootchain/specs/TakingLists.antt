@@ -53,17 +53,17 @@ module _ (hash : List ℕ → List ℕ) (verified : List ℕ → List ℕ → Li
   TakesEach chain roots (Err why) after = StopsAt chain roots why after
 
   -- if evidence is told, it is evidence under the key
-  abbrev pub RefusalHolds : List ℕ → ListRefusal → Type 0
-  RefusalHolds key (Evidence evidence) = IsRootEvidence hash verified key evidence
-  RefusalHolds key BadSignature = Unit
-  RefusalHolds key BeforeStart = Unit
-  RefusalHolds key Ahead = Unit
-  RefusalHolds key Memory = Unit
+  abbrev pub ListRefusalHolds : List ℕ → ListRefusal → Type 0
+  ListRefusalHolds key (Evidence evidence) = IsRootEvidence hash verified key evidence
+  ListRefusalHolds key BadSignature = Unit
+  ListRefusalHolds key BeforeStart = Unit
+  ListRefusalHolds key Ahead = Unit
+  ListRefusalHolds key Memory = Unit
 
 -- if evidence is told, its roots have a spelling
-abbrev pub RefusalIsSpelled : ListRefusal → Type 0
-RefusalIsSpelled (Evidence evidence) = BothAre IsSignedRoot evidence
-RefusalIsSpelled BadSignature = Unit
-RefusalIsSpelled BeforeStart = Unit
-RefusalIsSpelled Ahead = Unit
-RefusalIsSpelled Memory = Unit
+abbrev pub ListRefusalIsSpelled : ListRefusal → Type 0
+ListRefusalIsSpelled (Evidence evidence) = BothAre IsSignedRoot evidence
+ListRefusalIsSpelled BadSignature = Unit
+ListRefusalIsSpelled BeforeStart = Unit
+ListRefusalIsSpelled Ahead = Unit
+ListRefusalIsSpelled Memory = Unit

@@ -31,7 +31,7 @@ pub enum ListRefusal {
 impl From<AllocError> for ListRefusal {
     ghost use Rattle.rootchain.specs.declared.list_refusal.ListRefusal.TheVariants.{Memory};
 
-    ghost from_gives = { λ _ untaken. untaken ≡ Memory };
+    ghost from_gives = { λ _ refusal. refusal ≡ Memory };
 
     fn from(_failed: AllocError) -> ListRefusal {
         ListRefusal::Memory

@@ -3,7 +3,7 @@ ghost use Rattle.std.specs.List.{AllByRecursion};
 ghost use Rattle.rootchain.specs.declared.signed_root.SignedRoot.{SignedRoot};
 ghost use Rattle.rootchain.specs.Chains.{IsChain};
 ghost use Rattle.rootchain.specs.SignedRoots.{IsSignedRoot};
-ghost use Rattle.rootchain.specs.TakingLists.{with_roots, IsListRefusal, Takes, TakesEach, TakesOne, RefusalHolds, RefusalIsSpelled};
+ghost use Rattle.rootchain.specs.TakingLists.{with_roots, IsListRefusal, Takes, TakesEach, TakesOne, ListRefusalHolds, ListRefusalIsSpelled};
 
 use super::Chain;
 use crate::{ListRefusal, Place, Refusal, RootList, SignedRoot};
@@ -29,8 +29,8 @@ impl<H: NodeHash, S: Verifier> Chain<H, S> {
         ensures grows { (more : List SignedRoot) × (self.new ≡ with_roots self.old more) }
         ensures refused { IfErr result (IsListRefusal H.digest_of S.verified self.old list.entry) }
         ensures stays { OnErr result (self.new ≡ self.old) }
-        ensures evidence { IfErr result (RefusalHolds H.digest_of S.verified self.old.key) }
-        ensures spelled { AllByRecursion IsSignedRoot self.old.roots → AllByRecursion IsSignedRoot list.entry → IfErr result RefusalIsSpelled }
+        ensures evidence { IfErr result (ListRefusalHolds H.digest_of S.verified self.old.key) }
+        ensures spelled { AllByRecursion IsSignedRoot self.old.roots → AllByRecursion IsSignedRoot list.entry → IfErr result ListRefusalIsSpelled }
         ensures form { AllByRecursion IsSignedRoot self.old.roots → AllByRecursion IsSignedRoot list.entry → AllByRecursion IsSignedRoot self.new.roots }
         ensures chain { IsChain H.digest_of S.verified self.old }
         ensures counted { H.digests hash.new ≤ H.digests hash.old + length list.entry }
