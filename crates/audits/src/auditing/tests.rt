@@ -1,6 +1,5 @@
 use super::*;
 use crate::for_tests::{KEY, OTHER_KEY, after, body, digits, forked, signed, unless_out_of_memory};
-use encoding::Small;
 use rootchain::{Body, SignedRoot};
 use std::io::{BufReader, ErrorKind};
 use std::test::Fail;
@@ -138,31 +137,6 @@ fn refused_lines(rt: HostRuntime) -> Result<(), Fail> {
     Ok(())
 }
 
-/// A signed root of 404 bytes has 808 digits. Its signature does not verify.
-#[test]
-fn longest_line(rt: HostRuntime) -> Result<(), Fail> {
-    let alloc = rt.alloc();
-    let longest = SignedRoot {
-        body: first(),
-        signature: Small::new(&[8; 256])?,
-    };
-    let line = hex::encode(alloc, longest.write().bytes())?;
-    assert_eq!(rt; line.len(), 808);
-    let root = digits(alloc, &first())?;
-    let many = "0".repeat(alloc, 10_000)?;
-    let input = format!(in alloc; "{line}\n{root}\n")?;
-    let (answer, written) = told(alloc, ORDER, &mut input.as_bytes())?;
-    assert_eq!(rt; answer, Ok(()));
-    assert_eq!(rt; written.as_slice(), b"refused 2\nstarted\n".as_slice());
-    for more in ["0", "00", many.as_str()] {
-        let input = format!(in alloc; "{line}{more}\n{root}\n")?;
-        let (answer, written) = told(alloc, ORDER, &mut input.as_bytes())?;
-        assert_eq!(rt; answer, Ok(()));
-        assert_eq!(rt; written.as_slice(), b"refused 1\nstarted\n".as_slice());
-    }
-    Ok(())
-}
-
 /// Two lines take eight reads of 100 bytes, and the ninth finds the end.
 #[test]
 fn one_read_fails(rt: HostRuntime) -> Result<(), Fail> {
@@ -211,22 +185,6 @@ fn one_write_fails(rt: HostRuntime) -> Result<(), Fail> {
             let front = b"started\nknown\n".get(..2 * call);
             assert_eq!(rt; Some(writer.taken()), front, "at {call}");
         }
-    }
-    Ok(())
-}
-
-#[test]
-fn bad_hex_before_a_read(rt: HostRuntime) -> Result<(), Fail> {
-    let alloc = rt.alloc();
-    let short = "0".repeat(alloc, 63)?;
-    let long = "0".repeat(alloc, 65)?;
-    let other = format!(in alloc; "{short}g")?;
-    for key in [short.as_str(), long.as_str(), other.as_str(), ""] {
-        let device = CutReader::new(b"x\n", 50).fail_at(0, ErrorKind::BrokenPipe);
-        let mut reader = BufReader::with_capacity(alloc, 50, device)?;
-        let (answer, written) = told(alloc, AuditOrder { key }, &mut reader)?;
-        assert_eq!(rt; answer, Err(ProgramFault::BadHex), "at {key:?}");
-        assert!(rt; written.is_empty());
     }
     Ok(())
 }

@@ -160,39 +160,6 @@ fn promise_that_was_kept_or_broken(rt: HostRuntime) -> Result<(), Fail> {
     Ok(())
 }
 
-#[test]
-fn not_an_evidence_file(rt: HostRuntime) -> Result<(), Fail> {
-    let alloc = rt.alloc();
-    let root = digits(alloc, &body(3, 0, Hash32::default()))?;
-    let files = [
-        String::new(alloc),
-        String::from_str(alloc, "{}")?,
-        String::from_str(alloc, root.as_str())?,
-        file(alloc, &root, "fork", "00")?,
-        file(alloc, &root, "broken", &root)?,
-    ];
-    for file in &files {
-        let (answer, written) = told(alloc, KEY, file.as_bytes())?;
-        assert_eq!(rt; answer, Err(ProgramFault::NotEvidence), "at {file}");
-        assert!(rt; written.is_empty());
-    }
-    Ok(())
-}
-
-#[test]
-fn bad_hex_before_the_file(rt: HostRuntime) -> Result<(), Fail> {
-    let alloc = rt.alloc();
-    let short = "0".repeat(alloc, 63)?;
-    let long = "0".repeat(alloc, 65)?;
-    let other = format!(in alloc; "{short}g")?;
-    for key in [short.as_str(), long.as_str(), other.as_str(), ""] {
-        let (answer, written) = told(alloc, key, b"x")?;
-        assert_eq!(rt; answer, Err(ProgramFault::BadHex), "at {key:?}");
-        assert!(rt; written.is_empty());
-    }
-    Ok(())
-}
-
 /// The line `evidence` takes five writes of two bytes.
 #[test]
 fn one_write_fails(rt: HostRuntime) -> Result<(), Fail> {

@@ -94,7 +94,7 @@ fn roots_are_audited_and_files_judged(rt: HostRuntime) -> Result<(), Fail> {
     assert!(rt; run.errors.is_empty());
 
     let rows = [
-        (key.as_str(), "args", "not an evidence file\n"),
+        (key.as_str(), "/dev/null", "not an evidence file\n"),
         (key.as_str(), "missing", "cannot read\n"),
         ("a0", "missing", "bad hex\n"),
     ];
