@@ -9,4 +9,4 @@ pub mod Groups
 pub mod Seen
 pub mod Others
 pub mod Unlikes
-pub mod Reconciling
+pub mod Telling

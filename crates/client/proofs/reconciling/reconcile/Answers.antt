@@ -2,12 +2,12 @@ use Rattle.std.proofs.Common.{refl}
 use Rattle.std.proofs.lemmas.List.Elements.{All-from_recursion}
 use Rattle.rootchain.specs.SignedRoots.{IsSignedRoot}
 use Rattle.rootchain.proofs.Chains.{ascend-linked}
-use Rattle.client.proofs.Reconciling.{agrees, both-are, looks-hold, one-body}
+use Rattle.client.proofs.Telling.{agrees, both-are, looks-hold, one-body}
 use Rattle.client.proofs.reconciling.reconcile.Goals as goal
 
 pub reconcile_looks-requires : goal.reconcile_looks-requires
 reconcile_looks-requires g c =
-    let chain = rw (c.chain.ensures.value, c.chain-2.ensures.value) at c.in-Equal.ensures.also_chain in
+    let chain = rw c.chain-2.ensures.value at c.in-Equal.ensures.also_chain in
     let agree = rw (c.chain.ensures.value, c.chain-2.ensures.value) at c.in-Equal.ensures.equal.0 refl in
     one-body g.H.NodeHash.digest_of c.args.one.now.chain c.args.other.now.chain (ascend-linked g.H.NodeHash.digest_of c.args.other.now.chain.roots chain.linked) agree
 

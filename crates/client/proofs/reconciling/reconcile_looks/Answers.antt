@@ -2,7 +2,7 @@ use Rattle.std.proofs.Common.{inl, inr, subst}
 use Rattle.proofs.specs.Comparisons.{Answers}
 use Rattle.proofs.specs.declared.comparing.SameOr.{SameOr}
 use Rattle.proofs.specs.declared.comparing.SameOr.TheVariants.{Collision, TwoValues}
-use Rattle.client.proofs.Reconciling.{compared, first-once, not-same, second-once, spelled-looks, told}
+use Rattle.client.proofs.Telling.{compared, first-once, not-same, second-once, spelled-looks, told}
 use Rattle.client.proofs.reconciling.reconcile_looks.Goals as goal
 
 pub first_unlike-requires-clause-ones : goal.first_unlike-requires-clause-ones

@@ -6,7 +6,7 @@ use Rattle.nodehash.specs.Collisions.{IsCollision}
 use Rattle.rootchain.specs.Chains.{Ascend, IsAt, IsChain, KeyedRoots}
 use Rattle.rootchain.specs.Comparisons.{AreAlikeAt, ChainsAgree, EvidenceIs, IsCommon}
 use Rattle.rootchain.specs.Evidence.{BothAre}
-use Rattle.rootchain.specs.declared.compare.Compare.TheVariants as compared
+use Rattle.rootchain.specs.declared.compare.Compare.TheVariants as chains
 use Rattle.rootchain.specs.declared.evidence.RootEvidence.TheVariants.{Fork, Link, Skip}
 use Rattle.rootchain.specs.declared.body.Body.{Body}
 use Rattle.rootchain.specs.declared.evidence.RootEvidence.{RootEvidence}
@@ -116,7 +116,7 @@ module _ (hash : List ℕ → List ℕ) (accepted : List ℕ → List ℕ → Li
     looks-spelled TwoValues is = tt
 
 -- what holds of both roots of the chains' evidence
-pub both-are : (P : SignedRoot → Type 0) (evidence : RootEvidence) → EvidenceIs P (compared.Evidence evidence) → BothAre P evidence
+pub both-are : (P : SignedRoot → Type 0) (evidence : RootEvidence) → EvidenceIs P (chains.Evidence evidence) → BothAre P evidence
 both-are P (Fork root also) is = is
 both-are P (Link root also) is = is
 both-are P (Skip root also) is = is
