@@ -1,8 +1,9 @@
 -- All looks of one client, gone through for the first that has an unlike partner.
-use Rattle.std.proofs.Common.{◌≡◌, ◌≢◌, ◌⊎◌, inl, inr, ℕ, zero, suc, ◌<◌, ◌≤◌, List, [], ◌∷◌, ◌++◌, append_assoc, length, slice_get, Option, Some, None, IsSomeAnd, MatchOption, refl, sym, ap, subst, ◌∙◌, arith}
+use Rattle.std.proofs.Common.{◌≡◌, ◌≢◌, ◌⊎◌, inl, inr, ℕ, zero, suc, ◌<◌, ◌≤◌, List, [], ◌∷◌, ◌++◌, append_assoc, length, slice_get, Option, Some, None, Contains, IsSomeAnd, MatchOption, refl, sym, ap, subst, ◌∙◌, arith}
 use Rattle.std.specs.List.{AllByRecursion}
 use Rattle.std.proofs.lemmas.Bool.{cases_lt}
 use Rattle.std.proofs.lemmas.List.{append-nil}
+use Rattle.std.proofs.lemmas.Option.{get_or_from_slice_get, slice_get_read, slice_get_within}
 use Rattle.proofs.specs.Accepts.{stated}
 use Rattle.proofs.specs.Replies.{Reply, Spells}
 use Rattle.proofs.proofs.Passing.{one_reply}
@@ -14,6 +15,13 @@ use Rattle.client.specs.declared.looks.comparing.Unlike.{Unlike}
 use Rattle.client.proofs.Groups.{Entries, IsIn, in-second, of-each, one-more}
 use Rattle.client.proofs.Others.{look_of, spelled-at}
 use Rattle.client.proofs.Seen.{seen, stored, IsStored}
+
+-- where an element stands
+pub at-place : {X : Type 0} (xs : List X) (x : X) (has : Contains xs x) → slice_get xs has.0 ≡ Some x
+at-place xs x has = slice_get_read xs (length xs) has.0 x refl has.1 (sym has.2)
+
+pub is-among : {X : Type 0} (xs : List X) (k : ℕ) (x : X) → slice_get xs k ≡ Some x → Contains xs x
+is-among xs k x at = (k, slice_get_within xs k x at, get_or_from_slice_get xs k x x at)
 
 -- two looks as they were found, without where they lie
 pub record Found : Type 0 where
@@ -133,7 +141,11 @@ module _ {X : Type 0} (bytes : X → List ℕ) where
           (stated spells.0.end, (spells.0, spells.1, refl), none spells.0 own j also at-other name epoch)
 
       pub agree : IsLeastSoFar entries [] None → LooksAgree looks others
-      agree gone = λ i j look also at-one at-other of_one.
+      agree gone = λ look also has-one has-other of_one.
+          let i = has-one.0 in
+          let j = has-other.0 in
+          let at-one : slice_get looks i ≡ Some look = at-place looks look has-one in
+          let at-other : slice_get others j ≡ Some also = at-place others also has-other in
           let w = all.whole i look at-one in
           let done : IsIn gone.done w.0 = subst (λ (es : Entries X). IsIn es w.0) (sym gone.parts ∙ append-nil gone.done) w.1 in
           agrees i j look also at-one at-other of_one w.0 w.3 (of-each _ gone.done w.0 gone.least done)
