@@ -73,8 +73,7 @@ module _ (hash : List ℕ → List ℕ) (accepted : List ℕ → List ℕ → Li
           let here = one_reply look.reply first.reply is-look.reply look-spelled is-look.is.0 in
           let there = one_reply also.reply second.reply is-also.reply also-spelled is-also.is.0 in
           let at : IsAt other look.epoch is-also.root = subst (λ (e : ℕ). IsAt other e is-also.root) (sym is.unlike.0.1) is-also.at in
-          let between : is-look.root.body ≡ is-also.root.body = bodies look.epoch is-look.root is-also.root is-look.at at in
-          (
+          let between : is-look.root.body ≡ is-also.root.body = bodies look.epoch is-look.root is-also.root is-look.at at in (
             ap (λ (r : Reply). r.body) here ∙ is-look.is.1 ∙ between ∙ sym is-also.is.1 ∙ sym (ap (λ (r : Reply). r.body) there),
             first-name ∙ sym second-name,
           )

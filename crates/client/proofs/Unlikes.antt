@@ -103,11 +103,10 @@ module _ {X : Type 0} (bytes : X → List ℕ) where
           → ((v : Found) → f ≡ Some v → AllByRecursion (λ y. y.0.number < v.number → HasNone y) done) → AllByRecursion (λ y. y.0.number < u.number → HasNone y) done
       weaker u of f least apart [] none some = tt
       weaker u of None least apart (d ∷ done) none some = (λ low. (none refl).0, weaker u of None least apart done (λ e. (none e).1) (λ v e. absurd cc))
-      weaker u of (Some v) least apart (d ∷ done) none some =
-          (
-            λ low. (some v refl).0 (elim (cases_lt d.0.number v.number) [ inl below ↦ below | inr above ↦ absurd (apart (let at = of.number in omega (arith, at, low, above))) ]),
-            weaker u of (Some v) least apart done (λ e. absurd cc) (λ w e. (some w e).1),
-          )
+      weaker u of (Some v) least apart (d ∷ done) none some = (
+        λ low. (some v refl).0 (elim (cases_lt d.0.number v.number) [ inl below ↦ below | inr above ↦ absurd (apart (let at = of.number in omega (arith, at, low, above))) ]),
+        weaker u of (Some v) least apart done (λ e. absurd cc) (λ w e. (some w e).1),
+      )
 
       nones : (f : Option Found) → IsLeast before.done f → f ≡ None → AllByRecursion HasNone before.done
       nones None least e = least
@@ -185,18 +184,18 @@ module _ {X : Type 0} (bytes : X → List ℕ) where
               before = λ k l x y at-k at-l of_one earlier.
                   elim earlier [
                     | inl low ↦
-                      let w = all.whole k x at-k in
-                      let done : IsIn gone.done w.0 = subst (λ (es : Entries X). IsIn es w.0) (sym whole-done) w.1 in
-                      let below : w.0.0.number < found.number = (let a = of.number in let b = w.2 in omega (arith, a, b, low)) in
-                      agrees k l x y at-k at-l of_one w.0 w.3 (of-each _ gone.done w.0 gone.least.3 done below)
+                        let w = all.whole k x at-k in
+                        let done : IsIn gone.done w.0 = subst (λ (es : Entries X). IsIn es w.0) (sym whole-done) w.1 in
+                        let below : w.0.0.number < found.number = (let a = of.number in let b = w.2 in omega (arith, a, b, low)) in
+                        agrees k l x y at-k at-l of_one w.0 w.3 (of-each _ gone.done w.0 gone.least.3 done below)
                     | inr same ↦
-                      let own : slice_get looks e.0.number ≡ Some x = subst (λ (n : ℕ). slice_get looks n ≡ Some x) same.0 at-k in
-                      let both : Some (look_of bytes e) ≡ Some x = sym at-one ∙ own in
-                      let is : look_of bytes e ≡ x = cc in
-                      let name : y.name ≡ e.0.asked.name = sym of_one.0 ∙ ap (λ (v : Look). v.name) (sym is) in
-                      let epoch : y.epoch ≡ e.0.asked.epoch = sym of_one.1 ∙ ap (λ (v : Look). v.epoch) (sym is) in
-                      let states = f.before l y same.1 at-l name epoch in
-                      subst (λ (v : Look). HaveOneStatement v y) is (stated spells.0.end, (spells.0, spells.1, refl), states)
+                        let own : slice_get looks e.0.number ≡ Some x = subst (λ (n : ℕ). slice_get looks n ≡ Some x) same.0 at-k in
+                        let both : Some (look_of bytes e) ≡ Some x = sym at-one ∙ own in
+                        let is : look_of bytes e ≡ x = cc in
+                        let name : y.name ≡ e.0.asked.name = sym of_one.0 ∙ ap (λ (v : Look). v.name) (sym is) in
+                        let epoch : y.epoch ≡ e.0.asked.epoch = sym of_one.1 ∙ ap (λ (v : Look). v.epoch) (sym is) in
+                        let states = f.before l y same.1 at-l name epoch in
+                        subst (λ (v : Look). HaveOneStatement v y) is (stated spells.0.end, (spells.0, spells.1, refl), states)
                   ];
             };
             name = of.name;
