@@ -118,9 +118,10 @@ impl Watch {
     }
 
     fn observe(&mut self, root: &[u8]) -> Result<Observed> {
-        Ok(self
-            .auditor
-            .observe(&mut self.hash, &self.verifier, &self.key, root)?)
+        Ok(
+            self.auditor
+                .observe(&mut self.hash, &self.verifier, &self.key, root)?,
+        )
     }
 
     /// Observes these roots, and counts those that the chain begins with or that extend it.
@@ -223,9 +224,9 @@ fn broken_case(alloc: Global, siblings: usize) -> Result<Case> {
     let mut lengths = vec![in alloc; INTERIOR_BYTES; siblings]?;
     lengths.push(KEYED_BYTES.saturating_add(text.bytes().len()))?;
     lengths.push(SIGNED_BYTES)?;
-    lengths.push(KEYED_BYTES.saturating_add(name.bytes().len()))?;
+    lengths.push(KEYED_BYTES.saturating_add(promise.name.bytes().len()))?;
     lengths.push(value.bytes().len())?;
-    lengths.push(commit_text(&salt, &name, &key).bytes().len())?;
+    lengths.push(commit_text(&salt, &promise.name, &key).bytes().len())?;
     lengths.push(LEAF_BYTES)?;
     let signature = provider().sign(text.bytes());
     let evidence = Evidence::Broken(BrokenPromise {
@@ -276,8 +277,16 @@ pub(crate) fn measure(rt: &(impl Print + Input), alloc: Global, wanted: &Audits)
     let mut room = [0; 512];
 
     end_step(rt, alloc, 0)?;
-    end_step(rt, alloc, take_all(&mut room, &[BODY_BYTES], wanted.digests)?)?;
-    end_step(rt, alloc, take_all(&mut room, &[SIGNED_BYTES], wanted.digests)?)?;
+    end_step(
+        rt,
+        alloc,
+        take_all(&mut room, &[BODY_BYTES], wanted.digests)?,
+    )?;
+    end_step(
+        rt,
+        alloc,
+        take_all(&mut room, &[SIGNED_BYTES], wanted.digests)?,
+    )?;
     end_step(rt, alloc, watch.observe_all(first)?)?;
     end_step(rt, alloc, watch.observe_all(more)?)?;
     end_step(rt, alloc, watch.observe_again(&roots, wanted.more)?)?;
@@ -285,7 +294,15 @@ pub(crate) fn measure(rt: &(impl Print + Input), alloc: Global, wanted: &Audits)
         end_step(rt, alloc, take_all(&mut room, &case.lengths, wanted.times)?)?;
         end_step(rt, alloc, judge_all(&case.evidence, wanted.times))?;
     }
-    end_step(rt, alloc, take_all(&mut room, &[BODY_BYTES], wanted.digests)?)?;
-    end_step(rt, alloc, take_all(&mut room, &[SIGNED_BYTES], wanted.digests)?)?;
+    end_step(
+        rt,
+        alloc,
+        take_all(&mut room, &[BODY_BYTES], wanted.digests)?,
+    )?;
+    end_step(
+        rt,
+        alloc,
+        take_all(&mut room, &[SIGNED_BYTES], wanted.digests)?,
+    )?;
     Ok(())
 }
