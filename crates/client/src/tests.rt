@@ -165,6 +165,18 @@ fn kept(client: &mut Watching, signed: &SignedPromise) -> Result<Result<(), Refu
     unless_out_of_memory(client.keep_promise(&mut SumHash::new(), &provider(), bytes.bytes()))
 }
 
+/// A client that keeps a promise of `k1` and has the next root, which binds this key to the name, if any;
+/// and the reply under that root.
+fn owed(alloc: Global, bound: Option<&KeyData>) -> Result<(Watching, ProofText), AllocError> {
+    let first = signed_page(alloc, 3, &earlier(), None)?;
+    let next = signed_page(alloc, 7, &first.root.body, bound)?;
+    let mut client = started(alloc, &first.root)?;
+    let key = KeyData::new(b"k1").map_err(|_| AllocError)?;
+    let _ = kept(&mut client, &promise(&first.root, &key)?)?;
+    let _ = updated(alloc, &mut client, &first.root, &next.root)?;
+    Ok((client, next.reply))
+}
+
 /// The number of what comes of a reply that a promise is tested by: 0 where it was kept, 1 where it was
 /// broken, 2 where the index is another, else that of the refusal.
 fn tested_by(client: &mut Watching, reply: &ProofText) -> Result<u8, AllocError> {
@@ -247,27 +259,26 @@ fn lists_of_roots(rt: HostRuntime) -> Result<(), Fail> {
     let next = signed_page(rt.alloc(), 7, &first.root.body, None)?;
     let last = signed_page(rt.alloc(), 9, &next.root.body, None)?;
     let mut client = started(rt.alloc(), &first.root)?;
-    let ahead = Refusal::Root(rootchain::Refusal::BadLink);
+    let ahead = updated(rt.alloc(), &mut client, &first.root, &last.root)?;
+    assert_eq!(rt; ahead, Err(Refusal::Root(rootchain::Refusal::BadLink)));
+    let taken = updated(rt.alloc(), &mut client, &next.root, &last.root)?;
+    assert_eq!(rt; taken, Ok(()));
+    assert_eq!(rt; client.chain().head().body.epoch, 9);
+    Ok(())
+}
+
+#[test]
+fn refused_list_leaves_the_chain(rt: HostRuntime) -> Result<(), Fail> {
+    let first = signed_page(rt.alloc(), 3, &earlier(), None)?;
+    let next = signed_page(rt.alloc(), 7, &first.root.body, None)?;
+    let mut client = started(rt.alloc(), &first.root)?;
+    let forged = forged(&next.root);
+    let refused = updated(rt.alloc(), &mut client, &next.root, &forged)?;
     assert_eq!(rt;
-        updated(rt.alloc(), &mut client, &first.root, &last.root)?,
-        Err(ahead)
-    );
-    let forged = forged(&last.root);
-    let refused = Refusal::Root(rootchain::Refusal::BadSignature);
-    assert_eq!(rt;
-        updated(rt.alloc(), &mut client, &next.root, &forged)?,
-        Err(refused)
+        refused,
+        Err(Refusal::Root(rootchain::Refusal::BadSignature))
     );
     assert_eq!(rt; client.chain().head().body.epoch, 3);
-    assert_eq!(rt;
-        updated(rt.alloc(), &mut client, &first.root, &next.root)?,
-        Ok(())
-    );
-    assert_eq!(rt;
-        updated(rt.alloc(), &mut client, &first.root, &last.root)?,
-        Ok(())
-    );
-    assert_eq!(rt; client.chain().head().body.epoch, 9);
     Ok(())
 }
 
@@ -284,35 +295,31 @@ fn fork_is_evidence(rt: HostRuntime) -> Result<(), Fail> {
 }
 
 #[test]
-fn promise_and_the_next_root(rt: HostRuntime) -> Result<(), Fail> {
-    let key = KeyData::new(b"k1")?;
+fn promise_before_the_next_root(rt: HostRuntime) -> Result<(), Fail> {
     let first = signed_page(rt.alloc(), 3, &earlier(), None)?;
-    let without = signed_page(rt.alloc(), 7, &first.root.body, None)?;
-    let with = signed_page(rt.alloc(), 7, &first.root.body, Some(&key))?;
-    let promise = promise(&first.root, &key)?;
-
     let mut client = started(rt.alloc(), &first.root)?;
-    assert_eq!(rt; tested_by(&mut client, &without.reply)?, 23);
-    assert_eq!(rt; kept(&mut client, &promise)?, Ok(()));
+    assert_eq!(rt; tested_by(&mut client, &first.reply)?, 23);
+    let signed = promise(&first.root, &KeyData::new(b"k1")?)?;
+    assert_eq!(rt; kept(&mut client, &signed)?, Ok(()));
     assert_eq!(rt; client.due_epoch(&name()?), None);
-    assert_eq!(rt; tested_by(&mut client, &without.reply)?, 20);
-    assert_eq!(rt;
-        updated(rt.alloc(), &mut client, &first.root, &without.root)?,
-        Ok(())
-    );
-    assert_eq!(rt; client.due_epoch(&name()?), Some(7));
-    assert_eq!(rt; tested_by(&mut client, &with.reply)?, 3);
-    assert_eq!(rt; tested_by(&mut client, &without.reply)?, 1);
-    assert_eq!(rt; tested_by(&mut client, &without.reply)?, 1);
+    assert_eq!(rt; tested_by(&mut client, &first.reply)?, 20);
+    Ok(())
+}
 
-    let mut client = started(rt.alloc(), &first.root)?;
-    assert_eq!(rt; kept(&mut client, &promise)?, Ok(()));
-    assert_eq!(rt;
-        updated(rt.alloc(), &mut client, &first.root, &with.root)?,
-        Ok(())
-    );
-    assert_eq!(rt; tested_by(&mut client, &with.reply)?, 0);
-    assert_eq!(rt; tested_by(&mut client, &with.reply)?, 23);
+#[test]
+fn next_root_without_the_promised_key(rt: HostRuntime) -> Result<(), Fail> {
+    let (mut client, reply) = owed(rt.alloc(), None)?;
+    assert_eq!(rt; client.due_epoch(&name()?), Some(7));
+    assert_eq!(rt; tested_by(&mut client, &reply)?, 1);
+    assert_eq!(rt; tested_by(&mut client, &reply)?, 1);
+    Ok(())
+}
+
+#[test]
+fn next_root_with_the_promised_key(rt: HostRuntime) -> Result<(), Fail> {
+    let (mut client, reply) = owed(rt.alloc(), Some(&KeyData::new(b"k1")?))?;
+    assert_eq!(rt; tested_by(&mut client, &reply)?, 0);
+    assert_eq!(rt; tested_by(&mut client, &reply)?, 23);
     Ok(())
 }
 
