@@ -5,3 +5,8 @@ pub mod Growing
 pub mod Keeping
 pub mod Sizes
 pub mod Tested
+pub mod Groups
+pub mod Seen
+pub mod Others
+pub mod Unlikes
+pub mod Telling

@@ -1,3 +1,4 @@
+pub mod Agreements
 pub mod Clients
 pub mod Dues
 pub mod Looking

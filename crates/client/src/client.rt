@@ -72,6 +72,14 @@ impl<H: NodeHash, V: VufCheck, S: Verifier> Client<H, V, S> {
         &self.chain
     }
 
+    /// The looks that were accepted.
+    pub(crate) fn looks(&self) -> &Looks
+        ensures value { result.now ≡ self.now.looks }
+        ensures sound { IsSound H.digest_of V.accepted S.verified self.now }
+    {
+        &self.looks
+    }
+
     /// The public key of the provider.
     pub fn key(&self) -> &Hash32
         ensures { result.now ≡ self.now.chain.key }

@@ -16,13 +16,19 @@
 
 mod client;
 mod due;
+mod laws;
 mod looks;
+mod outcome;
 mod promises;
+mod reconciling;
 mod refusal;
 mod roots;
 
 pub use client::Client;
 pub use due::Due;
+pub use laws::two_values_are_never_told;
+pub use outcome::Outcome;
+pub use reconciling::reconcile;
 pub use refusal::Refusal;
 
 #[cfg(test)]

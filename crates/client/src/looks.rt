@@ -6,10 +6,14 @@ use std::alloc::{AllocError, Global};
 use std::collections::BTreeMap;
 use std::marker::Model;
 
+mod comparing;
+
+pub(crate) use comparing::Unlike;
+
 /// What a look asked for.
 #[derive(Drop, PartialEq, Eq, PartialOrd, Ord)]
 struct Asked {
-    name: Vec<u8>,
+    name: Name,
     epoch: u64,
 }
 
@@ -36,7 +40,7 @@ impl Model for Looks {
     ghost Value = { List Look };
 
     ghost view = { λ looks. in_order (λ place. place.number)
-        (λ entry. record { name = entry.0.asked.name.items; epoch = entry.0.asked.epoch; reply = entry.1.items }) looks.replies.entries };
+        (λ entry. record { name = entry.0.asked.name; epoch = entry.0.asked.epoch; reply = entry.1.items }) looks.replies.entries };
 
     ghost invariant = { λ looks. AreNumbered (λ place. place.number) looks.replies.entries };
 }
@@ -60,7 +64,7 @@ impl Looks {
     {
         let place = LookPlace {
             asked: Asked {
-                name: owned(self.alloc, name.bytes())?,
+                name: name.copied(),
                 epoch,
             },
             number: self.replies.len(),

@@ -38,6 +38,8 @@ impl<H: NodeHash, S: Verifier> Chain<H, S> {
         ensures collided { (last epoch : ℕ) → AreOneAt one.now other.now last → epoch < last → IsCommon one.now other.now epoch → ¬ AreAlikeAt one.now other.now epoch → IsCollided result }
         ensures counted { H.digests hash.new ≤ H.digests hash.old + 1 }
         ensures spared { ¬ IsHashNeeded one.now other.now → ¬ IsHashNeeded other.now one.now → H.digests hash.new ≡ H.digests hash.old }
+        ensures chain { IsChain H.digest_of S.verified one.now }
+        ensures also_chain { IsChain H.digest_of S.verified other.now }
     {
         compare_chains(hash, one, other)
     }
