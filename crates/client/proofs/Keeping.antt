@@ -1,14 +1,13 @@
--- A client stays sound when it keeps one more look, or one more promise.
-use Rattle.std.proofs.Common.{◌≡◌, ℕ, zero, suc, ◌-◌, ◌<◌, List, [], ◌∷◌, ◌++◌, length, slice_get, Some, refl, sym, ap, subst, ◌∙◌, arith}
+-- A client stays sound when it keeps one more look.
+use Rattle.std.proofs.Common.{◌≡◌, ℕ, zero, suc, ◌-◌, List, [], ◌∷◌, ◌++◌, length, slice_get, Some, refl, arith}
 use Rattle.std.specs.List.{AllByRecursion}
 use Rattle.encoding.specs.Limits.{IsName}
 use Rattle.rootchain.specs.Chains.{IsAt, IsHead, KeyedRoots}
-use Rattle.rootchain.specs.declared.signed_promise.SignedPromise.{SignedPromise}
 use Rattle.rootchain.specs.declared.signed_root.SignedRoot.{SignedRoot}
 use Rattle.rootchain.proofs.Places.{ends, one-first}
 use Rattle.proofs.specs.Comparisons.{IsAcceptedReply}
 use Rattle.proofs.specs.Replies.{Reply}
-use Rattle.client.specs.Clients.{Client, IsPromised, IsSound, Look, with_look, with_promise}
+use Rattle.client.specs.Clients.{Client, IsSound, with_look}
 use Rattle.client.specs.Looking.{IsAnswered, IsAsked}
 
 pub one-more : {A : Type 0} (P : A → Type 0) (xs : List A) (x : A) → AllByRecursion P xs → P x → AllByRecursion P (xs ++ x ∷ [])
@@ -42,6 +41,3 @@ module _ (hash : List ℕ → List ℕ) (accepted verified : List ℕ → List �
       looks = one-more _ before.looks _ sound.looks (record { named = named; root = root; at = asked-epoch before.chain epoch root asked; reply = reply; is = is });
       promises = sound.promises;
     }
-
-  pub promise-kept : (signed : SignedPromise) → IsPromised hash verified before.chain signed → IsSound hash accepted verified before → IsSound hash accepted verified (with_promise before signed)
-  promise-kept signed is sound = record { roots = sound.roots; looks = sound.looks; promises = one-more _ before.promises signed sound.promises is }

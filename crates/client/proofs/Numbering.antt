@@ -1,5 +1,5 @@
 -- What is stored under the next number comes last in the order of the numbers.
-use Rattle.std.proofs.Common.{◌≡◌, ℕ, zero, suc, ◌+◌, ◌<◌, ◌≤◌, List, [], ◌∷◌, ◌++◌, length, map, filter, Bool, true, false, cond, nat_eq, eq-eqb, ne_eqb, refl, sym, ap, subst, ◌∙◌, arith, ◌⊎◌, inl, inr}
+use Rattle.std.proofs.Common.{◌≡◌, ℕ, zero, suc, ◌<◌, ◌≤◌, List, [], ◌∷◌, ◌++◌, length, filter, false, cond, nat_eq, eq-eqb, ne_eqb, refl, sym, ap, arith, inl, inr}
 use Rattle.std.specs.BTreeMap.{insert_entry}
 use Rattle.std.specs.List.{AllByRecursion}
 use Rattle.std.specs.Ordering.{match_ordering, nat_cmp, ordering_then}
@@ -72,6 +72,7 @@ module _ {K X : Type 0} (number : K → ℕ) (cmp : K → K → Ordering) (key :
       low : (es : Entries) → After es → AllByRecursion (λ (entry : K × X). number entry.0 < most) es
       low [] a = tt
       low (e ∷ es) a = (omega (arith, a.0, below), low es a.1)
+
       by : (order : Ordering) → cmp key entry.0 ≡ order → AllByRecursion (λ (entry : K × X). number entry.0 < most) (more entries)
           → AllByRecursion (λ (entry : K × X). number entry.0 < most) (match_ordering order ((key, value) ∷ entry ∷ entries) ((entry.0, value) ∷ entries) (entry ∷ more entries))
       by Less is next = (below, low (entry ∷ entries) after)

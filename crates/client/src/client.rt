@@ -48,12 +48,7 @@ impl<H: NodeHash, V: VufCheck, S: Verifier> Client<H, V, S> {
     /// # Errors
     ///
     /// `Root` with `Malformed` or `BadSignature`, `Memory`: the first that applies.
-    pub fn start(
-        alloc: Global,
-        verifier: &S,
-        key: Hash32,
-        bytes: &[u8],
-    ) -> Result<Self, Refusal>
+    pub fn start(alloc: Global, verifier: &S, key: Hash32, bytes: &[u8]) -> Result<Self, Refusal>
         ensures { Starts S.verified key bytes.now result }
     {
         let root = SignedRoot::read(bytes).map_err(Refusal::Root)?;
@@ -122,12 +117,7 @@ impl<H: NodeHash, V: VufCheck, S: Verifier> Client<H, V, S> {
     ///
     /// `Root` with `Malformed` or `BadSignature`, `UnknownRoot` where no root of the chain has the epoch and
     /// the hash of the promise, `Memory`: the first that applies. The client then stays as it was.
-    pub fn keep_promise(
-        &mut self,
-        hash: &mut H,
-        verifier: &S,
-        bytes: &[u8],
-    ) -> Result<(), Refusal>
+    pub fn keep_promise(&mut self, hash: &mut H, verifier: &S, bytes: &[u8]) -> Result<(), Refusal>
         ensures { Keeps H.digest_of S.verified self.old bytes.now result self.new }
     {
         let signed = self.read_promise(hash, verifier, bytes)?;

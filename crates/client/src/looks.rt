@@ -53,12 +53,7 @@ impl Looks {
     }
 
     /// Keeps a look. An `Err` leaves the looks as they were.
-    pub(crate) fn push(
-        &mut self,
-        name: &Name,
-        epoch: u64,
-        reply: &[u8],
-    ) -> Result<(), AllocError>
+    pub(crate) fn push(&mut self, name: &Name, epoch: u64, reply: &[u8]) -> Result<(), AllocError>
         ensures ok { OnOk result (self.new ≡ self.old ++ (record { name = name.now; epoch = epoch; reply = reply.now }) ∷ []) }
         ensures err { OnErr result (self.new ≡ self.old) }
         ensures named { OnOk result (IsName name.now) }

@@ -8,7 +8,10 @@ use rootchain::{Chain, Promise, SignedRoot};
 use sigiface::Verifier;
 
 /// The root that a look at an epoch is asked under: at 0 the head, else the one of the epoch.
-pub(crate) fn asked<H: NodeHash, S: Verifier>(chain: &Chain<H, S>, epoch: u64) -> Option<&SignedRoot>
+pub(crate) fn asked<H: NodeHash, S: Verifier>(
+    chain: &Chain<H, S>,
+    epoch: u64,
+) -> Option<&SignedRoot>
     ensures { (root : SignedRoot) → (option_copied result ≡ Some root) ↔ IsAsked chain.now epoch root }
 {
     if epoch == 0 {

@@ -16,6 +16,7 @@ use vrfiface::{PlainVuf, Vuf, index_of};
 type Watching = Client<SumHash, PlainVuf, KeyedSign>;
 
 /// The signed root of an epoch, and the reply to a look-up of the name `a` under it.
+#[derive(Drop)]
 struct Page {
     root: SignedRoot,
     reply: ProofText,
@@ -29,6 +30,11 @@ fn provider() -> KeyedSign {
 /// Another signer.
 fn stranger() -> KeyedSign {
     KeyedSign::new(Hash32::new([9; 32]))
+}
+
+/// The root of this body, signed by another signer.
+fn forged(root: &SignedRoot) -> SignedRoot {
+    signed(&stranger(), root.body)
 }
 
 /// The name `a`.
@@ -48,7 +54,7 @@ fn signed(signer: &KeyedSign, body: Body) -> SignedRoot {
 }
 
 /// The page of an epoch behind the one of this root, which binds this key to the name, if any.
-fn page(
+fn signed_page(
     alloc: Global,
     epoch: u64,
     before: &Body,
@@ -119,18 +125,17 @@ fn started(alloc: Global, root: &SignedRoot) -> Result<Watching, AllocError> {
     Client::start(alloc, &provider(), provider().public(), bytes.bytes()).map_err(|_| AllocError)
 }
 
-/// What comes of the list of these roots.
+/// What comes of the list of these two roots.
 fn updated(
     alloc: Global,
     client: &mut Watching,
-    count: u8,
-    roots: &[&SignedRoot],
+    one: &SignedRoot,
+    other: &SignedRoot,
 ) -> Result<Result<(), Refusal>, AllocError> {
     let mut list = Vec::new(alloc);
-    list.extend_from_slice(&[0, count])?;
-    for root in roots {
-        list.extend_from_slice(root.write().bytes())?;
-    }
+    list.extend_from_slice(&[0, 2])?;
+    list.extend_from_slice(one.write().bytes())?;
+    list.extend_from_slice(other.write().bytes())?;
     unless_out_of_memory(client.update(&mut SumHash::new(), &provider(), &list))
 }
 
@@ -140,7 +145,13 @@ fn looked_up(
     epoch: u64,
     reply: &ProofText,
 ) -> Result<Result<Option<KeyData>, Refusal>, AllocError> {
-    match client.look(&mut SumHash::new(), &PlainVuf, &name()?, epoch, reply.bytes()) {
+    match client.look(
+        &mut SumHash::new(),
+        &PlainVuf,
+        &name()?,
+        epoch,
+        reply.bytes(),
+    ) {
         Ok(Statement::Present(key)) => Ok(Ok(KeyData::new(key).ok())),
         Ok(Statement::Absent) => Ok(Ok(None)),
         Err(Refusal::Memory) => Err(AllocError),
@@ -152,6 +163,18 @@ fn looked_up(
 fn kept(client: &mut Watching, signed: &SignedPromise) -> Result<Result<(), Refusal>, AllocError> {
     let bytes = signed.write();
     unless_out_of_memory(client.keep_promise(&mut SumHash::new(), &provider(), bytes.bytes()))
+}
+
+/// A client that keeps a promise of `k1` and has the next root, which binds this key to the name, if any;
+/// and the reply under that root.
+fn owed(alloc: Global, bound: Option<&KeyData>) -> Result<(Watching, ProofText), AllocError> {
+    let first = signed_page(alloc, 3, &earlier(), None)?;
+    let next = signed_page(alloc, 7, &first.root.body, bound)?;
+    let mut client = started(alloc, &first.root)?;
+    let key = KeyData::new(b"k1").map_err(|_| AllocError)?;
+    let _ = kept(&mut client, &promise(&first.root, &key)?)?;
+    let _ = updated(alloc, &mut client, &first.root, &next.root)?;
+    Ok((client, next.reply))
 }
 
 /// The number of what comes of a reply that a promise is tested by: 0 where it was kept, 1 where it was
@@ -167,14 +190,29 @@ fn tested_by(client: &mut Watching, reply: &ProofText) -> Result<u8, AllocError>
 
 #[test]
 fn client_starts_with_a_root(rt: HostRuntime) -> Result<(), Fail> {
-    let first = page(rt.alloc(), 3, &earlier(), None)?;
+    let first = signed_page(rt.alloc(), 3, &earlier(), None)?;
     let client = started(rt.alloc(), &first.root)?;
     assert_eq!(rt; client.chain().head().body.epoch, 3);
     assert_eq!(rt; *client.key(), provider().public());
-    let forged = signed(&stranger(), first.root.body).write();
-    let refused: Result<Watching, Refusal> = Client::start(rt.alloc(), &provider(), provider().public(), forged.bytes());
-    assert!(rt; matches!(refused, Err(Refusal::Root(rootchain::Refusal::BadSignature))));
-    let refused: Result<Watching, Refusal> = Client::start(rt.alloc(), &provider(), provider().public(), b"R");
+    let forged = forged(&first.root).write();
+    let refused: Result<Watching, Refusal> = Client::start(
+        rt.alloc(),
+        &provider(),
+        provider().public(),
+        forged.bytes(),
+    );
+    assert!(rt;
+        matches!(
+            refused,
+            Err(Refusal::Root(rootchain::Refusal::BadSignature))
+        )
+    );
+    let refused: Result<Watching, Refusal> = Client::start(
+        rt.alloc(),
+        &provider(),
+        provider().public(),
+        b"R",
+    );
     assert!(rt; matches!(refused, Err(Refusal::Root(rootchain::Refusal::Malformed))));
     Ok(())
 }
@@ -182,13 +220,22 @@ fn client_starts_with_a_root(rt: HostRuntime) -> Result<(), Fail> {
 #[test]
 fn looks_at_an_epoch_and_at_the_head(rt: HostRuntime) -> Result<(), Fail> {
     let key = KeyData::new(b"k1")?;
-    let first = page(rt.alloc(), 3, &earlier(), None)?;
-    let next = page(rt.alloc(), 7, &first.root.body, Some(&key))?;
+    let first = signed_page(rt.alloc(), 3, &earlier(), None)?;
+    let next = signed_page(rt.alloc(), 7, &first.root.body, Some(&key))?;
     let mut client = started(rt.alloc(), &first.root)?;
-    assert_eq!(rt; looked_up(&mut client, 7, &next.reply)?, Err(Refusal::UnknownRoot));
-    assert_eq!(rt; updated(rt.alloc(), &mut client, 1, &[&next.root])?, Ok(()));
+    assert_eq!(rt;
+        looked_up(&mut client, 7, &next.reply)?,
+        Err(Refusal::UnknownRoot)
+    );
+    assert_eq!(rt;
+        updated(rt.alloc(), &mut client, &first.root, &next.root)?,
+        Ok(())
+    );
     assert_eq!(rt; looked_up(&mut client, 3, &first.reply)?, Ok(None));
-    assert_eq!(rt; looked_up(&mut client, 7, &next.reply)?, Ok(Some(key.copied())));
+    assert_eq!(rt;
+        looked_up(&mut client, 7, &next.reply)?,
+        Ok(Some(key.copied()))
+    );
     assert_eq!(rt; looked_up(&mut client, 0, &next.reply)?, Ok(Some(key)));
     let other = Refusal::Proof(proofs::Refusal::OtherRoot);
     assert_eq!(rt; looked_up(&mut client, 0, &first.reply)?, Err(other));
@@ -198,7 +245,7 @@ fn looks_at_an_epoch_and_at_the_head(rt: HostRuntime) -> Result<(), Fail> {
 /// A body that gives up after some looks meets every clause.
 #[test]
 fn hundreds_of_looks(rt: HostRuntime) -> Result<(), Fail> {
-    let first = page(rt.alloc(), 3, &earlier(), None)?;
+    let first = signed_page(rt.alloc(), 3, &earlier(), None)?;
     let mut client = started(rt.alloc(), &first.root)?;
     for _ in 0..300 {
         assert_eq!(rt; looked_up(&mut client, 0, &first.reply)?, Ok(None));
@@ -208,66 +255,79 @@ fn hundreds_of_looks(rt: HostRuntime) -> Result<(), Fail> {
 
 #[test]
 fn lists_of_roots(rt: HostRuntime) -> Result<(), Fail> {
-    let first = page(rt.alloc(), 3, &earlier(), None)?;
-    let next = page(rt.alloc(), 7, &first.root.body, None)?;
-    let last = page(rt.alloc(), 9, &next.root.body, None)?;
+    let first = signed_page(rt.alloc(), 3, &earlier(), None)?;
+    let next = signed_page(rt.alloc(), 7, &first.root.body, None)?;
+    let last = signed_page(rt.alloc(), 9, &next.root.body, None)?;
     let mut client = started(rt.alloc(), &first.root)?;
-    let ahead = Refusal::Root(rootchain::Refusal::BadLink);
-    assert_eq!(rt; updated(rt.alloc(), &mut client, 1, &[&last.root])?, Err(ahead));
-    let forged = signed(&stranger(), last.root.body);
-    let refused = Refusal::Root(rootchain::Refusal::BadSignature);
-    assert_eq!(rt; updated(rt.alloc(), &mut client, 2, &[&next.root, &forged])?, Err(refused));
-    assert_eq!(rt; client.chain().head().body.epoch, 3);
-    assert_eq!(rt; updated(rt.alloc(), &mut client, 2, &[&first.root, &next.root])?, Ok(()));
-    assert_eq!(rt; updated(rt.alloc(), &mut client, 1, &[&last.root])?, Ok(()));
+    let ahead = updated(rt.alloc(), &mut client, &first.root, &last.root)?;
+    assert_eq!(rt; ahead, Err(Refusal::Root(rootchain::Refusal::BadLink)));
+    let taken = updated(rt.alloc(), &mut client, &next.root, &last.root)?;
+    assert_eq!(rt; taken, Ok(()));
     assert_eq!(rt; client.chain().head().body.epoch, 9);
+    Ok(())
+}
+
+#[test]
+fn refused_list_leaves_the_chain(rt: HostRuntime) -> Result<(), Fail> {
+    let first = signed_page(rt.alloc(), 3, &earlier(), None)?;
+    let next = signed_page(rt.alloc(), 7, &first.root.body, None)?;
+    let mut client = started(rt.alloc(), &first.root)?;
+    let forged = forged(&next.root);
+    let refused = updated(rt.alloc(), &mut client, &next.root, &forged)?;
+    assert_eq!(rt;
+        refused,
+        Err(Refusal::Root(rootchain::Refusal::BadSignature))
+    );
+    assert_eq!(rt; client.chain().head().body.epoch, 3);
     Ok(())
 }
 
 #[test]
 fn fork_is_evidence(rt: HostRuntime) -> Result<(), Fail> {
     let key = KeyData::new(b"k1")?;
-    let first = page(rt.alloc(), 3, &earlier(), None)?;
-    let other = page(rt.alloc(), 3, &earlier(), Some(&key))?;
+    let first = signed_page(rt.alloc(), 3, &earlier(), None)?;
+    let other = signed_page(rt.alloc(), 3, &earlier(), Some(&key))?;
     let mut client = started(rt.alloc(), &first.root)?;
     let fork = RootEvidence::Fork(first.root.copied(), other.root.copied());
-    let told = updated(rt.alloc(), &mut client, 1, &[&other.root])?;
+    let told = updated(rt.alloc(), &mut client, &first.root, &other.root)?;
     assert_eq!(rt; told, Err(Refusal::RootDiffers(fork)));
     Ok(())
 }
 
 #[test]
-fn promise_and_the_next_root(rt: HostRuntime) -> Result<(), Fail> {
-    let key = KeyData::new(b"k1")?;
-    let first = page(rt.alloc(), 3, &earlier(), None)?;
-    let without = page(rt.alloc(), 7, &first.root.body, None)?;
-    let with = page(rt.alloc(), 7, &first.root.body, Some(&key))?;
-    let promise = promise(&first.root, &key)?;
-
+fn promise_before_the_next_root(rt: HostRuntime) -> Result<(), Fail> {
+    let first = signed_page(rt.alloc(), 3, &earlier(), None)?;
     let mut client = started(rt.alloc(), &first.root)?;
-    assert_eq!(rt; tested_by(&mut client, &without.reply)?, 23);
-    assert_eq!(rt; kept(&mut client, &promise)?, Ok(()));
+    assert_eq!(rt; tested_by(&mut client, &first.reply)?, 23);
+    let signed = promise(&first.root, &KeyData::new(b"k1")?)?;
+    assert_eq!(rt; kept(&mut client, &signed)?, Ok(()));
     assert_eq!(rt; client.due_epoch(&name()?), None);
-    assert_eq!(rt; tested_by(&mut client, &without.reply)?, 20);
-    assert_eq!(rt; updated(rt.alloc(), &mut client, 1, &[&without.root])?, Ok(()));
-    assert_eq!(rt; client.due_epoch(&name()?), Some(7));
-    assert_eq!(rt; tested_by(&mut client, &with.reply)?, 3);
-    assert_eq!(rt; tested_by(&mut client, &without.reply)?, 1);
-    assert_eq!(rt; tested_by(&mut client, &without.reply)?, 1);
+    assert_eq!(rt; tested_by(&mut client, &first.reply)?, 20);
+    Ok(())
+}
 
-    let mut client = started(rt.alloc(), &first.root)?;
-    assert_eq!(rt; kept(&mut client, &promise)?, Ok(()));
-    assert_eq!(rt; updated(rt.alloc(), &mut client, 1, &[&with.root])?, Ok(()));
-    assert_eq!(rt; tested_by(&mut client, &with.reply)?, 0);
-    assert_eq!(rt; tested_by(&mut client, &with.reply)?, 23);
+#[test]
+fn next_root_without_the_promised_key(rt: HostRuntime) -> Result<(), Fail> {
+    let (mut client, reply) = owed(rt.alloc(), None)?;
+    assert_eq!(rt; client.due_epoch(&name()?), Some(7));
+    assert_eq!(rt; tested_by(&mut client, &reply)?, 1);
+    assert_eq!(rt; tested_by(&mut client, &reply)?, 1);
+    Ok(())
+}
+
+#[test]
+fn next_root_with_the_promised_key(rt: HostRuntime) -> Result<(), Fail> {
+    let (mut client, reply) = owed(rt.alloc(), Some(&KeyData::new(b"k1")?))?;
+    assert_eq!(rt; tested_by(&mut client, &reply)?, 0);
+    assert_eq!(rt; tested_by(&mut client, &reply)?, 23);
     Ok(())
 }
 
 #[test]
 fn promises_that_are_not_kept(rt: HostRuntime) -> Result<(), Fail> {
     let key = KeyData::new(b"k1")?;
-    let first = page(rt.alloc(), 3, &earlier(), None)?;
-    let next = page(rt.alloc(), 7, &first.root.body, None)?;
+    let first = signed_page(rt.alloc(), 3, &earlier(), None)?;
+    let next = signed_page(rt.alloc(), 7, &first.root.body, None)?;
     let mut client = started(rt.alloc(), &first.root)?;
     let unknown = promise(&next.root, &key)?;
     assert_eq!(rt; kept(&mut client, &unknown)?, Err(Refusal::UnknownRoot));

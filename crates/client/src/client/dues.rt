@@ -28,13 +28,7 @@ impl<H: NodeHash, V: VufCheck, S: Verifier> Client<H, V, S> {
     ///
     /// `NoPromise` where no promise for the name is kept, `UnknownRoot` where the chain has no root after the
     /// promise's yet, the refusal of the reply: the first that applies. The client then stays as it was.
-    pub fn due(
-        &mut self,
-        hash: &mut H,
-        vuf: &V,
-        name: &Name,
-        bytes: &[u8],
-    ) -> Result<Due, Refusal>
+    pub fn due(&mut self, hash: &mut H, vuf: &V, name: &Name, bytes: &[u8]) -> Result<Due, Refusal>
         ensures due { Dues H.digest_of V.accepted self.old name.now bytes.now result self.new }
         ensures evidence { IfOk result (DueHolds H.digest_of V.accepted S.verified self.old.chain.key) }
     {
