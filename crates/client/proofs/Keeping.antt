@@ -1,14 +1,13 @@
 -- A client stays sound when it keeps one more look.
-use Rattle.std.proofs.Common.{◌≡◌, ℕ, zero, suc, ◌-◌, ◌<◌, List, [], ◌∷◌, ◌++◌, length, slice_get, Some, refl, sym, ap, subst, ◌∙◌, arith}
+use Rattle.std.proofs.Common.{◌≡◌, ℕ, zero, suc, ◌-◌, List, [], ◌∷◌, ◌++◌, length, slice_get, Some, refl, arith}
 use Rattle.std.specs.List.{AllByRecursion}
 use Rattle.encoding.specs.Limits.{IsName}
 use Rattle.rootchain.specs.Chains.{IsAt, IsHead, KeyedRoots}
-use Rattle.rootchain.specs.declared.signed_promise.SignedPromise.{SignedPromise}
 use Rattle.rootchain.specs.declared.signed_root.SignedRoot.{SignedRoot}
 use Rattle.rootchain.proofs.Places.{ends, one-first}
 use Rattle.proofs.specs.Comparisons.{IsAcceptedReply}
 use Rattle.proofs.specs.Replies.{Reply}
-use Rattle.client.specs.Clients.{Client, IsPromised, IsSound, Look, with_look, with_promise}
+use Rattle.client.specs.Clients.{Client, IsSound, with_look}
 use Rattle.client.specs.Looking.{IsAnswered, IsAsked}
 
 pub one-more : {A : Type 0} (P : A → Type 0) (xs : List A) (x : A) → AllByRecursion P xs → P x → AllByRecursion P (xs ++ x ∷ [])

@@ -1,5 +1,5 @@
 -- Roots of a chain that looks and promises speak of.
-use Rattle.std.proofs.Common.{◌≡◌, ◌≢◌, ◌↔◌, ℕ, zero, suc, List, Bool, true, false, Option, Some, None, IsTrue, refl, sym, ap, subst, ◌∙◌}
+use Rattle.std.proofs.Common.{◌≡◌, ◌≢◌, ◌↔◌, ℕ, zero, suc, List, Bool, false, Option, Some, None, IsTrue, refl, sym, ap, ◌∙◌}
 use Rattle.rootchain.specs.Bodies.{body_bytes}
 use Rattle.rootchain.specs.Chains.{IsAt, KeyedRoots}
 use Rattle.rootchain.specs.declared.promise.Promise.{Promise}

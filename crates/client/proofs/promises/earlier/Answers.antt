@@ -1,4 +1,4 @@
-use Rattle.std.proofs.Common.{rules, ◌≡◌, ◌≢◌, ◌≤◌, ◌<◌, arith, Some}
+use Rattle.std.proofs.Common.{rules, ◌≡◌, ◌≢◌, arith}
 use Rattle.client.specs.Dues.{HasNone, IsTested}
 use Rattle.client.proofs.Tested.{begun, not-earlier, now-first, skipped-among}
 use Rattle.client.proofs.promises.earlier.Goals as goal

@@ -1,4 +1,4 @@
-use Rattle.std.proofs.Common.{◌≡◌, ◌<◌, ◌+◌, ◌++◌, ◌∷◌, [], List, suc, take, length, get_or, take-suc, sym, ap, subst, ◌∙◌, arith, le_of_lt}
+use Rattle.std.proofs.Common.{◌≡◌, ◌<◌, ◌+◌, ◌++◌, ◌∷◌, [], List, suc, take, length, take-suc, sym, ap, subst, ◌∙◌, arith, le_of_lt}
 use Rattle.std.proofs.lemmas.List.{length-take-le, take_all}
 use Rattle.rootchain.specs.declared.signed_promise.SignedPromise.{SignedPromise}
 use Rattle.client.specs.Testing.{IsTestedAmong}

@@ -1,4 +1,4 @@
-use Rattle.std.proofs.Common.{ap, option_copied, refl}
+use Rattle.std.proofs.Common.{refl}
 use Rattle.client.specs.Dues.{IsTested}
 use Rattle.client.proofs.client.Client.due_epoch.Goals as goal
 
