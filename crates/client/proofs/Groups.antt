@@ -126,7 +126,6 @@ abbrev pub Entries : Type 0 → Type 0
 Entries X = List (LookPlace × X)
 
 module _ {X : Type 0} where
-
   -- each place comes before those after it
   abbrev pub AreSorted : Entries X → Type 0
   AreSorted [] = Unit {0}

@@ -86,11 +86,11 @@ module _ {X : Type 0} (bytes : X → List ℕ) where
               | inr there ↦ elim there [
                 | inl own ↦ absurd (let same : x.0.number ≡ n = ap (λ (e : LookPlace × X). e.0.number) own ∙ w.2 in omega (arith, same, low))
                 | inr later ↦ absurd (
-                  let sorted-rest : AreSorted (x ∷ rest) = sorted-end gone.done (x ∷ rest) (subst AreSorted (sym gone.parts) is.sorted) in
-                  let above : x.0.number < w.0.0.number = later-number place x w.0 rest sorted-rest later (is.asked x x-in) (is.asked w.0 w.1) in
-                  let same : w.0.0.number ≡ n = w.2 in
-                  omega (arith, above, same, low)
-                )
+                    let sorted-rest : AreSorted (x ∷ rest) = sorted-end gone.done (x ∷ rest) (subst AreSorted (sym gone.parts) is.sorted) in
+                    let above : x.0.number < w.0.0.number = later-number place x w.0 rest sorted-rest later (is.asked x x-in) (is.asked w.0 w.1) in
+                    let same : w.0.0.number ≡ n = w.2 in
+                    omega (arith, above, same, low)
+                    )
               ]
             ];
       }

@@ -46,11 +46,11 @@ module _ {K X L : Type 0} (number : K → ℕ) (look : K × X → L) (entries : 
   at-first (suc m) n few low e is = elim (cases_lt n m) [
     | inl before ↦ get-front (first_numbered number look entries m) (map look (filter (is_numbered number m) entries)) n (rw (length-first m (omega (arith, few))) before) ∙ at-first m n (omega (arith, few)) before e is
     | inr not ↦
-      let same : n ≡ m = omega (arith, low, not) in
-      let alone : filter (is_numbered number m) entries ≡ e ∷ [] = subst (λ (k : ℕ). filter (is_numbered number k) entries ≡ e ∷ []) same is in
-      let last : slice_get (first_numbered number look entries m ++ look e ∷ []) n ≡ Some (look e) =
-          subst (λ (k : ℕ). slice_get (first_numbered number look entries m ++ look e ∷ []) k ≡ Some (look e)) (length-first m (omega (arith, few)) ∙ sym same) (get-end (first_numbered number look entries m) (look e)) in
-      rw alone last
+        let same : n ≡ m = omega (arith, low, not) in
+        let alone : filter (is_numbered number m) entries ≡ e ∷ [] = subst (λ (k : ℕ). filter (is_numbered number k) entries ≡ e ∷ []) same is in
+        let last : slice_get (first_numbered number look entries m ++ look e ∷ []) n ≡ Some (look e) =
+        subst (λ (k : ℕ). slice_get (first_numbered number look entries m ++ look e ∷ []) k ≡ Some (look e)) (length-first m (omega (arith, few)) ∙ sym same) (get-end (first_numbered number look entries m) (look e)) in
+        rw alone last
   ]
 
   pub seen : (e : K × X) → IsIn entries e → slice_get (in_order number look entries) (number e.0) ≡ Some (look e)

@@ -1,5 +1,5 @@
 -- What the looks of two clients tell, and what comes of it.
-use Rattle.std.proofs.Common.{◌≡◌, ◌≢◌, ◌↔◌, ◌⊎◌, inl, inr, ℕ, zero, suc, List, [], ◌∷◌, slice_get, Option, Some, refl, sym, ap, subst, ◌∙◌}
+use Rattle.std.proofs.Common.{◌≡◌, ◌≢◌, ◌↔◌, ◌⊎◌, inl, inr, ℕ, zero, suc, List, [], ◌∷◌, slice_get, Contains, Option, Some, refl, sym, ap, subst, ◌∙◌}
 use Rattle.std.specs.List.{AllByRecursion}
 use Rattle.encoding.specs.Limits.{IsName}
 use Rattle.nodehash.specs.Collisions.{IsCollision}
@@ -18,8 +18,9 @@ use Rattle.proofs.specs.Replies.{Reply, Spells}
 use Rattle.proofs.specs.declared.comparing.SameOr.{SameOr}
 use Rattle.proofs.specs.declared.comparing.SameOr.TheVariants as replies
 use Rattle.proofs.proofs.Passing.{one_reply}
-use Rattle.client.specs.Agreements.{AreFirstUnlike, AreReconciled, AreTwoValuesFor, HaveOneStatement, IsToldByLooks, LooksAgree, OutcomeHolds, OutcomeIsSpelled, RepliesAnswer, SpellsOne}
+use Rattle.client.specs.Agreements.{AreFirstUnlike, AreOfOne, AreReconciled, AreTwoValuesFor, HaveOneStatement, IsToldByLooks, LooksAgree, OutcomeHolds, OutcomeIsSpelled, RepliesAnswer, SpellsOne}
 use Rattle.client.specs.Clients.{IsAcceptedLook, Look}
+use Rattle.client.proofs.Unlikes.{is-among}
 use Rattle.client.specs.declared.outcome.Outcome.{Outcome}
 use Rattle.client.specs.declared.outcome.Outcome.TheVariants.{Agree, Evidence, Collision, TwoValues}
 
@@ -72,8 +73,7 @@ module _ (hash : List ℕ → List ℕ) (accepted : List ℕ → List ℕ → Li
           let here = one_reply look.reply first.reply is-look.reply look-spelled is-look.is.0 in
           let there = one_reply also.reply second.reply is-also.reply also-spelled is-also.is.0 in
           let at : IsAt other look.epoch is-also.root = subst (λ (e : ℕ). IsAt other e is-also.root) (sym is.unlike.0.1) is-also.at in
-          let between : is-look.root.body ≡ is-also.root.body = bodies look.epoch is-look.root is-also.root is-look.at at in
-          (
+          let between : is-look.root.body ≡ is-also.root.body = bodies look.epoch is-look.root is-also.root is-look.at at in (
             ap (λ (r : Reply). r.body) here ∙ is-look.is.1 ∙ between ∙ sym is-also.is.1 ∙ sym (ap (λ (r : Reply). r.body) there),
             first-name ∙ sym second-name,
           )
@@ -93,13 +93,20 @@ module _ (hash : List ℕ → List ℕ) (accepted : List ℕ → List ℕ → Li
 
   module _ (ones others : List Look) where
     told-apart : (answer : SameOr) → IsToldByLooks hash accepted ones others answer → ¬ LooksAgree ones others
-    told-apart answer told agree = told.2.unlike.1 (agree told.2.i told.2.j told.0 told.1 told.2.at-one told.2.at-other told.2.unlike.0)
+    told-apart answer told agree = told.2.unlike.1 (agree told.0 told.1 (is-among ones told.2.i told.0 told.2.at-one) (is-among others told.2.j told.1 told.2.at-other) told.2.unlike.0)
 
     pub agrees : (outcome : Outcome) → AreReconciled hash accepted ones others outcome → (outcome ≡ Agree) ↔ LooksAgree ones others
     agrees Agree is = (λ same. is, λ agree. refl)
     agrees (Evidence evidence) is = absurd is
     agrees (Collision x y) is = (λ same. absurd cc, λ agree. absurd (told-apart (replies.Collision x y) is agree))
     agrees TwoValues is = (λ same. absurd cc, λ agree. absurd (told-apart replies.TwoValues is agree))
+
+    pub looks-seen : (outcome : Outcome) → AreReconciled hash accepted ones others outcome → (look also : Look) → Contains ones look → Contains others also → AreOfOne look also
+        → HaveOneStatement look also ⊎ (outcome ≢ Agree)
+    looks-seen Agree is look also has-one has-other of_one = inl (is look also has-one has-other of_one)
+    looks-seen (Evidence evidence) is look also has-one has-other of_one = absurd is
+    looks-seen (Collision x y) is look also has-one has-other of_one = inr (λ same. absurd cc)
+    looks-seen TwoValues is look also has-one has-other of_one = inr (λ same. absurd cc)
 
     pub looks-hold : (verified : List ℕ → List ℕ → List ℕ → Type 0) (key : List ℕ) (outcome : Outcome) → AreReconciled hash accepted ones others outcome → OutcomeHolds hash accepted verified key outcome
     looks-hold verified key Agree is = tt

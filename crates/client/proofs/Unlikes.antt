@@ -1,8 +1,9 @@
 -- All looks of one client, gone through for the first that has an unlike partner.
-use Rattle.std.proofs.Common.{◌≡◌, ◌≢◌, ◌⊎◌, inl, inr, ℕ, zero, suc, ◌<◌, ◌≤◌, List, [], ◌∷◌, ◌++◌, append_assoc, length, slice_get, Option, Some, None, IsSomeAnd, MatchOption, refl, sym, ap, subst, ◌∙◌, arith}
+use Rattle.std.proofs.Common.{◌≡◌, ◌≢◌, ◌⊎◌, inl, inr, ℕ, zero, suc, ◌<◌, ◌≤◌, List, [], ◌∷◌, ◌++◌, append_assoc, length, slice_get, Option, Some, None, Contains, IsSomeAnd, MatchOption, refl, sym, ap, subst, ◌∙◌, arith}
 use Rattle.std.specs.List.{AllByRecursion}
 use Rattle.std.proofs.lemmas.Bool.{cases_lt}
 use Rattle.std.proofs.lemmas.List.{append-nil}
+use Rattle.std.proofs.lemmas.Option.{get_or_from_slice_get, slice_get_read, slice_get_within}
 use Rattle.proofs.specs.Accepts.{stated}
 use Rattle.proofs.specs.Replies.{Reply, Spells}
 use Rattle.proofs.proofs.Passing.{one_reply}
@@ -14,6 +15,13 @@ use Rattle.client.specs.declared.looks.comparing.Unlike.{Unlike}
 use Rattle.client.proofs.Groups.{Entries, IsIn, in-second, of-each, one-more}
 use Rattle.client.proofs.Others.{look_of, spelled-at}
 use Rattle.client.proofs.Seen.{seen, stored, IsStored}
+
+-- where an element stands
+pub at-place : {X : Type 0} (xs : List X) (x : X) (has : Contains xs x) → slice_get xs has.0 ≡ Some x
+at-place xs x has = slice_get_read xs (length xs) has.0 x refl has.1 (sym has.2)
+
+pub is-among : {X : Type 0} (xs : List X) (k : ℕ) (x : X) → slice_get xs k ≡ Some x → Contains xs x
+is-among xs k x at = (k, slice_get_within xs k x at, get_or_from_slice_get xs k x x at)
 
 -- two looks as they were found, without where they lie
 pub record Found : Type 0 where
@@ -95,11 +103,10 @@ module _ {X : Type 0} (bytes : X → List ℕ) where
           → ((v : Found) → f ≡ Some v → AllByRecursion (λ y. y.0.number < v.number → HasNone y) done) → AllByRecursion (λ y. y.0.number < u.number → HasNone y) done
       weaker u of f least apart [] none some = tt
       weaker u of None least apart (d ∷ done) none some = (λ low. (none refl).0, weaker u of None least apart done (λ e. (none e).1) (λ v e. absurd cc))
-      weaker u of (Some v) least apart (d ∷ done) none some =
-          (
-            λ low. (some v refl).0 (elim (cases_lt d.0.number v.number) [ inl below ↦ below | inr above ↦ absurd (apart (let at = of.number in omega (arith, at, low, above))) ]),
-            weaker u of (Some v) least apart done (λ e. absurd cc) (λ w e. (some w e).1),
-          )
+      weaker u of (Some v) least apart (d ∷ done) none some = (
+        λ low. (some v refl).0 (elim (cases_lt d.0.number v.number) [ inl below ↦ below | inr above ↦ absurd (apart (let at = of.number in omega (arith, at, low, above))) ]),
+        weaker u of (Some v) least apart done (λ e. absurd cc) (λ w e. (some w e).1),
+      )
 
       nones : (f : Option Found) → IsLeast before.done f → f ≡ None → AllByRecursion HasNone before.done
       nones None least e = least
@@ -133,7 +140,11 @@ module _ {X : Type 0} (bytes : X → List ℕ) where
           (stated spells.0.end, (spells.0, spells.1, refl), none spells.0 own j also at-other name epoch)
 
       pub agree : IsLeastSoFar entries [] None → LooksAgree looks others
-      agree gone = λ i j look also at-one at-other of_one.
+      agree gone = λ look also has-one has-other of_one.
+          let i = has-one.0 in
+          let j = has-other.0 in
+          let at-one : slice_get looks i ≡ Some look = at-place looks look has-one in
+          let at-other : slice_get others j ≡ Some also = at-place others also has-other in
           let w = all.whole i look at-one in
           let done : IsIn gone.done w.0 = subst (λ (es : Entries X). IsIn es w.0) (sym gone.parts ∙ append-nil gone.done) w.1 in
           agrees i j look also at-one at-other of_one w.0 w.3 (of-each _ gone.done w.0 gone.least done)
@@ -173,18 +184,18 @@ module _ {X : Type 0} (bytes : X → List ℕ) where
               before = λ k l x y at-k at-l of_one earlier.
                   elim earlier [
                     | inl low ↦
-                      let w = all.whole k x at-k in
-                      let done : IsIn gone.done w.0 = subst (λ (es : Entries X). IsIn es w.0) (sym whole-done) w.1 in
-                      let below : w.0.0.number < found.number = (let a = of.number in let b = w.2 in omega (arith, a, b, low)) in
-                      agrees k l x y at-k at-l of_one w.0 w.3 (of-each _ gone.done w.0 gone.least.3 done below)
+                        let w = all.whole k x at-k in
+                        let done : IsIn gone.done w.0 = subst (λ (es : Entries X). IsIn es w.0) (sym whole-done) w.1 in
+                        let below : w.0.0.number < found.number = (let a = of.number in let b = w.2 in omega (arith, a, b, low)) in
+                        agrees k l x y at-k at-l of_one w.0 w.3 (of-each _ gone.done w.0 gone.least.3 done below)
                     | inr same ↦
-                      let own : slice_get looks e.0.number ≡ Some x = subst (λ (n : ℕ). slice_get looks n ≡ Some x) same.0 at-k in
-                      let both : Some (look_of bytes e) ≡ Some x = sym at-one ∙ own in
-                      let is : look_of bytes e ≡ x = cc in
-                      let name : y.name ≡ e.0.asked.name = sym of_one.0 ∙ ap (λ (v : Look). v.name) (sym is) in
-                      let epoch : y.epoch ≡ e.0.asked.epoch = sym of_one.1 ∙ ap (λ (v : Look). v.epoch) (sym is) in
-                      let states = f.before l y same.1 at-l name epoch in
-                      subst (λ (v : Look). HaveOneStatement v y) is (stated spells.0.end, (spells.0, spells.1, refl), states)
+                        let own : slice_get looks e.0.number ≡ Some x = subst (λ (n : ℕ). slice_get looks n ≡ Some x) same.0 at-k in
+                        let both : Some (look_of bytes e) ≡ Some x = sym at-one ∙ own in
+                        let is : look_of bytes e ≡ x = cc in
+                        let name : y.name ≡ e.0.asked.name = sym of_one.0 ∙ ap (λ (v : Look). v.name) (sym is) in
+                        let epoch : y.epoch ≡ e.0.asked.epoch = sym of_one.1 ∙ ap (λ (v : Look). v.epoch) (sym is) in
+                        let states = f.before l y same.1 at-l name epoch in
+                        subst (λ (v : Look). HaveOneStatement v y) is (stated spells.0.end, (spells.0, spells.1, refl), states)
                   ];
             };
             name = of.name;

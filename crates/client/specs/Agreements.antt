@@ -37,7 +37,7 @@ AreUnlike look also = AreOfOne look also × ¬ HaveOneStatement look also
 
 -- each look of the one and each look of the other for one name and epoch have one statement
 abbrev pub LooksAgree : List Look → List Look → Type 0
-LooksAgree ones others = (i j : ℕ) (look also : Look) → slice_get ones i ≡ Some look → slice_get others j ≡ Some also → AreOfOne look also → HaveOneStatement look also
+LooksAgree ones others = (look also : Look) → Contains ones look → Contains others also → AreOfOne look also → HaveOneStatement look also
 
 -- The first two looks for one name and epoch that do not have one statement: the first look of the one client
 -- that has such a partner, and its first partner.

@@ -1,7 +1,8 @@
-ghost use Rattle.std.specs.Prelude.{◌≡◌, ◌↔◌, ℕ};
+ghost use Rattle.std.specs.Prelude.{◌≡◌, ◌≢◌, ◌⊎◌, ◌↔◌, ℕ, Contains};
 ghost use Rattle.rootchain.specs.Chains.{IsAt};
 ghost use Rattle.rootchain.specs.declared.signed_root.SignedRoot.{SignedRoot};
-ghost use Rattle.client.specs.Agreements.{AreReconciled, ClientsAgree, IsReconciled, OutcomeHolds, OutcomeIsSpelled};
+ghost use Rattle.client.specs.Agreements.{AreOfOne, AreReconciled, ClientsAgree, HaveOneStatement, IsReconciled, OutcomeHolds, OutcomeIsSpelled};
+ghost use Rattle.client.specs.Clients.{Look};
 ghost use Rattle.client.specs.declared.outcome.Outcome.TheVariants.{Agree};
 
 use crate::{Client, Outcome};
@@ -29,6 +30,9 @@ pub fn reconcile<H: NodeHash, V: VufCheck, S: Verifier>(
     ensures agree { (result ≡ Agree) ↔ ClientsAgree H.digest_of one.now other.now }
     ensures holds { OutcomeHolds H.digest_of V.accepted S.verified one.now.chain.key result }
     ensures spelled { OutcomeIsSpelled result }
+    // What the one client saw of a name at an epoch is what the other saw, or the answer is one of the other three.
+    ensures seen { (look also : Look) → Contains one.now.looks look → Contains other.now.looks also → AreOfOne look also
+        → HaveOneStatement look also ⊎ (result ≢ Agree) }
 {
     match Chain::compare(hash, one.chain(), other.chain()) {
         Compare::Equal => reconcile_looks(hash, one, other),

@@ -12,6 +12,8 @@ use std::alloc::{AllocError, Global};
 use std::test::Fail;
 use vrfiface::{PlainVuf, Vuf, index_of};
 
+mod reconciling;
+
 /// A client of the provider.
 type Watching = Client<SumHash, PlainVuf, KeyedSign>;
 

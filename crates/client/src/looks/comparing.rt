@@ -80,7 +80,7 @@ impl Looks {
         ensures { MatchOption result
             (LooksAgree self.entry.now others.entry.now)
             (λ unlike. (look also : Look) × AreFirstUnlike self.entry.now others.entry.now look also
-                × (unlike.name.now ≡ look.name) × (unlike.one.now ≡ look.reply) × (unlike.other.now ≡ also.reply)) }
+            × (unlike.name.now ≡ look.name) × (unlike.one.now ≡ look.reply) × (unlike.other.now ≡ also.reply)) }
     {
         let mut found: Option<Unlike<'a>> = None;
         for (place, reply) in self.replies.iter() {

@@ -5,6 +5,6 @@ pub returns : goal.returns
 returns g c one other told = elim told [
   | inl never ↦ never
   | inr by_looks ↦
-    let two = by_looks.1.3.4.3 in
-    two.differ (g.met.V.UniqueVuf.one_value _ _ _ _ two.one two.two)
+      let two = by_looks.1.3.4.3 in
+      two.differ (g.met.V.UniqueVuf.one_value _ _ _ _ two.one two.two)
 ]

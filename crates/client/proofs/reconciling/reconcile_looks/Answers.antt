@@ -39,3 +39,6 @@ pub returns-in-TwoValues : goal.returns-in-TwoValues
 returns-in-TwoValues g c =
     let u = rw (c.looks.ensures.value, c.looks-2.ensures.value) at c.in-Some.ensures in
     told g.H.NodeHash.digest_of g.V.VufCheck.accepted c.args.one.now.chain c.args.other.now.chain c.args.one.now.looks c.args.other.now.looks c.looks.ensures.sound.looks c.looks-2.ensures.sound.looks u.0 u.1 u.2 c.in-Some.unlike.name.now c.in-Some.unlike.one.now c.in-Some.unlike.other.now u.3 u.4 u.5 c.again-first.result c.again-second.result c.again-first.ensures.named c.again-second.ensures.named c.again-first.ensures.spelled c.again-second.ensures.spelled TwoValues c.in-TwoValues.ensures
+
+pub returns-in_default : goal.returns-in_default
+returns-in_default g c = rw (c.looks.ensures.value, c.looks-2.ensures.value) at c.in_default.ensures

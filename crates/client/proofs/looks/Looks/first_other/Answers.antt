@@ -15,8 +15,7 @@ loop-reply-init c =
     let entries = c.self.inside.replies.entries in
     let place = c.args.place.now in
     let group = group_of place (length entries) entries in
-    let between = rw (c.numbered-first.ensures, c.numbered-end.ensures, c.len.ensures.len) at c.range-reply-items.ensures.between tt in
-    (
+    let between = rw (c.numbered-first.ensures, c.numbered-end.ensures, c.len.ensures.len) at c.range-reply-items.ensures.between tt in (
       group,
       subst (λ (looks : List Look). IsGroup items_of looks place group) c.self.view_is (group-is items_of entries place c.self.invariant c.len.ensures.ordered),
       none-gone _ group _ (c.into_iter-reply-iterator.ensures.into_iter_gives ∙ between),
@@ -43,12 +42,11 @@ returns-then-not-states c =
 pub loop-reply-preserved : goal.loop-reply-preserved
 loop-reply-preserved c =
     let inv = c.loop-reply.invariant in
-    let x : LookPlace × Vec ℕ Global = (c.in-Some.field-0-0.now, c.in-Some.reply.now) in
-    (
+    let x : LookPlace × Vec ℕ Global = (c.in-Some.field-0-0.now, c.in-Some.reply.now) in (
       inv.0,
       inv.1,
       more-gone _ inv.0 _ x c.next.new.self inv.2 c.in-Some.ensures.steps
-      (λ read spelled. (c.states.ensures read (subst (λ (bytes : List _). Spells bytes read) (sym c.deref.ensures.value) spelled)).0 c.if-not-states.false),
+          (λ read spelled. (c.states.ensures read (subst (λ (bytes : List _). Spells bytes read) (sym c.deref.ensures.value) spelled)).0 c.if-not-states.false),
     )
 
 pub returns : goal.returns
