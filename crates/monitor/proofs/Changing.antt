@@ -1,6 +1,5 @@
 -- What comes of a change that is to be expected, as it comes of what was read.
-use Rattle.std.proofs.Common.{◌≡◌, ℕ, List, [], ◌∷◌, ◌++◌, Result, Ok, Err, refl}
-use Rattle.rootchain.specs.declared.signed_promise.SignedPromise.{SignedPromise}
+use Rattle.std.proofs.Common.{ℕ, List, Err, refl}
 use Rattle.client.specs.declared.refusal.Refusal.TheVariants.{Root, Proof, UnknownRoot, RootDiffers, Memory, NoPromise}
 use Rattle.monitor.specs.Expecting.{Expects, ReadsChange}
 use Rattle.monitor.specs.Monitors.{Monitor}

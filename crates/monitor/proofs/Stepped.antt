@@ -1,5 +1,5 @@
 -- What a step tells, and that it watches the next epoch, as it comes of the look of the client.
-use Rattle.std.proofs.Common.{◌≡◌, ◌↔◌, ℕ, zero, suc, ◌<◌, List, Option, Some, None, Result, Ok, Err, refl, sym, subst, arith, ◌∙◌}
+use Rattle.std.proofs.Common.{◌≡◌, ◌↔◌, ℕ, zero, suc, ◌<◌, List, Option, Some, None, Ok, Err, refl, arith}
 use Rattle.rootchain.specs.Chains.{IsAt, KeyedRoots}
 use Rattle.rootchain.specs.declared.signed_root.SignedRoot.{SignedRoot}
 use Rattle.proofs.specs.Views.{key_stated}
@@ -8,7 +8,7 @@ use Rattle.client.specs.Clients.{Client}
 use Rattle.client.specs.Looking.{IsAnswered, IsAsked, Looks}
 use Rattle.client.specs.declared.refusal.Refusal.{Refusal}
 use Rattle.client.specs.declared.refusal.Refusal.TheVariants.{Root, Proof, UnknownRoot, RootDiffers, Memory, NoPromise}
-use Rattle.monitor.specs.Monitors.{Monitor, with_watched, IsNext, IsWatching}
+use Rattle.monitor.specs.Monitors.{Monitor, IsNext, IsWatching}
 use Rattle.monitor.proofs.Watching.{watched-watching}
 use Rattle.monitor.specs.Stepping.{IsNextEpoch, Steps, Tells}
 use Rattle.monitor.specs.declared.refusal.Refusal.TheVariants as refusal

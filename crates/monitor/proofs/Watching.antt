@@ -1,12 +1,11 @@
 -- What a monitor watched stays watched when it watches the next epoch, when its chain grows and when it
 -- expects a change.
-use Rattle.std.proofs.Common.{◌≡◌, ◌⊎◌, ℕ, ◌+◌, ◌<◌, ◌≤◌, List, [], ◌∷◌, ◌++◌, length, length-append, get_or, Option, All, Contains, refl, sym, ap, Result, Ok, Err, OnOk, arith, ◌∙◌, inl, inr}
-use Rattle.std.specs.Prelude.{AllPairs}
+use Rattle.std.proofs.Common.{◌≡◌, ℕ, ◌+◌, ◌<◌, ◌≤◌, List, ◌++◌, length, length-append, get_or, Option, All, Contains, refl, ap, Result, Ok, Err, OnOk, arith, ◌∙◌, inl, inr}
 use Rattle.std.proofs.lemmas.Bool.{cases_lt}
 use Rattle.std.proofs.lemmas.List.{get_or_append_left, get_or-append_right, get_or_default}
 use Rattle.std.proofs.lemmas.List.Elements.{Contains-append_cases, Contains-append_left, Contains-push}
 use Rattle.std.proofs.lemmas.List.Quantifiers.{all_pairs_push}
-use Rattle.rootchain.specs.Chains.{Ascend, IsAt, IsChain}
+use Rattle.rootchain.specs.Chains.{Ascend, IsChain}
 use Rattle.rootchain.specs.declared.signed_promise.SignedPromise.{SignedPromise}
 use Rattle.rootchain.specs.declared.signed_root.SignedRoot.{SignedRoot}
 use Rattle.rootchain.proofs.Chains.{ascend-linked}
@@ -14,7 +13,7 @@ use Rattle.rootchain.proofs.TakingLists.{takes-grows}
 use Rattle.client.specs.Clients.{Client, Look}
 use Rattle.client.specs.Updating.{Updates}
 use Rattle.client.specs.declared.refusal.Refusal.{Refusal}
-use Rattle.monitor.specs.Monitors.{Monitor, begun, with_change, with_watched, HasLook, IsNext, IsWatched, IsWatching}
+use Rattle.monitor.specs.Monitors.{Monitor, begun, with_change, with_watched, IsNext, IsWatching}
 
 pub begun-watching : (client : Client) (name : List ℕ) (start : Option (List ℕ)) → IsWatching (begun client name start)
 begun-watching client name start = record {
