@@ -17,8 +17,12 @@ fn shown(alloc: Global) -> Result<(super::Watching, ProofText, ProofText), Alloc
     Ok((started(alloc, &page.root)?, page.reply, other.reply))
 }
 
-/// What two clients come to: 0 where they agree, 1 for evidence, 2 for a collision, 3 for two values.
+/// What two clients come to: 0 where they agree, 1 for evidence, 2 for a collision, 3 for two values, 4
+/// where they are of two providers.
 fn told(one: &super::Watching, other: &super::Watching) -> u8 {
+    if *one.key() != *other.key() {
+        return 4;
+    }
     match reconcile(&mut SumHash::new(), one, other) {
         Outcome::Agree => 0,
         Outcome::Evidence(_) => 1,
