@@ -5,7 +5,7 @@ ghost use Rattle.client.specs.Updating.{told_as, RefusalHolds, Updates};
 use super::Client;
 use crate::Refusal;
 use nodehash::NodeHash;
-use rootchain::{RootList, ListRefusal};
+use rootchain::{ListRefusal, RootList};
 use sigiface::Verifier;
 use vrfiface::VufCheck;
 
