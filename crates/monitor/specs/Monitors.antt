@@ -6,6 +6,7 @@ use Rattle.rootchain.specs.Places.{IsNextAfter}
 use Rattle.rootchain.specs.declared.signed_promise.SignedPromise.{SignedPromise}
 use Rattle.rootchain.specs.declared.signed_root.SignedRoot.{SignedRoot}
 use Rattle.proofs.specs.Watches.{Watch}
+use Rattle.client.specs.Agreements.{AreOfOne, HaveOneStatement}
 use Rattle.client.specs.Clients.{Client, Look, with_look, with_promise}
 
 pub record Monitor : Type 0 where
@@ -44,6 +45,10 @@ IsNext monitor root = IsNextAfter monitor.client.chain monitor.watched root
 -- the client keeps a look of the watched name at the epoch
 abbrev pub HasLook : Monitor → ℕ → Type 0
 HasLook monitor epoch = (look : Look) × Contains monitor.client.looks look × (look.name ≡ monitor.name) × (look.epoch ≡ epoch)
+
+-- the monitor's client keeps a look for the name and epoch of this one, and both state one thing
+abbrev pub SawTheSame : Monitor → Look → Type 0
+SawTheSame monitor look = (own : Look) × Contains monitor.client.looks own × AreOfOne look own × HaveOneStatement look own
 
 -- What is true of each monitor: the changes ascend by the epochs of their promises, the epoch that was
 -- watched last is one of the chain, and of each epoch that was watched the client keeps a look.

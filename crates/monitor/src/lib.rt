@@ -17,10 +17,12 @@
 //! ```
 #![tactic(auto)]
 
+mod laws;
 mod monitor;
 mod refusal;
 mod step;
 
+pub use laws::what_was_seen_was_watched;
 pub use monitor::Monitor;
 pub use refusal::Refusal;
 pub use step::Step;
