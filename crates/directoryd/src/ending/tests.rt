@@ -93,17 +93,26 @@ fn roots_are_audited_and_files_judged(rt: HostRuntime) -> Result<(), Fail> {
     assert_eq!(rt; run.output.as_slice(), b"refused 1\n".as_slice());
     assert!(rt; run.errors.is_empty());
 
-    let rows = [
-        (key.as_str(), "/dev/null", "not an evidence file\n"),
-        (key.as_str(), "missing", "cannot read\n"),
-        ("a0", "missing", "bad hex\n"),
-    ];
-    for (key, file, line) in rows {
-        let run = told(&rt, &["directoryd", "judge", "--key", key, file], "")?;
-        assert_eq!(rt; run.ending, ending(1), "at {file}");
-        assert!(rt; run.output.is_empty(), "at {file}");
-        assert_eq!(rt; run.errors.as_slice(), line.as_bytes(), "at {file}");
-    }
+    let run = told(
+        &rt,
+        &["directoryd", "judge", "--key", key.as_str(), "/dev/null"],
+        "",
+    )?;
+    assert_eq!(rt; run.ending, ending(1));
+    assert_eq!(rt; run.errors.as_slice(), b"not an evidence file\n".as_slice());
+    assert!(rt; run.output.is_empty());
+
+    let run = told(
+        &rt,
+        &["directoryd", "judge", "--key", key.as_str(), "missing"],
+        "",
+    )?;
+    assert_eq!(rt; run.ending, ending(1));
+    assert_eq!(rt; run.errors.as_slice(), b"cannot read\n".as_slice());
+
+    let run = told(&rt, &["directoryd", "judge", "--key", "a0", "missing"], "")?;
+    assert_eq!(rt; run.ending, ending(1));
+    assert_eq!(rt; run.errors.as_slice(), b"bad hex\n".as_slice());
     Ok(())
 }
 
