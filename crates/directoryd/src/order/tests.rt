@@ -193,25 +193,8 @@ pub(crate) fn refusal(alloc: Global, words: &[&str]) -> Result<Error, Fail> {
 
 #[test]
 fn refused_words(rt: HostRuntime) -> Result<(), Fail> {
-    let rows: [(&[&str], ErrorKind); 22] = [
+    let rows: [(&[&str], ErrorKind); 17] = [
         (&["directoryd", "prove"], ErrorKind::MissingRequiredArgument),
-        (&["directoryd", "audit"], ErrorKind::MissingRequiredArgument),
-        (
-            &["directoryd", "audit", "--key", "5e", "a file"],
-            ErrorKind::UnknownArgument,
-        ),
-        (
-            &["directoryd", "judge", "--key", "5e"],
-            ErrorKind::MissingRequiredArgument,
-        ),
-        (
-            &["directoryd", "judge", "a file"],
-            ErrorKind::MissingRequiredArgument,
-        ),
-        (
-            &["directoryd", "judge", "--key", "5e", "a file", "another"],
-            ErrorKind::UnknownArgument,
-        ),
         (&["directoryd", "prove", "--index"], ErrorKind::InvalidValue),
         (
             &["directoryd", "root", "--index", "c0"],
@@ -248,6 +231,35 @@ fn refused_words(rt: HostRuntime) -> Result<(), Fail> {
         (
             &["directoryd", "root", "--nonce", "a0", "--nonce", "a0"],
             ErrorKind::ArgumentConflict,
+        ),
+    ];
+    for (words, kind) in rows {
+        let error = refusal(rt.alloc(), words)?;
+        assert_eq!(rt; error.kind(), kind, "at {words:?}");
+        assert_eq!(rt; error.exit_code(), 2, "at {words:?}");
+    }
+    Ok(())
+}
+
+#[test]
+fn refused_words_of_an_auditor(rt: HostRuntime) -> Result<(), Fail> {
+    let rows: [(&[&str], ErrorKind); 5] = [
+        (&["directoryd", "audit"], ErrorKind::MissingRequiredArgument),
+        (
+            &["directoryd", "audit", "--key", "5e", "a file"],
+            ErrorKind::UnknownArgument,
+        ),
+        (
+            &["directoryd", "judge", "--key", "5e"],
+            ErrorKind::MissingRequiredArgument,
+        ),
+        (
+            &["directoryd", "judge", "a file"],
+            ErrorKind::MissingRequiredArgument,
+        ),
+        (
+            &["directoryd", "judge", "--key", "5e", "a file", "another"],
+            ErrorKind::UnknownArgument,
         ),
     ];
     for (words, kind) in rows {
