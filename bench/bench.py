@@ -2,7 +2,8 @@
 """Times the built programs and prints the tables of the scripts beside it. docs/SPEED.md says what
 the columns mean.
 
-usage: bench/bench.py root|tree|changes|replies|epochs|hub|serve, at the top of the repository
+usage: bench/bench.py root|tree|changes|replies|reconcile|epochs|hub|serve|audit, at the top of the
+repository
 
 BEFORE, if it is set, is the top of another clone, in which directoryd and measure are built. `root`
 then times the programs of both, in turn.
@@ -46,6 +47,8 @@ CHANGE_ROUNDS = {1: (500, 40), 10: (50, 40), 1_000: (1, 100), 100_000: (1, 6)}
 SIBLINGS, REPLY_RUNS = (10, 20, 256), 10
 # How many replies are measured, and about how many digests the checks of a run take.
 REPLIES, CHECK_DIGESTS = 1_000, 800_000
+# The roots of each of two chains, how often they are compared in a run, and the runs.
+CHAIN_ROOTS, CHAIN_ROUNDS, CHAIN_RUNS = 100_000, 20, 10
 # How often each size of a directory is measured. In a run: the epochs with changes, the changes of
 # each, the look-ups of a step, and the steps of look-ups.
 EPOCH_RUNS = {1_000: 10, 10_000: 10, 100_000: 10, 1_000_000: 5}
@@ -68,6 +71,13 @@ FEED_FRAMES, FEED_TAKEN, FEED_RUNS = (64, 1_024, 16_384), 1 << 23, 20
 # client in the crate `measure`, and the keys are those of its directory.
 IN_FLIGHT, SERVE_FRAMES, SERVE_ROUNDS = 64, 8_000, 9
 SERVE_KEYS = {"sign-key": "01", "vuf-key": "02", "salt-key": "00", "token": "04"}
+
+# The roots of the chains that are observed, and the runs of each. In a run: the roots that then extend
+# the chain, as many that are known, and how often each piece of evidence is judged. The siblings of the
+# proof of a broken promise.
+AUDIT_RUNS = {1_000: 10, 10_000: 10, 100_000: 10}
+AUDIT_MORE, JUDGEMENTS, AUDIT_SIBLINGS = 20_000, 10_000, 20
+EVIDENCE = ("fork", "link", "skip", "broken-promise")
 
 
 class Spread:
@@ -478,6 +488,33 @@ def replies(_folder):
     table(title, [*head, "value, us", "a digest, ns"], rows)
 
 
+def chain_times(shared):
+    """The times of comparing two chains of which so many first roots are the same: their bodies as
+    byte strings, and the chains."""
+    agree = shared == CHAIN_ROOTS
+    wanted = [CHAIN_ROUNDS if agree else 0, 0 if agree else CHAIN_ROUNDS * (shared + 1)]
+    times = [[], []]
+    for _ in range(CHAIN_RUNS):
+        _, run_steps = steps(2, "chains", CHAIN_ROOTS, shared, CHAIN_ROUNDS)
+        if [step.number for step in run_steps] != wanted:
+            sys.exit(f"chains: {[step.number for step in run_steps]}, and {wanted} was wanted")
+        for kept, step in zip(times, run_steps):
+            kept.append(step.seconds)
+    return [Spread(taken, CHAIN_ROUNDS) for taken in times]
+
+
+def reconcile(_folder):
+    parts = {"they agree": CHAIN_ROOTS, "at the end": CHAIN_ROOTS - 1}
+    parts |= {"in the middle": CHAIN_ROOTS // 2, "at the first epoch": 0}
+    taken = {where: chain_times(shared) for where, shared in parts.items()}
+    strings = taken["they agree"][0]
+    rows = [["byte strings", *strings.cells(1e3, 2), "1.00"]]
+    for where, (_, chains) in taken.items():
+        rows.append([where, *chains.cells(1e3, 2), f"{chains.least / strings.least:.2f}"])
+    title = f"two chains of {CHAIN_ROOTS:,} roots compared, by where they part; milliseconds"
+    table(title, ["", "least", "median", "greatest", "ratio"], rows)
+
+
 def index_of_name(number):
     """The index of a name of `measure epochs`."""
     spread = number * 0x9E3779B97F4A7C15 % 2**64
@@ -832,11 +869,66 @@ def serve(_folder):
     table("resident memory of the server, MiB", ["", "now", "peak"], rows)
 
 
+class Audits:
+    """The runs of `measure audit` on a chain of so many roots: the times of one digest of a body and of
+    one of what is signed of it; of a root that extends the chain, and of one that it has; and, for each
+    kind of evidence, of its digests and of its judging."""
+
+    def __init__(self, roots):
+        self.roots = roots
+        self.body, self.signature, self.taken, self.known = [], [], [], []
+        self.digests = {kind: [] for kind in EVIDENCE}
+        self.judged = {kind: [] for kind in EVIDENCE}
+        for _ in range(AUDIT_RUNS[roots]):
+            self.run()
+
+    def run(self):
+        words = [self.roots, AUDIT_MORE, AUDIT_SIBLINGS, JUDGEMENTS, DIGESTS // 10]
+        _, run_steps = steps(15, "audit", *words)
+        body, signature, chain, taken, known, *cases, body_after, signature_after = run_steps
+        numbers = [step.number for step in (chain, taken, known, *cases[1::2])]
+        if numbers != [self.roots, AUDIT_MORE, AUDIT_MORE] + 4 * [JUDGEMENTS]:
+            sys.exit(f"audit: {numbers} roots and judgements")
+        self.body += [body.seconds, body_after.seconds]
+        self.signature += [signature.seconds, signature_after.seconds]
+        self.taken.append(taken.seconds)
+        self.known.append(known.seconds)
+        for kind, digests, judged in zip(EVIDENCE, cases[::2], cases[1::2]):
+            self.digests[kind].append(digests.seconds)
+            self.judged[kind].append(judged.seconds)
+
+    def root_row(self):
+        body, signature = (min(taken) * 10 / DIGESTS for taken in (self.body, self.signature))
+        row = [f"{self.roots:,}"]
+        for times, digests in ((self.taken, body + signature), (self.known, signature)):
+            spread = Spread(times, AUDIT_MORE)
+            row += [f"{1 / spread.least:,.0f}", *spread.cells(1e6, 2)]
+            row.append(f"{spread.least / digests:.2f}")
+        return [*row, f"{body * 1e9:.0f}", f"{signature * 1e9:.0f}"]
+
+    def evidence_row(self, kind):
+        judged, digests = (Spread(times[kind], JUDGEMENTS) for times in (self.judged, self.digests))
+        row = [kind, f"{1 / judged.least:,.0f}", *judged.cells(1e6, 2)]
+        return [*row, f"{digests.least * 1e6:.2f}", f"{judged.least / digests.least:.2f}"]
+
+
+def audit(_folder):
+    chains = [Audits(roots) for roots in AUDIT_RUNS]
+    spread = ["least", "median", "greatest", "ratio"]
+    head = ["roots", "next/s", *spread, "known/s", *spread, "body, ns", "signature, ns"]
+    rows = [each.root_row() for each in chains]
+    table("a signed root observed, that extends the chain, or that it has, us", head, rows)
+    head = ["kind", "judged/s", "least", "median", "greatest", "digests, us", "ratio"]
+    rows = [chains[-1].evidence_row(kind) for kind in EVIDENCE]
+    table("evidence judged, microseconds", head, rows)
+
+
 def main(which):
     with tempfile.TemporaryDirectory() as folder:
         print_machine()
         of = {"root": root, "tree": tree, "changes": changes, "replies": replies}
-        of |= {"epochs": epochs, "hub": hub, "serve": serve}
+        of |= {"reconcile": reconcile, "epochs": epochs, "hub": hub, "serve": serve}
+        of |= {"audit": audit}
         of[which](folder)
     print(f"\nload at the end {os.getloadavg()[0]:.2f}")
 

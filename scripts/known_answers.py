@@ -275,7 +275,8 @@ longest_roots = (64).to_bytes(2, "big") + (frame_root_body + counted(bytes(256))
 print(f"frame of 64 roots: {len(frame(0x83, longest_roots))} bytes")
 
 
-# Evidence as JSON: two roots that differ in their nonces, and a promise with a root and a reply.
+# Evidence as JSON: two roots that differ in their nonces, and a promise with a root and a reply. Their
+# signatures verify under no key.
 def evidence(first, kind, second):
     return f'{{"first":"{first.hex()}","kind":"{kind}","second":"{second.hex()}"}}'
 
@@ -287,3 +288,58 @@ for kind in ["fork", "link", "skip"]:
     print(f"evidence: {evidence(frame_root, kind, other_root)}")
 signed_promise = frame_promise + counted(b"s")
 print(f"evidence: {evidence(signed_promise, 'broken-promise', other_root + short_reply)}")
+
+
+# Evidence that holds under the low key, which signs as the stand-in does: a chain of epochs 3, 7 and 9,
+# and beside it another root of epoch 7, one of 9 that names another body at 7, and one that skips 7.
+def signed(text):
+    return text + counted(sha256(b"S" + low_key + text))
+
+
+def body_after(earlier, number, nonce=run(0xA0), root=run(0x20)):
+    """The body of this epoch that names the earlier one, its epoch and its hash, as the one before."""
+    previous = int.from_bytes(earlier[2:10], "big")
+    return root_body(number, previous, root, sha256(earlier), nonce, high_key)
+
+
+third = root_body(3, 0, run(0x20), zero, run(0xA0), high_key)
+seventh = body_after(third, 7)
+ninth = body_after(seventh, 9)
+other_seventh = body_after(third, 7, nonce=run(0x60))
+
+# A promise of another key for alice at epoch 7; and the next root, over the tree of alice, bob and trent.
+eighth = body_after(seventh, 8, nonce=nonce, root=root)
+index_of_alice = sha256(value_of(b"alice"))
+about_alice = index_of_alice + counted(b"alice") + counted(b"k9")
+promise_of_alice = b"P\x01" + epoch(7) + sha256(seventh) + about_alice
+proof_of_alice = reply(sha256, eighth, nonce, items, value_of(b"alice"), opening)
+holds = {
+    "fork": (signed(seventh), signed(other_seventh)),
+    "link": (signed(seventh), signed(body_after(other_seventh, 9))),
+    "skip": (signed(seventh), signed(body_after(third, 9))),
+    "broken-promise": (signed(promise_of_alice), signed(eighth) + proof_of_alice),
+}
+for kind, (first, second) in holds.items():
+    print(f"{kind} that holds: {evidence(first, kind, second)}")
+
+# Lines for an auditor under the low key, and what it answers to them.
+other_ninth = body_after(other_seventh, 9)
+tenth, earliest = body_after(other_ninth, 10), root_body(1, 0, zero, zero, zero, zero)
+of_another_key = seventh + counted(sha256(b"S" + high_key + seventh))
+audited = [
+    (signed(third), "started"),
+    (signed(seventh), "extended"),
+    (signed(ninth), "extended"),
+    (signed(seventh), "known"),
+    (signed(body_after(body_after(ninth, 11), 12)), "ahead"),
+    (signed(other_seventh), evidence(signed(seventh), "fork", signed(other_seventh))),
+    (signed(tenth), evidence(signed(ninth), "link", signed(tenth))),
+    (signed(eighth), evidence(signed(eighth), "skip", signed(ninth))),
+    (signed(earliest), evidence(signed(earliest), "skip", signed(third))),
+    (of_another_key, "refused 2"),
+    (signed(seventh)[:-1], "refused 1"),
+    (signed(ninth), "known"),
+]
+for line, answer in audited:
+    print(f"line to audit: {line.hex()}")
+    print(f"answer to it: {answer}")

@@ -66,5 +66,98 @@ status=0
 directoryd root </dev/null 2>"$folder/err" >/dev/full || status=$?
 ends 1 "cannot write" "$folder/err"
 
+# `audit`, over lines whose answers Python computed, in lower case, in upper case, and with a last line
+# that has no end.
+answers=$(python3 ../../scripts/known_answers.py)
+key=$(printf '01%.0s' {1..32})
+sed -n 's/^line to audit: //p' <<<"$answers" >"$folder/roots"
+sed -n 's/^answer to it: //p' <<<"$answers" >"$folder/answers"
+
+# Audits a file, and compares all answers with those that are wanted: audits FILE ANSWERS
+audits() {
+    status=0
+    directoryd audit --key "$key" <"$1" >"$folder/out" 2>"$folder/err" || status=$?
+    if [ "$status" = 0 ] && [ ! -s "$folder/err" ] && cmp -s "$2" "$folder/out"; then
+        passed=$((passed + 1))
+    else
+        failed=$((failed + 1))
+        echo "audit of $1 ended with status $status, and these answers are others:"
+        diff "$2" "$folder/out" | cut -c 1-80
+    fi
+}
+
+audits "$folder/roots" "$folder/answers"
+tr a-f A-F <"$folder/roots" | head -c -1 >"$folder/upper"
+audits "$folder/upper" "$folder/answers"
+over "" audit --key "$key"
+ends 0 "" "$folder/out"
+over "x\n" audit --key "${key:2}"
+ends 1 "bad hex" "$folder/err"
+over "" audit
+ends 2 "error: *" "$folder/err"
+status=0
+directoryd audit --key "$key" <"$folder" >"$folder/out" 2>"$folder/err" || status=$?
+ends 1 "cannot read" "$folder/err"
+status=0
+directoryd audit --key "$key" <"$folder/roots" 2>"$folder/err" >/dev/full || status=$?
+ends 1 "cannot write" "$folder/err"
+
+# A line of 400 MB without an end, of which little is kept.
+status=0
+head -c 400000000 /dev/zero | tr '\0' 0 | (
+    if [ -x out/directoryd ]; then ulimit -v 100000; fi
+    directoryd audit --key "$key" >"$folder/out" 2>"$folder/err"
+) || status=$?
+ends 0 "refused 1" "$folder/out"
+
+# `judge`, of the evidence that Python computed, of which the signatures verify or not.
+for kind in fork link skip broken-promise; do
+    sed -n "s/^$kind that holds: //p" <<<"$answers" >"$folder/$kind.json"
+    over "" judge --key "$key" "$folder/$kind.json"
+    ends 0 "evidence" "$folder/out"
+    over "" judge --key "$zeros" "$folder/$kind.json"
+    ends 3 "no evidence" "$folder/out"
+    sed -n "s/^evidence: \(.*\"kind\":\"$kind\".*\)/\1/p" <<<"$answers" >"$folder/false.json"
+    over "" judge --key "$key" "$folder/false.json"
+    ends 3 "no evidence" "$folder/out"
+done
+
+# Other spellings of one file: spelled SCRIPT, where SCRIPT changes the parts, a dict.
+spelled() {
+    python3 - "$folder/fork.json" "$1" >"$folder/spelled.json" <<'END'
+import json, sys
+with open(sys.argv[1], encoding="ascii") as file:
+    parts = json.load(file)
+exec(sys.argv[2])
+print(json.dumps(parts, indent="\t"), end=" \r\n")
+END
+    over "" judge --key "$key" "$folder/spelled.json"
+}
+
+spelled 'parts = {key: parts[key] for key in ("second", "kind", "first")}'
+ends 0 "evidence" "$folder/out"
+spelled 'parts["first"] = parts["first"].upper()'
+ends 0 "evidence" "$folder/out"
+spelled 'parts["third"] = ""'
+ends 1 "not an evidence file" "$folder/err"
+spelled 'parts["first"] += "00"'
+ends 1 "not an evidence file" "$folder/err"
+spelled 'parts["kind"] = "FORK"'
+ends 1 "not an evidence file" "$folder/err"
+
+over "" judge --key "$key" "$folder/none"
+ends 1 "cannot read" "$folder/err"
+over "" judge --key "$key" "$folder"
+ends 1 "cannot read" "$folder/err"
+over "" judge --key "${key}0" "$folder/none"
+ends 1 "bad hex" "$folder/err"
+over "" judge --key "$key" /dev/null
+ends 1 "not an evidence file" "$folder/err"
+over "" judge --key "$key"
+ends 2 "error: *" "$folder/err"
+status=0
+directoryd judge --key "$key" "$folder/fork.json" 2>"$folder/err" >/dev/full || status=$?
+ends 1 "cannot write" "$folder/err"
+
 echo "$passed passed, $failed failed"
 [ "$failed" = 0 ]

@@ -16,13 +16,13 @@ use Rattle.json.proofs.Printed.Strings.{escape_byte_plain}
 use Rattle.json.proofs.Printed.Tokens.{tokens-print}
 use Rattle.json.proofs.Printed.Trees.{value-json_tokens, ArePrintable-json_tokens}
 use Rattle.json.proofs.Printed.Utf8.{are_ascii, IsUtf8-are_ascii}
-use Rattle.serde_json.specs.Data.{Data, string, object, member, no_members}
+use Rattle.serde_json.specs.Data.{Data}
 use Rattle.serde_json.specs.Read.{of_json, read, max_depth}
 use Rattle.serde_json.specs.Written.{compact_text, outline}
 use Rattle.serde_json.proofs.Texts.{print-outline}
 use Rattle.audits.specs.declared.fault.ReadFault.{ReadFault}
 use Rattle.audits.specs.declared.fault.ReadFault.TheVariants.{NotEvidence, OutOfMemory}
-use Rattle.audits.specs.Files.{evidence_text, parts_text, Finds, IsEvidenceOf, IsFileOf, IsOfParts, ReadsAgain}
+use Rattle.audits.specs.Files.{evidence_text, parts_text, value_of, Finds, IsEvidenceOf, IsFileOf, IsOfParts, ReadsAgain}
 use Rattle.audits.specs.Parts.{parts_of, IsFormed, Parts}
 use Rattle.audits.proofs.Parts.{are_ascii-kind, escape-kind, same_evidence, IsBytes-first, IsBytes-second}
 
@@ -54,14 +54,13 @@ escape-hex (byte ∷ bytes) small =
 
 -- ---- the text is read as an object of the parts
 
-abbrev value_of : Parts → Data
-value_of parts =
-    object (member (codes "first") (string (encode_lower parts.first)) (member (codes "kind") (string parts.kind)
-    (member (codes "second") (string (encode_lower parts.second)) no_members)))
-
 text_is_compact : (parts : Parts) → IsBytes parts.first → IsBytes parts.second → escape parts.kind ≡ parts.kind → compact_text (value_of parts) ≡ parts_text parts
 unfolding parts_text escape_byte
 text_is_compact parts first second kind = simp (escape-hex parts.first first, escape-hex parts.second second, kind, append_assoc)
+
+-- the text of well-formed evidence is serde_json's of an object of its parts
+pub evidence_is_compact : (evidence : Evidence) → IsFormed evidence → evidence_text evidence ≡ compact_text (value_of (parts_of evidence))
+evidence_is_compact evidence formed = sym (text_is_compact (parts_of evidence) (IsBytes-first evidence formed) (IsBytes-second evidence formed) (escape-kind evidence))
 
 read_compact : (parts : Parts) → read (compact_text (value_of parts)) ≡ Some (value_of parts)
 read_compact parts =

@@ -87,3 +87,7 @@ IsBytes-signed_root_bytes signed h = (root_few signed h).small
 
 pub IsBytes-signed_promise_bytes : (signed : SignedPromise) → IsSignedPromise signed → IsBytes (signed_promise_bytes signed)
 IsBytes-signed_promise_bytes signed h = (both_few 2381 258 (promise_few signed.promise h.0) (counted_few 1 256 signed.signature h.1)).small
+
+-- the longest signed root has 404 bytes
+pub length-signed_root_bytes : (signed : SignedRoot) → IsSignedRoot signed → length (signed_root_bytes signed) ≤ 404
+length-signed_root_bytes signed h = (root_few signed h).few

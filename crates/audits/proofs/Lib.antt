@@ -2,3 +2,5 @@ pub mod Files
 pub mod Forms
 pub mod Found
 pub mod Parts
+pub mod Midway
+pub mod Opened

@@ -2,7 +2,7 @@
 use Rattle.std.specs.Prelude.{◌≡◌, ℕ, List, ◌++◌, codes, Option, Some, Result, Ok, Err, option_map, option_and_then, IsUtf8, MatchResult, ⊤}
 use Rattle.auditor.specs.declared.evidence.Evidence.{Evidence}
 use Rattle.hex.specs.Hex.{decode_of, encode_lower}
-use Rattle.serde_json.specs.Data.{Data}
+use Rattle.serde_json.specs.Data.{Data, string, object, member, no_members}
 use Rattle.serde_json.specs.Events.{members_len}
 use Rattle.serde_json.specs.Find.{as_object, as_str, get}
 use Rattle.serde_json.specs.Read.{read}
@@ -15,6 +15,12 @@ unfoldable pub parts_text : Parts → List ℕ
 parts_text parts =
     codes "{\"first\":\"" ++ (encode_lower parts.first ++ (codes "\",\"kind\":\"" ++ (parts.kind
     ++ (codes "\",\"second\":\"" ++ (encode_lower parts.second ++ codes "\"}")))))
+
+-- the same as a value of JSON
+abbrev pub value_of : Parts → Data
+value_of parts =
+    object (member (codes "first") (string (encode_lower parts.first)) (member (codes "kind") (string parts.kind)
+    (member (codes "second") (string (encode_lower parts.second)) no_members)))
 
 -- the text of evidence
 abbrev pub evidence_text : Evidence → List ℕ

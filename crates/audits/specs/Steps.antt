@@ -1,8 +1,15 @@
--- The parts of a file, for private clauses.
-use Rattle.std.specs.Prelude.{◌≡◌, ℕ, List, ◌++◌}
+-- The parts of a file, and the answer to a line, for private clauses.
+use Rattle.std.specs.Prelude.{◌≡◌, ℕ, List, ◌++◌, Result, Ok, Err, ⊤}
 use Rattle.proofs.specs.declared.broken_promise.BrokenPromise.{BrokenPromise}
 use Rattle.proofs.specs.Replies.{Reply, Spells}
+use Rattle.rootchain.specs.declared.refusal.Refusal.{Refusal}
+use Rattle.rootchain.specs.declared.refusal.Refusal.TheVariants.{Memory}
 use Rattle.rootchain.specs.declared.signed_root.SignedRoot.{SignedRoot}
+use Rattle.textio.specs.declared.program_fault.ProgramFault.{ProgramFault}
+use Rattle.textio.specs.declared.program_fault.ProgramFault.TheVariants.{OutOfMemory}
+use Rattle.auditor.specs.declared.auditor.Observed.{Observed}
+use Rattle.auditor.specs.Chains.{Chains}
+use Rattle.audits.specs.Auditing.{answer_line, IsAnswer, ObservesLine}
 use Rattle.rootchain.specs.Promises.{signed_promise_bytes, IsSignedPromise}
 use Rattle.rootchain.specs.SignedRoots.{signed_root_bytes, IsSignedRoot}
 
@@ -23,3 +30,18 @@ IsRootWithProof bytes pair = (bytes ≡ signed_root_bytes pair.0 ++ pair.1) × I
 abbrev pub IsBroken : List ℕ → List ℕ → BrokenPromise → Type 0
 IsBroken first second broken =
     ((first ≡ signed_promise_bytes broken.promise) × IsSignedPromise broken.promise) × IsRootWithProof second (broken.root, broken.proof)
+
+-- ---- a line of `audit`
+
+-- What comes of a line: its answer, or want of memory.
+module _ (hash : List ℕ → List ℕ) (verified : List ℕ → List ℕ → List ℕ → Type 0) (key : List ℕ) where
+  abbrev pub AnswersLine : Chains → List ℕ → Result Observed Refusal → Chains → Type 0
+  AnswersLine before line (Ok told) after = ObservesLine hash verified key before line (Ok told) after × IsAnswer hash verified key (Ok told)
+  AnswersLine before line (Err Memory) after = ⊤
+  AnswersLine before line (Err why) after = ObservesLine hash verified key before line (Err why) after
+
+  -- The answer to a line is told, or memory is wanting. The first argument gives the bytes of what was returned.
+  abbrev pub TellsLine : {X : Type 0} → (X → List ℕ) → Chains → List ℕ → Result X ProgramFault → Chains → Type 0
+  TellsLine seen before line (Ok text) after = (answer : Result Observed Refusal)
+      × ObservesLine hash verified key before line answer after × IsAnswer hash verified key answer × (seen text ≡ answer_line answer)
+  TellsLine seen before line (Err fault) after = fault ≡ OutOfMemory

@@ -1,6 +1,7 @@
 ghost use Rattle.std.specs.Prelude.{◌≡◌};
 
 use std::alloc::AllocError;
+use textio::ProgramFault;
 use thiserror::Error;
 
 /// Why a file was not read.
@@ -20,5 +21,19 @@ impl From<AllocError> for ReadFault {
 
     fn from(_: AllocError) -> Self {
         ReadFault::OutOfMemory
+    }
+}
+
+impl From<ReadFault> for ProgramFault {
+    ghost use Rattle.std.specs.Prelude.{◌≡◌};
+    ghost use Rattle.audits.specs.Faults.{of_reading};
+
+    ghost from_gives = { λ given fault. fault ≡ of_reading given };
+
+    fn from(given: ReadFault) -> Self {
+        match given {
+            ReadFault::NotEvidence => ProgramFault::NotEvidence,
+            ReadFault::OutOfMemory => ProgramFault::OutOfMemory,
+        }
     }
 }

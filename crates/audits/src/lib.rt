@@ -11,13 +11,22 @@
 //! ```
 #![tactic(auto)]
 
+mod auditing;
 mod fault;
+#[cfg(test)]
+mod for_tests;
+mod judging;
+mod kinds;
 mod laws;
+mod opening;
 mod reading;
 mod writing;
 
+pub use auditing::audit;
 pub use fault::ReadFault;
-pub use laws::{file_is_one_evidence, text_is_file};
+pub use judging::{Verdict, judge_at, judge_file};
+pub use kinds::{AuditOrder, JudgeOrder};
+pub use laws::{file_is_one_evidence, text_is_compact, text_is_file};
 pub use reading::read_evidence;
 pub use writing::evidence_json;
 

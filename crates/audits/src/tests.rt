@@ -1,12 +1,16 @@
 //! The texts are those of scripts/known_answers.py.
 
 use super::*;
-use auditor::Evidence;
+use crate::for_tests::{body, forked, signed, signer};
+use auditor::{Auditor, Evidence, Observed, judge};
 use encoding::{Hash32, Index, KeyData, Name, ProofText, Small};
+use nodehash::Sha256Hash;
 use proofs::BrokenPromise;
 use rootchain::{Body, Promise, RootEvidence, SignedPromise, SignedRoot};
+use sigiface::Signer;
 use std::alloc::{AllocError, Global};
 use std::test::Fail;
+use vrfiface::KeyedVuf;
 
 /// A signed root in hex.
 const ONE: &str = "\
@@ -196,6 +200,36 @@ fn other_files_are_refused(rt: HostRuntime) -> Result<(), Fail> {
         b"{\"first\":\"\xff\"}",
     ] {
         assert!(rt; is_refused(alloc, other)?, "{other:?}");
+    }
+    Ok(())
+}
+
+/// A root of epoch 3, as the provider signs it.
+fn third() -> SignedRoot {
+    signed(body(3, 0, Hash32::default()))
+}
+
+/// Another root of epoch 3.
+fn other_third() -> SignedRoot {
+    signed(forked(&third().body))
+}
+
+/// What an auditor tells of two roots of one epoch is written, read again and judged.
+#[test]
+fn fork_goes_from_auditor_to_judge(rt: HostRuntime) -> Result<(), Fail> {
+    let hash = &mut Sha256Hash::new();
+    let verifier = signer();
+    let key = verifier.public();
+    let mut auditor = Auditor::new(rt.alloc());
+    let started = auditor.observe(hash, &verifier, &key, third().write().bytes())?;
+    assert_eq!(rt; started, Observed::Started);
+    match auditor.observe(hash, &verifier, &key, other_third().write().bytes())? {
+        Observed::Evidence(roots) => {
+            let text = evidence_json(rt.alloc(), &Evidence::Root(roots))?;
+            let read = read_evidence(rt.alloc(), text.as_bytes())?;
+            assert!(rt; judge(hash, &KeyedVuf::new(key), &verifier, &key, &read));
+        }
+        told => panic!(rt; "{told:?}"),
     }
     Ok(())
 }

@@ -29,7 +29,7 @@ use Rattle.book.specs.Honest.{DoublesAreRefused, IndicesDiffer, IsAlone, IsAnswe
 use Rattle.book.specs.Maps.{at}
 use Rattle.book.specs.Shows.{Provider, Sealed, index_of, promise, roots, sealed_behind, sealed_pages, IsRootOf}
 use Rattle.book.specs.Turns.{Run}
-use Rattle.book.specs.Watches.{expected}
+use Rattle.proofs.specs.Watches.{expected}
 use Rattle.book.proofs.Carried.{carried}
 use Rattle.book.proofs.Distinct.{AreApart, HasName, IsApart, apart-after, entry-named, named-or-not}
 use Rattle.book.proofs.Doubled.{doubled}

@@ -19,7 +19,7 @@ use Rattle.rootchain.specs.Evidence.{AreEvidence}
 use Rattle.proofs.specs.BrokenPromises.{IsBrokenPromise}
 use Rattle.book.specs.Maps.{at}
 use Rattle.book.specs.Shows.{Provider, index_of, roots, IsReplyOf, IsRootOf}
-use Rattle.book.specs.Watches.{Watch, expected}
+use Rattle.proofs.specs.Watches.{Watch, expected}
 
 -- this reply came to this command
 abbrev pub IsSaid : List Asked → List Reply → Asked → Reply → Type 0

@@ -13,4 +13,3 @@ pub mod Shows
 pub mod Sound
 pub mod Steps
 pub mod Turns
-pub mod Watches

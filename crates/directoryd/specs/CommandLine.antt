@@ -36,9 +36,9 @@ greatest = 18446744073709551615
 abbrev pub number_rule : Text → ℕ → Text → Rule
 number_rule name least default = record (text_rule name) { defaults = default ∷ []; parser = Some (Unsigned least greatest) }
 
--- the address to listen on, which has to be given, with no name before it
-abbrev pub address_rule : Rule
-address_rule = record (new_rule (codes "address")) { value_names = 1; required = true }
+-- a value that has to be given, with no name before it
+abbrev pub positional_rule : Text → Rule
+positional_rule name = record (new_rule name) { value_names = 1; required = true }
 
 -- a command, with the options of a tree
 abbrev pub with_tree : ValueParser → App → App
@@ -60,11 +60,17 @@ root_app names = with_tree names (new_app (codes "root"))
 abbrev pub prove_app : ValueParser → App
 prove_app names = with_tree names (with_rule (new_app (codes "prove")) (required_rule (codes "index")))
 
+abbrev pub audit_app : App
+audit_app = with_rule (new_app (codes "audit")) (required_rule (codes "key"))
+
+abbrev pub judge_app : App
+judge_app = with_rule (with_rule (new_app (codes "judge")) (required_rule (codes "key"))) (positional_rule (codes "file"))
+
 abbrev pub serve_app : App
 serve_app = with_directory (new_app (codes "serve"))
 
 abbrev pub listen_app : App
-listen_app = with_rule (with_rule (with_directory (new_app (codes "listen"))) (number_rule (codes "count") 0 (codes "0"))) address_rule
+listen_app = with_rule (with_rule (with_directory (new_app (codes "listen"))) (number_rule (codes "count") 0 (codes "0"))) (positional_rule (codes "address"))
 
 -- the program without its subcommands, of which one has to be there
 abbrev pub bare_app : App
@@ -74,8 +80,8 @@ bare_app =
 
 abbrev pub directory_app : ValueParser → App
 directory_app names =
-    with_subcommand (with_subcommand (with_subcommand (with_subcommand bare_app
-    (root_app names).top) (prove_app names).top) serve_app.top) listen_app.top
+    with_subcommand (with_subcommand (with_subcommand (with_subcommand (with_subcommand (with_subcommand bare_app
+    (root_app names).top) (prove_app names).top) audit_app.top) judge_app.top) serve_app.top) listen_app.top
 
 -- the words are refused, by a kind of fault that clap's function of the words gives
 abbrev pub Refuses : List Text → Error → Type 0

@@ -11,20 +11,25 @@ use Rattle.items.specs.declared.kinds.HashChoice.TheVariants.{Sha256, Sum}
 use Rattle.items.specs.Asked.{Asked, values_of}
 use Rattle.server.specs.Asked.{Asked as AskedDirectory, values_of as directory_values}
 use Rattle.directoryd.specs.declared.order.kinds.Order.{Order}
-use Rattle.directoryd.specs.declared.order.kinds.Order.TheVariants.{Root, Prove, Serve, Listen}
+use Rattle.directoryd.specs.declared.order.kinds.Order.TheVariants.{Root, Prove, Audit, Judge, Serve, Listen}
 use Rattle.directoryd.specs.CommandLine.{directory_app, greatest, IsHashNames}
 
--- what is ordered: a root; the path of the index that a text gives; a directory for one session; or one
--- for so many connections, at the address that a text gives
+-- what is ordered: a root; the path of the index that a text gives; an audit under the key that a text
+-- gives; the verdict, under such a key, on the file of this name; a directory for one session; or one for
+-- so many connections, at the address that a text gives
 pub data Ordered : Type 0 where
   the_root : Asked → Ordered
   the_path : Text → Asked → Ordered
+  the_audit : Text → Ordered
+  the_verdict : Text → Text → Ordered
   the_session : AskedDirectory → Ordered
   the_connections : AskedDirectory → ℕ → Text → Ordered
 
 abbrev pub values_in : Order → Ordered
 values_in (Root order) = the_root (values_of order)
 values_in (Prove order) = the_path order.index.now (values_of order.root)
+values_in (Audit order) = the_audit order.key.now
+values_in (Judge order) = the_verdict order.key.now order.file.now
 values_in (Serve order) = the_session (directory_values order)
 values_in (Listen order) = the_connections (directory_values order.directory) order.count order.address.now
 
@@ -55,14 +60,16 @@ directory_in rows = record {
   nonce = first_of (codes "nonce") rows;
 }
 
--- what a subcommand orders by its name: a path, a session, connections, or else a root
+-- what a subcommand orders by its name: a path, an audit, a verdict, a session, connections, or else a root
 abbrev pub ordered_in : Text → List Row → Ordered
 ordered_in name rows =
     if bytes_eq name (codes "prove") then the_path (text_in (codes "index") rows) (asked_in rows)
+    else (if bytes_eq name (codes "audit") then the_audit (text_in (codes "key") rows)
+    else (if bytes_eq name (codes "judge") then the_verdict (text_in (codes "key") rows) (text_in (codes "file") rows)
     else (if bytes_eq name (codes "serve") then the_session (directory_in rows)
     else (if bytes_eq name (codes "listen")
     then the_connections (directory_in rows) (number_from 0 (text_in (codes "count") rows)) (text_in (codes "address") rows)
-    else the_root (asked_in rows)))
+    else the_root (asked_in rows)))))
 
 -- what the words order: the values that clap's function of the words gives to the options
 abbrev pub ordered : ValueParser → List Text → Option Ordered

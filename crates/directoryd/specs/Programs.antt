@@ -11,6 +11,9 @@ use Rattle.textio.specs.declared.program_fault.ProgramFault.TheVariants.{BadHex,
 use Rattle.textio.specs.Digits.{hex32, nonce_of}
 use Rattle.textio.specs.Faults.{fault_text}
 use Rattle.textio.specs.Output.{Ends, WritesBeginning}
+use Rattle.audits.specs.declared.judging.Verdict.{Verdict}
+use Rattle.audits.specs.Auditing.{AuditsText}
+use Rattle.audits.specs.Verdicts.{verdict_status, JudgesAt}
 use Rattle.items.specs.Prove.{Proves}
 use Rattle.items.specs.Root.{root_answer}
 use Rattle.server.specs.Directories.{keys_of}
@@ -18,7 +21,7 @@ use Rattle.server.specs.Listening.{TellsAddress}
 use Rattle.server.specs.Programs.{DirectoryServes}
 use Rattle.directoryd.specs.declared.ending.Ending.{Ending}
 use Rattle.directoryd.specs.CommandLine.{status_of, Refuses}
-use Rattle.directoryd.specs.Orders.{IsOrdered, Ordered, the_root, the_path, the_session, the_connections}
+use Rattle.directoryd.specs.Orders.{IsOrdered, Ordered, the_root, the_path, the_audit, the_verdict, the_session, the_connections}
 
 -- a program says a text to its input, and answers this status where that was written
 abbrev pub EndsAt : ℕ → (List ℕ → Result (List ℕ) ProgramFault → Type 0) → Option (List ℕ) → Option (List ℕ) → Option (List ℕ) → Result ℕ ProgramFault → Type 0
@@ -34,11 +37,20 @@ abbrev pub IsZero : Result ℕ ProgramFault → Type 0
 IsZero (Ok given) = given ≡ 0
 IsZero (Err fault) = ⊤
 
--- What is ordered is done: a root is told, or the path of an index; a directory is begun, and one session
--- is served; or one is begun, and connections are served: the errors are told the address.
+-- a verdict as an outcome: its status, or the fault
+abbrev pub verdict_outcome : Result Verdict ProgramFault → Result ℕ ProgramFault
+verdict_outcome (Ok verdict) = Ok (verdict_status verdict)
+verdict_outcome (Err fault) = Err fault
+
+-- What is ordered is done: a root is told, or the path of an index; an input is audited; a file is judged;
+-- a directory is begun, and one session is served; or one is begun, and connections are served: the errors
+-- are told the address.
 abbrev pub Obeys : Ordered → Option (List ℕ) → Option (List ℕ) → Option (List ℕ) → Option (List ℕ) → Option (List ℕ) → Result ℕ ProgramFault → Type 0
 Obeys (the_root asked) input out out-new err err-new outcome = EndsAt 0 (λ input said. root_answer asked input ≡ said) input out out-new outcome × Keeps err err-new
 Obeys (the_path index asked) input out out-new err err-new outcome = EndsAt 0 (Proves asked.hash (nonce_of asked.nonce) (hex32 index)) input out out-new outcome × Keeps err err-new
+Obeys (the_audit key) input out out-new err err-new outcome = IsZero outcome × Keeps err err-new × AuditsText key input out (without_status outcome) out-new
+Obeys (the_verdict key file) input out out-new err err-new outcome = Keeps err err-new
+    × (verdict : Result Verdict ProgramFault) × (outcome ≡ verdict_outcome verdict) × JudgesAt key out verdict out-new
 Obeys (the_session asked) input out out-new err err-new outcome = IsZero outcome × Keeps err err-new
     × (left : Option (List ℕ)) × DirectoryServes asked input out (without_status outcome) left out-new
 Obeys (the_connections asked count address) input out out-new err err-new outcome = IsZero outcome × Keeps out out-new

@@ -1,15 +1,20 @@
 // From the words to the end of the process. What the words order is done, and answers a status or a
 // fault; a fault's line goes to the errors. `main` only hands over the process's own words and streams,
 // so that all of this is in one contract.
-ghost use Rattle.std.specs.Prelude.{◌≡◌, map};
+ghost use Rattle.std.specs.Prelude.{◌≡◌, map, Result};
+ghost use Rattle.textio.specs.declared.program_fault.ProgramFault.{ProgramFault};
+ghost use Rattle.audits.specs.declared.judging.Verdict.{Verdict};
+ghost use Rattle.audits.specs.Verdicts.{JudgesAt};
 ghost use Rattle.directoryd.specs.Orders.{values_in};
-ghost use Rattle.directoryd.specs.Programs.{EndsAs, Obeys, Runs, Starts};
+ghost use Rattle.directoryd.specs.Programs.{verdict_outcome, EndsAs, Obeys, Runs, Starts};
 
 use crate::order::{Order, order};
 use crate::refusal::{refuse, refuse_bytes};
-use crate::{listen, prove, root, serve_directory};
+use crate::{audit, judge_at, listen, prove, root, serve_directory};
+use audits::JudgeOrder;
 use std::alloc::Global;
 use std::convert::AsStr;
+use std::fs::Files;
 use std::io::{self, BufRead, Write};
 use std::net::{Net, TcpListener, TcpStream};
 use textio::ProgramFault;
@@ -22,17 +27,33 @@ pub struct Ending {
     pub is_told: bool,
 }
 
+/// Judges the file of an order, and answers the status of the verdict.
+fn judge<F: Files, W: Write>(
+    alloc: Global,
+    files: &F,
+    order: JudgeOrder<'_>,
+    writer: &mut W,
+) -> Result<u8, ProgramFault>
+    ensures { (verdict : Result Verdict ProgramFault) × (result ≡ verdict_outcome verdict)
+        × JudgesAt order.entry.key.now (W.contents writer.old) verdict (W.contents writer.new) }
+{
+    match judge_at(alloc, files, order, writer) {
+        Ok(verdict) => Ok(verdict.status()),
+        Err(fault) => Err(fault),
+    }
+}
+
 /// Does what is ordered, and answers the status.
 fn obey<N, R, W, E>(
     alloc: Global,
-    net: &N,
+    system: &N,
     order: Order<'_>,
     reader: &mut R,
     writer: &mut W,
     errors: &mut E,
 ) -> Result<u8, ProgramFault>
 where
-    N: Net<Listener = TcpListener, Stream = TcpStream>,
+    N: Net<Listener = TcpListener, Stream = TcpStream> + Files,
     R: BufRead,
     W: Write,
     E: Write,
@@ -42,8 +63,10 @@ where
     match order {
         Order::Root(order) => root(alloc, order, reader, writer)?,
         Order::Prove(order) => prove(alloc, order, reader, writer)?,
+        Order::Audit(order) => audit(alloc, order, reader, writer)?,
+        Order::Judge(order) => return judge(alloc, system, order, writer),
         Order::Serve(order) => serve_directory(alloc, order, reader, writer)?,
-        Order::Listen(order) => listen(alloc, net, order, errors)?,
+        Order::Listen(order) => listen(alloc, system, order, errors)?,
     }
     Ok(0)
 }
@@ -51,14 +74,14 @@ where
 /// Does what the words order, or says why they order nothing.
 fn run<N, S, R, W, E>(
     alloc: Global,
-    net: &N,
+    system: &N,
     words: &[S],
     reader: &mut R,
     writer: &mut W,
     errors: &mut E,
 ) -> Result<u8, ProgramFault>
 where
-    N: Net<Listener = TcpListener, Stream = TcpStream>,
+    N: Net<Listener = TcpListener, Stream = TcpStream> + Files,
     S: AsStr,
     R: BufRead,
     W: Write,
@@ -67,7 +90,7 @@ where
         (E.contents errors.old) (E.contents errors.new) result }
 {
     match order(alloc, words) {
-        Ok(order) => obey(alloc, net, order, reader, writer, errors),
+        Ok(order) => obey(alloc, system, order, reader, writer, errors),
         Err(error) => refuse(alloc, &error, writer, errors),
     }
 }
@@ -75,14 +98,14 @@ where
 /// Does what the process's words order, where there are words and an input.
 fn start<N, R, W, E>(
     alloc: Global,
-    net: &N,
+    system: &N,
     words: io::Result<Vec<String>>,
     reader: io::Result<R>,
     writer: &mut W,
     errors: &mut E,
 ) -> Result<u8, ProgramFault>
 where
-    N: Net<Listener = TcpListener, Stream = TcpStream>,
+    N: Net<Listener = TcpListener, Stream = TcpStream> + Files,
     R: BufRead + Drop,
     W: Write,
     E: Write,
@@ -94,7 +117,7 @@ where
         Err(error) => return refuse_bytes(&error, errors),
     };
     match reader {
-        Ok(mut reader) => run(alloc, net, words.as_slice(), &mut reader, writer, errors),
+        Ok(mut reader) => run(alloc, system, words.as_slice(), &mut reader, writer, errors),
         // The buffer of the input is all that can fail.
         Err(_) => Err(ProgramFault::OutOfMemory),
     }
@@ -125,14 +148,14 @@ fn ended<E: Write>(outcome: Result<u8, ProgramFault>, errors: &mut E) -> Ending
 /// the errors with status 2.
 pub fn end<N, R, W, E>(
     alloc: Global,
-    net: &N,
+    system: &N,
     words: io::Result<Vec<String>>,
     reader: io::Result<R>,
     writer: &mut W,
     errors: &mut E,
 ) -> Ending
 where
-    N: Net<Listener = TcpListener, Stream = TcpStream>,
+    N: Net<Listener = TcpListener, Stream = TcpStream> + Files,
     R: BufRead + Drop,
     W: Write,
     E: Write,
@@ -141,7 +164,7 @@ where
         (E.contents errors.old) errors_between outcome
         × EndsAs outcome errors_between (E.contents errors.new) result }
 {
-    let outcome = start(alloc, net, words, reader, writer, errors);
+    let outcome = start(alloc, system, words, reader, writer, errors);
     ended(outcome, errors)
 }
 

@@ -6,6 +6,7 @@ mod ending;
 mod order;
 mod refusal;
 
+pub use audits::{audit, evidence_json, judge_at, judge_file, read_evidence};
 pub use ending::{Ending, end};
 pub use items::{prove, root};
 pub use order::{Order, order};

@@ -3,13 +3,14 @@ ghost use Rattle.std.specs.NonZero.{non_zero_u64_get};
 ghost use Rattle.clap.specs.Words.{app_of, found_of, kind_of, rows_of, rule_of};
 ghost use Rattle.clap.specs.declared.builder.command.Command.TheViews.{out-Command};
 ghost use Rattle.clap.specs.declared.error.kind.ErrorKind.TheVariants.{OutOfMemory};
-ghost use Rattle.directoryd.specs.CommandLine.{address_rule, directory_app, hash_rule, listen_app, nonce_rule, number_rule, prove_app, required_rule, root_app, serve_app, text_rule, with_directory, with_keys, IsHashNames, Refuses};
+ghost use Rattle.directoryd.specs.CommandLine.{audit_app, directory_app, hash_rule, judge_app, listen_app, nonce_rule, number_rule, positional_rule, prove_app, required_rule, root_app, serve_app, text_rule, with_directory, with_keys, IsHashNames, Refuses};
 ghost use Rattle.items.specs.Asked.{values_of};
 ghost use Rattle.server.specs.Asked.{values_of as directory_values};
 ghost use Rattle.directoryd.specs.Orders.{asked_in, directory_in, hash_named, number_from, ordered_in, text_in, values_in, IsOrdered};
 
 mod kinds;
 
+use audits::{AuditOrder, JudgeOrder};
 use clap::builder::ValueParser;
 use clap::{Arg, ArgMatches, Command, Error};
 use items::{HashChoice, ProveOrder, RootOrder};
@@ -34,6 +35,20 @@ Prints `level N`, then `present COMMITMENT`, `empty` or `other INDEX COMMITMENT`
 
 Example: directoryd prove --index 4000000000000000000000000000000000000000000000000000000000000000 < items.txt";
 
+/// What stands below the options of `audit`.
+static AUDIT_HELP: &str = "\
+Signed roots of one provider: one a line, in hexadecimal digits.
+Answers each line with `started`, `extended`, `known`, `ahead`, `before start`, evidence as JSON,
+`refused 1` (no signed root) or `refused 2` (its signature does not verify).
+
+Example: directoryd audit --key $KEY < roots.txt";
+
+/// What stands below the options of `judge`.
+static JUDGE_HELP: &str = "\
+Prints `evidence`, with status 0, or `no evidence`, with status 3.
+
+Example: directoryd judge --key $KEY evidence.json";
+
 /// What stands below the options of `serve`.
 static SERVE_HELP: &str = "\
 Reads the frames of one session from standard input, and writes their replies to standard output.
@@ -47,6 +62,8 @@ Answers connections one after another, all from one directory. A connection with
 and the next one is taken. The directory is new, and nothing of it is kept at the end.
 
 Example: directoryd listen --sign-key $SIGN --vuf-key $VUF --salt-key $SALT --token $TOKEN 127.0.0.1:7000";
+
+static KEY_HELP: &str = "The provider's public key, 64 hexadecimal digits";
 
 static SIGN_KEY_HELP: &str = "The key that signs roots and promises, 64 hexadecimal digits";
 
@@ -135,15 +152,28 @@ fn count_arg<'a>(alloc: Global) -> Arg<'a>
         .help("How many connections are answered; 0 for no end")
 }
 
-/// `ADDR`.
-fn address_arg<'a>(alloc: Global) -> Arg<'a>
-    ensures rule { rule_of result ≡ address_rule }
+/// A value that stands alone, and has to be given.
+fn positional_arg<'a>(alloc: Global, name: &'a str, shown: &'a str, help: &'a str) -> Arg<'a>
+    ensures rule { rule_of result ≡ positional_rule name.entry.now }
     ensures local { result.global ≡ false }
 {
-    Arg::new(alloc, "address")
-        .value_name("ADDR")
+    Arg::new(alloc, name)
+        .value_name(shown)
         .required(true)
-        .help("The address to listen on, such as 127.0.0.1:7000")
+        .help(help)
+}
+
+/// `ADDR`.
+fn address_arg<'a>(alloc: Global) -> Arg<'a>
+    ensures rule { rule_of result ≡ positional_rule (codes "address") }
+    ensures local { result.global ≡ false }
+{
+    positional_arg(
+        alloc,
+        "address",
+        "ADDR",
+        "The address to listen on, such as 127.0.0.1:7000",
+    )
 }
 
 /// `root`, with its options.
@@ -171,6 +201,31 @@ fn prove_command<'a>(alloc: Global, names: ValueParser<'a>) -> Result<Command<'a
         .arg(hash_arg(alloc, names))?
         .arg(nonce_arg(alloc))?;
     Ok(prove)
+}
+
+/// `audit`, with its option.
+fn audit_command<'a>(alloc: Global) -> Result<Command<'a>, AllocError>
+    ensures app { IfOk result (λ c. app_of c ≡ audit_app) }
+    ensures local { IfOk result (λ c. (out-Command c).has_globals ≡ false) }
+{
+    let audit = Command::new(alloc, "audit")
+        .about("Audits the signed roots on standard input")
+        .after_help(AUDIT_HELP)
+        .arg(required_arg(alloc, "key", KEY_HELP))?;
+    Ok(audit)
+}
+
+/// `judge`, with its option and its file.
+fn judge_command<'a>(alloc: Global) -> Result<Command<'a>, AllocError>
+    ensures app { IfOk result (λ c. app_of c ≡ judge_app) }
+    ensures local { IfOk result (λ c. (out-Command c).has_globals ≡ false) }
+{
+    let judge = Command::new(alloc, "judge")
+        .about("Says whether a file is evidence against a provider")
+        .after_help(JUDGE_HELP)
+        .arg(required_arg(alloc, "key", KEY_HELP))?
+        .arg(positional_arg(alloc, "file", "FILE", "The file of evidence"))?;
+    Ok(judge)
 }
 
 /// A command with the keys of a directory and the operator's token.
@@ -232,6 +287,8 @@ fn command<'a>(alloc: Global) -> Result<Command<'a>, AllocError>
         .subcommand_required(true)
         .subcommand(root_command(alloc, names)?)?
         .subcommand(prove_command(alloc, names)?)?
+        .subcommand(audit_command(alloc)?)?
+        .subcommand(judge_command(alloc)?)?
         .subcommand(serve_command(alloc)?)?
         .subcommand(listen_command(alloc)?)?;
     Ok(directoryd)
@@ -307,6 +364,13 @@ fn named_order<'a>(name: &str, found: &ArgMatches<'a>) -> Order<'a>
         "prove" => Order::Prove(ProveOrder {
             index: text(found, "index"),
             root: root_order(found),
+        }),
+        "audit" => Order::Audit(AuditOrder {
+            key: text(found, "key"),
+        }),
+        "judge" => Order::Judge(JudgeOrder {
+            key: text(found, "key"),
+            file: text(found, "file"),
         }),
         "serve" => Order::Serve(directory_order(found)),
         "listen" => Order::Listen(ListenOrder {

@@ -6,6 +6,8 @@
 //! reads how much time and memory the process has used.
 #![tactic(auto)]
 
+mod auditing;
+mod chains;
 mod changes;
 mod digests;
 mod directory;
@@ -26,8 +28,9 @@ use std::net::{Net, TcpListener, TcpStream};
 const USAGE: &str = "usage: measure digests BYTES COUNT | texts COUNT ROUNDS \
     | tree GROWN MORE DIGESTS | whole ITEMS TIMES DIGESTS \
     | changes ITEMS CHANGES LISTS ROUNDS DIGESTS | replies SIBLINGS REPLIES ROUNDS DIGESTS \
-    | epochs NAMES CHANGES ROUNDS LOOK_UPS LOOK_UP_ROUNDS DIGESTS \
-    | hub NAMES FRAMES PIECE ROUNDS | feed FRAMES TIMES | all \
+    | chains ROOTS SHARED ROUNDS | epochs NAMES CHANGES ROUNDS LOOK_UPS LOOK_UP_ROUNDS DIGESTS \
+    | hub NAMES FRAMES PIECE ROUNDS | feed FRAMES TIMES \
+    | audit ROOTS MORE SIBLINGS TIMES DIGESTS | all \
     | ask PORT NAMES FRAMES IN_FLIGHT ROUNDS | exchange PORT NAMES FRAMES ROUNDS \
     | answer REQUEST REPLY";
 
@@ -77,6 +80,14 @@ fn run(rt: &(impl Print + Input), alloc: Global, program: &str, numbers: &[usize
             };
             replies::measure(rt, alloc, &look_ups)
         }
+        ("chains", &[roots, shared, rounds]) => {
+            let histories = chains::Histories {
+                roots,
+                shared,
+                rounds,
+            };
+            chains::measure(rt, alloc, &histories)
+        }
         _ => run_on_directory(rt, alloc, program, numbers),
     }
 }
@@ -113,6 +124,28 @@ fn run_on_directory(
         ("feed", &[frames, times]) => {
             let wanted = feeding::Pieces { frames, times };
             feeding::measure(rt, alloc, &wanted)
+        }
+        _ => run_on_auditor(rt, alloc, program, numbers),
+    }
+}
+
+/// Runs the program of this name on these numbers, if it is the one on an auditor.
+fn run_on_auditor(
+    rt: &(impl Print + Input),
+    alloc: Global,
+    program: &str,
+    numbers: &[usize],
+) -> Result<()> {
+    match (program, numbers) {
+        ("audit", &[roots, more, siblings, times, digests]) => {
+            let wanted = auditing::Audits {
+                roots,
+                more,
+                siblings,
+                times,
+                digests,
+            };
+            auditing::measure(rt, alloc, &wanted)
         }
         _ => bail!("{USAGE}"),
     }
@@ -159,9 +192,11 @@ fn run_all(rt: &(impl Print + Input), alloc: Global) -> Result<()> {
     run(rt, alloc, "whole", &[5, 2, 1])?;
     run(rt, alloc, "changes", &[5, 3, 2, 2, 1])?;
     run(rt, alloc, "replies", &[4, 3, 2, 1])?;
+    run(rt, alloc, "chains", &[5, 3, 2])?;
     run(rt, alloc, "epochs", &[5, 3, 2, 4, 2, 1])?;
     run(rt, alloc, "hub", &[5, 3, 16, 2])?;
-    run(rt, alloc, "feed", &[3, 2])
+    run(rt, alloc, "feed", &[3, 2])?;
+    run(rt, alloc, "audit", &[5, 3, 2, 2, 1])
 }
 
 fn main(rt: HostRuntime) -> Result<()> {

@@ -52,7 +52,7 @@ fn flipped(index: &Index, bit: usize) -> Index
 
 /// A tree in which the path of the item has so many siblings: for each of its first bits there is
 /// an item whose index differs in that bit alone.
-fn tree_around(
+pub(crate) fn tree_around(
     alloc: Global,
     hash: &mut Sha256Hash,
     item: Item,

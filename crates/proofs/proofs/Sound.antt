@@ -5,8 +5,8 @@ use Rattle.proofs.specs.declared.comparing.SameOr.{SameOr}
 use Rattle.proofs.specs.declared.comparing.SameOr.TheVariants.{NotComparable, Same, TwoValues, Collision}
 use Rattle.proofs.specs.declared.refusal.Refusal.{Refusal}
 use Rattle.proofs.specs.declared.refusal.Refusal.TheVariants.{Malformed, Trailing, OtherRoot, BadVuf, SameIndex, OtherPrefix, PathMismatch}
-use Rattle.proofs.specs.Accepts.{stated, Accepts, HasIndex, NamedReply}
-use Rattle.proofs.specs.Comparisons.{Answers, IsAcceptedReply, IsOneBindingOr, Refuses}
+use Rattle.proofs.specs.Accepts.{stated, Accepts, HasIndex, IsAccepted, NamedReply}
+use Rattle.proofs.specs.Comparisons.{Answers, IsAcceptedReply, IsOnceAccepted, IsOneBindingOr, Refuses}
 use Rattle.proofs.specs.Refusals.{IsFirst, Passes, ReadsReply}
 use Rattle.proofs.specs.Replies.{Reply, Spells}
 use Rattle.proofs.proofs.Passing.{accepts-passed, nothing_left, one_reply, passed-accepted}
@@ -14,7 +14,7 @@ use Rattle.proofs.proofs.Passing.{accepts-passed, nothing_left, one_reply, passe
 abbrev pub named : List ℕ → Reply → NamedReply
 named name reply = record { name = name; reply = reply }
 
-not_spelled : (bytes : List ℕ) (refusal : Refusal) → ReadsReply bytes (Err refusal) → (reply : Reply) → ¬ Spells bytes reply
+pub not_spelled : (bytes : List ℕ) (refusal : Refusal) → ReadsReply bytes (Err refusal) → (reply : Reply) → ¬ Spells bytes reply
 not_spelled bytes Malformed reads reply = reads.0 reply
 not_spelled bytes Trailing (other, front, rest, parts, some, spells) reply = λ spelled. some (nothing_left front rest other reply spells (subst (λ (b : List ℕ). Spells b reply) parts spelled))
 not_spelled bytes OtherRoot reads reply = absurd reads
@@ -70,3 +70,8 @@ module _ (hash : List ℕ → List ℕ) (accepted : List ℕ → List ℕ → Li
       → Answers hash accepted (named name first.reply) (named name second.reply) answer
   on_replies first second answer one two answers =
       subst (λ (n : NamedReply). Answers hash accepted n (named name second.reply) answer) one (subst (λ (n : NamedReply). Answers hash accepted first n answer) two answers)
+
+-- the reply that once accepted bytes spell is accepted
+pub still_accepted : (hash : List ℕ → List ℕ) (accepted : List ℕ → List ℕ → List ℕ → Type 0) (name bytes : List ℕ) (reply : Reply) → Spells bytes reply
+    → IsOnceAccepted hash accepted name bytes → IsAccepted hash accepted (named name reply)
+still_accepted hash accepted name bytes reply spelled once = subst (λ (r : Reply). IsAccepted hash accepted (named name r)) (one_reply bytes once.1 reply once.2.0 spelled) once.2.2

@@ -96,3 +96,7 @@ IsOneBindingOr hash statement other NotComparable = ⊥
 IsOneBindingOr hash statement other Same = statement ≡ other
 IsOneBindingOr hash statement other TwoValues = ⊥
 IsOneBindingOr hash statement other (Collision x y) = (statement ≢ other) × IsCollision hash x y
+
+-- the bytes were accepted for the name under some body
+abbrev pub IsOnceAccepted : (List ℕ → List ℕ) → (List ℕ → List ℕ → List ℕ → Type 0) → List ℕ → List ℕ → Type 0
+IsOnceAccepted hash accepted name bytes = (body : Body) × (reply : Reply) × IsAcceptedReply hash accepted body name bytes reply

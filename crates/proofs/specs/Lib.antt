@@ -7,6 +7,7 @@ pub mod Reading
 pub mod Refusals
 pub mod Replies
 pub mod Views
+pub mod Watches
 pub mod WayTexts
 pub use Rattle.commit.specs.Commitments
 pub use Rattle.encoding.specs.Fields

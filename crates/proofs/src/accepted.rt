@@ -1,8 +1,8 @@
-ghost use Rattle.std.specs.Prelude.{◌≡◌, ◌≢◌, length};
+ghost use Rattle.std.specs.Prelude.{◌≡◌, ◌≢◌, ◌+◌, ◌≤◌, length};
 ghost use Rattle.proofs.specs.Accepts.{stated, Accepts, IsAccepted};
-ghost use Rattle.proofs.specs.Comparisons.{opened};
+ghost use Rattle.proofs.specs.Comparisons.{opened, IsOnceAccepted};
 ghost use Rattle.proofs.specs.PathEnds.{end_text};
-ghost use Rattle.proofs.specs.Replies.{reply_bytes, IsReply};
+ghost use Rattle.proofs.specs.Replies.{reply_bytes, IsReply, Spells};
 ghost use Rattle.proofs.specs.Views.{end_seen, key_stated};
 
 use crate::checking::node_at_end;
@@ -13,7 +13,7 @@ use encoding::{Hash32, Index, Name, Text};
 use nodehash::{NodeHash, NodeText};
 use rootchain::Body;
 use std::marker::{Model, PhantomData};
-use vrfiface::VufCheck;
+use vrfiface::{VufCheck, index_of};
 
 /// A reply accepted for a name, under the hash function of `H` and the value function of `V`.
 #[derive(Drop)]
@@ -49,6 +49,22 @@ impl<'a, H: NodeHash, V: VufCheck> Accepted<'a, H, V> {
             index,
             types: PhantomData,
         }
+    }
+
+    /// The reply that these bytes spell, which were accepted for the name before. Takes one digest, and
+    /// checks nothing again.
+    pub fn again(hash: &mut H, name: &Name, bytes: &'a [u8]) -> Self
+        requires { IsOnceAccepted H.digest_of V.accepted name.now bytes.now }
+        ensures named { result.name ≡ name.now }
+        ensures spelled { Spells bytes.entry.now result.reply }
+        ensures accepted { IsAccepted H.digest_of V.accepted result }
+        ensures counted { H.digests hash.new ≤ H.digests hash.old + 1 }
+    {
+        let Ok(view) = ReplyView::read(bytes) else {
+            unreachable!()
+        };
+        let index = index_of(hash, view.value());
+        Accepted::new(name.copied(), view, index)
     }
 
     /// The statement of the reply: a key, or absence.

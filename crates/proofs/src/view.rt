@@ -98,6 +98,13 @@ impl<'a> ReplyView<'a> {
         Ok(ReplyView { parts })
     }
 
+    /// What the reply states of the name, if it is accepted.
+    pub fn statement(&self) -> Statement<'a>
+        ensures { key_stated result ≡ stated self.now.end }
+    {
+        self.parts.end.statement()
+    }
+
     /// The siblings from the root down, 32 bytes each, joined.
     pub fn siblings(&self) -> &'a [u8]
         ensures { result.now ≡ joined_bytes self.now.siblings }

@@ -4,12 +4,13 @@ use Rattle.std.proofs.Common.{◌≡◌, ◌≢◌, ◌⊎◌, ℕ, ◌+◌, ◌
 use Rattle.std.specs.List.{AllAdjacentBelow}
 use Rattle.std.proofs.lemmas.Bool.{cases_lt}
 use Rattle.std.proofs.lemmas.List.{get_or_default}
-use Rattle.std.proofs.lemmas.Option.{get_or_from_slice_get}
+use Rattle.std.proofs.lemmas.Option.{get_or_from_slice_get, slice_get-get_or}
 use Rattle.rootchain.specs.declared.body.Body.{Body}
 use Rattle.rootchain.specs.declared.signed_root.SignedRoot.{SignedRoot}
-use Rattle.rootchain.specs.Bodies.{body_bytes}
-use Rattle.rootchain.specs.Chains.{Ascend, AreWellFormed, IsChain, KeyedRoots, Links, Names}
+use Rattle.rootchain.specs.Bodies.{body_bytes, IsWellFormed}
+use Rattle.rootchain.specs.Chains.{Ascend, IsChain, KeyedRoots, Links, Names}
 use Rattle.rootchain.specs.Evidence.{AreEvidence}
+use Rattle.rootchain.specs.Places.{StartsWellFormed}
 use Rattle.rootchain.proofs.Chains.{ascend-linked, one-root}
 use Rattle.rootchain.proofs.Places.{rising}
 
@@ -19,7 +20,7 @@ Clash hash one other = ((one.epoch ≡ other.epoch) × (one ≢ other))
     ⊎ (((other.previous_epoch ≡ one.epoch) × (other.previous_hash ≢ hash (body_bytes one)))
     ⊎ ((other.previous_epoch < one.epoch) × (one.epoch < other.epoch)))
 
-module _ (hash : List ℕ → List ℕ) (roots : List SignedRoot) (linked : AllAdjacentBelow (Links hash) roots (length roots)) (some : 0 < length roots) (formed : AreWellFormed roots) where
+module _ (hash : List ℕ → List ℕ) (roots : List SignedRoot) (linked : AllAdjacentBelow (Links hash) roots (length roots)) (some : 0 < length roots) (formed : (first : SignedRoot) → slice_get roots 0 ≡ Some first → IsWellFormed first.body) where
   up : Ascend roots
   up = ascend-linked hash roots linked
 
@@ -37,9 +38,6 @@ module _ (hash : List ℕ → List ℕ) (roots : List SignedRoot) (linked : AllA
   same : (i j : ℕ) (x y : SignedRoot) → At i x → At j y → x.body.epoch ≡ y.body.epoch → x ≡ y
   same i j x y a b e = one-root roots up i j x y a.inside b.inside (a.is x) (b.is y) e
 
-  own-formed : (k : ℕ) (x : SignedRoot) → At k x → x.body.previous_epoch < x.body.epoch
-  own-formed k x a = subst (λ (y : SignedRoot). y.body.previous_epoch < y.body.epoch) (a.is x) (formed k x a.inside).0
-
   -- the root before another, which this one names
   record Before (k : ℕ) (y : SignedRoot) : Type 0 where
     root : SignedRoot
@@ -55,6 +53,19 @@ module _ (hash : List ℕ → List ℕ) (roots : List SignedRoot) (linked : AllA
     where
       within : k < length roots
       within = omega (arith, e, b.inside)
+
+  -- each root names an earlier epoch than its own: the first is well formed, and the others name a root before them
+  own-formed : (k : ℕ) (x : SignedRoot) → At k x → x.body.previous_epoch < x.body.epoch
+  unfolding Names
+  own-formed k x a = elim (cases_lt 0 k) [
+    | inl more ↦
+        let last = before (k - 1) k x a (omega (arith, more)) in
+        let less = rw (last.held.is x, a.is x) at (up (k - 1) k x (omega (arith, more)) a.inside) in
+        omega (arith, last.named.0, less)
+    | inr none ↦
+        let e : 0 ≡ k = omega (arith, none) in
+        (formed x (slice_get-get_or roots 0 x some ∙ ap (λ (y : SignedRoot). Some y) (ap (λ n. get_or roots n x) e ∙ a.is x))).0
+  ]
 
   module _ (one other : SignedRoot) (i j : ℕ) (a : At i one) (b : At j other) where
     no-fork : one.body.epoch ≡ other.body.epoch → one.body ≢ other.body → ⊥
@@ -177,7 +188,7 @@ module _ (hash : List ℕ → List ℕ) (roots : List SignedRoot) (linked : AllA
       ]
     ]
 
-module _ (hash : List ℕ → List ℕ) (verified : List ℕ → List ℕ → List ℕ → Type 0) (chain : KeyedRoots) (is : IsChain hash verified chain) (formed : AreWellFormed chain.roots) where
+module _ (hash : List ℕ → List ℕ) (verified : List ℕ → List ℕ → List ℕ → Type 0) (chain : KeyedRoots) (is : IsChain hash verified chain) (formed : StartsWellFormed chain) where
   -- no two roots of one chain are evidence
   pub not_evidence : (key : List ℕ) (one other : SignedRoot) → Contains chain.roots one → Contains chain.roots other → AreEvidence hash verified key one other → ⊥
   not_evidence key one other held also are = no-clash hash chain.roots is.linked is.first formed one other held also are.2

@@ -1,6 +1,14 @@
+pub mod Agreement
+pub mod BodyTexts
 pub mod Chains
 pub mod Clashes
+pub mod Compared
+pub mod NextRoots
+pub mod OneAnswer
 pub mod Places
 pub mod RootLists
+pub mod Spelled
 pub mod Taking
+pub mod TakingLists
 pub mod Telling
+pub mod Walks

@@ -7,9 +7,9 @@ use Rattle.rootchain.specs.declared.chain.placing.Place.TheVariants.{Known, Evid
 use Rattle.rootchain.specs.declared.evidence.RootEvidence.TheVariants.{Fork, Link, Skip}
 use Rattle.rootchain.specs.declared.signed_root.SignedRoot.{SignedRoot}
 use Rattle.rootchain.specs.Bodies.{IsWellFormed}
-use Rattle.rootchain.specs.Chains.{AreWellFormed, IsChain, IsHead, KeyedRoots, Verifies}
+use Rattle.rootchain.specs.Chains.{IsChain, IsHead, KeyedRoots, Verifies}
 use Rattle.rootchain.specs.Evidence.{AreEvidence, IsRootEvidence}
-use Rattle.rootchain.specs.Places.{EvidenceHolds, IsEvidenceWith, IsFirst, IsPlace, IsPlaceAbove, IsPlaceBelow, IsPlaceWithin, TellsEvidence}
+use Rattle.rootchain.specs.Places.{EvidenceHolds, IsEvidenceWith, IsFirst, IsPlace, IsPlaceAbove, IsPlaceBelow, IsPlaceWithin, StartsWellFormed, TellsEvidence}
 use Rattle.rootchain.proofs.Clashes.{no-clash, not-above, not-ahead, not-before-start, not-below, not-named-by, not-next, Clash}
 use Rattle.rootchain.proofs.Places.{ends, place_sound}
 
@@ -64,7 +64,7 @@ module _ (hash : List ℕ → List ℕ) (verified : List ℕ → List ℕ → Li
       ]
 
   -- a place that tells of none leaves none
-  module _ (formed : AreWellFormed chain.roots) (root-formed : IsWellFormed root.body) where
+  module _ (formed : StartsWellFormed chain) (root-formed : IsWellFormed root.body) where
     known-silent : (twin : SignedRoot) → Contains chain.roots twin → twin.body ≡ root.body → IsEvidenceWith hash verified chain root → ⊥
     known-silent twin held same with = elim with.2 [
       | inl are ↦ no-clash hash chain.roots is.linked is.first formed with.0 twin with.1 held (subst (Clash hash with.0.body) (sym same) are.2)

@@ -20,6 +20,11 @@ body_bytes body = body_head ++ (big_bytes 8 body.epoch ++ (big_bytes 8 body.prev
 abbrev pub IsWellFormed : Body → Type 0
 IsWellFormed body = (body.previous_epoch < body.epoch) × (body.previous_epoch ≡ 0 → body.previous_hash ≡ replicate 32 0)
 
+-- two numbers of eight bytes, and four byte strings of 32
+abbrev pub IsSized : Body → Type 0
+IsSized body = (body.epoch < 2 ^ 64) × (body.previous_epoch < 2 ^ 64)
+    × Is32Bytes body.root × Is32Bytes body.previous_hash × Is32Bytes body.nonce × Is32Bytes body.vuf_key
+
 -- what a body may hold
 abbrev pub IsBody : Body → Type 0
 IsBody body = IsWellFormed body × (body.epoch < 2 ^ 64) × (body.previous_epoch < 2 ^ 64)

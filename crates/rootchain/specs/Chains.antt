@@ -5,7 +5,7 @@ use Rattle.std.specs.List.{AllAdjacentBelow}
 use Rattle.rootchain.specs.declared.refusal.Refusal.{Refusal}
 use Rattle.rootchain.specs.declared.refusal.Refusal.TheVariants.{Malformed, BadSignature, NotLater, BadLink, Memory}
 use Rattle.rootchain.specs.declared.signed_root.SignedRoot.{SignedRoot}
-use Rattle.rootchain.specs.Bodies.{body_bytes, IsWellFormed}
+use Rattle.rootchain.specs.Bodies.{body_bytes}
 
 -- a provider's public key, and signed roots from the first to the last
 pub record KeyedRoots : Type 0 where
@@ -23,10 +23,6 @@ IsAt chain epoch root = Contains chain.roots root × (root.body.epoch ≡ epoch)
 -- each root has an epoch below those of the roots after it
 abbrev pub Ascend : List SignedRoot → Type 0
 Ascend = AllPairs (λ earlier later. earlier.body.epoch < later.body.epoch)
-
--- the body of each root is well formed
-abbrev pub AreWellFormed : List SignedRoot → Type 0
-AreWellFormed = All (λ root. IsWellFormed root.body)
 
 -- the signature is one of the body's bytes under this key
 unfoldable pub Verifies : (List ℕ → List ℕ → List ℕ → Type 0) → List ℕ → SignedRoot → Type 0

@@ -18,6 +18,18 @@ IsLink hash one other = (other.body.previous_epoch ≡ one.body.epoch) × (other
 abbrev pub IsSkip : SignedRoot → SignedRoot → Type 0
 IsSkip one other = (other.body.previous_epoch < one.body.epoch) × (one.body.epoch < other.body.epoch)
 
+-- it is a link, whose second root names the epoch of the first
+abbrev pub NamesEpoch : RootEvidence → Type 0
+NamesEpoch (Link one other) = other.body.previous_epoch ≡ one.body.epoch
+NamesEpoch (Fork one other) = ⊥
+NamesEpoch (Skip one other) = ⊥
+
+-- this holds of both roots
+abbrev pub BothAre : (SignedRoot → Type 0) → RootEvidence → Type 0
+BothAre P (Fork one other) = P one × P other
+BothAre P (Link one other) = P one × P other
+BothAre P (Skip one other) = P one × P other
+
 module _ (hash : List ℕ → List ℕ) (verified : List ℕ → List ℕ → List ℕ → Type 0) (key : List ℕ) where
   -- two roots of the provider that cannot both stand in one chain of well-formed roots
   abbrev pub AreEvidence : SignedRoot → SignedRoot → Type 0

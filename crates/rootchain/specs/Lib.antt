@@ -1,5 +1,6 @@
 pub mod Bodies
 pub mod Chains
+pub mod Comparisons
 pub mod Evidence
 pub mod Places
 pub mod Promises
@@ -8,5 +9,7 @@ pub mod Refusals
 pub mod RootLists
 pub mod SignedRoots
 pub mod Taking
+pub mod TakingLists
+pub mod Walks
 pub use Rattle.encoding.specs.Forms
 pub use Rattle.encoding.specs.Reading

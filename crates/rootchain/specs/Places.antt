@@ -5,12 +5,17 @@ use Rattle.rootchain.specs.declared.chain.placing.Place.{Place}
 use Rattle.rootchain.specs.declared.chain.placing.Place.TheVariants.{Known, Evidence, Next, Ahead, BeforeStart}
 use Rattle.rootchain.specs.declared.evidence.RootEvidence.TheVariants.{Fork, Link, Skip}
 use Rattle.rootchain.specs.declared.signed_root.SignedRoot.{SignedRoot}
+use Rattle.rootchain.specs.Bodies.{IsWellFormed}
 use Rattle.rootchain.specs.Chains.{IsAt, IsHead, KeyedRoots, Names}
 use Rattle.rootchain.specs.Evidence.{AreEvidence, IsLink, IsRootEvidence}
 
 -- the first of the roots
 abbrev pub IsFirst : KeyedRoots → SignedRoot → Type 0
 IsFirst chain root = slice_get chain.roots 0 ≡ Some root
+
+-- the first of the roots is well formed
+abbrev pub StartsWellFormed : KeyedRoots → Type 0
+StartsWellFormed chain = (first : SignedRoot) → IsFirst chain first → IsWellFormed first.body
 
 -- the chain has no root of the epoch
 abbrev pub IsMissing : KeyedRoots → ℕ → Type 0
@@ -55,6 +60,13 @@ pub record IsPlace (hash : List ℕ → List ℕ) (chain : KeyedRoots) (root : S
   pub below : (first : SignedRoot) → IsFirst chain first → root.body.epoch < first.body.epoch → IsPlaceBelow hash first root place
   pub within : (first head : SignedRoot) → IsFirst chain first → IsHead chain head → first.body.epoch ≤ root.body.epoch → root.body.epoch ≤ head.body.epoch → IsPlaceWithin chain root place
   pub above : (head : SignedRoot) → IsHead chain head → head.body.epoch < root.body.epoch → IsPlaceAbove hash head root place
+
+-- the place of the root takes a hash: of the root and the chain's end that it lies beyond, the upper one
+-- names the epoch of the lower one
+abbrev pub IsHashed : KeyedRoots → SignedRoot → Type 0
+IsHashed chain root =
+    ((head : SignedRoot) × IsHead chain head × (head.body.epoch < root.body.epoch) × (root.body.previous_epoch ≡ head.body.epoch))
+    ⊎ ((first : SignedRoot) × IsFirst chain first × (root.body.epoch < first.body.epoch) × (first.body.previous_epoch ≡ root.body.epoch))
 
 -- if the place is evidence, that is evidence under the key
 abbrev pub EvidenceHolds : (List ℕ → List ℕ) → (List ℕ → List ℕ → List ℕ → Type 0) → List ℕ → Place → Type 0

@@ -1,14 +1,20 @@
 ghost use Rattle.std.specs.Prelude.{◌≡◌, length, IsOkUnless};
 ghost use Rattle.encoding.specs.Fields.{ReadsWhole};
 ghost use Rattle.rootchain.specs.declared.refusal.Refusal.TheVariants.{Malformed};
-ghost use Rattle.rootchain.specs.Bodies.{body_bytes, is_well_formed, read_body, IsBody, IsWellFormed};
+ghost use Rattle.rootchain.specs.Bodies.{body_bytes, is_well_formed, read_body, IsBody, IsSized, IsWellFormed};
 
 use crate::Refusal;
 use crate::whole::whole;
-use encoding::{Cursor, Fault, Form, Hash32, Text};
+use encoding::{Cursor, Fault, FixedText, Form, Hash32};
 
 /// The kind byte of a body, the letter R, and the version of its form.
 const HEAD: [u8; 2] = [0x52, 1];
+
+/// How many bytes a body has.
+const BODY_LEN: usize = 146;
+
+/// The bytes of a body.
+pub type BodyText = FixedText<BODY_LEN>;
 
 /// The body of a signed tree root (CONIKS, section 3).
 #[derive(Clone, Copy, Debug, PartialEq, Eq)]
@@ -37,12 +43,13 @@ impl Body {
     }
 
     /// The 146 bytes of the body, which `read` accepts where the body is well formed.
-    pub fn write(&self) -> Text
+    pub fn write(&self) -> BodyText
         ensures value { result ≡ body_bytes self.now }
         ensures len { length result ≡ 146 }
+        ensures sized { IsSized self.now }
         ensures form { IsWellFormed self.now → IsBody self.now }
     {
-        let mut text = Text::new();
+        let mut text = BodyText::new();
         text.push_slice(&HEAD);
         text.push_u64(self.epoch);
         text.push_u64(self.previous_epoch);

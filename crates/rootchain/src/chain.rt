@@ -8,6 +8,8 @@ use sigiface::Verifier;
 use std::alloc::Global;
 use std::marker::{Model, PhantomData};
 
+mod comparing;
+mod next_root;
 mod placing;
 
 pub use placing::Place;
@@ -122,5 +124,6 @@ impl<H: NodeHash, S: Verifier> Chain<H, S> {
 }
 
 mod taking;
+mod taking_lists;
 #[cfg(test)]
 mod tests;

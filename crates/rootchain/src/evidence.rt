@@ -1,5 +1,5 @@
-ghost use Rattle.std.specs.Prelude.{◌≡◌, ◌↔◌, ◌+◌, ◌≤◌, IsTrue};
-ghost use Rattle.rootchain.specs.Evidence.{IsFork, IsLink, IsRootEvidence, IsSkip};
+ghost use Rattle.std.specs.Prelude.{◌≡◌, ◌≢◌, ◌↔◌, ◌+◌, ◌≤◌, IsTrue};
+ghost use Rattle.rootchain.specs.Evidence.{IsFork, IsLink, IsRootEvidence, IsSkip, NamesEpoch};
 
 use crate::SignedRoot;
 use encoding::Hash32;
@@ -24,6 +24,7 @@ impl RootEvidence {
     pub fn holds<H: NodeHash, S: Verifier>(&self, hash: &mut H, verifier: &S, key: &Hash32) -> bool
         ensures value { IsTrue result ↔ IsRootEvidence H.digest_of S.verified key.now self.now }
         ensures counted { H.digests hash.new ≤ H.digests hash.old + 1 }
+        ensures spared { ¬ NamesEpoch self.now → H.digests hash.new ≡ H.digests hash.old }
     {
         let (one, other) = match self {
             RootEvidence::Fork(one, other) => (one, other),
@@ -52,6 +53,7 @@ fn is_fork(one: &SignedRoot, other: &SignedRoot) -> bool
 fn is_link<H: NodeHash>(hash: &mut H, one: &SignedRoot, other: &SignedRoot) -> bool
     ensures value { IsTrue result ↔ IsLink H.digest_of one.now other.now }
     ensures counted { H.digests hash.new ≤ H.digests hash.old + 1 }
+    ensures spared { other.now.body.previous_epoch ≢ one.now.body.epoch → H.digests hash.new ≡ H.digests hash.old }
 {
     other.body.previous_epoch == one.body.epoch && !other.names(hash, one)
 }

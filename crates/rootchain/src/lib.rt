@@ -3,9 +3,9 @@
 //!
 //! Callers can rely on this: `read` accepts exactly the bytes of a form, each value has one spelling,
 //! and `write` produces it. The roots of a chain verify under one key, each root names the one before
-//! it, and a root that may not follow is refused. Where a root stands to a chain is answered exactly,
-//! and so is whether two roots are evidence against their provider. Only chains allocate, to keep their
-//! roots.
+//! it, and a root that may not follow is refused. A list of roots is taken whole or not at all. Where a
+//! root stands to a chain is answered exactly, the comparison of two chains is exact, and so is the answer
+//! whether two roots are evidence against their provider. Only chains allocate, to keep their roots.
 //!
 //! ```
 //! let first = SignedRoot::read(first_bytes)?;
@@ -14,13 +14,16 @@
 //! chain.extend(&mut hash, &verifier, next)?;
 //! let root = chain.at(7);
 //! let place = chain.place(&mut hash, &verifier, &seen_elsewhere)?;
+//! let result = Chain::compare(&mut hash, &chain, &chain_of_another_client);
 //! ```
 #![tactic(auto)]
 
 mod body;
 mod chain;
+mod compare;
 mod evidence;
 mod laws;
+mod list_refusal;
 mod promise;
 mod refusal;
 mod root_list;
@@ -28,18 +31,20 @@ mod signed_promise;
 mod signed_root;
 mod whole;
 
-pub use body::Body;
+pub use body::{Body, BodyText};
 pub use chain::{Chain, Place};
+pub use compare::{Compare, comparison_is_unique};
 pub use evidence::RootEvidence;
 pub use laws::{
     body_is_read, chain_is_no_evidence, epochs_ascend, place_tells_evidence, promise_is_read,
     root_list_is_read, signed_promise_is_read, signed_root_is_read,
 };
+pub use list_refusal::ListRefusal;
 pub use promise::Promise;
 pub use refusal::Refusal;
 pub use root_list::{MAX_ROOTS, RootList, list_len, write_list};
 pub use signed_promise::SignedPromise;
-pub use signed_root::SignedRoot;
+pub use signed_root::{SignedRoot, SignedRootText};
 
 #[cfg(test)]
 mod tests;

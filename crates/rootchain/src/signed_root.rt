@@ -1,4 +1,4 @@
-ghost use Rattle.std.specs.Prelude.{◌≡◌, ◌≤◌, ◌↔◌, ◌+◌, length, IsOkUnless, IsTrue};
+ghost use Rattle.std.specs.Prelude.{◌≡◌, ◌≢◌, ◌≤◌, ◌↔◌, ◌+◌, length, IsOkUnless, IsTrue};
 ghost use Rattle.encoding.specs.Fields.{ReadsWhole};
 ghost use Rattle.rootchain.specs.declared.refusal.Refusal.TheVariants.{Malformed};
 ghost use Rattle.rootchain.specs.Bodies.{IsWellFormed};
@@ -7,9 +7,16 @@ ghost use Rattle.rootchain.specs.SignedRoots.{read_signed_root, signed_root_byte
 
 use crate::whole::whole;
 use crate::{Body, Refusal};
-use encoding::{Cursor, Fault, Form, Hash32, Small, Text};
+use encoding::{Cursor, Fault, FixedText, Form, Hash32, Small};
 use nodehash::NodeHash;
 use sigiface::Verifier;
+
+/// How many bytes the longest signed root has: 146 of the body, and 258 of a signature of 256 bytes
+/// behind its length.
+const MAX_SIGNED_ROOT_LEN: usize = 404;
+
+/// The bytes of a signed root.
+pub type SignedRootText = FixedText<MAX_SIGNED_ROOT_LEN>;
 
 /// A signed tree root (CONIKS, section 3).
 #[derive(Debug, Drop, PartialEq, Eq)]
@@ -29,13 +36,13 @@ impl SignedRoot {
     }
 
     /// The bytes: the 146 of the body, then the signature behind its length. At most 404.
-    pub fn write(&self) -> Text
+    pub fn write(&self) -> SignedRootText
         ensures value { result ≡ signed_root_bytes self.now }
         ensures len { length result ≡ 148 + length self.now.signature }
         ensures most { length result ≤ 404 }
         ensures form { IsWellFormed self.now.body → IsSignedRoot self.now }
     {
-        let mut text = self.body.write();
+        let mut text: SignedRootText = self.body.write().copied();
         text.push_counted(self.signature.bytes());
         text
     }
@@ -62,6 +69,7 @@ impl SignedRoot {
     pub(crate) fn names<H: NodeHash>(&self, hash: &mut H, earlier: &SignedRoot) -> bool
         ensures value { IsTrue result ↔ Names H.digest_of earlier.now self.now }
         ensures counted { H.digests hash.new ≤ H.digests hash.old + 1 }
+        ensures spared { self.now.body.previous_epoch ≢ earlier.now.body.epoch → H.digests hash.new ≡ H.digests hash.old }
     {
         self.body.previous_epoch == earlier.body.epoch
             && self.body.previous_hash == hash.digest(earlier.body.write().bytes())

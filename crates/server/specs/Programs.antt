@@ -10,7 +10,7 @@ use Rattle.book.specs.declared.keeper.NoKeeper.{NoKeeper}
 use Rattle.book.specs.declared.record.Record.{Record}
 use Rattle.hub.specs.Desks.{Desked, DeskAnswers}
 use Rattle.textio.specs.declared.program_fault.ProgramFault.{ProgramFault}
-use Rattle.textio.specs.declared.program_fault.ProgramFault.TheVariants.{BadHex, BadItem, IndexRepeated, CannotRead, CannotWrite, CannotListen, OutOfMemory}
+use Rattle.textio.specs.declared.program_fault.ProgramFault.TheVariants.{BadHex, BadItem, IndexRepeated, NotEvidence, CannotRead, CannotWrite, CannotListen, OutOfMemory}
 use Rattle.server.specs.declared.fault.ServeFault.{ServeFault}
 use Rattle.server.specs.declared.fault.ServeFault.TheVariants as fault
 use Rattle.server.specs.Asked.{Asked}
@@ -44,4 +44,5 @@ DirectoryServes asked input written (Err OutOfMemory) left told =
     ((keys : Keyed) × (keys_of asked ≡ Some keys) × Keeps input left × Keeps written told) ⊎ ServesFrom asked input written (Err fault.OutOfMemory) left told
 DirectoryServes asked input written (Err (BadItem line)) left told = ⊥
 DirectoryServes asked input written (Err (IndexRepeated line)) left told = ⊥
+DirectoryServes asked input written (Err NotEvidence) left told = ⊥
 DirectoryServes asked input written (Err CannotListen) left told = ⊥

@@ -3,7 +3,7 @@ use Rattle.std.specs.Prelude.{ℕ, List, ◌++◌, Result, Err, codes, decimal, 
 use Rattle.textio.specs.declared.stream_fault.StreamFault.{StreamFault}
 use Rattle.textio.specs.declared.stream_fault.StreamFault.TheVariants as stream
 use Rattle.textio.specs.declared.program_fault.ProgramFault.{ProgramFault}
-use Rattle.textio.specs.declared.program_fault.ProgramFault.TheVariants.{BadHex, BadItem, IndexRepeated, CannotRead, CannotWrite, CannotListen, OutOfMemory}
+use Rattle.textio.specs.declared.program_fault.ProgramFault.TheVariants.{BadHex, BadItem, IndexRepeated, NotEvidence, CannotRead, CannotWrite, CannotListen, OutOfMemory}
 
 -- what a program says of a read or a write that failed
 abbrev pub of_stream : StreamFault → ProgramFault
@@ -15,6 +15,7 @@ abbrev pub fault_text : ProgramFault → List ℕ
 fault_text BadHex = codes "bad hex\n"
 fault_text (BadItem line) = codes "line " ++ decimal line ++ codes ": bad item\n"
 fault_text (IndexRepeated line) = codes "line " ++ decimal line ++ codes ": index repeated\n"
+fault_text NotEvidence = codes "not an evidence file\n"
 fault_text CannotRead = codes "cannot read\n"
 fault_text CannotWrite = codes "cannot write\n"
 fault_text CannotListen = codes "cannot listen\n"
@@ -36,6 +37,7 @@ IsDeviceFault _ = ⊥
 -- the fault came up while the input was read
 abbrev pub IsInputFault : ProgramFault → Type 0
 IsInputFault BadHex = ⊥
+IsInputFault NotEvidence = ⊥
 IsInputFault CannotWrite = ⊥
 IsInputFault CannotListen = ⊥
 IsInputFault _ = ⊤

@@ -22,6 +22,8 @@ pub enum ProgramFault {
     BadItem(u64),
     #[error("line {0}: index repeated")]
     IndexRepeated(u64),
+    #[error("not an evidence file")]
+    NotEvidence,
     #[error("cannot read")]
     CannotRead,
     #[error("cannot write")]
@@ -109,6 +111,7 @@ impl ProgramFault {
             ProgramFault::BadHex => plain(b"bad hex\n"),
             ProgramFault::BadItem(line) => numbered(line, b": bad item\n"),
             ProgramFault::IndexRepeated(line) => numbered(line, b": index repeated\n"),
+            ProgramFault::NotEvidence => plain(b"not an evidence file\n"),
             ProgramFault::CannotRead => plain(b"cannot read\n"),
             ProgramFault::CannotWrite => plain(b"cannot write\n"),
             ProgramFault::CannotListen => plain(b"cannot listen\n"),
@@ -149,6 +152,7 @@ mod tests {
             ProgramFault::BadHex,
             ProgramFault::BadItem(1),
             ProgramFault::IndexRepeated(u64::MAX),
+            ProgramFault::NotEvidence,
             ProgramFault::CannotRead,
             ProgramFault::CannotWrite,
             ProgramFault::CannotListen,

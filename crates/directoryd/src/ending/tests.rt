@@ -84,6 +84,38 @@ fn each_order_is_obeyed(rt: HostRuntime) -> Result<(), Fail> {
     Ok(())
 }
 
+/// A line that is no signed root, and files that are none of evidence or cannot be read.
+#[test]
+fn roots_are_audited_and_files_judged(rt: HostRuntime) -> Result<(), Fail> {
+    let key = "0".repeat(rt.alloc(), 64)?;
+    let run = told(&rt, &["directoryd", "audit", "--key", key.as_str()], "x\n")?;
+    assert_eq!(rt; run.ending, ending(0));
+    assert_eq!(rt; run.output.as_slice(), b"refused 1\n".as_slice());
+    assert!(rt; run.errors.is_empty());
+
+    let run = told(
+        &rt,
+        &["directoryd", "judge", "--key", key.as_str(), "/dev/null"],
+        "",
+    )?;
+    assert_eq!(rt; run.ending, ending(1));
+    assert_eq!(rt; run.errors.as_slice(), b"not an evidence file\n".as_slice());
+    assert!(rt; run.output.is_empty());
+
+    let run = told(
+        &rt,
+        &["directoryd", "judge", "--key", key.as_str(), "missing"],
+        "",
+    )?;
+    assert_eq!(rt; run.ending, ending(1));
+    assert_eq!(rt; run.errors.as_slice(), b"cannot read\n".as_slice());
+
+    let run = told(&rt, &["directoryd", "judge", "--key", "a0", "missing"], "")?;
+    assert_eq!(rt; run.ending, ending(1));
+    assert_eq!(rt; run.errors.as_slice(), b"bad hex\n".as_slice());
+    Ok(())
+}
+
 /// The words that serve a directory whose keys are all this one.
 fn words_of_serve(key: &str) -> [&str; 10] {
     [

@@ -1,3 +1,4 @@
+use audits::{AuditOrder, JudgeOrder};
 use items::{ProveOrder, RootOrder};
 use server::{DirectoryOrder, ListenOrder};
 
@@ -6,6 +7,8 @@ use server::{DirectoryOrder, ListenOrder};
 pub enum Order<'a> {
     Root(RootOrder<'a>),
     Prove(ProveOrder<'a>),
+    Audit(AuditOrder<'a>),
+    Judge(JudgeOrder<'a>),
     Serve(DirectoryOrder<'a>),
     Listen(ListenOrder<'a>),
 }

@@ -57,6 +57,31 @@ fn words_of_prove(rt: HostRuntime) -> Result<(), Fail> {
     Ok(())
 }
 
+#[test]
+fn words_of_audit_and_judge(rt: HostRuntime) -> Result<(), Fail> {
+    let words = ["directoryd", "audit", "--key", "5e"];
+    let Order::Audit(audit) = order(rt.alloc(), words.as_slice())? else {
+        panic!(rt; "another order");
+    };
+    assert_eq!(rt; audit.key, "5e");
+
+    let rows: [(&[&str], &str, &str); 3] = [
+        (&["--key", "5e", "a file"], "5e", "a file"),
+        (&["--key=", "--", "--key"], "", "--key"),
+        (&["a file", "--key=5E"], "5E", "a file"),
+    ];
+    for (options, key, file) in rows {
+        let mut words = Vec::from_slice(rt.alloc(), &["directoryd", "judge"])?;
+        words.extend_from_slice(options)?;
+        let Order::Judge(judge) = order(rt.alloc(), &words)? else {
+            panic!(rt; "at {options:?}");
+        };
+        assert_eq!(rt; judge.key, key, "at {options:?}");
+        assert_eq!(rt; judge.file, file, "at {options:?}");
+    }
+    Ok(())
+}
+
 /// The options of a directory that have to be given.
 static KEYS: [&str; 8] = [
     "--sign-key",
@@ -217,6 +242,35 @@ fn refused_words(rt: HostRuntime) -> Result<(), Fail> {
 }
 
 #[test]
+fn refused_words_of_an_auditor(rt: HostRuntime) -> Result<(), Fail> {
+    let rows: [(&[&str], ErrorKind); 5] = [
+        (&["directoryd", "audit"], ErrorKind::MissingRequiredArgument),
+        (
+            &["directoryd", "audit", "--key", "5e", "a file"],
+            ErrorKind::UnknownArgument,
+        ),
+        (
+            &["directoryd", "judge", "--key", "5e"],
+            ErrorKind::MissingRequiredArgument,
+        ),
+        (
+            &["directoryd", "judge", "a file"],
+            ErrorKind::MissingRequiredArgument,
+        ),
+        (
+            &["directoryd", "judge", "--key", "5e", "a file", "another"],
+            ErrorKind::UnknownArgument,
+        ),
+    ];
+    for (words, kind) in rows {
+        let error = refusal(rt.alloc(), words)?;
+        assert_eq!(rt; error.kind(), kind, "at {words:?}");
+        assert_eq!(rt; error.exit_code(), 2, "at {words:?}");
+    }
+    Ok(())
+}
+
+#[test]
 fn refused_words_of_a_directory(rt: HostRuntime) -> Result<(), Fail> {
     let rows: [(&str, &[&str], ErrorKind); 16] = [
         ("serve", &["--epoch", "0"], ErrorKind::ValueValidation),
@@ -297,6 +351,8 @@ fn help_shows_an_example(rt: HostRuntime) -> Result<(), Fail> {
     let rows = [
         ("root", "INDEX COMMITMENT, each 64 hexadecimal digits"),
         ("prove", "INDEX COMMITMENT, each 64 hexadecimal digits"),
+        ("audit", "`refused 1` (no signed root)"),
+        ("judge", "<FILE>  The file of evidence"),
         (
             "serve",
             "<HEX>   The key that gives names their indices, 64 hexadecimal digits",

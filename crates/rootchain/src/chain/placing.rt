@@ -1,8 +1,8 @@
-ghost use Rattle.std.specs.Prelude.{◌≡◌, ◌↔◌, ◌+◌, ◌<◌, ◌≤◌, length, IfOk, IsOk, IsOkUnless};
+ghost use Rattle.std.specs.Prelude.{◌≡◌, ◌≢◌, ◌↔◌, ◌+◌, ◌<◌, ◌≤◌, length, IfOk, IsOk, IsOkUnless, OnErr};
 ghost use Rattle.std.specs.List.Sorted.{IsPartitionPoint};
 ghost use Rattle.rootchain.specs.declared.refusal.Refusal.TheVariants.{BadSignature};
 ghost use Rattle.rootchain.specs.Chains.{Ascend, IsChain, IsHead, Verifies};
-ghost use Rattle.rootchain.specs.Places.{EvidenceHolds, IsFirst, IsPlace, IsPlaceAbove, IsPlaceBelow, IsPlaceWithin};
+ghost use Rattle.rootchain.specs.Places.{EvidenceHolds, IsFirst, IsHashed, IsPlace, IsPlaceAbove, IsPlaceBelow, IsPlaceWithin};
 
 use super::Chain;
 use crate::{Refusal, RootEvidence, SignedRoot};
@@ -30,7 +30,6 @@ impl<H: NodeHash, S: Verifier> Chain<H, S> {
     /// # Errors
     ///
     /// `BadSignature` if the root does not verify under the chain's key.
-    #[tactic(auto, using(crate::proofs::Places::place_sound))]
     pub fn place(&self, hash: &mut H, verifier: &S, root: &SignedRoot) -> Result<Place, Refusal>
         ensures verifies { IsOk result ↔ Verifies S.verified self.now.key root.now }
         ensures refused { IsOkUnless result BadSignature }
@@ -38,6 +37,8 @@ impl<H: NodeHash, S: Verifier> Chain<H, S> {
         ensures evidence { IfOk result (EvidenceHolds H.digest_of S.verified self.now.key) }
         ensures chain { IsChain H.digest_of S.verified self.now }
         ensures counted { H.digests hash.new ≤ H.digests hash.old + 1 }
+        ensures spared { ¬ IsHashed self.now root.now → H.digests hash.new ≡ H.digests hash.old }
+        ensures unverified { OnErr result (H.digests hash.new ≡ H.digests hash.old) }
     {
         if !root.verifies(verifier, &self.key) {
             return Err(Refusal::BadSignature);
@@ -49,6 +50,7 @@ impl<H: NodeHash, S: Verifier> Chain<H, S> {
     pub(super) fn place_of(&self, hash: &mut H, root: &SignedRoot) -> Place
         ensures place { IsPlace H.digest_of self.now root.now result }
         ensures counted { H.digests hash.new ≤ H.digests hash.old + 1 }
+        ensures spared { ¬ IsHashed self.now root.now → H.digests hash.new ≡ H.digests hash.old }
     {
         let (first, head) = (self.first(), self.head());
         if root.body.epoch < first.body.epoch {
@@ -78,7 +80,7 @@ impl<H: NodeHash, S: Verifier> Chain<H, S> {
     }
 
     /// The roots, whose epochs ascend.
-    fn roots(&self) -> &[SignedRoot]
+    pub(super) fn roots(&self) -> &[SignedRoot]
         ensures value { result.now ≡ self.now.roots }
         ensures chain { IsChain H.digest_of S.verified self.now }
         ensures ascend { Ascend result.now }
@@ -87,7 +89,7 @@ impl<H: NodeHash, S: Verifier> Chain<H, S> {
     }
 
     /// The first root.
-    fn first(&self) -> &SignedRoot
+    pub(super) fn first(&self) -> &SignedRoot
         ensures { IsFirst self.now result.now }
     {
         &self.roots[0]
@@ -98,6 +100,7 @@ impl<H: NodeHash, S: Verifier> Chain<H, S> {
 fn place_below<H: NodeHash>(hash: &mut H, first: &SignedRoot, root: &SignedRoot) -> Place
     ensures place { IsPlaceBelow H.digest_of first.now root.now result }
     ensures counted { H.digests hash.new ≤ H.digests hash.old + 1 }
+    ensures spared { first.now.body.previous_epoch ≢ root.now.body.epoch → H.digests hash.new ≡ H.digests hash.old }
 {
     if first.body.previous_epoch < root.body.epoch {
         return Place::Evidence(RootEvidence::Skip(root.copied(), first.copied()));
@@ -109,9 +112,10 @@ fn place_below<H: NodeHash>(hash: &mut H, first: &SignedRoot, root: &SignedRoot)
 }
 
 /// The place of a root of a later epoch than the head.
-fn place_above<H: NodeHash>(hash: &mut H, head: &SignedRoot, root: &SignedRoot) -> Place
+pub(super) fn place_above<H: NodeHash>(hash: &mut H, head: &SignedRoot, root: &SignedRoot) -> Place
     ensures place { IsPlaceAbove H.digest_of head.now root.now result }
     ensures counted { H.digests hash.new ≤ H.digests hash.old + 1 }
+    ensures spared { root.now.body.previous_epoch ≢ head.now.body.epoch → H.digests hash.new ≡ H.digests hash.old }
 {
     if root.body.previous_epoch < head.body.epoch {
         return Place::Evidence(RootEvidence::Skip(head.copied(), root.copied()));
@@ -127,7 +131,7 @@ fn place_above<H: NodeHash>(hash: &mut H, head: &SignedRoot, root: &SignedRoot) 
 }
 
 /// How many of the roots have an epoch before this one.
-fn not_before(roots: &[SignedRoot], epoch: u64) -> usize
+pub(super) fn not_before(roots: &[SignedRoot], epoch: u64) -> usize
     requires { Ascend roots.now }
     ensures within { result ≤ length roots.now }
     ensures point { IsPartitionPoint (λ root. root.body.epoch < epoch) (λ root. epoch ≤ root.body.epoch) roots.now result }

@@ -1,6 +1,6 @@
 ghost use Rattle.std.specs.Prelude.{◌≡◌, ◌+◌, ◌≤◌, IfErr, IfOk, OnErr};
 ghost use Rattle.rootchain.specs.Chains.{IsChain, Verifies};
-ghost use Rattle.rootchain.specs.Places.{EvidenceHolds, IsPlace};
+ghost use Rattle.rootchain.specs.Places.{EvidenceHolds, IsHashed, IsPlace};
 ghost use Rattle.rootchain.specs.Taking.{with_taken, IsTakeRefusal};
 
 use super::Chain;
@@ -25,6 +25,7 @@ impl<H: NodeHash, S: Verifier> Chain<H, S> {
         ensures stays { OnErr result (self.new ≡ self.old) }
         ensures chain { IsChain H.digest_of S.verified self.old }
         ensures counted { H.digests hash.new ≤ H.digests hash.old + 1 }
+        ensures spared { ¬ IsHashed self.old root → H.digests hash.new ≡ H.digests hash.old }
     {
         let place = self.place(hash, verifier, &root)?;
         if let Place::Next = place {

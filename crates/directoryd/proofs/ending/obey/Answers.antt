@@ -13,6 +13,16 @@ returns-in_err-prove-in-Prove g c =
     let passed : c.from_residual-in_err-prove-in-Prove.result ≡ Err c.in_err-prove-in-Prove.field-0.0 = search rules in
     rw (passed, c.in-Prove.is) (c.in_err-prove-in-Prove.ensures.ends, Keeps-refl _)
 
+pub returns-in_err-audit-in-Audit : goal.returns-in_err-audit-in-Audit
+returns-in_err-audit-in-Audit g c =
+    let passed : c.from_residual-in_err-audit-in-Audit.result ≡ Err c.in_err-audit-in-Audit.field-0.0 = search rules in
+    rw (passed, c.in-Audit.is) (tt, Keeps-refl _, c.in_err-audit-in-Audit.ensures.audits)
+
+pub returns-in-Judge : goal.returns-in-Judge
+returns-in-Judge g c =
+    let told = c.judge.ensures in
+    rw c.in-Judge.is (Keeps-refl _, told.0, told.1, told.2)
+
 pub returns-in_err-serve_directory-in-Serve : goal.returns-in_err-serve_directory-in-Serve
 returns-in_err-serve_directory-in-Serve g c =
     let passed : c.from_residual-in_err-serve_directory-in-Serve.result ≡ Err c.in_err-serve_directory-in-Serve.field-0.0 = search rules in
@@ -29,6 +39,9 @@ returns-in_ok-root-in-Root g c = rw c.in-Root.is ((refl, c.in_ok-root-in-Root.en
 
 pub returns-in_ok-prove-in-Prove : goal.returns-in_ok-prove-in-Prove
 returns-in_ok-prove-in-Prove g c = rw c.in-Prove.is ((refl, c.in_ok-prove-in-Prove.ensures.ends), Keeps-refl _)
+
+pub returns-in_ok-audit-in-Audit : goal.returns-in_ok-audit-in-Audit
+returns-in_ok-audit-in-Audit g c = rw c.in-Audit.is (refl, Keeps-refl _, c.in_ok-audit-in-Audit.ensures.audits)
 
 pub returns-in_ok-serve_directory-in-Serve : goal.returns-in_ok-serve_directory-in-Serve
 returns-in_ok-serve_directory-in-Serve g c = rw c.in-Serve.is (refl, Keeps-refl _, _, c.in_ok-serve_directory-in-Serve.ensures.serves)

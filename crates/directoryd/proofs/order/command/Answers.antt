@@ -18,7 +18,9 @@ returns c =
     = c.in_ok-subcommand.ensures.shape c.in_ok-root_command.ensures.local ∙ ap₂ with_subcommand top_is (ap top_of c.in_ok-root_command.ensures.app) in
     let with_prove : app_of c.in_ok-subcommand-2.field-0 ≡ with_subcommand (with_subcommand bare_app (root_app names).top) (prove_app names).top
     = c.in_ok-subcommand-2.ensures.shape c.in_ok-prove_command.ensures.local ∙ ap₂ with_subcommand with_root (ap top_of c.in_ok-prove_command.ensures.app) in
-    let with_serve = c.in_ok-subcommand-3.ensures.shape c.in_ok-serve_command.ensures.local ∙ ap₂ with_subcommand with_prove (ap top_of c.in_ok-serve_command.ensures.app) in (
+    let with_audit = c.in_ok-subcommand-3.ensures.shape c.in_ok-audit_command.ensures.local ∙ ap₂ with_subcommand with_prove (ap top_of c.in_ok-audit_command.ensures.app) in
+    let with_judge = c.in_ok-subcommand-4.ensures.shape c.in_ok-judge_command.ensures.local ∙ ap₂ with_subcommand with_audit (ap top_of c.in_ok-judge_command.ensures.app) in
+    let with_serve = c.in_ok-subcommand-5.ensures.shape c.in_ok-serve_command.ensures.local ∙ ap₂ with_subcommand with_judge (ap top_of c.in_ok-serve_command.ensures.app) in (
       names,
       c.hash_names-names.ensures,
       c.in_ok-directoryd.ensures.shape c.in_ok-listen_command.ensures.local

@@ -1,0 +1,15 @@
+#!/usr/bin/env bash
+# Measures how two chains of 100,000 roots are compared that agree, or part at the end, in the middle
+# or at the first epoch.
+#
+#   bench/reconcile.sh
+#
+# Needs the kit (`rt` on the PATH) and Python 3, on Linux. Takes about a minute once the program is
+# proved and built, which it does first. docs/SPEED.md says what the columns mean. The status is 0
+# unless something could not be measured.
+set -euo pipefail
+cd "$(dirname "$0")/.."
+. bench/build.sh
+
+build measure
+python3 bench/bench.py reconcile

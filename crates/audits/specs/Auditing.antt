@@ -1,0 +1,84 @@
+-- What `audit` answers to the lines of an input (CONIKS, section 4; the lines are this directory's own).
+use Rattle.std.specs.Prelude.{◌≡◌, ℕ, List, [], ◌∷◌, ◌++◌, Option, None, Some, Result, Ok, Err, IfSome, codes, decimal, ⊤}
+use Rattle.std.specs.Io.KnownBytes.{Appends, Keeps}
+use Rattle.hex.specs.Hex.{decode_of}
+use Rattle.hex.specs.declared.error.FromHexError.{FromHexError}
+use Rattle.nodehash.specs.Sha256.{sha256}
+use Rattle.rootchain.specs.declared.refusal.Refusal.{Refusal}
+use Rattle.rootchain.specs.declared.refusal.Refusal.TheVariants.{Malformed, Memory}
+use Rattle.rootchain.specs.Refusals.{refusal_number}
+use Rattle.textio.specs.Digits.{hex32}
+use Rattle.textio.specs.Lines.{lines_of}
+use Rattle.textio.specs.Output.{WritesBeginning}
+use Rattle.textio.specs.declared.program_fault.ProgramFault.{ProgramFault}
+use Rattle.textio.specs.declared.program_fault.ProgramFault.TheVariants.{BadHex, CannotRead, CannotWrite, OutOfMemory}
+use Rattle.auditor.specs.declared.auditor.Observed.{Observed}
+use Rattle.auditor.specs.declared.auditor.Observed.TheVariants.{Started, Extended, Known, Ahead, BeforeStart, Evidence}
+use Rattle.auditor.specs.declared.evidence.Evidence.TheVariants.{Root}
+use Rattle.auditor.specs.Chains.{Chains}
+use Rattle.auditor.specs.Observing.{ObservedHolds, Observes}
+use Rattle.audits.specs.Files.{evidence_text}
+use Rattle.audits.specs.StandIns.{KeyedVerifies}
+
+-- the line that tells an answer
+abbrev pub answer_line : Result Observed Refusal → List ℕ
+answer_line (Ok Started) = codes "started\n"
+answer_line (Ok Extended) = codes "extended\n"
+answer_line (Ok Known) = codes "known\n"
+answer_line (Ok Ahead) = codes "ahead\n"
+answer_line (Ok BeforeStart) = codes "before start\n"
+answer_line (Ok (Evidence roots)) = evidence_text (Root roots) ++ 10 ∷ []
+answer_line (Err why) = codes "refused " ++ decimal (refusal_number why) ++ 10 ∷ []
+
+abbrev pub answer_lines : List (Result Observed Refusal) → List ℕ
+answer_lines [] = []
+answer_lines (answer ∷ answers) = answer_line answer ++ answer_lines answers
+
+module _ (hash : List ℕ → List ℕ) (verified : List ℕ → List ℕ → List ℕ → Type 0) (key : List ℕ) where
+  -- the bytes of a line are observed; a line that gives none is no signed root
+  abbrev pub ObservesDecoded : Chains → Result (List ℕ) FromHexError → Result Observed Refusal → Chains → Type 0
+  ObservesDecoded before (Ok bytes) answer after = Observes hash verified before key bytes answer after
+  ObservesDecoded before (Err fault) answer after = (answer ≡ Err Malformed) × (after ≡ before)
+
+  -- what comes of a line, which gives bytes by hexadecimal digits of either case
+  abbrev pub ObservesLine : Chains → List ℕ → Result Observed Refusal → Chains → Type 0
+  ObservesLine before line = ObservesDecoded before (decode_of line)
+
+  -- Evidence that is told holds. Want of memory is no answer.
+  abbrev pub IsAnswer : Result Observed Refusal → Type 0
+  IsAnswer (Ok told) = ObservedHolds hash verified key told
+  IsAnswer (Err Memory) = ⊥
+  IsAnswer (Err _) = ⊤
+
+  -- each line is observed beside the chains that the lines before it left, and answered
+  abbrev pub Audits : Chains → List (List ℕ) → List (Result Observed Refusal) → Chains → Type 0
+  Audits before [] answers after = (answers ≡ []) × (after ≡ before)
+  Audits before (line ∷ lines) [] after = ⊥
+  Audits before (line ∷ lines) (answer ∷ answers) after =
+      (middle : Chains) × ObservesLine before line answer middle × IsAnswer answer × Audits middle lines answers after
+
+  -- these are the answers to all lines of the input, by an auditor that begins without a chain
+  abbrev pub AnswersAll : Option (List ℕ) → List (Result Observed Refusal) → Type 0
+  AnswersAll input answers = (lines : List (List ℕ)) × (after : Chains) × IfSome input (λ bytes. lines_of bytes ≡ lines) × Audits [] lines answers after
+
+  -- and to the first lines
+  abbrev pub AnswersFirst : Option (List ℕ) → List (Result Observed Refusal) → Type 0
+  AnswersFirst input answers = (lines later : List (List ℕ)) × (after : Chains)
+      × IfSome input (λ bytes. lines_of bytes ≡ lines ++ later) × Audits [] lines answers after
+
+  -- What comes of an input: a line is written for each of its lines; or for the first ones, where a read
+  -- failed or memory was wanting; or a beginning of that, where a write failed.
+  abbrev pub AuditsInput : Option (List ℕ) → Option (List ℕ) → Result (Unit {0}) ProgramFault → Option (List ℕ) → Type 0
+  AuditsInput input old (Ok done) new = (answers : List (Result Observed Refusal)) × AnswersAll input answers × Appends old new (answer_lines answers)
+  AuditsInput input old (Err CannotRead) new = (answers : List (Result Observed Refusal)) × AnswersFirst input answers × Appends old new (answer_lines answers)
+  AuditsInput input old (Err OutOfMemory) new = (answers : List (Result Observed Refusal)) × AnswersFirst input answers × Appends old new (answer_lines answers)
+  AuditsInput input old (Err CannotWrite) new = (answers : List (Result Observed Refusal)) × AnswersFirst input answers × WritesBeginning old new (answer_lines answers)
+  AuditsInput input old (Err _) new = ⊥
+
+-- what comes of a key's text and an input
+abbrev pub AuditsUnder : Option (List ℕ) → Option (List ℕ) → Option (List ℕ) → Result (Unit {0}) ProgramFault → Option (List ℕ) → Type 0
+AuditsUnder None input old result new = (result ≡ Err BadHex) × Keeps old new
+AuditsUnder (Some key) input old result new = AuditsInput sha256 KeyedVerifies key input old result new
+
+abbrev pub AuditsText : List ℕ → Option (List ℕ) → Option (List ℕ) → Result (Unit {0}) ProgramFault → Option (List ℕ) → Type 0
+AuditsText key = AuditsUnder (hex32 key)

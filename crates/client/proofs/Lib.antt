@@ -1,0 +1,12 @@
+pub mod Numbering
+pub mod Rooted
+pub mod Breaking
+pub mod Growing
+pub mod Keeping
+pub mod Sizes
+pub mod Tested
+pub mod Groups
+pub mod Seen
+pub mod Others
+pub mod Unlikes
+pub mod Telling

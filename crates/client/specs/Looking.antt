@@ -1,0 +1,33 @@
+-- What comes of a look (CONIKS, section 4: a client checks a reply against the signed root of an epoch).
+use Rattle.std.specs.Prelude.{◌≡◌, ℕ, zero, suc, List, Result, Ok, Err}
+use Rattle.rootchain.specs.Chains.{IsAt, IsHead, KeyedRoots}
+use Rattle.rootchain.specs.declared.signed_root.SignedRoot.{SignedRoot}
+use Rattle.proofs.specs.Accepts.{stated}
+use Rattle.proofs.specs.Comparisons.{IsAcceptedReply, Refuses}
+use Rattle.proofs.specs.Replies.{Reply}
+use Rattle.proofs.specs.Views.{key_stated}
+use Rattle.proofs.specs.declared.statement.Statement.{Statement}
+use Rattle.client.specs.Clients.{Client, with_look}
+use Rattle.client.specs.declared.refusal.Refusal.{Refusal}
+use Rattle.client.specs.declared.refusal.Refusal.TheVariants.{Root, Proof, UnknownRoot, RootDiffers, Memory, NoPromise}
+
+-- the root that a look at an epoch is asked under: at 0 the head, else the one of the epoch
+abbrev pub IsAsked : KeyedRoots → ℕ → SignedRoot → Type 0
+IsAsked chain zero root = IsHead chain root
+IsAsked chain (suc n) root = IsAt chain (suc n) root
+
+module _ (hash : List ℕ → List ℕ) (accepted : List ℕ → List ℕ → List ℕ → Type 0) (before : Client) (name : List ℕ) (epoch : ℕ) (bytes : List ℕ) where
+  -- the bytes are a reply for the name that is accepted under the root that is asked
+  unfoldable pub IsAnswered : SignedRoot → Reply → Type 0
+  IsAnswered root reply = IsAsked before.chain epoch root × IsAcceptedReply hash accepted root.body name bytes reply
+
+  -- The answer to a look and the client after it. Only a look that is accepted and kept changes the client.
+  abbrev pub Looks : Result Statement Refusal → Client → Type 0
+  Looks (Ok statement) after = (root : SignedRoot) × (reply : Reply) × IsAnswered root reply × (key_stated statement ≡ stated reply.end)
+      × (after ≡ with_look before (record { name = name; epoch = root.body.epoch; reply = bytes }))
+  Looks (Err UnknownRoot) after = ((root : SignedRoot) → ¬ IsAsked before.chain epoch root) × (after ≡ before)
+  Looks (Err (Proof why)) after = (root : SignedRoot) × IsAsked before.chain epoch root × Refuses hash accepted root.body name bytes why × (after ≡ before)
+  Looks (Err Memory) after = (root : SignedRoot) × (reply : Reply) × IsAnswered root reply × (after ≡ before)
+  Looks (Err (Root why)) after = ⊥
+  Looks (Err (RootDiffers evidence)) after = ⊥
+  Looks (Err NoPromise) after = ⊥

@@ -1,0 +1,51 @@
+-- Which signed promises a client keeps (CONIKS, section 4, temporary bindings).
+use Rattle.std.specs.Prelude.{◌≡◌, ℕ, List, Result, Ok, Err}
+use Rattle.encoding.specs.Fields.{Spells}
+use Rattle.rootchain.specs.Promises.{signed_promise_bytes, IsSignedPromise, PromiseVerifies}
+use Rattle.rootchain.specs.declared.refusal.Refusal.TheVariants.{Malformed, BadSignature, NotLater, BadLink}
+use Rattle.rootchain.specs.declared.refusal.Refusal.TheVariants as root
+use Rattle.rootchain.specs.declared.signed_promise.SignedPromise.{SignedPromise}
+use Rattle.client.specs.Clients.{Client, HasRootOf, with_promise}
+use Rattle.client.specs.declared.refusal.Refusal.{Refusal}
+use Rattle.client.specs.declared.refusal.Refusal.TheVariants.{Root, Proof, UnknownRoot, RootDiffers, Memory, NoPromise}
+
+-- the bytes spell this signed promise
+abbrev pub SpellsPromise : List ℕ → SignedPromise → Type 0
+SpellsPromise = Spells signed_promise_bytes IsSignedPromise
+
+module _ (hash : List ℕ → List ℕ) (verified : List ℕ → List ℕ → List ℕ → Type 0) (before : Client) (bytes : List ℕ) where
+  -- the bytes spell this promise, and it verifies under the chain's key
+  abbrev pub IsSpelledPromise : SignedPromise → Type 0
+  IsSpelledPromise signed = SpellsPromise bytes signed × PromiseVerifies verified before.chain.key signed
+
+  -- and a root of the chain has its epoch and hash
+  abbrev pub IsGiven : SignedPromise → Type 0
+  IsGiven signed = IsSpelledPromise signed × HasRootOf hash before.chain signed.promise
+
+  -- what comes of bytes that are read as a promise
+  abbrev pub ReadsPromise : Result SignedPromise Refusal → Type 0
+  ReadsPromise (Ok signed) = IsGiven signed
+  ReadsPromise (Err (Root Malformed)) = (signed : SignedPromise) → ¬ SpellsPromise bytes signed
+  ReadsPromise (Err (Root BadSignature)) = (signed : SignedPromise) × SpellsPromise bytes signed × ¬ PromiseVerifies verified before.chain.key signed
+  ReadsPromise (Err (Root NotLater)) = ⊥
+  ReadsPromise (Err (Root BadLink)) = ⊥
+  ReadsPromise (Err (Root root.Memory)) = ⊥
+  ReadsPromise (Err UnknownRoot) = (signed : SignedPromise) × IsSpelledPromise signed × ¬ HasRootOf hash before.chain signed.promise
+  ReadsPromise (Err (Proof why)) = ⊥
+  ReadsPromise (Err (RootDiffers evidence)) = ⊥
+  ReadsPromise (Err Memory) = ⊥
+  ReadsPromise (Err NoPromise) = ⊥
+
+  -- what comes of a promise that is to be kept, and the client after it
+  abbrev pub Keeps : {A : Type 0} → Result A Refusal → Client → Type 0
+  Keeps (Ok _) after = (signed : SignedPromise) × IsGiven signed × (after ≡ with_promise before signed)
+  Keeps (Err (Root Malformed)) after = ((signed : SignedPromise) → ¬ SpellsPromise bytes signed) × (after ≡ before)
+  Keeps (Err (Root BadSignature)) after = ((signed : SignedPromise) × SpellsPromise bytes signed × ¬ PromiseVerifies verified before.chain.key signed) × (after ≡ before)
+  Keeps (Err (Root NotLater)) after = ⊥
+  Keeps (Err (Root BadLink)) after = ⊥
+  Keeps (Err (Root root.Memory)) after = ⊥
+  Keeps (Err UnknownRoot) after = ((signed : SignedPromise) × IsSpelledPromise signed × ¬ HasRootOf hash before.chain signed.promise) × (after ≡ before)
+  Keeps (Err Memory) after = ((signed : SignedPromise) × IsGiven signed) × (after ≡ before)
+  Keeps (Err (Proof why)) after = ⊥
+  Keeps (Err (RootDiffers evidence)) after = ⊥
+  Keeps (Err NoPromise) after = ⊥

@@ -1,0 +1,174 @@
+ghost use Rattle.std.specs.Prelude.{◌≡◌, IsOkUnless, OnErr, OnOk};
+ghost use Rattle.client.specs.Clients.{with_promise, IsPromised, IsSound};
+ghost use Rattle.client.specs.Looking.{Looks as LooksUp};
+ghost use Rattle.client.specs.Promising.{Keeps, ReadsPromise};
+ghost use Rattle.client.specs.Starting.{Starts};
+ghost use Rattle.client.specs.declared.refusal.Refusal.TheVariants.{Memory};
+
+use crate::Refusal;
+use crate::looks::Looks;
+use crate::roots::{asked, has_root_of};
+use encoding::{Hash32, Name};
+use nodehash::NodeHash;
+use proofs::{Statement, accept};
+use rootchain::{Chain, SignedPromise, SignedRoot};
+use sigiface::Verifier;
+use std::alloc::Global;
+use std::marker::{Model, PhantomData};
+use vrfiface::VufCheck;
+
+mod dues;
+mod updating;
+
+/// A client of one provider, under the functions of `H`, `V` and `S`: the chain of the provider's roots,
+/// the looks that were accepted under them, and the promises that are to be tested.
+#[derive(Drop)]
+pub struct Client<H: NodeHash, V: VufCheck, S: Verifier> {
+    chain: Chain<H, S>,
+    looks: Looks,
+    promises: Vec<SignedPromise>,
+    types: PhantomData<V>,
+}
+
+impl<H: NodeHash, V: VufCheck, S: Verifier> Model for Client<H, V, S> {
+    ghost use Rattle.client.specs.Clients as clients;
+
+    ghost Value = { clients.Client };
+
+    ghost view = { λ client. record { chain = client.chain; looks = client.looks; promises = client.promises.items } };
+
+    ghost invariant = { λ client. clients.IsSound H.digest_of V.accepted S.verified
+        (record { chain = client.chain; looks = client.looks; promises = client.promises.items }) };
+}
+
+impl<H: NodeHash, V: VufCheck, S: Verifier> Client<H, V, S> {
+    /// A client of the provider that has this public key. Its chain starts with the signed root that these
+    /// bytes spell.
+    ///
+    /// # Errors
+    ///
+    /// `Root` with `Malformed` or `BadSignature`, `Memory`: the first that applies.
+    pub fn start(alloc: Global, verifier: &S, key: Hash32, bytes: &[u8]) -> Result<Self, Refusal>
+        ensures { Starts S.verified key bytes.now result }
+    {
+        let root = SignedRoot::read(bytes).map_err(Refusal::Root)?;
+        match Chain::start(alloc, verifier, key, root) {
+            Ok(chain) => Ok(Client {
+                chain,
+                looks: Looks::new(alloc),
+                promises: Vec::new(alloc),
+                types: PhantomData,
+            }),
+            Err(rootchain::Refusal::Memory) => Err(Refusal::Memory),
+            Err(why) => Err(Refusal::Root(why)),
+        }
+    }
+
+    /// The chain of the provider's roots.
+    pub fn chain(&self) -> &Chain<H, S>
+        ensures value { result.now ≡ self.now.chain }
+        ensures sound { IsSound H.digest_of V.accepted S.verified self.now }
+    {
+        &self.chain
+    }
+
+    /// The looks that were accepted.
+    pub(crate) fn looks(&self) -> &Looks
+        ensures value { result.now ≡ self.now.looks }
+        ensures sound { IsSound H.digest_of V.accepted S.verified self.now }
+    {
+        &self.looks
+    }
+
+    /// The public key of the provider.
+    pub fn key(&self) -> &Hash32
+        ensures { result.now ≡ self.now.chain.key }
+    {
+        self.chain.key()
+    }
+
+    /// Checks a reply to a look-up of this name against the root of an epoch, where 0 asks for the latest
+    /// root, and keeps it. The answer is what it states of the name.
+    ///
+    /// # Errors
+    ///
+    /// `UnknownRoot` where the chain has no root of the epoch, the refusal of the reply, `Memory`: the first
+    /// that applies. The client then stays as it was.
+    pub fn look<'a>(
+        &mut self,
+        hash: &mut H,
+        vuf: &V,
+        name: &Name,
+        epoch: u64,
+        bytes: &'a [u8],
+    ) -> Result<Statement<'a>, Refusal>
+        ensures { LooksUp H.digest_of V.accepted self.old name.now epoch bytes.entry.now result self.new }
+    {
+        let Some(root) = asked(&self.chain, epoch) else {
+            return Err(Refusal::UnknownRoot);
+        };
+        let body = root.body;
+        match accept::<H, V>(hash, vuf, &body, name, bytes) {
+            Ok(accepted) => {
+                if self.looks.push(name, body.epoch, bytes).is_err() {
+                    return Err(Refusal::Memory);
+                }
+                Ok(accepted.statement())
+            }
+            Err(why) => Err(Refusal::Proof(why)),
+        }
+    }
+
+    /// Keeps the signed promise that these bytes spell, to be tested once the chain has the next root.
+    ///
+    /// # Errors
+    ///
+    /// `Root` with `Malformed` or `BadSignature`, `UnknownRoot` where no root of the chain has the epoch and
+    /// the hash of the promise, `Memory`: the first that applies. The client then stays as it was.
+    pub fn keep_promise(&mut self, hash: &mut H, verifier: &S, bytes: &[u8]) -> Result<(), Refusal>
+        ensures { Keeps H.digest_of S.verified self.old bytes.now result self.new }
+    {
+        let signed = self.read_promise(hash, verifier, bytes)?;
+        self.keep_read(signed)
+    }
+
+    /// Reads the signed promise that these bytes spell, as `keep_promise` does, and keeps nothing.
+    ///
+    /// # Errors
+    ///
+    /// Those of `keep_promise`, without `Memory`.
+    pub fn read_promise(
+        &self,
+        hash: &mut H,
+        verifier: &S,
+        bytes: &[u8],
+    ) -> Result<SignedPromise, Refusal>
+        ensures { ReadsPromise H.digest_of S.verified self.now bytes.now result }
+    {
+        let signed = SignedPromise::read(bytes).map_err(Refusal::Root)?;
+        if !signed.verifies(verifier, self.chain.key()) {
+            return Err(Refusal::Root(rootchain::Refusal::BadSignature));
+        }
+        if !has_root_of(&self.chain, hash, &signed.promise) {
+            return Err(Refusal::UnknownRoot);
+        }
+        Ok(signed)
+    }
+
+    /// Keeps a signed promise that `read_promise` returned.
+    ///
+    /// # Errors
+    ///
+    /// `Memory`. The client then stays as it was.
+    pub fn keep_read(&mut self, signed: SignedPromise) -> Result<(), Refusal>
+        requires promised { IsPromised H.digest_of S.verified self.old.chain signed }
+        ensures kept { OnOk result (self.new ≡ with_promise self.old signed) }
+        ensures refused { IsOkUnless result Memory }
+        ensures stays { OnErr result (self.new ≡ self.old) }
+    {
+        if self.promises.push(signed).is_err() {
+            return Err(Refusal::Memory);
+        }
+        Ok(())
+    }
+}

@@ -1,0 +1,48 @@
+ghost use Rattle.std.specs.Prelude.{◌≡◌, IfOk};
+ghost use Rattle.client.specs.Dues.{DueHolds, Dues, IsDueEpoch};
+
+use super::Client;
+use crate::promises::{test, tested};
+use crate::{Due, Refusal};
+use encoding::Name;
+use nodehash::NodeHash;
+use sigiface::Verifier;
+use vrfiface::VufCheck;
+
+impl<H: NodeHash, V: VufCheck, S: Verifier> Client<H, V, S> {
+    /// The epoch whose reply `due` will test for a name, if a promise for it is kept and the chain has a
+    /// root after that of the promise.
+    pub fn due_epoch(&self, name: &Name) -> Option<u64>
+        ensures { IsDueEpoch self.now name.now result }
+    {
+        let (_, signed) = tested(&self.promises, name)?;
+        let root = self.chain.after(signed.promise.epoch)?;
+        Some(root.body.epoch)
+    }
+
+    /// Tests whether the provider kept its promise for this name: of those that are kept for it, the one of
+    /// the least epoch, and of equals the first kept. These bytes are a reply to a look-up of the name under
+    /// the chain's next root. A promise that the provider kept is dropped, and else it stays.
+    ///
+    /// # Errors
+    ///
+    /// `NoPromise` where no promise for the name is kept, `UnknownRoot` where the chain has no root after the
+    /// promise's yet, the refusal of the reply: the first that applies. The client then stays as it was.
+    pub fn due(&mut self, hash: &mut H, vuf: &V, name: &Name, bytes: &[u8]) -> Result<Due, Refusal>
+        ensures due { Dues H.digest_of V.accepted self.old name.now bytes.now result self.new }
+        ensures evidence { IfOk result (DueHolds H.digest_of V.accepted S.verified self.old.chain.key) }
+    {
+        let Some((place, signed)) = tested(&self.promises, name) else {
+            return Err(Refusal::NoPromise);
+        };
+        match test(&self.chain, signed, hash, vuf, name, bytes) {
+            Ok(Due::Kept) => {
+                let _ = self.promises.remove(place);
+                Ok(Due::Kept)
+            }
+            Ok(Due::Broken(broken)) => Ok(Due::Broken(broken)),
+            Ok(Due::OtherIndex) => Ok(Due::OtherIndex),
+            Err(why) => Err(why),
+        }
+    }
+}

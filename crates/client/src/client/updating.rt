@@ -1,0 +1,49 @@
+ghost use Rattle.std.specs.Prelude.{◌≡◌, IfErr, OnOk};
+ghost use Rattle.rootchain.specs.Chains.{IsChain};
+ghost use Rattle.client.specs.Updating.{told_as, RefusalHolds, Updates};
+
+use super::Client;
+use crate::Refusal;
+use nodehash::NodeHash;
+use rootchain::{ListRefusal, RootList};
+use sigiface::Verifier;
+use vrfiface::VufCheck;
+
+impl<H: NodeHash, V: VufCheck, S: Verifier> Client<H, V, S> {
+    /// Takes the list of roots that these bytes spell, in order: those that the chain has are passed over,
+    /// and those that follow its head are appended.
+    ///
+    /// # Errors
+    ///
+    /// `Root` with `Malformed` where the bytes spell no list, `Memory` where there is no memory for its roots,
+    /// else the first root that is refused: `Root` with `BadSignature`, with `NotLater` where its epoch is
+    /// before the chain's first, with `BadLink` where it is ahead of the head, or `RootDiffers` with the
+    /// evidence. The client then stays as it was.
+    pub fn update(&mut self, hash: &mut H, verifier: &S, bytes: &[u8]) -> Result<(), Refusal>
+        ensures updates { Updates H.digest_of S.verified self.old bytes.now result self.new }
+        ensures chain { OnOk result (IsChain H.digest_of S.verified self.new.chain) }
+        ensures evidence { IfErr result (RefusalHolds H.digest_of S.verified self.old.chain.key) }
+    {
+        let list = match RootList::read(bytes) {
+            Ok(list) => list,
+            Err(why) => return Err(Refusal::Root(why)),
+        };
+        match self.chain.take_list(hash, verifier, list) {
+            Ok(()) => Ok(()),
+            Err(why) => Err(tell(why)),
+        }
+    }
+}
+
+/// How the client tells why its chain refuses a list.
+fn tell(why: ListRefusal) -> Refusal
+    ensures { result ≡ told_as why }
+{
+    match why {
+        ListRefusal::BadSignature => Refusal::Root(rootchain::Refusal::BadSignature),
+        ListRefusal::BeforeStart => Refusal::Root(rootchain::Refusal::NotLater),
+        ListRefusal::Ahead => Refusal::Root(rootchain::Refusal::BadLink),
+        ListRefusal::Evidence(evidence) => Refusal::RootDiffers(evidence),
+        ListRefusal::Memory => Refusal::Memory,
+    }
+}

@@ -1,0 +1,35 @@
+//! A client of a key directory (after CONIKS, section 4): it follows the chain of a provider's roots,
+//! checks replies to look-ups against it, and holds the provider to its promises.
+//!
+//! To the layers above: a look is accepted exactly where its reply is accepted under the chain's root of
+//! its epoch, and each accepted look is kept. A promise is tested against the first root after its own,
+//! and what is told as broken, anyone can judge. A refused call leaves the client as it was.
+//!
+//! ```text
+//! let mut client: Client<Sha256Hash, KeyedVuf, KeyedSign> = Client::start(alloc, &verifier, key, first)?;
+//! client.update(&mut hash, &verifier, roots)?;
+//! if let Statement::Present(key) = client.look(&mut hash, &vuf, &name, 0, reply)? {
+//!     // The provider states that the name is bound to this key, in the epoch of the head.
+//! }
+//! ```
+#![tactic(auto)]
+
+mod client;
+mod due;
+mod laws;
+mod looks;
+mod outcome;
+mod promises;
+mod reconciling;
+mod refusal;
+mod roots;
+
+pub use client::Client;
+pub use due::Due;
+pub use laws::two_values_are_never_told;
+pub use outcome::Outcome;
+pub use reconciling::reconcile;
+pub use refusal::Refusal;
+
+#[cfg(test)]
+mod tests;

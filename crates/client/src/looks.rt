@@ -1,0 +1,85 @@
+ghost use Rattle.std.specs.Prelude.{◌≡◌, ◌++◌, ◌∷◌, [], IfOk, OnErr, OnOk};
+ghost use Rattle.encoding.specs.Limits.{IsName};
+
+use encoding::Name;
+use std::alloc::{AllocError, Global};
+use std::collections::BTreeMap;
+use std::marker::Model;
+
+mod comparing;
+
+pub(crate) use comparing::Unlike;
+
+/// What a look asked for.
+#[derive(Drop, PartialEq, Eq, PartialOrd, Ord)]
+struct Asked {
+    name: Name,
+    epoch: u64,
+}
+
+/// The place of a look: those of one name and epoch stand beside each other, in order of acceptance.
+#[derive(Drop, PartialEq, Eq, PartialOrd, Ord)]
+struct LookPlace {
+    asked: Asked,
+    /// How many looks were accepted before this one.
+    number: usize,
+}
+
+/// The looks that a client accepted, in order: names, epochs and the bytes of the replies.
+#[derive(Drop)]
+pub(crate) struct Looks {
+    alloc: Global,
+    replies: BTreeMap<LookPlace, Vec<u8>>,
+}
+
+impl Model for Looks {
+    ghost use Rattle.std.specs.Prelude.{List};
+    ghost use Rattle.client.specs.Clients.{Look};
+    ghost use Rattle.client.specs.Numbered.{in_order, AreNumbered};
+
+    ghost Value = { List Look };
+
+    ghost view = { λ looks. in_order (λ place. place.number)
+        (λ entry. record { name = entry.0.asked.name; epoch = entry.0.asked.epoch; reply = entry.1.items }) looks.replies.entries };
+
+    ghost invariant = { λ looks. AreNumbered (λ place. place.number) looks.replies.entries };
+}
+
+impl Looks {
+    /// No looks.
+    pub(crate) fn new(alloc: Global) -> Looks
+        ensures { result ≡ [] }
+    {
+        Looks {
+            alloc,
+            replies: BTreeMap::new(alloc),
+        }
+    }
+
+    /// Keeps a look. An `Err` leaves the looks as they were.
+    pub(crate) fn push(&mut self, name: &Name, epoch: u64, reply: &[u8]) -> Result<(), AllocError>
+        ensures ok { OnOk result (self.new ≡ self.old ++ (record { name = name.now; epoch = epoch; reply = reply.now }) ∷ []) }
+        ensures err { OnErr result (self.new ≡ self.old) }
+        ensures named { OnOk result (IsName name.now) }
+    {
+        let place = LookPlace {
+            asked: Asked {
+                name: name.copied(),
+                epoch,
+            },
+            number: self.replies.len(),
+        };
+        let reply = owned(self.alloc, reply)?;
+        self.replies.insert(place, reply)?;
+        Ok(())
+    }
+}
+
+/// The same bytes, in memory of their own.
+fn owned(alloc: Global, bytes: &[u8]) -> Result<Vec<u8>, AllocError>
+    ensures { IfOk result (λ own. own.items ≡ bytes.now) }
+{
+    let mut own = Vec::with_capacity(alloc, bytes.len())?;
+    own.extend_from_slice(bytes)?;
+    Ok(own)
+}

@@ -1,0 +1,112 @@
+//! Looks of two clients compared. Looks of one name and epoch stand beside each other, so for each look of
+//! the one client only those of the other are read that it is compared with.
+ghost use Rattle.std.specs.Prelude.{◌≡◌, ◌↔◌, ◌<◌, IsTrue, IsSomeAnd, MatchOption};
+ghost use Rattle.client.specs.Agreements.{AllState, AreFirstUnlike, IsFirstOther, LooksAgree, SpellsOne};
+ghost use Rattle.client.specs.Clients.{Look};
+ghost use Rattle.std.specs.List.{AllByRecursion};
+ghost use Rattle.proofs.specs.Accepts.{stated};
+ghost use Rattle.proofs.specs.Replies.{Reply, Spells};
+ghost use Rattle.proofs.specs.Views.{key_stated};
+
+use super::{Asked, LookPlace, Looks};
+use encoding::Name;
+use proofs::{ReplyView, Statement};
+
+/// Two looks for one name and epoch whose replies state two things.
+#[derive(Drop)]
+pub(crate) struct Unlike<'a> {
+    /// How many looks the first client accepted before this one.
+    number: usize,
+    pub(crate) name: &'a Name,
+    pub(crate) one: &'a [u8],
+    pub(crate) other: &'a [u8],
+}
+
+/// What a reply states that was accepted.
+fn statement(reply: &[u8]) -> Statement<'_>
+    requires { SpellsOne reply.now }
+    ensures { (read : Reply) → Spells reply.entry.now read → key_stated result ≡ stated read.end }
+{
+    let Ok(view) = ReplyView::read(reply) else {
+        unreachable!()
+    };
+    view.statement()
+}
+
+/// Whether an accepted reply states this.
+fn states(reply: &[u8], told: &Statement<'_>) -> bool
+    requires { SpellsOne reply.now }
+    ensures { (read : Reply) → Spells reply.entry.now read → IsTrue result ↔ (stated read.end ≡ key_stated told.entry.now) }
+{
+    statement(reply) == *told
+}
+
+impl LookPlace {
+    /// The place of this number for the same name and epoch.
+    fn numbered(&self, number: usize) -> LookPlace
+        ensures { result ≡ record self.now { number = number } }
+    {
+        LookPlace {
+            asked: Asked {
+                name: self.asked.name.copied(),
+                epoch: self.asked.epoch,
+            },
+            number,
+        }
+    }
+}
+
+impl Looks {
+    /// The reply of the first look for the name and epoch of a place that does not state this.
+    fn first_other<'a>(&'a self, place: &LookPlace, told: &Statement<'_>) -> Option<&'a [u8]>
+        requires { AllByRecursion (λ look. SpellsOne look.reply) self.now }
+        ensures { MatchOption result
+            (AllState self.entry.now place.entry.now.asked.name place.entry.now.asked.epoch (key_stated told.entry.now))
+            (λ reply. IsFirstOther self.entry.now place.entry.now.asked.name place.entry.now.asked.epoch (key_stated told.entry.now) reply.now) }
+    {
+        let (first, end) = (place.numbered(0), place.numbered(self.replies.len()));
+        for (_, reply) in self.replies.range(&first..&end) {
+            if !states(reply, told) {
+                return Some(reply);
+            }
+        }
+        None
+    }
+
+    /// The first two looks for one name and epoch whose replies state two things.
+    pub(crate) fn first_unlike<'a>(&'a self, others: &'a Looks) -> Option<Unlike<'a>>
+        requires ones { AllByRecursion (λ look. SpellsOne look.reply) self.now }
+        requires others { AllByRecursion (λ look. SpellsOne look.reply) others.now }
+        ensures { MatchOption result
+            (LooksAgree self.entry.now others.entry.now)
+            (λ unlike. (look also : Look) × AreFirstUnlike self.entry.now others.entry.now look also
+            × (unlike.name.now ≡ look.name) × (unlike.one.now ≡ look.reply) × (unlike.other.now ≡ also.reply)) }
+    {
+        let mut found: Option<Unlike<'a>> = None;
+        for (place, reply) in self.replies.iter() {
+            if is_before(&found, place.number) {
+                continue;
+            }
+            let Some(other) = others.first_other(place, &statement(reply)) else {
+                continue;
+            };
+            found = Some(Unlike {
+                number: place.number,
+                name: &place.asked.name,
+                one: reply,
+                other,
+            });
+        }
+        found
+    }
+}
+
+/// Whether a look was found that was accepted before the one of this number.
+fn is_before(found: &Option<Unlike<'_>>, number: usize) -> bool
+    ensures { IsTrue result ↔ IsSomeAnd found.entry.now (λ unlike. unlike.number < number) }
+{
+    match found {
+        Some(unlike) => unlike.number < number,
+        None => false,
+    }
+}

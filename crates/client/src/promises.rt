@@ -1,0 +1,108 @@
+ghost use Rattle.std.specs.Prelude.{◌≡◌, ◌↔◌, ◌++◌, ◌∷◌, [], List, IsTrue, Some, length};
+ghost use Rattle.proofs.specs.Replies.{Spells};
+ghost use Rattle.proofs.specs.Views.{key_stated};
+ghost use Rattle.rootchain.specs.Chains.{IsChain};
+ghost use Rattle.rootchain.specs.declared.signed_promise.SignedPromise.{SignedPromise};
+ghost use Rattle.client.specs.Dues.{IsTold, Tests};
+ghost use Rattle.client.specs.Testing.{IsTestedAmong};
+
+use crate::{Due, Refusal};
+use encoding::{KeyData, Name, ProofText};
+use nodehash::NodeHash;
+use proofs::{Accepted, BrokenPromise, Statement, accept};
+use rootchain::{Chain, SignedPromise, SignedRoot};
+use sigiface::Verifier;
+use vrfiface::VufCheck;
+
+/// The promise that is tested for a name, and its place among the promises: of those for the name the one
+/// of the least epoch, and of equals the first.
+pub(crate) fn tested<'a>(
+    promises: &'a [SignedPromise],
+    name: &Name,
+) -> Option<(usize, &'a SignedPromise)>
+    ensures { IsTestedAmong promises.entry.now name.now result }
+{
+    let mut least = None;
+    for place in 0..promises.len() {
+        least = earlier(least, place, &promises[place], name);
+    }
+    least
+}
+
+/// The promise that is tested once one more comes behind the others.
+fn earlier<'a>(
+    least: Option<(usize, &'a SignedPromise)>,
+    place: usize,
+    signed: &'a SignedPromise,
+    name: &Name,
+) -> Option<(usize, &'a SignedPromise)>
+    ensures { (promises : List SignedPromise) → length promises ≡ place → IsTestedAmong promises name.now least.entry
+        → IsTestedAmong (promises ++ signed.entry.now ∷ []) name.now result }
+{
+    if signed.promise.name != *name {
+        return least;
+    }
+    let Some((_, other)) = least else {
+        return Some((place, signed));
+    };
+    if other.promise.epoch <= signed.promise.epoch {
+        return least;
+    }
+    Some((place, signed))
+}
+
+/// Tests a promise by a reply for a name: it is checked against the first root after that of the promise.
+pub(crate) fn test<H: NodeHash, V: VufCheck, S: Verifier>(
+    chain: &Chain<H, S>,
+    signed: &SignedPromise,
+    hash: &mut H,
+    vuf: &V,
+    name: &Name,
+    bytes: &[u8],
+) -> Result<Due, Refusal>
+    ensures tests { Tests H.digest_of V.accepted chain.now name.now bytes.now signed.now result }
+    ensures chain { IsChain H.digest_of S.verified chain.now }
+{
+    let Some(root) = chain.after(signed.promise.epoch) else {
+        return Err(Refusal::UnknownRoot);
+    };
+    match accept::<H, V>(hash, vuf, &root.body, name, bytes) {
+        Ok(accepted) => Ok(tell(&accepted, signed, root, bytes)),
+        Err(why) => Err(Refusal::Proof(why)),
+    }
+}
+
+/// What an accepted reply under the next root tells of a promise.
+fn tell<H: NodeHash, V: VufCheck>(
+    accepted: &Accepted<'_, H, V>,
+    signed: &SignedPromise,
+    root: &SignedRoot,
+    bytes: &[u8],
+) -> Due
+    requires spelled { Spells bytes.now accepted.now.reply }
+    ensures { IsTold H.digest_of V.accepted signed.now root.now bytes.now accepted.now.reply result }
+{
+    if accepted.index() != signed.promise.index {
+        return Due::OtherIndex;
+    }
+    if is_of_key(accepted.statement(), &signed.promise.key) {
+        return Due::Kept;
+    }
+    let mut proof = ProofText::new();
+    proof.push_slice(bytes);
+    Due::Broken(BrokenPromise {
+        promise: signed.copied(),
+        root: root.copied(),
+        proof,
+    })
+}
+
+/// Whether it states this key.
+fn is_of_key(statement: Statement<'_>, key: &KeyData) -> bool
+    ensures { IsTrue result ↔ (key_stated statement.entry ≡ Some key.now) }
+{
+    match statement {
+        Statement::Present(stated) => stated == key.bytes(),
+        Statement::Absent => false,
+    }
+}

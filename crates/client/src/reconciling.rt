@@ -1,0 +1,63 @@
+ghost use Rattle.std.specs.Prelude.{◌≡◌, ◌≢◌, ◌⊎◌, ◌↔◌, ℕ, Contains};
+ghost use Rattle.rootchain.specs.Chains.{IsAt};
+ghost use Rattle.rootchain.specs.declared.signed_root.SignedRoot.{SignedRoot};
+ghost use Rattle.client.specs.Agreements.{AreOfOne, AreReconciled, ClientsAgree, HaveOneStatement, IsReconciled, OutcomeHolds, OutcomeIsSpelled};
+ghost use Rattle.client.specs.Clients.{Look};
+ghost use Rattle.client.specs.declared.outcome.Outcome.TheVariants.{Agree};
+
+use crate::{Client, Outcome};
+use nodehash::NodeHash;
+use proofs::{Accepted, SameOr, same_or_collision};
+use rootchain::{Chain, Compare};
+use sigiface::Verifier;
+use vrfiface::VufCheck;
+
+/// What two clients of one provider come to, whatever bytes made them (after CONIKS, section 4). A client
+/// may be reconciled with itself.
+///
+/// First their chains are compared. If these agree, the looks are: of the pairs of a look of the first client
+/// and a look of the second for one name and epoch, in order of acceptance, the first that states two things
+/// tells.
+///
+/// This allocates nothing. Only replies for one name and epoch are compared with each other.
+pub fn reconcile<H: NodeHash, V: VufCheck, S: Verifier>(
+    hash: &mut H,
+    one: &Client<H, V, S>,
+    other: &Client<H, V, S>,
+) -> Outcome
+    requires { one.now.chain.key ≡ other.now.chain.key }
+    ensures reconciled { IsReconciled H.digest_of V.accepted one.now other.now result }
+    ensures agree { (result ≡ Agree) ↔ ClientsAgree H.digest_of one.now other.now }
+    ensures holds { OutcomeHolds H.digest_of V.accepted S.verified one.now.chain.key result }
+    ensures spelled { OutcomeIsSpelled result }
+    // What the one client saw of a name at an epoch is what the other saw, or the answer is one of the other three.
+    ensures seen { (look also : Look) → Contains one.now.looks look → Contains other.now.looks also → AreOfOne look also
+        → HaveOneStatement look also ⊎ (result ≢ Agree) }
+{
+    match Chain::compare(hash, one.chain(), other.chain()) {
+        Compare::Equal => reconcile_looks(hash, one, other),
+        Compare::Evidence(evidence) => Outcome::Evidence(evidence),
+        Compare::Collision(x, y) => Outcome::Collision(x, y),
+    }
+}
+
+/// What the looks of two clients come to whose chains agree.
+fn reconcile_looks<H: NodeHash, V: VufCheck, S: Verifier>(
+    hash: &mut H,
+    one: &Client<H, V, S>,
+    other: &Client<H, V, S>,
+) -> Outcome
+    requires { (epoch : ℕ) (root also : SignedRoot) → IsAt one.now.chain epoch root → IsAt other.now.chain epoch also → root.body ≡ also.body }
+    ensures { AreReconciled H.digest_of V.accepted one.now.looks other.now.looks result }
+{
+    let Some(unlike) = one.looks().first_unlike(other.looks()) else {
+        return Outcome::Agree;
+    };
+    let first: Accepted<'_, H, V> = Accepted::again(hash, unlike.name, unlike.one);
+    let second: Accepted<'_, H, V> = Accepted::again(hash, unlike.name, unlike.other);
+    match same_or_collision(hash, &first, &second) {
+        SameOr::Collision(x, y) => Outcome::Collision(x, y),
+        SameOr::TwoValues => Outcome::TwoValues,
+        SameOr::Same | SameOr::NotComparable => unreachable!(),
+    }
+}

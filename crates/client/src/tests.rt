@@ -1,0 +1,341 @@
+//! A client of pages that a provider signs. Hashes are byte sums, and the value of a name is the name.
+
+use super::*;
+use commit::commit;
+use encoding::{Hash32, KeyData, Name, ProofText};
+use nodehash::{NodeHash, SumHash};
+use prefixtree::Tree;
+use proofs::{End, Statement, make};
+use rootchain::{Body, Promise, RootEvidence, SignedPromise, SignedRoot};
+use sigiface::{KeyedSign, Signer};
+use std::alloc::{AllocError, Global};
+use std::test::Fail;
+use vrfiface::{PlainVuf, Vuf, index_of};
+
+mod reconciling;
+
+/// A client of the provider.
+type Watching = Client<SumHash, PlainVuf, KeyedSign>;
+
+/// The signed root of an epoch, and the reply to a look-up of the name `a` under it.
+#[derive(Drop)]
+struct Page {
+    root: SignedRoot,
+    reply: ProofText,
+}
+
+/// The signer of the provider.
+fn provider() -> KeyedSign {
+    KeyedSign::new(Hash32::new([1; 32]))
+}
+
+/// Another signer.
+fn stranger() -> KeyedSign {
+    KeyedSign::new(Hash32::new([9; 32]))
+}
+
+/// The root of this body, signed by another signer.
+fn forged(root: &SignedRoot) -> SignedRoot {
+    signed(&stranger(), root.body)
+}
+
+/// The name `a`.
+fn name() -> Result<Name, AllocError> {
+    Name::new(b"a").map_err(|_| AllocError)
+}
+
+/// The hash of a body.
+fn hash_of(body: &Body) -> Hash32 {
+    SumHash::new().digest(body.write().bytes())
+}
+
+/// The root of a body, signed.
+fn signed(signer: &KeyedSign, body: Body) -> SignedRoot {
+    let signature = signer.sign(body.write().bytes());
+    SignedRoot { body, signature }
+}
+
+/// The page of an epoch behind the one of this root, which binds this key to the name, if any.
+fn signed_page(
+    alloc: Global,
+    epoch: u64,
+    before: &Body,
+    bound: Option<&KeyData>,
+) -> Result<Page, AllocError> {
+    let (mut hash, name, salt) = (SumHash::new(), name()?, Hash32::default());
+    let value = PlainVuf.value(&name);
+    let index = index_of(&mut hash, value.bytes());
+    let mut tree = Tree::new(alloc, &mut hash, Hash32::default())?;
+    let mut end = End::Empty;
+    if let Some(key) = bound {
+        let commitment = commit(&mut hash, &salt, &name, key);
+        tree = tree.with(alloc, &mut hash, index, commitment)?;
+        end = End::Present { salt, key };
+    }
+    let body = Body {
+        epoch,
+        previous_epoch: before.epoch,
+        root: tree.root(),
+        previous_hash: hash_of(before),
+        nonce: Hash32::default(),
+        vuf_key: PlainVuf.public(),
+    };
+    let reply = make(&body, &value, &end, &tree.path(&index));
+    let root = signed(&provider(), body);
+    Ok(Page { root, reply })
+}
+
+/// The body that the first page names as the one before.
+fn earlier() -> Body {
+    Body {
+        epoch: 1,
+        previous_epoch: 0,
+        root: Hash32::default(),
+        previous_hash: Hash32::default(),
+        nonce: Hash32::default(),
+        vuf_key: PlainVuf.public(),
+    }
+}
+
+/// A promise of this key for the name, made at this root.
+fn promise(root: &SignedRoot, key: &KeyData) -> Result<SignedPromise, AllocError> {
+    let name = name()?;
+    let promise = Promise {
+        epoch: root.body.epoch,
+        root_hash: hash_of(&root.body),
+        index: index_of(&mut SumHash::new(), PlainVuf.value(&name).bytes()),
+        name,
+        key: key.copied(),
+    };
+    let signature = provider().sign(promise.write().bytes());
+    Ok(SignedPromise { promise, signature })
+}
+
+/// Ends the test if memory ran out, else returns the answer.
+fn unless_out_of_memory<T: Drop>(
+    answer: Result<T, Refusal>,
+) -> Result<Result<T, Refusal>, AllocError> {
+    match answer {
+        Err(Refusal::Memory) => Err(AllocError),
+        answer => Ok(answer),
+    }
+}
+
+/// A client that starts with this root.
+fn started(alloc: Global, root: &SignedRoot) -> Result<Watching, AllocError> {
+    let bytes = root.write();
+    Client::start(alloc, &provider(), provider().public(), bytes.bytes()).map_err(|_| AllocError)
+}
+
+/// What comes of the list of these two roots.
+fn updated(
+    alloc: Global,
+    client: &mut Watching,
+    one: &SignedRoot,
+    other: &SignedRoot,
+) -> Result<Result<(), Refusal>, AllocError> {
+    let mut list = Vec::new(alloc);
+    list.extend_from_slice(&[0, 2])?;
+    list.extend_from_slice(one.write().bytes())?;
+    list.extend_from_slice(other.write().bytes())?;
+    unless_out_of_memory(client.update(&mut SumHash::new(), &provider(), &list))
+}
+
+/// The key that a look states, if it states one.
+fn looked_up(
+    client: &mut Watching,
+    epoch: u64,
+    reply: &ProofText,
+) -> Result<Result<Option<KeyData>, Refusal>, AllocError> {
+    match client.look(
+        &mut SumHash::new(),
+        &PlainVuf,
+        &name()?,
+        epoch,
+        reply.bytes(),
+    ) {
+        Ok(Statement::Present(key)) => Ok(Ok(KeyData::new(key).ok())),
+        Ok(Statement::Absent) => Ok(Ok(None)),
+        Err(Refusal::Memory) => Err(AllocError),
+        Err(why) => Ok(Err(why)),
+    }
+}
+
+/// What comes of a promise that is to be kept.
+fn kept(client: &mut Watching, signed: &SignedPromise) -> Result<Result<(), Refusal>, AllocError> {
+    let bytes = signed.write();
+    unless_out_of_memory(client.keep_promise(&mut SumHash::new(), &provider(), bytes.bytes()))
+}
+
+/// A client that keeps a promise of `k1` and has the next root, which binds this key to the name, if any;
+/// and the reply under that root.
+fn owed(alloc: Global, bound: Option<&KeyData>) -> Result<(Watching, ProofText), AllocError> {
+    let first = signed_page(alloc, 3, &earlier(), None)?;
+    let next = signed_page(alloc, 7, &first.root.body, bound)?;
+    let mut client = started(alloc, &first.root)?;
+    let key = KeyData::new(b"k1").map_err(|_| AllocError)?;
+    let _ = kept(&mut client, &promise(&first.root, &key)?)?;
+    let _ = updated(alloc, &mut client, &first.root, &next.root)?;
+    Ok((client, next.reply))
+}
+
+/// The number of what comes of a reply that a promise is tested by: 0 where it was kept, 1 where it was
+/// broken, 2 where the index is another, else that of the refusal.
+fn tested_by(client: &mut Watching, reply: &ProofText) -> Result<u8, AllocError> {
+    match client.due(&mut SumHash::new(), &PlainVuf, &name()?, reply.bytes()) {
+        Ok(Due::Kept) => Ok(0),
+        Ok(Due::Broken(_)) => Ok(1),
+        Ok(Due::OtherIndex) => Ok(2),
+        Err(why) => Ok(why.number()),
+    }
+}
+
+#[test]
+fn client_starts_with_a_root(rt: HostRuntime) -> Result<(), Fail> {
+    let first = signed_page(rt.alloc(), 3, &earlier(), None)?;
+    let client = started(rt.alloc(), &first.root)?;
+    assert_eq!(rt; client.chain().head().body.epoch, 3);
+    assert_eq!(rt; *client.key(), provider().public());
+    let forged = forged(&first.root).write();
+    let refused: Result<Watching, Refusal> = Client::start(
+        rt.alloc(),
+        &provider(),
+        provider().public(),
+        forged.bytes(),
+    );
+    assert!(rt;
+        matches!(
+            refused,
+            Err(Refusal::Root(rootchain::Refusal::BadSignature))
+        )
+    );
+    let refused: Result<Watching, Refusal> = Client::start(
+        rt.alloc(),
+        &provider(),
+        provider().public(),
+        b"R",
+    );
+    assert!(rt; matches!(refused, Err(Refusal::Root(rootchain::Refusal::Malformed))));
+    Ok(())
+}
+
+#[test]
+fn looks_at_an_epoch_and_at_the_head(rt: HostRuntime) -> Result<(), Fail> {
+    let key = KeyData::new(b"k1")?;
+    let first = signed_page(rt.alloc(), 3, &earlier(), None)?;
+    let next = signed_page(rt.alloc(), 7, &first.root.body, Some(&key))?;
+    let mut client = started(rt.alloc(), &first.root)?;
+    assert_eq!(rt;
+        looked_up(&mut client, 7, &next.reply)?,
+        Err(Refusal::UnknownRoot)
+    );
+    assert_eq!(rt;
+        updated(rt.alloc(), &mut client, &first.root, &next.root)?,
+        Ok(())
+    );
+    assert_eq!(rt; looked_up(&mut client, 3, &first.reply)?, Ok(None));
+    assert_eq!(rt;
+        looked_up(&mut client, 7, &next.reply)?,
+        Ok(Some(key.copied()))
+    );
+    assert_eq!(rt; looked_up(&mut client, 0, &next.reply)?, Ok(Some(key)));
+    let other = Refusal::Proof(proofs::Refusal::OtherRoot);
+    assert_eq!(rt; looked_up(&mut client, 0, &first.reply)?, Err(other));
+    Ok(())
+}
+
+/// A body that gives up after some looks meets every clause.
+#[test]
+fn hundreds_of_looks(rt: HostRuntime) -> Result<(), Fail> {
+    let first = signed_page(rt.alloc(), 3, &earlier(), None)?;
+    let mut client = started(rt.alloc(), &first.root)?;
+    for _ in 0..300 {
+        assert_eq!(rt; looked_up(&mut client, 0, &first.reply)?, Ok(None));
+    }
+    Ok(())
+}
+
+#[test]
+fn lists_of_roots(rt: HostRuntime) -> Result<(), Fail> {
+    let first = signed_page(rt.alloc(), 3, &earlier(), None)?;
+    let next = signed_page(rt.alloc(), 7, &first.root.body, None)?;
+    let last = signed_page(rt.alloc(), 9, &next.root.body, None)?;
+    let mut client = started(rt.alloc(), &first.root)?;
+    let ahead = updated(rt.alloc(), &mut client, &first.root, &last.root)?;
+    assert_eq!(rt; ahead, Err(Refusal::Root(rootchain::Refusal::BadLink)));
+    let taken = updated(rt.alloc(), &mut client, &next.root, &last.root)?;
+    assert_eq!(rt; taken, Ok(()));
+    assert_eq!(rt; client.chain().head().body.epoch, 9);
+    Ok(())
+}
+
+#[test]
+fn refused_list_leaves_the_chain(rt: HostRuntime) -> Result<(), Fail> {
+    let first = signed_page(rt.alloc(), 3, &earlier(), None)?;
+    let next = signed_page(rt.alloc(), 7, &first.root.body, None)?;
+    let mut client = started(rt.alloc(), &first.root)?;
+    let forged = forged(&next.root);
+    let refused = updated(rt.alloc(), &mut client, &next.root, &forged)?;
+    assert_eq!(rt;
+        refused,
+        Err(Refusal::Root(rootchain::Refusal::BadSignature))
+    );
+    assert_eq!(rt; client.chain().head().body.epoch, 3);
+    Ok(())
+}
+
+#[test]
+fn fork_is_evidence(rt: HostRuntime) -> Result<(), Fail> {
+    let key = KeyData::new(b"k1")?;
+    let first = signed_page(rt.alloc(), 3, &earlier(), None)?;
+    let other = signed_page(rt.alloc(), 3, &earlier(), Some(&key))?;
+    let mut client = started(rt.alloc(), &first.root)?;
+    let fork = RootEvidence::Fork(first.root.copied(), other.root.copied());
+    let told = updated(rt.alloc(), &mut client, &first.root, &other.root)?;
+    assert_eq!(rt; told, Err(Refusal::RootDiffers(fork)));
+    Ok(())
+}
+
+#[test]
+fn promise_before_the_next_root(rt: HostRuntime) -> Result<(), Fail> {
+    let first = signed_page(rt.alloc(), 3, &earlier(), None)?;
+    let mut client = started(rt.alloc(), &first.root)?;
+    assert_eq!(rt; tested_by(&mut client, &first.reply)?, 23);
+    let signed = promise(&first.root, &KeyData::new(b"k1")?)?;
+    assert_eq!(rt; kept(&mut client, &signed)?, Ok(()));
+    assert_eq!(rt; client.due_epoch(&name()?), None);
+    assert_eq!(rt; tested_by(&mut client, &first.reply)?, 20);
+    Ok(())
+}
+
+#[test]
+fn next_root_without_the_promised_key(rt: HostRuntime) -> Result<(), Fail> {
+    let (mut client, reply) = owed(rt.alloc(), None)?;
+    assert_eq!(rt; client.due_epoch(&name()?), Some(7));
+    assert_eq!(rt; tested_by(&mut client, &reply)?, 1);
+    assert_eq!(rt; tested_by(&mut client, &reply)?, 1);
+    Ok(())
+}
+
+#[test]
+fn next_root_with_the_promised_key(rt: HostRuntime) -> Result<(), Fail> {
+    let (mut client, reply) = owed(rt.alloc(), Some(&KeyData::new(b"k1")?))?;
+    assert_eq!(rt; tested_by(&mut client, &reply)?, 0);
+    assert_eq!(rt; tested_by(&mut client, &reply)?, 23);
+    Ok(())
+}
+
+#[test]
+fn promises_that_are_not_kept(rt: HostRuntime) -> Result<(), Fail> {
+    let key = KeyData::new(b"k1")?;
+    let first = signed_page(rt.alloc(), 3, &earlier(), None)?;
+    let next = signed_page(rt.alloc(), 7, &first.root.body, None)?;
+    let mut client = started(rt.alloc(), &first.root)?;
+    let unknown = promise(&next.root, &key)?;
+    assert_eq!(rt; kept(&mut client, &unknown)?, Err(Refusal::UnknownRoot));
+    let mut forged = promise(&first.root, &key)?;
+    forged.signature = stranger().sign(forged.promise.write().bytes());
+    let refused = Refusal::Root(rootchain::Refusal::BadSignature);
+    assert_eq!(rt; kept(&mut client, &forged)?, Err(refused));
+    Ok(())
+}

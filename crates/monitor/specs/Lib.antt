@@ -1,0 +1,5 @@
+pub mod Expecting
+pub mod Monitors
+pub mod Refusals
+pub mod Stepping
+pub mod Views

@@ -1,0 +1,31 @@
+//! A monitor watches one name for its owner, epoch by epoch (CONIKS, section 4).
+//!
+//! To the layers above: `step` takes each epoch of the chain in order, and tells exactly whether the
+//! accepted reply states what the owner expects. A change of the key is expected only where the provider
+//! promised it, from the epoch after the promise's on, so what is expected of a watched epoch never
+//! changes. The monitor's client keeps a look of every watched epoch. A refused call changes nothing.
+//!
+//! ```text
+//! let mut monitor = Monitor::new(alloc, client, name, Some(key));
+//! monitor.update(&mut hash, &verifier, roots)?;
+//! while let Some(epoch) = monitor.next_epoch() {
+//!     let reply = ask(name, epoch);
+//!     if let Step::Alarm { epoch, found } = monitor.step(&mut hash, &vuf, reply)? {
+//!         // The provider bound the name to another key, and the owner did not ask for it.
+//!     }
+//! }
+//! ```
+#![tactic(auto)]
+
+mod laws;
+mod monitor;
+mod refusal;
+mod step;
+
+pub use laws::what_was_seen_was_watched;
+pub use monitor::Monitor;
+pub use refusal::Refusal;
+pub use step::Step;
+
+#[cfg(test)]
+mod tests;

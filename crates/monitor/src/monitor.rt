@@ -1,0 +1,254 @@
+ghost use Rattle.std.specs.Prelude.{◌≡◌, ◌↔◌, ◌<◌, ◌≤◌, All, AllPairs, IsTrue, OnOk, length, option_map};
+ghost use Rattle.std.specs.List.Sorted.{IsPartitionPoint};
+ghost use Rattle.rootchain.specs.declared.signed_promise.SignedPromise.{SignedPromise};
+ghost use Rattle.proofs.specs.Views.{key_stated};
+ghost use Rattle.proofs.specs.Watches.{expected};
+ghost use Rattle.client.specs.Promising.{IsGiven};
+ghost use Rattle.client.specs.Updating.{Updates};
+ghost use Rattle.monitor.specs.Expecting.{Expects, ExpectsAbove, IsExpected, MayExpect, ReadsChange};
+ghost use Rattle.monitor.specs.Monitors.{begun, IsWatching};
+ghost use Rattle.monitor.specs.Stepping.{IsNextEpoch, Steps, Tells};
+
+use crate::{Refusal, Step};
+use client::Client;
+use encoding::{KeyData, Name};
+use nodehash::NodeHash;
+use proofs::Statement;
+use rootchain::{Promise, SignedPromise};
+use sigiface::Verifier;
+use std::alloc::Global;
+use std::marker::Model;
+use vrfiface::VufCheck;
+
+/// A change of the key that is expected above the epoch of its promise.
+#[derive(Drop)]
+struct Change {
+    epoch: u64,
+    key: KeyData,
+}
+
+impl Model for Change {
+    ghost use Rattle.std.specs.Prelude.{ℕ, List};
+
+    ghost Value = { ℕ × List ℕ };
+
+    ghost view = { λ change. (change.epoch, change.key) };
+}
+
+/// A monitor of one name, under the functions of `H`, `V` and `S`: its client, the name, what its owner
+/// expects, and how far it watched.
+#[derive(Drop)]
+pub struct Monitor<H: NodeHash, V: VufCheck, S: Verifier> {
+    client: Client<H, V, S>,
+    name: Name,
+    start: Option<KeyData>,
+    changes: Vec<Change>,
+    /// The epoch that was watched last; 0 where none was, since epochs begin at 1.
+    watched: u64,
+}
+
+impl<H: NodeHash, V: VufCheck, S: Verifier> Model for Monitor<H, V, S> {
+    ghost use Rattle.monitor.specs.Monitors as monitors;
+
+    ghost Value = { monitors.Monitor };
+
+    ghost use Rattle.monitor.specs.Views.{monitor_of};
+
+    ghost view = { monitor_of };
+
+    ghost invariant = { λ monitor. monitors.IsWatching (monitor_of monitor) };
+}
+
+impl<H: NodeHash, V: VufCheck, S: Verifier> Monitor<H, V, S> {
+    /// A monitor of this name, with a client of its own. From the first epoch of the client's chain on it
+    /// expects this key, or no key.
+    pub fn new(alloc: Global, client: Client<H, V, S>, name: Name, start: Option<KeyData>) -> Self
+        ensures { result ≡ begun client name start }
+    {
+        Monitor {
+            client,
+            name,
+            start,
+            changes: Vec::new(alloc),
+            watched: 0,
+        }
+    }
+
+    /// The client of the monitor.
+    pub fn client(&self) -> &Client<H, V, S>
+        ensures value { result.now ≡ self.now.client }
+        ensures watching { IsWatching self.now }
+    {
+        &self.client
+    }
+
+    /// The name that is watched.
+    pub fn name(&self) -> &Name
+        ensures { result.now ≡ self.now.name }
+    {
+        &self.name
+    }
+
+    /// The epoch that `step` will take, if one of the chain is not yet watched.
+    pub fn next_epoch(&self) -> Option<u64>
+        ensures { IsNextEpoch self.now result }
+    {
+        let root = self.client.chain().after(self.watched)?;
+        Some(root.body.epoch)
+    }
+
+    /// What is expected of an epoch: the key of the last change that was promised before it, else what was
+    /// expected at the start.
+    pub fn expected(&self, epoch: u64) -> Option<&KeyData>
+        ensures value { option_map (λ key. key.now) result ≡ expected self.now.watch epoch }
+        ensures greatest { IsExpected self.now.watch epoch (expected self.now.watch epoch) }
+    {
+        match promised_before(&self.changes, epoch).checked_sub(1) {
+            Some(last) => Some(&self.changes[last].key),
+            None => self.start.as_ref(),
+        }
+    }
+
+    /// Updates the chain of the client.
+    ///
+    /// # Errors
+    ///
+    /// Those of `Client::update`. The monitor then stays as it was.
+    pub fn update(
+        &mut self,
+        hash: &mut H,
+        verifier: &S,
+        bytes: &[u8],
+    ) -> Result<(), client::Refusal>
+        ensures updates { Updates H.digest_of S.verified self.old.client bytes.now result self.new.client }
+        ensures others { self.new ≡ record self.old { client = self.new.client } }
+    {
+        self.client.update(hash, verifier, bytes)
+    }
+
+    /// Expects this key above the epoch of the signed promise that these bytes spell. The client keeps the
+    /// promise.
+    ///
+    /// # Errors
+    ///
+    /// `Client` with the refusal of `Client::keep_promise`, but `Memory` last; before it `OtherPromise`: the
+    /// first that applies. The monitor then stays as it was.
+    pub fn expect_change(
+        &mut self,
+        hash: &mut H,
+        verifier: &S,
+        key: &KeyData,
+        promise_bytes: &[u8],
+    ) -> Result<(), Refusal>
+        ensures expects { Expects H.digest_of S.verified self.old key.now promise_bytes.now result self.new }
+        ensures above { OnOk result ((signed : SignedPromise) × IsGiven H.digest_of S.verified self.old.client promise_bytes.now signed
+            × ExpectsAbove self.old.watch signed.promise.epoch key.now self.new.watch) }
+    {
+        let signed = self.read_change(hash, verifier, key, promise_bytes)?;
+        let change = Change {
+            epoch: signed.promise.epoch,
+            key: key.copied(),
+        };
+        if self.changes.reserve(1).is_err() {
+            return Err(Refusal::Client(client::Refusal::Memory));
+        }
+        if self.client.keep_read(signed).is_err() {
+            return Err(Refusal::Client(client::Refusal::Memory));
+        }
+        self.changes.push(change).unwrap();
+        Ok(())
+    }
+
+    /// Watches the next epoch by this reply to a look-up of the name at that epoch. The client keeps the
+    /// look, and the epoch counts as watched, also at an alarm.
+    ///
+    /// # Errors
+    ///
+    /// `Client` with `UnknownRoot` where each epoch of the chain was watched, else with the refusal of
+    /// `Client::look`. The monitor then stays as it was.
+    pub fn step<'a>(&mut self, hash: &mut H, vuf: &V, bytes: &'a [u8]) -> Result<Step<'a>, Refusal>
+        ensures { Steps H.digest_of V.accepted self.old bytes.entry.now result self.new }
+    {
+        let Some(epoch) = self.next_epoch() else {
+            return Err(Refusal::Client(client::Refusal::UnknownRoot));
+        };
+        match self.client.look(hash, vuf, &self.name, epoch, bytes) {
+            Ok(found) => {
+                self.watched = epoch;
+                Ok(self.tell(epoch, found))
+            }
+            Err(refusal) => Err(Refusal::Client(refusal)),
+        }
+    }
+
+    /// Reads the signed promise of a change that may be expected.
+    fn read_change(
+        &self,
+        hash: &mut H,
+        verifier: &S,
+        key: &KeyData,
+        bytes: &[u8],
+    ) -> Result<SignedPromise, Refusal>
+        ensures { ReadsChange H.digest_of S.verified self.now key.now bytes.now result }
+    {
+        match self.client.read_promise(hash, verifier, bytes) {
+            Ok(signed) => {
+                if self.may_expect(key, &signed.promise) {
+                    Ok(signed)
+                } else {
+                    Err(Refusal::OtherPromise)
+                }
+            }
+            Err(why) => Err(Refusal::Client(why)),
+        }
+    }
+
+    /// What is told of the statement at an epoch.
+    fn tell<'a>(&self, epoch: u64, found: Statement<'a>) -> Step<'a>
+        ensures { Tells self.now.watch epoch (key_stated found.entry) result }
+    {
+        if is_expected(found, self.expected(epoch)) {
+            Step::Kept
+        } else {
+            Step::Alarm { epoch, found }
+        }
+    }
+
+    /// Whether this key may be expected above the epoch of the promise.
+    fn may_expect(&self, key: &KeyData, promise: &Promise) -> bool
+        ensures { IsTrue result ↔ MayExpect self.now key.now promise.now }
+    {
+        promise.name == self.name
+            && promise.key == *key
+            && are_before(&self.changes, promise.epoch)
+            && self.watched <= promise.epoch
+    }
+}
+
+/// How many of the changes were promised before this epoch.
+fn promised_before(changes: &[Change], epoch: u64) -> usize
+    requires { AllPairs (λ earlier later. earlier.0 < later.0) changes.now }
+    ensures within { result ≤ length changes.now }
+    ensures point { IsPartitionPoint (λ change. change.0 < epoch) (λ change. epoch ≤ change.0) changes.now result }
+{
+    changes.partition_point(|change| change.epoch < epoch)
+}
+
+/// Whether all of the changes were promised before this epoch.
+fn are_before(changes: &[Change], epoch: u64) -> bool
+    requires { AllPairs (λ earlier later. earlier.0 < later.0) changes.now }
+    ensures { IsTrue result ↔ All (λ change. change.0 < epoch) changes.now }
+{
+    promised_before(changes, epoch) == changes.len()
+}
+
+/// Whether the statement is the key that is expected, or absence where no key is.
+fn is_expected(found: Statement<'_>, expected: Option<&KeyData>) -> bool
+    ensures { IsTrue result ↔ (key_stated found.entry ≡ option_map (λ key. key.now) expected.entry) }
+{
+    match (found, expected) {
+        (Statement::Present(stated), Some(key)) => stated == key.bytes(),
+        (Statement::Absent, None) => true,
+        _ => false,
+    }
+}

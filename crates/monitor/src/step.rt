@@ -1,0 +1,10 @@
+use proofs::Statement;
+
+/// What a monitor tells of an epoch.
+#[derive(Clone, Copy, Debug, PartialEq, Eq)]
+pub enum Step<'a> {
+    /// The reply states what is expected.
+    Kept,
+    /// The reply states something else.
+    Alarm { epoch: u64, found: Statement<'a> },
+}

@@ -1,0 +1,80 @@
+ghost use Rattle.std.specs.Prelude.{◌≡◌, ◌+◌, ◌≤◌, List, length, IfErr, OnErr, OnOk};
+ghost use Rattle.std.specs.List.{AllByRecursion};
+ghost use Rattle.rootchain.specs.declared.signed_root.SignedRoot.{SignedRoot};
+ghost use Rattle.rootchain.specs.Chains.{IsChain};
+ghost use Rattle.rootchain.specs.SignedRoots.{IsSignedRoot};
+ghost use Rattle.rootchain.specs.TakingLists.{with_roots, IsListRefusal, Takes, TakesEach, TakesOne, ListRefusalHolds, ListRefusalIsSpelled};
+
+use super::Chain;
+use crate::{ListRefusal, Place, Refusal, RootList, SignedRoot};
+use nodehash::NodeHash;
+use sigiface::Verifier;
+
+impl<H: NodeHash, S: Verifier> Chain<H, S> {
+    /// Takes the roots of a list in order: those that the chain has are passed over, and those that
+    /// follow the head are appended.
+    ///
+    /// # Errors
+    ///
+    /// `Memory` if there is no memory for all roots of the list. Else the first root tells that does not
+    /// verify under the chain's key, is before the first root, ahead of the head, or evidence. The chain
+    /// then stays as it was.
+    pub fn take_list(
+        &mut self,
+        hash: &mut H,
+        verifier: &S,
+        list: RootList<'_>,
+    ) -> Result<(), ListRefusal>
+        ensures taken { OnOk result (Takes H.digest_of S.verified self.old list.entry self.new) }
+        ensures grows { (more : List SignedRoot) × (self.new ≡ with_roots self.old more) }
+        ensures refused { IfErr result (IsListRefusal H.digest_of S.verified self.old list.entry) }
+        ensures stays { OnErr result (self.new ≡ self.old) }
+        ensures evidence { IfErr result (ListRefusalHolds H.digest_of S.verified self.old.key) }
+        ensures spelled { AllByRecursion IsSignedRoot self.old.roots → AllByRecursion IsSignedRoot list.entry → IfErr result ListRefusalIsSpelled }
+        ensures form { AllByRecursion IsSignedRoot self.old.roots → AllByRecursion IsSignedRoot list.entry → AllByRecursion IsSignedRoot self.new.roots }
+        ensures chain { IsChain H.digest_of S.verified self.old }
+        ensures counted { H.digests hash.new ≤ H.digests hash.old + length list.entry }
+    {
+        self.roots.reserve(list.len())?;
+        let before = self.roots.len();
+        match self.take_each(hash, verifier, list) {
+            Ok(()) => Ok(()),
+            Err(why) => {
+                self.roots.truncate(before);
+                Err(why)
+            }
+        }
+    }
+
+    /// Takes the roots of a list up to the first that is refused.
+    fn take_each(
+        &mut self,
+        hash: &mut H,
+        verifier: &S,
+        list: RootList<'_>,
+    ) -> Result<(), ListRefusal>
+        ensures each { TakesEach H.digest_of S.verified self.old list.entry result self.new }
+        ensures counted { H.digests hash.new ≤ H.digests hash.old + length list.entry }
+    {
+        let mut list = list;
+        while let Some(root) = list.next() {
+            self.take_one(hash, verifier, root)?;
+        }
+        Ok(())
+    }
+
+    /// Takes one root of a list.
+    fn take_one(&mut self, hash: &mut H, verifier: &S, root: SignedRoot) -> Result<(), ListRefusal>
+        ensures one { TakesOne H.digest_of S.verified self.old root result self.new }
+        ensures counted { H.digests hash.new ≤ H.digests hash.old + 1 }
+    {
+        match self.take(hash, verifier, root) {
+            Ok(Place::Known | Place::Next) => Ok(()),
+            Ok(Place::BeforeStart) => Err(ListRefusal::BeforeStart),
+            Ok(Place::Ahead) => Err(ListRefusal::Ahead),
+            Ok(Place::Evidence(evidence)) => Err(ListRefusal::Evidence(evidence)),
+            Err(Refusal::BadSignature) => Err(ListRefusal::BadSignature),
+            Err(_) => Err(ListRefusal::Memory),
+        }
+    }
+}

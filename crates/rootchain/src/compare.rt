@@ -1,0 +1,40 @@
+ghost use Rattle.std.specs.Prelude.{◌≡◌};
+ghost use Rattle.rootchain.specs.Chains.{IsChain, KeyedRoots};
+ghost use Rattle.rootchain.specs.Comparisons.{told_by_place, IsCompared};
+
+use crate::{Place, RootEvidence};
+use encoding::Text;
+use nodehash::NodeHash;
+use sigiface::Verifier;
+
+/// The result of comparing two chains of one provider.
+#[derive(Debug, Drop)]
+pub enum Compare {
+    /// They agree.
+    Equal,
+    /// Two of their roots are evidence against the provider.
+    Evidence(RootEvidence),
+    /// The texts of two bodies have one digest. The first is of the first chain, the second of the second.
+    Collision(Text, Text),
+}
+
+impl Compare {
+    /// The result for two chains without a common epoch, from the place of the upper chain's first root in
+    /// the lower chain.
+    pub(crate) fn from_place(place: Place) -> Compare
+        ensures { result ≡ told_by_place place }
+    {
+        match place {
+            Place::Evidence(evidence) => Compare::Evidence(evidence),
+            Place::Known | Place::Next | Place::Ahead | Place::BeforeStart => Compare::Equal,
+        }
+    }
+}
+
+/// The definition allows exactly one result for two chains.
+pub fn comparison_is_unique<H: NodeHash, S: Verifier>()
+    ensures { (one other : KeyedRoots) (answer also : Compare)
+        → IsChain H.digest_of S.verified one → IsChain H.digest_of S.verified other
+        → IsCompared H.digest_of one other answer → IsCompared H.digest_of one other also
+        → answer ≡ also }
+{}
