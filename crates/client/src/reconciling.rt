@@ -6,6 +6,7 @@ ghost use Rattle.client.specs.Clients.{Look};
 ghost use Rattle.client.specs.declared.outcome.Outcome.TheVariants.{Agree};
 
 use crate::{Client, Outcome};
+use encoding::Name;
 use nodehash::NodeHash;
 use proofs::{Accepted, SameOr, same_or_collision};
 use rootchain::{Chain, Compare};
@@ -53,8 +54,11 @@ fn reconcile_looks<H: NodeHash, V: VufCheck, S: Verifier>(
     let Some(unlike) = one.looks().first_unlike(other.looks()) else {
         return Outcome::Agree;
     };
-    let first: Accepted<'_, H, V> = Accepted::again(hash, unlike.name, unlike.one);
-    let second: Accepted<'_, H, V> = Accepted::again(hash, unlike.name, unlike.other);
+    let Ok(name) = Name::new(unlike.name) else {
+        unreachable!()
+    };
+    let first: Accepted<'_, H, V> = Accepted::again(hash, &name, unlike.one);
+    let second: Accepted<'_, H, V> = Accepted::again(hash, &name, unlike.other);
     match same_or_collision(hash, &first, &second) {
         SameOr::Collision(x, y) => Outcome::Collision(x, y),
         SameOr::TwoValues => Outcome::TwoValues,
