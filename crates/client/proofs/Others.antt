@@ -132,10 +132,10 @@ module _ {X : Type 0} (bytes : X → List ℕ) where
     pub down-begun : (rest : Entries X) → rest ≡ below_of place entries → IsGoneDown rest None
     down-begun rest same = record { done = []; parts = append-nil rest ∙ same; found_in = tt }
 
-    pub not-beside : Entries X → Type 0
-    not-beside rest = (e : LookPlace × X) → IsIn rest e → ¬ AreBeside place e.0
+    abbrev pub NoneBeside : Entries X → Type 0
+    NoneBeside rest = (e : LookPlace × X) → IsIn rest e → ¬ AreBeside place e.0
 
-    pub none-left : not-beside []
+    pub none-left : NoneBeside []
     none-left = λ e is. absurd is
 
     module _ (x : LookPlace × X) (more rest : Entries X) (found : Option (List ℕ)) (gone : IsGoneDown rest found) (is : rest ≡ more ++ x ∷ []) where
@@ -158,7 +158,7 @@ module _ {X : Type 0} (bytes : X → List ℕ) where
       pub down-found : (reply : List ℕ) → IsOther x reply → IsGoneDown more (Some reply)
       down-found reply of = record { done = x ∷ gone.done; parts = down-parts; found_in = ([], x, gone.done, refl, of, tt) }
 
-      pub down-stops : ¬ AreBeside place x.0 → not-beside rest
+      pub down-stops : ¬ AreBeside place x.0 → NoneBeside rest
       down-stops apart = λ e in-rest beside.
           let sorted-all : AreSorted (rest ++ gone.done) = subst AreSorted (sym gone.parts) (filter-sorted _ entries all.sorted) in
           let sorted-rest : AreSorted (more ++ x ∷ []) = subst AreSorted is (sorted-front rest gone.done sorted-all) in
@@ -167,7 +167,7 @@ module _ {X : Type 0} (bytes : X → List ℕ) where
             | inr own ↦ elim own [ inl same ↦ apart (subst (λ (y : LookPlace × X). AreBeside place y.0) (sym same) beside) | inr never ↦ absurd never ]
           ]
 
-    module _ (rest : Entries X) (apart : not-beside rest) where
+    module _ (rest : Entries X) (apart : NoneBeside rest) where
       in-done : (done : Entries X) → rest ++ done ≡ below_of place entries → (n : ℕ) (look : Look) (w : IsEntry n look) → n < place.number → IsIn done w.entry
       in-done done parts n look w low = elim (in-parts rest done w.entry (subst (λ (es : Entries X). IsIn es w.entry) (sym parts) (in-below n look w low))) [
         | inl still ↦ absurd (apart w.entry still w.beside)
@@ -206,7 +206,7 @@ module _ {X : Type 0} (bytes : X → List ℕ) where
     -- ---- up
 
     module _ (below : AllStateBelow looks place.asked.name.items place.asked.epoch told place.number) where
-      pub all-state : (rest : Entries X) → not-beside rest → AreGone (States told) (from_of place entries) rest → AllState looks place.asked.name.items place.asked.epoch told
+      pub all-state : (rest : Entries X) → NoneBeside rest → AreGone (States told) (from_of place entries) rest → AllState looks place.asked.name.items place.asked.epoch told
       all-state rest apart gone = λ n look at named of_epoch. elim (cases_lt n place.number) [
         | inl low ↦ below n look low at named of_epoch
         | inr high ↦
@@ -227,7 +227,7 @@ module _ {X : Type 0} (bytes : X → List ℕ) where
         pub up-here : IsIn entries x
         up-here = (from-filter _ entries x up-in).0
 
-        pub up-stops : ¬ AreBeside place x.0 → not-beside rest
+        pub up-stops : ¬ AreBeside place x.0 → NoneBeside rest
         up-stops apart = λ e in-rest. none-above place x more sorted-rest (from-filter _ entries x up-in).1 apart e (subst (λ (es : Entries X). IsIn es e) is in-rest)
 
         pub up-found : (reply : List ℕ) → IsOther x reply → IsFirstOther looks place.asked.name.items place.asked.epoch told reply

@@ -89,7 +89,7 @@ impl Looks {
     /// The same, where those below the place state this.
     fn first_other_above<'a>(&'a self, place: &LookPlace, told: &Statement<'_>) -> Option<&'a [u8]>
         requires ones { AllByRecursion (λ look. SpellsOne look.reply) self.now }
-        requires below { AllStateBelow self.entry.now place.entry.now.asked.name.items place.entry.now.asked.epoch (key_stated told.entry.now) place.entry.now.number }
+        requires below { AllStateBelow self.now place.now.asked.name.items place.now.asked.epoch (key_stated told.now) place.now.number }
         ensures { MatchOption result
             (AllState self.entry.now place.entry.now.asked.name.items place.entry.now.asked.epoch (key_stated told.entry.now))
             (λ reply. IsFirstOther self.entry.now place.entry.now.asked.name.items place.entry.now.asked.epoch (key_stated told.entry.now) reply.now) }

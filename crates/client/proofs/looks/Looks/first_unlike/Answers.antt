@@ -50,14 +50,14 @@ pub loop-place-preserved : goal.loop-place-preserved
 loop-place-preserved c =
     let inv = c.loop-place.invariant in
     let x : LookPlace × Vec ℕ Global = (c.in-Some.place.now, c.in-Some.reply.now) in
-    let found : Found = record { number = x.0.number; name = x.0.asked.name.items; one = c.deref-in-loop-place.result.now; other = c.in-Some-first_other.other.now } in (
+    let found : Found = record { number = x.0.number; name = c.deref-in-loop-place.result.now; one = c.deref-in-loop-place-2.result.now; other = c.in-Some-first_other.other.now } in (
       inv.0,
       inv.1,
       taken items_of c.args.others.now inv.0 c.loop-place.place-iterator c.next.new.self x (found_of c.loop-place.found) inv.2 c.in-Some.ensures.steps found
           (record {
             number = refl;
-            name = refl;
-            one = c.deref-in-loop-place.ensures.value;
+            name = c.deref-in-loop-place.ensures.value;
+            one = c.deref-in-loop-place-2.ensures.value;
             other = λ read spelled.
                 subst (λ (told : Option (List ℕ)). IsFirstOther c.args.others.now x.0.asked.name.items x.0.asked.epoch told c.in-Some-first_other.other.now)
                 (c.statement.ensures read (subst (λ (bytes : List ℕ). Spells bytes read) (sym c.deref.ensures.value) spelled)) c.in-Some-first_other.ensures;
