@@ -1,5 +1,5 @@
 -- The looks for one name and epoch, gone through from a place down and up.
-use Rattle.std.proofs.Common.{◌≡◌, ◌≢◌, ◌↔◌, ◌⊎◌, inl, inr, ℕ, zero, suc, ◌<◌, ◌≤◌, List, [], ◌∷◌, ◌++◌, append_assoc, length, slice_get, Global, Vec, Option, Some, None, option_map, MatchOption, Bool, true, false, IsTrue, refl, sym, ap, subst, ◌∙◌, arith}
+use Rattle.std.proofs.Common.{◌≡◌, ◌≢◌, ◌↔◌, inl, inr, ℕ, zero, suc, ◌<◌, ◌≤◌, List, [], ◌∷◌, ◌++◌, append_assoc, slice_get, Global, Vec, Option, Some, None, option_map, MatchOption, Bool, true, false, IsTrue, refl, sym, ap, subst, ◌∙◌, arith}
 use Rattle.std.specs.List.{AllByRecursion}
 use Rattle.std.specs.List.Sorted.{IsStrictlySortedBy}
 use Rattle.std.specs.Map.{keys_of}
@@ -12,7 +12,7 @@ use Rattle.client.specs.Clients.{Look}
 use Rattle.client.specs.Numbered.{AreNumbered, in_order}
 use Rattle.client.specs.declared.looks.LookPlace.{LookPlace}
 use Rattle.client.proofs.Groups.{below-number, below_of, beside-below, beside-from, cmp_place, filter-sorted, from-filter, from_of, in-filter, in-parts, in-second, later-number, none-above, none-below, of-each, sorted, sorted-end, sorted-front, AreGone, AreSorted, Entries, IsIn}
-use Rattle.client.proofs.Seen.{seen, stored, IsStored}
+use Rattle.client.proofs.Seen.{seen, stored}
 
 abbrev pub items_of : Vec ℕ Global → List ℕ
 items_of reply = reply.items

@@ -1,5 +1,5 @@
 -- All looks of one client, gone through for the first that has an unlike partner.
-use Rattle.std.proofs.Common.{◌≡◌, ◌≢◌, ◌⊎◌, inl, inr, ℕ, zero, suc, ◌<◌, ◌≤◌, List, [], ◌∷◌, ◌++◌, append_assoc, length, slice_get, Option, Some, None, Contains, IsSomeAnd, MatchOption, refl, sym, ap, subst, ◌∙◌, arith}
+use Rattle.std.proofs.Common.{◌≡◌, ◌⊎◌, inl, inr, ℕ, ◌<◌, List, [], ◌∷◌, ◌++◌, append_assoc, length, slice_get, Option, Some, None, Contains, IsSomeAnd, MatchOption, refl, sym, ap, subst, ◌∙◌, arith}
 use Rattle.std.specs.List.{AllByRecursion}
 use Rattle.std.proofs.lemmas.Bool.{cases_lt}
 use Rattle.std.proofs.lemmas.List.{append-nil}
@@ -7,14 +7,12 @@ use Rattle.std.proofs.lemmas.Option.{get_or_from_slice_get, slice_get_read, slic
 use Rattle.proofs.specs.Accepts.{stated}
 use Rattle.proofs.specs.Replies.{Reply, Spells}
 use Rattle.proofs.proofs.Passing.{one_reply}
-use Rattle.client.specs.Agreements.{AllState, AreFirstUnlike, AreOfOne, HaveOneStatement, IsFirstOther, LookStates, LooksAgree, SpellsOne}
+use Rattle.client.specs.Agreements.{AllState, AreFirstUnlike, AreOfOne, HaveOneStatement, IsFirstOther, LooksAgree, SpellsOne}
 use Rattle.client.specs.Clients.{Look}
-use Rattle.client.specs.Numbered.{AreNumbered, in_order}
 use Rattle.client.specs.declared.looks.LookPlace.{LookPlace}
 use Rattle.client.specs.declared.looks.comparing.Unlike.{Unlike}
 use Rattle.client.proofs.Groups.{Entries, IsIn, in-second, of-each, one-more}
 use Rattle.client.proofs.Others.{look_of, spelled-at, AreAll}
-use Rattle.client.proofs.Seen.{seen, stored, IsStored}
 
 -- where an element stands
 pub at-place : {X : Type 0} (xs : List X) (x : X) (has : Contains xs x) → slice_get xs has.0 ≡ Some x

@@ -2,12 +2,10 @@
 -- that told them two things).
 use Rattle.std.specs.Prelude.{◌≡◌, ◌≢◌, ◌⊎◌, ℕ, ◌<◌, List, Option, Some, Contains, slice_get}
 use Rattle.nodehash.specs.Collisions.{IsCollision}
-use Rattle.rootchain.specs.Chains.{KeyedRoots}
 use Rattle.rootchain.specs.Comparisons.{ChainsAgree, IsCompared}
 use Rattle.rootchain.specs.Evidence.{BothAre, IsRootEvidence}
 use Rattle.rootchain.specs.SignedRoots.{IsSignedRoot}
 use Rattle.rootchain.specs.declared.compare.Compare.TheVariants as chains
-use Rattle.rootchain.specs.declared.evidence.RootEvidence.{RootEvidence}
 use Rattle.proofs.specs.Accepts.{stated}
 use Rattle.proofs.specs.Comparisons.{Answers}
 use Rattle.proofs.specs.Replies.{Reply, Spells}

@@ -1,5 +1,5 @@
-use Rattle.std.proofs.Common.{◌≡◌, ℕ, List, [], Option, Vec, Global, inl, inr, refl, sym, subst, ◌∙◌}
-use Rattle.proofs.specs.Replies.{Reply, Spells}
+use Rattle.std.proofs.Common.{ℕ, List, [], Option, Vec, Global, inl, inr, refl, sym, subst, ◌∙◌}
+use Rattle.proofs.specs.Replies.{Spells}
 use Rattle.client.specs.Agreements.{AllState, IsFirstOther}
 use Rattle.client.specs.Clients.{Look}
 use Rattle.client.specs.declared.looks.LookPlace.{LookPlace}
