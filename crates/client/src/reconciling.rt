@@ -13,8 +13,8 @@ use rootchain::{Chain, Compare};
 use sigiface::Verifier;
 use vrfiface::VufCheck;
 
-/// What two clients of one provider come to, whatever bytes made them (after CONIKS, section 4). A client
-/// may be reconciled with itself.
+/// Reconciles two clients of one provider, whatever bytes made them (after CONIKS, section 4). A client may
+/// be reconciled with itself.
 ///
 /// First their chains are compared. If these agree, the looks are: of the pairs of a look of the first client
 /// and a look of the second for one name and epoch, in order of acceptance, the first that states two things
@@ -42,7 +42,7 @@ pub fn reconcile<H: NodeHash, V: VufCheck, S: Verifier>(
     }
 }
 
-/// What the looks of two clients come to whose chains agree.
+/// Reconciles the looks of two clients whose chains agree.
 fn reconcile_looks<H: NodeHash, V: VufCheck, S: Verifier>(
     hash: &mut H,
     one: &Client<H, V, S>,
