@@ -256,10 +256,10 @@ fn run_all(rt: &(impl Print + Input), alloc: Global) -> Result<()> {
     run(rt, alloc, "hub", &[5, 3, 16, 2])?;
     run(rt, alloc, "feed", &[3, 2])?;
     run(rt, alloc, "audit", &[5, 3, 2, 2, 1])?;
-    run(rt, alloc, "looks", &[3, 4, 4, 2, 2])?;
+    run(rt, alloc, "looks", &[3, 12, 4, 2, 2])?;
     run(rt, alloc, "updates", &[1, 2, 1])?;
-    run(rt, alloc, "watch", &[4, 2, 2])?;
-    run(rt, alloc, "clients", &[4, 3, 1, 2, 2])
+    run(rt, alloc, "watch", &[12, 2, 2])?;
+    run(rt, alloc, "clients", &[12, 3, 1, 2, 2])
 }
 
 fn main(rt: HostRuntime) -> Result<()> {

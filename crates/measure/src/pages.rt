@@ -4,9 +4,9 @@ use crate::roots::{bodies, first_body, lists, provider, provider_vuf, signed};
 use anyhow::{Context, Result};
 use client::Client;
 use commit::commit;
-use encoding::{Hash32, KeyData, Name, ProofText, Small};
-use nodehash::Sha256Hash;
-use prefixtree::{Item, Path};
+use encoding::{Hash32, Index, KeyData, Name, ProofText, Small};
+use nodehash::{NodeHash, Sha256Hash};
+use prefixtree::Tree;
 use proofs::{End, ReplyView, Statement, check, make};
 use rootchain::Body;
 use sigiface::{KeyedSign, Signer};
@@ -30,29 +30,25 @@ pub(crate) struct Sizes {
 struct Held {
     name: Name,
     value: Small,
+    index: Index,
     salt: Hash32,
     key: KeyData,
 }
 
 impl Held {
-    /// What the provider holds for the name of this number, and its item.
-    fn new(vuf: &KeyedVuf, number: u64) -> Result<(Held, Item)> {
-        let mut hash = Sha256Hash::new();
+    /// What the provider holds for the name of this number.
+    fn new(vuf: &KeyedVuf, number: u64) -> Result<Held> {
         let name = Name::new(&name_of(number))?;
         let key = KeyData::new(&key_of(number, 1))?;
         let salt = Hash32::new(key_of(number, 2));
         let value = vuf.value(&name);
-        let item = (
-            index_of(&mut hash, value.bytes()),
-            commit(&mut hash, &salt, &name, &key),
-        );
-        let held = Held {
+        Ok(Held {
+            index: index_of(&mut Sha256Hash::new(), value.bytes()),
             name,
             value,
             salt,
             key,
-        };
-        Ok((held, item))
+        })
     }
 }
 
@@ -60,7 +56,7 @@ impl Held {
 #[derive(Drop)]
 pub(crate) struct Pages {
     held: Vec<Held>,
-    paths: Vec<Path>,
+    tree: Tree<Sha256Hash>,
     bodies: Vec<Body>,
 }
 
@@ -74,19 +70,17 @@ pub(crate) struct Answered {
 
 impl Pages {
     pub(crate) fn new(alloc: Global, sizes: &Sizes) -> Result<Pages> {
+        let mut hash = Sha256Hash::new();
         let vuf = provider_vuf();
         let mut held = Vec::with_capacity(alloc, sizes.names)?;
         let mut items = Vec::with_capacity(alloc, sizes.names)?;
         for number in 0..sizes.names as u64 {
-            let (one, item) = Held::new(&vuf, number)?;
+            let one = Held::new(&vuf, number)?;
+            let commitment = commit(&mut hash, &one.salt, &one.name, &one.key);
+            items.push((one.index, commitment))?;
             held.push(one)?;
-            items.push(item)?;
         }
-        let tree = tree_around(alloc, &mut Sha256Hash::new(), &items, sizes.siblings)?;
-        let mut paths = Vec::with_capacity(alloc, sizes.names)?;
-        for (index, _) in &items {
-            paths.push(tree.path(index))?;
-        }
+        let tree = tree_around(alloc, &mut hash, &items, sizes.siblings)?;
         let first = Body {
             root: tree.root(),
             nonce: Hash32::default(),
@@ -94,7 +88,7 @@ impl Pages {
         };
         Ok(Pages {
             held,
-            paths,
+            tree,
             bodies: bodies(alloc, first, sizes.roots)?,
         })
     }
@@ -131,12 +125,11 @@ impl Pages {
     /// The reply to a look-up of the name of this number.
     pub(crate) fn reply(&self, number: usize, body: &Body) -> Result<ProofText> {
         let held = self.held.get(number).context("there is no such name")?;
-        let path = self.paths.get(number).context("there is no such name")?;
         let end = End::Present {
             salt: held.salt,
             key: &held.key,
         };
-        Ok(make(body, &held.value, &end, path))
+        Ok(make(body, &held.value, &end, &self.tree.path(&held.index)))
     }
 
     /// A look-up of the name of this number under the root of this place.
