@@ -9,7 +9,7 @@ use std::test::Fail;
 
 /// A client that starts with the page that binds `ab`, and the replies that state `ab` and `ba` under its
 /// root.
-fn shown(alloc: Global) -> Result<(super::Watching, ProofText, ProofText), AllocError> {
+pub(super) fn shown(alloc: Global) -> Result<(super::Watching, ProofText, ProofText), AllocError> {
     let key = KeyData::new(b"ab").map_err(|_| AllocError)?;
     let twin = KeyData::new(b"ba").map_err(|_| AllocError)?;
     let page = signed_page(alloc, 3, &earlier(), Some(&key))?;
@@ -19,7 +19,7 @@ fn shown(alloc: Global) -> Result<(super::Watching, ProofText, ProofText), Alloc
 
 /// What two clients come to: 0 where they agree, 1 for evidence, 2 for a collision, 3 for two values, 4
 /// where they are of two providers.
-fn told(one: &super::Watching, other: &super::Watching) -> u8 {
+pub(super) fn told(one: &super::Watching, other: &super::Watching) -> u8 {
     if *one.key() != *other.key() {
         return 4;
     }
