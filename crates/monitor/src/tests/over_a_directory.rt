@@ -154,9 +154,9 @@ fn found(
     client: &mut Asking,
     name: &Name,
     epoch: u64,
-    reply: &ProofText,
+    reply: &[u8],
 ) -> Result<Result<Option<KeyData>, u8>, AllocError> {
-    match client.look(&mut Sha256Hash::new(), &vuf(), name, epoch, reply.bytes()) {
+    match client.look(&mut Sha256Hash::new(), &vuf(), name, epoch, reply) {
         Ok(statement) => Ok(Ok(key_of(statement))),
         Err(client::Refusal::Memory) => Err(AllocError),
         Err(why) => Ok(Err(why.number())),
@@ -173,8 +173,8 @@ fn promise_kept(client: &mut Asking, promise: &ProofText) -> Result<Option<u8>, 
 }
 
 /// What a reply tells of the promise that is due, or the number of the refusal.
-fn due(client: &mut Asking, name: &Name, reply: &ProofText) -> Result<Due, u8> {
-    let due = client.due(&mut Sha256Hash::new(), &vuf(), name, reply.bytes());
+fn due(client: &mut Asking, name: &Name, reply: &[u8]) -> Result<Due, u8> {
+    let due = client.due(&mut Sha256Hash::new(), &vuf(), name, reply);
     due.map_err(|why| why.number())
 }
 
@@ -192,8 +192,8 @@ fn change_expected(
 }
 
 /// What the monitor tells of a reply, or the number of its refusal.
-fn told(monitor: &mut Watching, reply: &ProofText) -> Result<Result<Told, u8>, AllocError> {
-    match monitor.step(&mut Sha256Hash::new(), &vuf(), reply.bytes()) {
+fn stepped(monitor: &mut Watching, reply: &[u8]) -> Result<Result<Told, u8>, AllocError> {
+    match monitor.step(&mut Sha256Hash::new(), &vuf(), reply) {
         Ok(Step::Kept) => Ok(Ok(Told::Kept)),
         Ok(Step::Alarm { epoch, found }) => {
             let found = key_of(found);
@@ -225,7 +225,7 @@ fn told_of(
     epoch: u64,
 ) -> Result<Result<Told, u8>, AllocError> {
     match reply(directory, b"a", epoch) {
-        Ok(reply) => told(monitor, &reply),
+        Ok(reply) => stepped(monitor, reply.bytes()),
         Err(number) => Ok(Err(number)),
     }
 }
@@ -236,7 +236,9 @@ fn a_watched_name_its_change_and_the_alarm(rt: HostRuntime) -> Result<(), Fail> 
     let mut directory = started(alloc)?;
     let mut monitor = watching(alloc, &directory, Name::new(b"a")?)?;
     assert_eq!(rt; told_of(&mut directory, &mut monitor, 1)?, Ok(Told::Kept));
-    let promise = registered(&mut directory, b"a", b"k")?.ok().ok_or("refused")?;
+    let promise = registered(&mut directory, b"a", b"k")?
+        .ok()
+        .ok_or("refused")?;
     let key = KeyData::new(b"k")?;
     assert_eq!(rt; change_expected(&mut monitor, &key, &promise)?, None);
     assert_eq!(rt; next_epoch(alloc, &mut directory, &mut monitor, 2)?, None);
@@ -258,7 +260,9 @@ fn a_change_by_someone_else_is_refused_while_one_waits(rt: HostRuntime) -> Resul
     let mut directory = started(alloc)?;
     let mut monitor = watching(alloc, &directory, Name::new(b"a")?)?;
     assert_eq!(rt; told_of(&mut directory, &mut monitor, 1)?, Ok(Told::Kept));
-    let promise = registered(&mut directory, b"a", b"k")?.ok().ok_or("refused")?;
+    let promise = registered(&mut directory, b"a", b"k")?
+        .ok()
+        .ok_or("refused")?;
     let key = KeyData::new(b"k")?;
     assert_eq!(rt; change_expected(&mut monitor, &key, &promise)?, None);
     assert_eq!(rt; next_epoch(alloc, &mut directory, &mut monitor, 2)?, None);
@@ -286,7 +290,7 @@ fn tested(
     let list = roots(alloc, directory, 2, 1)?;
     let _ = client_took(&mut client, &list)?;
     let told = match reply(directory, name.bytes(), 2) {
-        Ok(reply) => due(&mut client, name, &reply),
+        Ok(reply) => due(&mut client, name, reply.bytes()),
         Err(number) => Err(number),
     };
     Ok((told, client.due_epoch(name)))

@@ -158,7 +158,7 @@ fn ask(
         return Ok(());
     };
     caller.keep(rt, page, name, key, &promise)?;
-    if name == 0 && numbers.below(4) != 0 {
+    if name == 0 && numbers.below(8) != 0 {
         owner.asked(page, key, promise);
     }
     Ok(())
@@ -171,7 +171,7 @@ fn compare_with_plain(rt: &impl Abort, alloc: Global) -> Result<(), AllocError> 
     let mut caller = Caller::new(alloc, &book)?;
     let mut owner = Owner::new(rt, alloc, &book)?;
     for _ in 0..EPOCHS {
-        for _ in 0..numbers.below(4) {
+        for _ in 0..numbers.below(3) {
             ask(rt, &mut numbers, &mut book, &mut caller, &mut owner)?;
         }
         let step = 1 + numbers.below(3) as u64;

@@ -43,7 +43,8 @@ impl Caller {
             return Ok(());
         }
         assert_eq!(rt; refused, None);
-        self.promises.push(Kept { page, name, key })
+        self.promises.push(Kept { page, name, key })?;
+        Ok(())
     }
 
     /// Makes some calls.
@@ -55,14 +56,16 @@ impl Caller {
         book: &mut Book,
     ) -> Result<(), AllocError> {
         if numbers.below(2) == 0 {
-            let from = self.known.saturating_add(1).saturating_sub(numbers.below(4));
+            let from = self
+                .known
+                .saturating_add(1)
+                .saturating_sub(numbers.below(4));
             let count = [1, 3, 64][numbers.below(3)];
             self.update(rt, alloc, from.min(book.latest()), count, book)?;
         }
-        for _ in 0..3 {
-            self.look(rt, numbers, book)?;
-        }
-        self.test(rt, numbers.below(NAMES.len()), book)
+        self.look(rt, numbers, book)?;
+        self.test(rt, numbers.below(NAMES.len()), book);
+        Ok(())
     }
 
     /// Takes the roots of pages.
@@ -114,43 +117,44 @@ impl Caller {
             Ok(book.key(page, name).and_then(key_data))
         };
         let name = Name::new(name_at(name)).expect(rt, "a name");
-        assert_eq!(rt; found(&mut self.client, &name, epoch, &reply)?, wanted);
+        assert_eq!(rt;
+            found(&mut self.client, &name, epoch, reply.bytes())?,
+            wanted
+        );
         Ok(())
     }
 
-    /// The place of the name's promise that is tested next: of the first page, and of equals the first.
-    fn first(&self, name: usize) -> Option<usize> {
-        let mut first: Option<(usize, usize)> = None;
+    /// The name's promise that is tested next, with its place: the one of the first page, and of equals the
+    /// first.
+    fn first(&self, name: usize) -> Option<(usize, Kept)> {
+        let mut first: Option<(usize, Kept)> = None;
         for (place, kept) in self.promises.iter().enumerate() {
-            if kept.name == name && first.is_none_or(|(_, page)| kept.page < page) {
-                first = Some((place, kept.page));
+            if kept.name == name && first.is_none_or(|(_, other)| kept.page < other.page) {
+                first = Some((place, *kept));
             }
         }
-        first.map(|(place, _)| place)
+        first
     }
 
     /// Tests the name's promise that is due.
-    fn test(&mut self, rt: &impl Abort, name: usize, book: &mut Book) -> Result<(), AllocError> {
-        let place = self.first(name);
-        let kept = place.and_then(|place| self.promises.get(place).copied());
-        let next = kept.map_or(0, |kept| kept.page.saturating_add(1));
-        let is_known = kept.is_some() && next < self.known;
-        let reply = book.reply(rt, next, name);
+    fn test(&mut self, rt: &impl Abort, name: usize, book: &mut Book) {
         let asked = Name::new(name_at(name)).expect(rt, "a name");
-        let epoch = self.client.due_epoch(&asked);
-        assert_eq!(rt; epoch, if is_known { Some(book.epoch(next)) } else { None });
-        let told = due(&mut self.client, &asked, &reply);
-        let (Some(place), Some(kept)) = (place, kept) else {
-            assert_eq!(rt; told.err(), Some(23));
-            return Ok(());
+        let Some((place, kept)) = self.first(name) else {
+            assert_eq!(rt; self.client.due_epoch(&asked), None);
+            assert_eq!(rt; due(&mut self.client, &asked, b"").err(), Some(23));
+            return;
         };
-        if !is_known {
-            assert_eq!(rt; told.err(), Some(20));
-            return Ok(());
+        let next = kept.page.saturating_add(1);
+        if self.known <= next {
+            assert_eq!(rt; self.client.due_epoch(&asked), None);
+            assert_eq!(rt; due(&mut self.client, &asked, b"").err(), Some(20));
+            return;
         }
+        assert_eq!(rt; self.client.due_epoch(&asked), Some(book.epoch(next)));
         assert_eq!(rt; book.key(next, name), Some(kept.key));
+        let reply = book.reply(rt, next, name);
+        let told = due(&mut self.client, &asked, reply.bytes());
         assert!(rt; matches!(told, Ok(Due::Kept)));
         let _ = self.promises.remove(place);
-        Ok(())
     }
 }

@@ -51,12 +51,15 @@ impl Owner {
         book: &mut Book,
     ) -> Result<(), AllocError> {
         if numbers.below(2) == 0 {
-            self.expect(rt, numbers.below(8) == 0)?;
-        }
-        if numbers.below(2) == 0 {
-            let from = self.known.saturating_add(1).saturating_sub(numbers.below(4));
+            let from = self
+                .known
+                .saturating_add(1)
+                .saturating_sub(numbers.below(4));
             let count = [1, 3, 64][numbers.below(3)];
             self.update(rt, alloc, from.min(book.latest()), count, book)?;
+        }
+        if numbers.below(4) != 0 {
+            self.expect(rt, numbers.below(8) == 0)?;
         }
         for _ in 0..numbers.below(4) {
             if numbers.below(8) == 0 {
@@ -136,7 +139,7 @@ impl Owner {
             return Ok(());
         }
         let reply = book.reply(rt, page, 0);
-        assert_eq!(rt; told(&mut self.monitor, &reply)?, Err(3));
+        assert_eq!(rt; stepped(&mut self.monitor, reply.bytes())?, Err(3));
         Ok(())
     }
 
@@ -144,10 +147,9 @@ impl Owner {
     fn step(&mut self, rt: &impl Abort, book: &mut Book) -> Result<(), AllocError> {
         let page = self.watched;
         let epoch = book.epoch(page);
-        let reply = book.reply(rt, page.min(book.latest()), 0);
         if self.known <= page {
             assert_eq!(rt; self.monitor.next_epoch(), None);
-            assert_eq!(rt; told(&mut self.monitor, &reply)?, Err(20));
+            assert_eq!(rt; stepped(&mut self.monitor, b"")?, Err(20));
             return Ok(());
         }
         assert_eq!(rt; self.monitor.next_epoch(), Some(epoch));
@@ -159,7 +161,8 @@ impl Owner {
             let found = key.and_then(key_data);
             Told::Alarm { epoch, found }
         };
-        assert_eq!(rt; told(&mut self.monitor, &reply)?, Ok(wanted));
+        let reply = book.reply(rt, page, 0);
+        assert_eq!(rt; stepped(&mut self.monitor, reply.bytes())?, Ok(wanted));
         self.watched = page.saturating_add(1);
         Ok(())
     }
@@ -172,8 +175,9 @@ impl Owner {
         book: &mut Book,
     ) -> Result<(), AllocError> {
         for _ in 0..EPOCHS {
-            let from = self.known.min(book.latest());
-            self.update(rt, alloc, from, 64, book)?;
+            if self.known < book.pages.len() {
+                self.update(rt, alloc, self.known, 64, book)?;
+            }
             if self.watched < self.known {
                 self.step(rt, book)?;
             }
