@@ -64,18 +64,8 @@ fn contradicts<H: NodeHash, V: VufCheck>(
 {
     match accept(hash, vuf, body, &promise.name, bytes) {
         Ok(reply) => {
-            reply.index() == promise.index && !is_of_key(reply.statement(), &promise.key)
+            reply.index() == promise.index && !reply.statement().binds(&promise.key)
         }
         Err(_) => false,
-    }
-}
-
-/// Whether it states this key.
-fn is_of_key(statement: Statement<'_>, key: &KeyData) -> bool
-    ensures { IsTrue result ↔ (key_stated statement.entry ≡ Some key.now) }
-{
-    match statement {
-        Statement::Present(stated) => stated == key.bytes(),
-        Statement::Absent => false,
     }
 }

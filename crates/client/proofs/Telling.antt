@@ -122,9 +122,3 @@ module _ (hash : List ℕ → List ℕ) (accepted : List ℕ → List ℕ → Li
     looks-spelled (Evidence evidence) is = absurd is
     looks-spelled (Collision x y) is = tt
     looks-spelled TwoValues is = tt
-
--- what holds of both roots of the chains' evidence
-pub both-are : (P : SignedRoot → Type 0) (evidence : RootEvidence) → EvidenceIs P (chains.Evidence evidence) → BothAre P evidence
-both-are P (Fork root also) is = is
-both-are P (Link root also) is = is
-both-are P (Skip root also) is = is

@@ -85,7 +85,7 @@ fn tell<H: NodeHash, V: VufCheck>(
     if accepted.index() != signed.promise.index {
         return Due::OtherIndex;
     }
-    if is_of_key(accepted.statement(), &signed.promise.key) {
+    if accepted.statement().binds(&signed.promise.key) {
         return Due::Kept;
     }
     let mut proof = ProofText::new();
@@ -95,14 +95,4 @@ fn tell<H: NodeHash, V: VufCheck>(
         root: root.copied(),
         proof,
     })
-}
-
-/// Whether it states this key.
-fn is_of_key(statement: Statement<'_>, key: &KeyData) -> bool
-    ensures { IsTrue result ↔ (key_stated statement.entry ≡ Some key.now) }
-{
-    match statement {
-        Statement::Present(stated) => stated == key.bytes(),
-        Statement::Absent => false,
-    }
 }
