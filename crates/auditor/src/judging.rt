@@ -1,12 +1,11 @@
-ghost use Rattle.std.specs.Prelude.{◌≡◌, ◌↔◌, ◌+◌, ◌≤◌, IsTrue, Some};
+ghost use Rattle.std.specs.Prelude.{◌≡◌, ◌↔◌, ◌+◌, ◌≤◌, IsTrue};
 ghost use Rattle.auditor.specs.Evidence.{IsEvidence};
 ghost use Rattle.proofs.specs.BrokenPromises.{Contradicts, IsBrokenPromise};
-ghost use Rattle.proofs.specs.Views.{key_stated};
 
 use crate::Evidence;
-use encoding::{Hash32, KeyData};
+use encoding::Hash32;
 use nodehash::NodeHash;
-use proofs::{BrokenPromise, Statement, accept};
+use proofs::{BrokenPromise, accept};
 use rootchain::{Body, Promise};
 use sigiface::Verifier;
 use vrfiface::VufCheck;

@@ -1,15 +1,14 @@
-ghost use Rattle.std.specs.Prelude.{◌≡◌, ◌↔◌, ◌++◌, ◌∷◌, [], List, IsTrue, Some, length};
+ghost use Rattle.std.specs.Prelude.{◌≡◌, ◌++◌, ◌∷◌, [], List, length};
 ghost use Rattle.proofs.specs.Replies.{Spells};
-ghost use Rattle.proofs.specs.Views.{key_stated};
 ghost use Rattle.rootchain.specs.Chains.{IsChain};
 ghost use Rattle.rootchain.specs.declared.signed_promise.SignedPromise.{SignedPromise};
 ghost use Rattle.client.specs.Dues.{IsTold, Tests};
 ghost use Rattle.client.specs.Testing.{IsTestedAmong};
 
 use crate::{Due, Refusal};
-use encoding::{KeyData, Name, ProofText};
+use encoding::{Name, ProofText};
 use nodehash::NodeHash;
-use proofs::{Accepted, BrokenPromise, Statement, accept};
+use proofs::{Accepted, BrokenPromise, accept};
 use rootchain::{Chain, SignedPromise, SignedRoot};
 use sigiface::Verifier;
 use vrfiface::VufCheck;
