@@ -1,5 +1,6 @@
 //! What no clause says: that calls go through where there is memory, and the worked rows.
 
+mod calls;
 mod generated;
 mod memory;
 mod refusals;
@@ -64,10 +65,10 @@ fn handle(
     event: &Event<'_>,
     output: &mut Vec<u8>,
 ) -> Result<(), HubRefusal> {
-    match hub.event(event, output) {
-        Err(HubRefusal::Memory { taken: false }) => hub.event(event, output),
+    match calls::event(hub, event, output) {
+        Err(HubRefusal::Memory { taken: false }) => calls::event(hub, event, output),
         Err(HubRefusal::Memory { taken: true }) => {
-            hub.event(&Event::Bytes(event.session(), &[]), output)
+            calls::event(hub, &Event::Bytes(event.session(), &[]), output)
         }
         answer => answer,
     }

@@ -1,3 +1,4 @@
+mod calls;
 mod compared;
 mod crafted;
 mod honest;
@@ -75,8 +76,7 @@ fn judged<'a, H: NodeHash, V: VufCheck>(
     name: &Name,
     bytes: &'a [u8],
 ) -> Result<Statement<'a>, Refusal> {
-    let view = ReplyView::read(bytes)?;
-    let accepted = check(hash, vuf, body, name, &view)?;
+    let accepted = calls::accept(hash, vuf, body, name, bytes)?;
     Ok(accepted.statement())
 }
 
