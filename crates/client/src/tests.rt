@@ -2,7 +2,7 @@
 
 use super::*;
 use commit::commit;
-use encoding::{Hash32, KeyData, Name, ProofText};
+use encoding::{Hash32, Index, KeyData, Name, ProofText};
 use nodehash::{NodeHash, SumHash};
 use prefixtree::Tree;
 use proofs::{End, Statement, make};
@@ -12,6 +12,7 @@ use std::alloc::{AllocError, Global};
 use std::test::Fail;
 use vrfiface::{PlainVuf, Vuf, index_of};
 
+mod memory;
 mod reconciling;
 
 /// A client of the provider.
@@ -322,6 +323,55 @@ fn next_root_with_the_promised_key(rt: HostRuntime) -> Result<(), Fail> {
     let (mut client, reply) = owed(rt.alloc(), Some(&KeyData::new(b"k1")?))?;
     assert_eq!(rt; tested_by(&mut client, &reply)?, 0);
     assert_eq!(rt; tested_by(&mut client, &reply)?, 23);
+    Ok(())
+}
+
+#[test]
+fn reply_of_another_index_than_the_promised_one(rt: HostRuntime) -> Result<(), Fail> {
+    let key = KeyData::new(b"k1")?;
+    let first = signed_page(rt.alloc(), 3, &earlier(), None)?;
+    let next = signed_page(rt.alloc(), 7, &first.root.body, Some(&key))?;
+    let mut signed = promise(&first.root, &key)?;
+    signed.promise.index = Index::new([7; 32]);
+    signed.signature = provider().sign(signed.promise.write().bytes());
+    let mut client = started(rt.alloc(), &first.root)?;
+    assert_eq!(rt; kept(&mut client, &signed)?, Ok(()));
+    let updated = updated(rt.alloc(), &mut client, &first.root, &next.root)?;
+    assert_eq!(rt; updated, Ok(()));
+    assert_eq!(rt; tested_by(&mut client, &next.reply)?, 2);
+    // The promise stays.
+    assert_eq!(rt; tested_by(&mut client, &next.reply)?, 2);
+    Ok(())
+}
+
+#[test]
+fn two_promises_of_one_epoch(rt: HostRuntime) -> Result<(), Fail> {
+    let key = KeyData::new(b"k1")?;
+    let other = KeyData::new(b"k2")?;
+    let (mut client, reply) = owed(rt.alloc(), Some(&key))?;
+    let first = signed_page(rt.alloc(), 3, &earlier(), None)?;
+    assert_eq!(rt; kept(&mut client, &promise(&first.root, &other)?)?, Ok(()));
+    assert_eq!(rt; kept(&mut client, &promise(&first.root, &key)?)?, Ok(()));
+    assert_eq!(rt; tested_by(&mut client, &reply)?, 0);
+    // That of `k2` comes before the second one of `k1`.
+    assert_eq!(rt; tested_by(&mut client, &reply)?, 1);
+    Ok(())
+}
+
+#[test]
+fn promise_of_an_earlier_epoch_that_was_kept_later(rt: HostRuntime) -> Result<(), Fail> {
+    let key = KeyData::new(b"k1")?;
+    let first = signed_page(rt.alloc(), 3, &earlier(), None)?;
+    let next = signed_page(rt.alloc(), 7, &first.root.body, None)?;
+    let last = signed_page(rt.alloc(), 9, &next.root.body, Some(&key))?;
+    let mut client = started(rt.alloc(), &first.root)?;
+    let updated = updated(rt.alloc(), &mut client, &next.root, &last.root)?;
+    assert_eq!(rt; updated, Ok(()));
+    assert_eq!(rt; kept(&mut client, &promise(&next.root, &key)?)?, Ok(()));
+    assert_eq!(rt; client.due_epoch(&name()?), Some(9));
+    assert_eq!(rt; kept(&mut client, &promise(&first.root, &key)?)?, Ok(()));
+    assert_eq!(rt; client.due_epoch(&name()?), Some(7));
+    assert_eq!(rt; tested_by(&mut client, &next.reply)?, 1);
     Ok(())
 }
 

@@ -14,15 +14,15 @@ use vrfiface::{PlainVuf, Vuf};
 /// A client that starts with the page that binds `ab`, and replies under its root that state `ab`, `ba`
 /// and no key.
 #[derive(Drop)]
-struct Shown {
-    client: Watching,
-    ab: ProofText,
-    ba: ProofText,
+pub(super) struct Shown {
+    pub(super) client: Watching,
+    pub(super) ab: ProofText,
+    pub(super) ba: ProofText,
     absent: ProofText,
 }
 
 /// The page, shown in three ways.
-fn shown(alloc: Global) -> Result<Shown, AllocError> {
+pub(super) fn shown(alloc: Global) -> Result<Shown, AllocError> {
     let key = KeyData::new(b"ab").map_err(|_| AllocError)?;
     let twin = KeyData::new(b"ba").map_err(|_| AllocError)?;
     let page = signed_page(alloc, 3, &earlier(), Some(&key))?;
@@ -52,6 +52,11 @@ fn reconciled(one: &Watching, other: &Watching) -> Option<Outcome> {
         return None;
     }
     Some(reconcile(&mut SumHash::new(), one, other))
+}
+
+/// Whether they agree.
+pub(super) fn agree(one: &Watching, other: &Watching) -> bool {
+    matches!(reconciled(one, other), Some(Outcome::Agree))
 }
 
 /// Whether it is a collision of these two texts.
@@ -97,8 +102,7 @@ fn interior() -> [u8; 64] {
 fn one_client_with_two_replies_of_one_epoch(rt: HostRuntime) -> Result<(), Fail> {
     let mut shown = shown(rt.alloc())?;
     assert!(rt; looked_up(&mut shown.client, 3, &shown.ab)?.is_ok());
-    let outcome = reconciled(&shown.client, &shown.client);
-    assert!(rt; matches!(outcome, Some(Outcome::Agree)));
+    assert!(rt; agree(&shown.client, &shown.client));
 
     assert!(rt; looked_up(&mut shown.client, 3, &shown.ba)?.is_ok());
     let outcome = reconciled(&shown.client, &shown.client);
@@ -122,11 +126,9 @@ fn two_clients_with_one_reply_each(rt: HostRuntime) -> Result<(), Fail> {
 fn two_clients_that_saw_one_thing(rt: HostRuntime) -> Result<(), Fail> {
     let (mut one, mut other) = (shown(rt.alloc())?, shown(rt.alloc())?);
     assert!(rt; looked_up(&mut one.client, 3, &one.ab)?.is_ok());
-    let outcome = reconciled(&one.client, &other.client);
-    assert!(rt; matches!(outcome, Some(Outcome::Agree)));
+    assert!(rt; agree(&one.client, &other.client));
     assert!(rt; looked_up(&mut other.client, 0, &one.ab)?.is_ok());
-    let outcome = reconciled(&one.client, &other.client);
-    assert!(rt; matches!(outcome, Some(Outcome::Agree)));
+    assert!(rt; agree(&one.client, &other.client));
     Ok(())
 }
 
