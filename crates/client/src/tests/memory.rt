@@ -11,7 +11,7 @@ fn start_tried_again(rt: HostRuntime) -> Result<(), Fail> {
         Ok(client) => client,
         Err(_) => started(rt.alloc(), &first.root)?,
     };
-    assert_eq!(rt; client.chain().head().body.epoch, 3);
+    assert_eq!(rt; head_epoch(&client), 3);
     Ok(())
 }
 
@@ -22,11 +22,11 @@ fn refused_update_takes_no_root(rt: HostRuntime) -> Result<(), Fail> {
     let last = signed_page(rt.alloc(), 9, &next.root.body, None)?;
     let mut client = started(rt.alloc(), &first.root)?;
     if updated(rt.alloc(), &mut client, &next.root, &last.root).is_err() {
-        assert_eq!(rt; client.chain().head().body.epoch, 3);
+        assert_eq!(rt; head_epoch(&client), 3);
         let again = updated(rt.alloc(), &mut client, &next.root, &last.root)?;
-        assert_eq!(rt; again, Ok(()));
+        assert_eq!(rt; again, None);
     }
-    assert_eq!(rt; client.chain().head().body.epoch, 9);
+    assert_eq!(rt; head_epoch(&client), 9);
     Ok(())
 }
 
@@ -51,12 +51,12 @@ fn refused_promise_is_not_kept(rt: HostRuntime) -> Result<(), Fail> {
     let signed = promise(&first.root, &key)?;
     let mut client = started(rt.alloc(), &first.root)?;
     let updated = updated(rt.alloc(), &mut client, &first.root, &next.root)?;
-    assert_eq!(rt; updated, Ok(()));
+    assert_eq!(rt; updated, None);
     if kept(&mut client, &signed).is_err() {
-        assert_eq!(rt; client.due_epoch(&name()?), None);
-        assert_eq!(rt; kept(&mut client, &signed)?, Ok(()));
+        assert_eq!(rt; due_epoch(&client)?, None);
+        assert_eq!(rt; kept(&mut client, &signed)?, None);
     }
-    assert_eq!(rt; tested_by(&mut client, &next.reply)?, 0);
-    assert_eq!(rt; tested_by(&mut client, &next.reply)?, 23);
+    assert_eq!(rt; tested_by(&mut client, &next.reply)?, Tested::Kept);
+    assert_eq!(rt; tested_by(&mut client, &next.reply)?, Tested::Refused(23));
     Ok(())
 }
