@@ -16,6 +16,7 @@ use rand_core::SeedableRng;
 use rootchain::{MAX_ROOTS, write_list};
 use sigiface::{KeyedSign, Signer};
 use std::alloc::{AllocError, Global};
+use std::process::Abort;
 use std::test::Fail;
 use vrfiface::KeyedVuf;
 
@@ -28,11 +29,13 @@ type Asking = Client<Sha256Hash, KeyedVuf, KeyedSign>;
 /// A monitor of the provider.
 type Watching = Monitor<Sha256Hash, KeyedVuf, KeyedSign>;
 
-/// What a monitor tells of an epoch.
-#[derive(Debug, Drop, PartialEq, Eq)]
+/// What comes of an act. Keys are told by their numbers.
+#[derive(Clone, Copy, Debug, PartialEq, Eq)]
 enum Told {
+    Promise,
     Kept,
-    Alarm { epoch: u64, found: Option<KeyData> },
+    Alarm { epoch: u64, found: Option<u16> },
+    Refused(u8),
 }
 
 /// The values of the provider.
@@ -141,10 +144,19 @@ fn monitor_took(monitor: &mut Watching, list: &[u8]) -> Result<Option<u8>, Alloc
     }
 }
 
-/// The key that the statement tells, if it tells one.
-fn key_of(statement: Statement<'_>) -> Option<KeyData> {
+/// The number that a key spells.
+fn number_of(key: &[u8]) -> u16 {
+    let mut number: u16 = 0;
+    for byte in key {
+        number = number.wrapping_shl(8) | u16::from(*byte);
+    }
+    number
+}
+
+/// The number of the key that is stated, if one is.
+fn key_of(statement: Statement<'_>) -> Option<u16> {
     match statement {
-        Statement::Present(key) => KeyData::new(key).ok(),
+        Statement::Present(key) => Some(number_of(key)),
         Statement::Absent => None,
     }
 }
@@ -155,7 +167,7 @@ fn found(
     name: &Name,
     epoch: u64,
     reply: &[u8],
-) -> Result<Result<Option<KeyData>, u8>, AllocError> {
+) -> Result<Result<Option<u16>, u8>, AllocError> {
     match client.look(&mut Sha256Hash::new(), &vuf(), name, epoch, reply) {
         Ok(statement) => Ok(Ok(key_of(statement))),
         Err(client::Refusal::Memory) => Err(AllocError),
@@ -191,88 +203,140 @@ fn change_expected(
     }
 }
 
-/// What the monitor tells of a reply, or the number of its refusal.
-fn stepped(monitor: &mut Watching, reply: &[u8]) -> Result<Result<Told, u8>, AllocError> {
+/// What the monitor tells of a reply.
+fn stepped(monitor: &mut Watching, reply: &[u8]) -> Result<Told, AllocError> {
     match monitor.step(&mut Sha256Hash::new(), &vuf(), reply) {
-        Ok(Step::Kept) => Ok(Ok(Told::Kept)),
-        Ok(Step::Alarm { epoch, found }) => {
-            let found = key_of(found);
-            Ok(Ok(Told::Alarm { epoch, found }))
-        }
+        Ok(Step::Kept) => Ok(Told::Kept),
+        Ok(Step::Alarm { epoch, found }) => Ok(Told::Alarm {
+            epoch,
+            found: key_of(found),
+        }),
         Err(Refusal::Client(client::Refusal::Memory)) => Err(AllocError),
-        Err(why) => Ok(Err(why.number())),
+        Err(why) => Ok(Told::Refused(why.number())),
     }
 }
 
-/// The directory ends its epoch, and the monitor takes the root of the next.
-fn next_epoch(
-    alloc: Global,
-    directory: &mut Provided,
-    monitor: &mut Watching,
-    epoch: u64,
-) -> Result<Option<u8>, AllocError> {
-    if let Some(number) = closed(directory, epoch)? {
-        return Ok(Some(number));
-    }
-    let list = roots(alloc, directory, epoch, 1)?;
-    monitor_took(monitor, &list)
+/// A directory, and a monitor of its name `a`.
+#[derive(Drop)]
+struct Scene {
+    directory: Provided,
+    monitor: Watching,
 }
 
-/// What the monitor tells of the directory's reply at this epoch, or the number of a refusal.
-fn told_of(
-    directory: &mut Provided,
-    monitor: &mut Watching,
-    epoch: u64,
-) -> Result<Result<Told, u8>, AllocError> {
-    match reply(directory, b"a", epoch) {
-        Ok(reply) => stepped(monitor, reply.bytes()),
-        Err(number) => Ok(Err(number)),
+/// An act of a scene. The name's keys have one byte.
+#[derive(Clone, Copy, Debug)]
+enum Act {
+    /// The monitor watches its next epoch.
+    Watch,
+    /// The owner asks for the first key, and expects it.
+    Register(u8),
+    /// The owner asks for another key, and expects it.
+    Change(u8),
+    /// Someone else asks for another key.
+    Steal(u8),
+    /// The directory ends its epoch, and the monitor watches the next.
+    Close(u64),
+}
+
+impl Scene {
+    /// A directory without a name, and a monitor that expects no key.
+    fn new(alloc: Global, name: Name) -> Result<Scene, AllocError> {
+        let directory = started(alloc)?;
+        let monitor = watching(alloc, &directory, name)?;
+        Ok(Scene { directory, monitor })
     }
+
+    /// Plays an act.
+    fn play(&mut self, alloc: Global, act: Act) -> Result<Told, AllocError> {
+        match act {
+            Act::Watch => self.watch(),
+            Act::Register(key) => {
+                let promise = registered(&mut self.directory, b"a", &[key])?;
+                self.expect(key, promise)
+            }
+            Act::Change(key) => {
+                let promise = changed(&mut self.directory, b"a", &[key])?;
+                self.expect(key, promise)
+            }
+            Act::Steal(key) => match changed(&mut self.directory, b"a", &[key])? {
+                Ok(_) => Ok(Told::Promise),
+                Err(number) => Ok(Told::Refused(number)),
+            },
+            Act::Close(epoch) => self.close(alloc, epoch),
+        }
+    }
+
+    /// The owner expects what she was promised.
+    fn expect(&mut self, key: u8, promise: Result<ProofText, u8>) -> Result<Told, AllocError> {
+        let (Ok(promise), Ok(key)) = (promise, KeyData::new(&[key])) else {
+            return Ok(Told::Refused(0));
+        };
+        match change_expected(&mut self.monitor, &key, &promise)? {
+            None => Ok(Told::Promise),
+            Some(number) => Ok(Told::Refused(number)),
+        }
+    }
+
+    /// The directory ends its epoch, and the monitor takes the next root and watches it.
+    fn close(&mut self, alloc: Global, epoch: u64) -> Result<Told, AllocError> {
+        if let Some(number) = closed(&mut self.directory, epoch)? {
+            return Ok(Told::Refused(number));
+        }
+        let list = roots(alloc, &self.directory, epoch, 1)?;
+        match monitor_took(&mut self.monitor, &list)? {
+            None => self.watch(),
+            Some(number) => Ok(Told::Refused(number)),
+        }
+    }
+
+    /// The monitor watches its next epoch.
+    fn watch(&mut self) -> Result<Told, AllocError> {
+        let epoch = self.monitor.next_epoch().unwrap_or(0);
+        match reply(&mut self.directory, b"a", epoch) {
+            Ok(reply) => stepped(&mut self.monitor, reply.bytes()),
+            Err(number) => Ok(Told::Refused(number)),
+        }
+    }
+}
+
+/// Plays a scene, in which each act has to tell what stands beside it.
+fn play(rt: &impl Abort, alloc: Global, script: &[(Act, Told)]) -> Result<(), AllocError> {
+    let name = Name::new(b"a").expect(rt, "a name");
+    let mut scene = Scene::new(alloc, name)?;
+    for (act, wanted) in script {
+        assert_eq!(rt; scene.play(alloc, *act)?, *wanted, "{act:?}");
+    }
+    Ok(())
 }
 
 #[test]
 fn a_watched_name_its_change_and_the_alarm(rt: HostRuntime) -> Result<(), Fail> {
-    let alloc = rt.alloc();
-    let mut directory = started(alloc)?;
-    let mut monitor = watching(alloc, &directory, Name::new(b"a")?)?;
-    assert_eq!(rt; told_of(&mut directory, &mut monitor, 1)?, Ok(Told::Kept));
-    let promise = registered(&mut directory, b"a", b"k")?
-        .ok()
-        .ok_or("refused")?;
-    let key = KeyData::new(b"k")?;
-    assert_eq!(rt; change_expected(&mut monitor, &key, &promise)?, None);
-    assert_eq!(rt; next_epoch(alloc, &mut directory, &mut monitor, 2)?, None);
-    assert_eq!(rt; told_of(&mut directory, &mut monitor, 2)?, Ok(Told::Kept));
-    // Someone else asks for this change.
-    assert!(rt; changed(&mut directory, b"a", b"l")?.is_ok());
-    assert_eq!(rt; next_epoch(alloc, &mut directory, &mut monitor, 5)?, None);
     let alarm = Told::Alarm {
         epoch: 5,
-        found: KeyData::new(b"l").ok(),
+        found: Some(number_of(b"l")),
     };
-    assert_eq!(rt; told_of(&mut directory, &mut monitor, 5)?, Ok(alarm));
+    let script = [
+        (Act::Watch, Told::Kept),
+        (Act::Register(b'k'), Told::Promise),
+        (Act::Close(2), Told::Kept),
+        (Act::Steal(b'l'), Told::Promise),
+        (Act::Close(5), alarm),
+    ];
+    play(&rt, rt.alloc(), &script)?;
     Ok(())
 }
 
 #[test]
 fn a_change_by_someone_else_is_refused_while_one_waits(rt: HostRuntime) -> Result<(), Fail> {
-    let alloc = rt.alloc();
-    let mut directory = started(alloc)?;
-    let mut monitor = watching(alloc, &directory, Name::new(b"a")?)?;
-    assert_eq!(rt; told_of(&mut directory, &mut monitor, 1)?, Ok(Told::Kept));
-    let promise = registered(&mut directory, b"a", b"k")?
-        .ok()
-        .ok_or("refused")?;
-    let key = KeyData::new(b"k")?;
-    assert_eq!(rt; change_expected(&mut monitor, &key, &promise)?, None);
-    assert_eq!(rt; next_epoch(alloc, &mut directory, &mut monitor, 2)?, None);
-    assert_eq!(rt; told_of(&mut directory, &mut monitor, 2)?, Ok(Told::Kept));
-    let promise = changed(&mut directory, b"a", b"l")?.ok().ok_or("refused")?;
-    let key = KeyData::new(b"l")?;
-    assert_eq!(rt; change_expected(&mut monitor, &key, &promise)?, None);
-    assert_eq!(rt; changed(&mut directory, b"a", b"m")?.err(), Some(8));
-    assert_eq!(rt; next_epoch(alloc, &mut directory, &mut monitor, 4)?, None);
-    assert_eq!(rt; told_of(&mut directory, &mut monitor, 4)?, Ok(Told::Kept));
+    let script = [
+        (Act::Watch, Told::Kept),
+        (Act::Register(b'k'), Told::Promise),
+        (Act::Close(2), Told::Kept),
+        (Act::Change(b'l'), Told::Promise),
+        (Act::Steal(b'm'), Told::Refused(8)),
+        (Act::Close(4), Told::Kept),
+    ];
+    play(&rt, rt.alloc(), &script)?;
     Ok(())
 }
 
@@ -299,15 +363,14 @@ fn tested(
 /// The provider runs two directories from one first root, and keeps its promise in one of them alone.
 #[test]
 fn a_promise_and_the_next_root_without_its_key_then_with_it(rt: HostRuntime) -> Result<(), Fail> {
-    let alloc = rt.alloc();
     let name = Name::new(b"a")?;
-    let mut keeping = started(alloc)?;
-    let mut other = started(alloc)?;
+    let mut keeping = started(rt.alloc())?;
+    let mut other = started(rt.alloc())?;
     let promise = registered(&mut keeping, b"a", b"k")?.ok().ok_or("refused")?;
-    let (told, left) = tested(alloc, &mut other, &name, &promise)?;
+    let (told, left) = tested(rt.alloc(), &mut other, &name, &promise)?;
     assert!(rt; matches!(told, Ok(Due::Broken(_))));
     assert_eq!(rt; left, Some(2));
-    let (told, left) = tested(alloc, &mut keeping, &name, &promise)?;
+    let (told, left) = tested(rt.alloc(), &mut keeping, &name, &promise)?;
     assert!(rt; matches!(told, Ok(Due::Kept)));
     assert_eq!(rt; left, None);
     Ok(())

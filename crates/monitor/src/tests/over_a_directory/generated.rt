@@ -8,7 +8,6 @@ use super::*;
 use caller::Caller;
 use owner::Owner;
 use rand_core::Rng;
-use std::process::Abort;
 
 /// How many epochs are closed.
 const EPOCHS: usize = 1000;

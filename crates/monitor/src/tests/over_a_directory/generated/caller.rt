@@ -114,7 +114,7 @@ impl Caller {
         } else if page != replied {
             Err(3)
         } else {
-            Ok(book.key(page, name).and_then(key_data))
+            Ok(book.key(page, name))
         };
         let name = Name::new(name_at(name)).expect(rt, "a name");
         assert_eq!(rt;

@@ -139,7 +139,10 @@ impl Owner {
             return Ok(());
         }
         let reply = book.reply(rt, page, 0);
-        assert_eq!(rt; stepped(&mut self.monitor, reply.bytes())?, Err(3));
+        assert_eq!(rt;
+            stepped(&mut self.monitor, reply.bytes())?,
+            Told::Refused(3)
+        );
         Ok(())
     }
 
@@ -149,7 +152,7 @@ impl Owner {
         let epoch = book.epoch(page);
         if self.known <= page {
             assert_eq!(rt; self.monitor.next_epoch(), None);
-            assert_eq!(rt; stepped(&mut self.monitor, b"")?, Err(20));
+            assert_eq!(rt; stepped(&mut self.monitor, b"")?, Told::Refused(20));
             return Ok(());
         }
         assert_eq!(rt; self.monitor.next_epoch(), Some(epoch));
@@ -158,11 +161,10 @@ impl Owner {
             Told::Kept
         } else {
             self.alarms = self.alarms.saturating_add(1);
-            let found = key.and_then(key_data);
-            Told::Alarm { epoch, found }
+            Told::Alarm { epoch, found: key }
         };
         let reply = book.reply(rt, page, 0);
-        assert_eq!(rt; stepped(&mut self.monitor, reply.bytes())?, Ok(wanted));
+        assert_eq!(rt; stepped(&mut self.monitor, reply.bytes())?, wanted);
         self.watched = page.saturating_add(1);
         Ok(())
     }
