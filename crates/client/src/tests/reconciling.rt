@@ -14,7 +14,7 @@ use vrfiface::{PlainVuf, Vuf};
 /// A client that starts with the page that binds `ab`, and replies under its root that state `ab`, `ba`
 /// and no key.
 #[derive(Drop)]
-pub(super) struct Shown {
+pub(super) struct Showing {
     pub(super) client: Watching,
     pub(super) ab: ProofText,
     pub(super) ba: ProofText,
@@ -22,7 +22,7 @@ pub(super) struct Shown {
 }
 
 /// The page, shown in three ways.
-pub(super) fn shown(alloc: Global) -> Result<Shown, AllocError> {
+pub(super) fn shown(alloc: Global) -> Result<Showing, AllocError> {
     let key = KeyData::new(b"ab").map_err(|_| AllocError)?;
     let twin = KeyData::new(b"ba").map_err(|_| AllocError)?;
     let page = signed_page(alloc, 3, &earlier(), Some(&key))?;
@@ -38,7 +38,7 @@ pub(super) fn shown(alloc: Global) -> Result<Shown, AllocError> {
         .map_err(|_| AllocError)?;
     let value = PlainVuf.value(&name()?);
     let absent = make(&page.root.body, &value, &End::Empty, &path);
-    Ok(Shown {
+    Ok(Showing {
         client: started(alloc, &page.root)?,
         ab: page.reply,
         ba: other.reply,
