@@ -144,6 +144,15 @@ impl Pages {
     }
 }
 
+/// The look-ups of all names under the root of this place.
+pub(crate) fn answered_at(alloc: Global, pages: &Pages, place: usize) -> Result<Vec<Answered>> {
+    let mut look_ups = Vec::with_capacity(alloc, pages.held.len())?;
+    for number in 0..pages.held.len() {
+        look_ups.push(pages.answered(alloc, number, place)?)?;
+    }
+    Ok(look_ups)
+}
+
 /// Reads and checks all replies, and counts the digests.
 pub(crate) fn check_all(look_ups: &[Answered], vuf: &KeyedVuf) -> Result<u64> {
     let mut hash = Sha256Hash::new();

@@ -40,7 +40,33 @@ fn reconcile_all(one: &Following, other: &Following, rounds: usize) -> Result<u6
     Ok(agreed)
 }
 
-/// The steps: the looks of both clients; and the clients reconciled.
+/// The steps: both clients made, whose replies have so many bytes; and the clients reconciled.
+fn measure_clients(
+    rt: &(impl Print + Input),
+    alloc: Global,
+    clients: (&Following, &Following),
+    bytes: u64,
+    rounds: usize,
+) -> Result<()> {
+    let (one, other) = clients;
+    end_step(rt, alloc, bytes)?;
+    end_step(rt, alloc, reconcile_all(one, other, rounds)?)?;
+    Ok(())
+}
+
+/// A client whose looks are those of the names from one number to another, and the bytes of their replies.
+fn client_of(
+    alloc: Global,
+    pages: &Pages,
+    names: (usize, usize),
+    epochs: usize,
+) -> Result<(Following, u64)> {
+    let mut client = pages.client(alloc)?;
+    let bytes = keep_looks(&mut client, pages, names, epochs)?;
+    Ok((client, bytes))
+}
+
+/// The steps of `measure_clients`.
 pub(crate) fn measure(rt: &(impl Print + Input), alloc: Global, wanted: &Clients) -> Result<()> {
     let names = wanted.names;
     let first = names.saturating_sub(wanted.shared);
@@ -51,13 +77,13 @@ pub(crate) fn measure(rt: &(impl Print + Input), alloc: Global, wanted: &Clients
         roots: wanted.epochs,
     };
     let pages = Pages::new(alloc, &sizes)?;
-    let (mut one, mut other) = (pages.client(alloc)?, pages.client(alloc)?);
-
-    end_step(rt, alloc, 0)?;
-    let bytes = keep_looks(&mut one, &pages, (0, names), wanted.epochs)?;
-    end_step(rt, alloc, bytes)?;
-    let bytes = keep_looks(&mut other, &pages, (first, end), wanted.epochs)?;
-    end_step(rt, alloc, bytes)?;
-    end_step(rt, alloc, reconcile_all(&one, &other, wanted.rounds)?)?;
-    Ok(())
+    let (one, bytes) = client_of(alloc, &pages, (0, names), wanted.epochs)?;
+    let (other, more) = client_of(alloc, &pages, (first, end), wanted.epochs)?;
+    measure_clients(
+        rt,
+        alloc,
+        (&one, &other),
+        bytes.saturating_add(more),
+        wanted.rounds,
+    )
 }

@@ -2,7 +2,7 @@ use crate::auditing::take_all;
 use crate::pages::Following;
 use crate::roots::{BODY_BYTES, SIGNED_BYTES, bodies, first_body, lists, provider, signed};
 use crate::steps::end_step;
-use anyhow::{Context, Result};
+use anyhow::Result;
 use client::Client;
 use nodehash::Sha256Hash;
 use rootchain::MAX_ROOTS;
@@ -30,27 +30,50 @@ fn update_all(client: &mut Following, lists: &[Vec<u8>]) -> Result<u64> {
     Ok(client.chain().head().body.epoch)
 }
 
-/// The steps: digests of bodies, and of what is signed of them; the first lists taken; the further lists
-/// taken; these once more; and the first digests again.
-pub(crate) fn measure(rt: &(impl Print + Input), alloc: Global, wanted: &Updates) -> Result<()> {
+/// The steps of digests: of bodies, and of what is signed of them.
+fn measure_digests(rt: &(impl Print + Input), alloc: Global, digests: usize) -> Result<()> {
+    let mut room = [0; SIGNED_BYTES];
+    for length in [BODY_BYTES, SIGNED_BYTES] {
+        end_step(rt, alloc, take_all(&mut room, &[length], digests)?)?;
+    }
+    Ok(())
+}
+
+/// The steps of updates: the first lists taken; the further lists taken; and these once more.
+fn measure_updates(
+    rt: &(impl Print + Input),
+    alloc: Global,
+    client: &mut Following,
+    before: &[Vec<u8>],
+    more: &[Vec<u8>],
+) -> Result<()> {
+    for part in [before, more, more] {
+        end_step(rt, alloc, update_all(client, part)?)?;
+    }
+    Ok(())
+}
+
+/// The steps: digests; updates of a client that has the first of these roots; digests again.
+fn measure_lists(
+    rt: &(impl Print + Input),
+    alloc: Global,
+    lists: &[Vec<u8>],
+    wanted: &Updates,
+) -> Result<()> {
+    let (before, more) = lists.split_at(wanted.before.min(lists.len()));
     let verifier = provider();
+    let first = signed(first_body()).write();
+    let mut client = Client::start(alloc, &verifier, verifier.public(), first.bytes())?;
+    end_step(rt, alloc, 0)?;
+    measure_digests(rt, alloc, wanted.digests)?;
+    measure_updates(rt, alloc, &mut client, before, more)?;
+    measure_digests(rt, alloc, wanted.digests)
+}
+
+/// The steps of `measure_lists`.
+pub(crate) fn measure(rt: &(impl Print + Input), alloc: Global, wanted: &Updates) -> Result<()> {
     let count = wanted.before.saturating_add(wanted.lists);
     let bodies = bodies(alloc, first_body(), count.saturating_mul(MAX_ROOTS))?;
     let lists = lists(alloc, &bodies)?;
-    let (before, more) = lists.split_at(wanted.before.min(lists.len()));
-    let first = signed(*bodies.first().context("there is no root")?).write();
-    let mut client = Client::start(alloc, &verifier, verifier.public(), first.bytes())?;
-    let mut room = [0; SIGNED_BYTES];
-
-    end_step(rt, alloc, 0)?;
-    for length in [BODY_BYTES, SIGNED_BYTES] {
-        end_step(rt, alloc, take_all(&mut room, &[length], wanted.digests)?)?;
-    }
-    for part in [before, more, more] {
-        end_step(rt, alloc, update_all(&mut client, part)?)?;
-    }
-    for length in [BODY_BYTES, SIGNED_BYTES] {
-        end_step(rt, alloc, take_all(&mut room, &[length], wanted.digests)?)?;
-    }
-    Ok(())
+    measure_lists(rt, alloc, &lists, wanted)
 }
