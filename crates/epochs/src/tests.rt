@@ -1,4 +1,3 @@
-mod calls;
 mod commands;
 mod compared;
 mod indices;
@@ -7,7 +6,7 @@ mod memory;
 mod roots;
 
 use super::*;
-use encoding::{Hash32, Name, ProofText};
+use encoding::{Hash32, Name};
 use nodehash::Sha256Hash;
 use proofs::{ReplyView, Statement, check};
 use rand_chacha::ChaCha20Rng;
@@ -63,7 +62,7 @@ fn unless_out_of_memory<T: Drop>(
 /// The body of the root that a reply names, if it is the directory's of that epoch.
 fn root_of(directory: &Provided, reply: &[u8]) -> Option<Body> {
     let body = Body::read(reply.get(..146)?).ok()?;
-    let root = calls::history(directory, body.epoch, 1).ok()?.first()?;
+    let root = directory.history(body.epoch, 1).ok()?.first()?;
     if root.body == body { Some(body) } else { None }
 }
 

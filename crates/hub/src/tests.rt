@@ -1,6 +1,5 @@
 //! What no clause says: that calls go through where there is memory, and the worked rows.
 
-mod calls;
 mod generated;
 mod memory;
 mod refusals;
@@ -65,10 +64,10 @@ fn handle(
     event: &Event<'_>,
     output: &mut Vec<u8>,
 ) -> Result<(), HubRefusal> {
-    match calls::event(hub, event, output) {
-        Err(HubRefusal::Memory { taken: false }) => calls::event(hub, event, output),
+    match hub.event(event, output) {
+        Err(HubRefusal::Memory { taken: false }) => hub.event(event, output),
         Err(HubRefusal::Memory { taken: true }) => {
-            calls::event(hub, &Event::Bytes(event.session(), &[]), output)
+            hub.event(&Event::Bytes(event.session(), &[]), output)
         }
         answer => answer,
     }

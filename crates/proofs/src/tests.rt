@@ -1,4 +1,3 @@
-mod calls;
 mod compared;
 mod crafted;
 mod honest;
@@ -76,7 +75,8 @@ fn judged<'a, H: NodeHash, V: VufCheck>(
     name: &Name,
     bytes: &'a [u8],
 ) -> Result<Statement<'a>, Refusal> {
-    let accepted = calls::accept(hash, vuf, body, name, bytes)?;
+    let view = ReplyView::read(bytes)?;
+    let accepted = check(hash, vuf, body, name, &view)?;
     Ok(accepted.statement())
 }
 

@@ -10,7 +10,6 @@ use std::alloc::{AllocError, Global};
 use std::process::Abort;
 use std::test::Fail;
 
-mod calls;
 mod memory;
 mod streams;
 
@@ -57,21 +56,23 @@ fn requested(
 ) -> Result<(), AllocError> {
     let frame = bytes(alloc, text)?;
     let mut output = Vec::new(alloc);
-    calls::write_request(rt, request, &mut output)?;
+    assert!(rt; request.fits());
+    request.write(&mut output)?;
     assert_eq!(rt; output, frame, "{request:?}");
     let kind = frame.as_slice().get(4).copied().unwrap_or(0);
-    let read = calls::read_request(kind, body(&frame));
+    let read = Request::read(kind, body(&frame));
     let Ok(read) = read else {
         panic!(rt; "the value is one of its form")
     };
     let mut again = Vec::new(alloc);
-    calls::write_request(rt, &read, &mut again)?;
+    assert!(rt; read.fits());
+    read.write(&mut again)?;
     assert_eq!(rt; again, frame, "{request:?}");
     output.push(0)?;
-    let longer = calls::read_request(kind, body(&output));
+    let longer = Request::read(kind, body(&output));
     assert!(rt; matches!(longer, Err(ReadRefusal::BadBody)), "{request:?}");
     if let Some((_, shorter)) = body(&frame).split_last() {
-        let shorter = calls::read_request(kind, shorter);
+        let shorter = Request::read(kind, shorter);
         assert!(rt; matches!(shorter, Err(ReadRefusal::BadBody)), "{request:?}");
     }
     Ok(())
@@ -124,11 +125,11 @@ fn requests(rt: HostRuntime) -> Result<(), Fail> {
 #[test]
 fn kinds_that_no_message_has(rt: HostRuntime) {
     for kind in [0, 8, 0x0a, 0x81, 0xff] {
-        let read = calls::read_request(kind, &[]);
+        let read = Request::read(kind, &[]);
         assert!(rt; matches!(read, Err(ReadRefusal::BadKind)), "{kind}");
     }
     for kind in [0, 1, 0x80, 0x85, 0xfe] {
-        let read = calls::read_response(kind, &[1]);
+        let read = Response::read(kind, &[1]);
         assert!(rt; matches!(read, Err(ReadRefusal::BadKind)), "{kind}");
     }
 }
@@ -139,8 +140,9 @@ fn names_too_long_for_a_frame(rt: HostRuntime) -> Result<(), Fail> {
     long.resize(65_532, 7)?;
     let name = long.as_slice().get(..65_531).unwrap_or(&[]);
     let request = Request::Register { name, key: &[] };
+    assert!(rt; request.fits());
     let mut output = Vec::new(rt.alloc());
-    calls::write_request(&rt, &request, &mut output)?;
+    request.write(&mut output)?;
     assert_eq!(rt; output.len(), 65_540);
     let request = Request::Register {
         name: long.as_slice(),
@@ -203,12 +205,12 @@ fn answered(
 {
     let frame = bytes(alloc, text)?;
     let mut output = Vec::new(alloc);
-    calls::write_answer(answer, &mut output)?;
+    answer.write(&mut output)?;
     assert_eq!(rt; output, frame, "{answer:?}");
     for length in 5..frame.len() {
         let part = frame.as_slice().get(5..length).unwrap_or(&[]);
         let kind = frame.as_slice().get(4).copied().unwrap_or(0);
-        let read = calls::read_response(kind, part);
+        let read = Response::read(kind, part);
         assert!(rt; matches!(read, Err(ReadRefusal::BadBody)), "{length}");
     }
     Ok(frame)
@@ -222,7 +224,7 @@ fn promises_roots_and_refusals(rt: HostRuntime) -> Result<(), Fail> {
     let text =
         "000000548150010000000000000007202122232425262728292a2b2c2d2e2f303132333435363738393a3b3c3d3e3f404142434445464748494a4b4c4d4e4f505152535455565758595a5b5c5d5e5f00016100016b000173";
     let frame = answered(&rt, rt.alloc(), &Answer::Promise(&promise), text)?;
-    let read = calls::read_response(0x81, body(&frame));
+    let read = Response::read(0x81, body(&frame));
     assert!(rt; matches!(read, Ok(Response::Promise(read)) if read == promise));
 
     let Ok(root) = signed_root(b"s") else {
@@ -230,11 +232,11 @@ fn promises_roots_and_refusals(rt: HostRuntime) -> Result<(), Fail> {
     };
     let text = format!(in rt.alloc(); "0000009684{ROOT_BODY}000173")?;
     let frame = answered(&rt, rt.alloc(), &Answer::Root(&root), text.as_str())?;
-    let read = calls::read_response(0x84, body(&frame));
+    let read = Response::read(0x84, body(&frame));
     assert!(rt; matches!(read, Ok(Response::Root(read)) if read == root));
 
     let frame = answered(&rt, rt.alloc(), &Answer::Refused(14), "00000002ff0e")?;
-    let read = calls::read_response(0xff, body(&frame));
+    let read = Response::read(0xff, body(&frame));
     assert!(rt; matches!(read, Ok(Response::Refused(14))));
     Ok(())
 }
@@ -246,7 +248,7 @@ fn proofs(rt: HostRuntime) -> Result<(), Fail> {
     proof.push_slice(root_body().write().bytes());
     proof.push_slice(&[0, 1, b'v', 2, 0, 0]);
     let frame = answered(&rt, rt.alloc(), &Answer::Proof(&proof), text.as_str())?;
-    let read = calls::read_response(0x82, body(&frame));
+    let read = Response::read(0x82, body(&frame));
     assert!(rt; matches!(read, Ok(Response::Proof(view)) if view.siblings().is_empty()));
     Ok(())
 }
@@ -264,7 +266,7 @@ fn root_lists(rt: HostRuntime) -> Result<(), Fail> {
         &Answer::Roots(roots.as_slice()),
         text.as_str(),
     )?;
-    let read = calls::read_response(0x83, body(&frame));
+    let read = Response::read(0x83, body(&frame));
     let Ok(Response::Roots(mut list)) = read else {
         panic!(rt; "the value is one of its form")
     };
@@ -286,9 +288,9 @@ fn longest_answer(rt: HostRuntime) -> Result<(), Fail> {
     }
     assert_eq!(rt; roots.len(), 64);
     let mut output = Vec::new(rt.alloc());
-    calls::write_answer(&Answer::Roots(roots.as_slice()), &mut output)?;
+    Answer::Roots(roots.as_slice()).write(&mut output)?;
     assert_eq!(rt; output.len(), MAX_ANSWER_LEN);
-    let read = calls::read_response(0x83, body(&output));
+    let read = Response::read(0x83, body(&output));
     assert!(rt; matches!(read, Ok(Response::Roots(list)) if list.len() == 64));
     Ok(())
 }

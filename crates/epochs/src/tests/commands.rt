@@ -11,22 +11,20 @@ pub(super) fn called(
     let keeper = &mut NoKeeper;
     Ok(match *command {
         Command::Register { name, key } => {
-            Reply::Promised(calls::register(directory, keeper, name, key)?)
+            Reply::Promised(directory.register(keeper, name, key)?)
         }
-        Command::Change { name, key } => Reply::Promised(calls::change(
-            directory, keeper, name, key,
-        )?),
-        Command::Promise { name } => Reply::Promised(calls::promise(directory, name)?),
-        Command::Lookup { name, epoch } => Reply::Found(calls::lookup(directory, name, epoch)?),
+        Command::Change { name, key } => Reply::Promised(directory.change(keeper, name, key)?),
+        Command::Promise { name } => Reply::Promised(directory.promise(name)?),
+        Command::Lookup { name, epoch } => Reply::Found(directory.lookup(name, epoch)?),
         Command::History { from, count } => {
             let mut roots = Vec::new(alloc);
-            for root in calls::history(directory, from, count)? {
+            for root in directory.history(from, count)? {
                 roots.push(root.copied())?;
             }
             Reply::Told(roots)
         }
-        Command::Head => Reply::Last(calls::head(directory).copied()),
-        Command::Close { epoch } => Reply::Last(calls::close(directory, keeper, epoch)?),
+        Command::Head => Reply::Last(directory.head().copied()),
+        Command::Close { epoch } => Reply::Last(directory.close(keeper, epoch)?),
     })
 }
 
@@ -92,7 +90,7 @@ fn compare(
         commands.push(*command)?;
     }
     let mut directory = started(alloc)?;
-    let replies = calls::run(&mut directory, &mut NoKeeper, &commands)?;
+    let replies = directory.run(&mut NoKeeper, &commands)?;
     assert_eq!(rt; replies.len(), script.len());
     let mut place = 0;
     for (command, wanted) in script {

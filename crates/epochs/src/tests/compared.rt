@@ -226,14 +226,14 @@ fn told_by(directory: &mut Provided, order: Order) -> Result<Told, Refusal> {
     let keeper = &mut NoKeeper;
     Ok(match order {
         Order::Register { name, key } => {
-            of_promise(&calls::register(directory, keeper, text(name), text(key))?)
+            of_promise(&directory.register(keeper, text(name), text(key))?)
         }
         Order::Change { name, key } => {
-            of_promise(&calls::change(directory, keeper, text(name), text(key))?)
+            of_promise(&directory.change(keeper, text(name), text(key))?)
         }
-        Order::Promise { name } => of_promise(&calls::promise(directory, text(name))?),
+        Order::Promise { name } => of_promise(&directory.promise(text(name))?),
         Order::Lookup { name, epoch } => {
-            let reply = calls::lookup(directory, text(name), epoch)?;
+            let reply = directory.lookup(text(name), epoch)?;
             match stated(directory, text(name), reply.bytes()) {
                 Some((epoch, Statement::Present(key))) => Told::Key {
                     epoch,
@@ -244,14 +244,14 @@ fn told_by(directory: &mut Provided, order: Order) -> Result<Told, Refusal> {
             }
         }
         Order::History { from, count } => {
-            let roots = calls::history(directory, from, count)?;
+            let roots = directory.history(from, count)?;
             Told::Roots {
                 count: roots.len(),
                 first: roots.first().map_or(0, |root| root.body.epoch),
             }
         }
-        Order::Head => of_root(calls::head(directory)),
-        Order::Close { epoch } => of_root(&calls::close(directory, keeper, epoch)?),
+        Order::Head => of_root(directory.head()),
+        Order::Close { epoch } => of_root(&directory.close(keeper, epoch)?),
     })
 }
 

@@ -39,18 +39,18 @@ fn shared() -> Index {
 fn index_is_taken_once(rt: HostRuntime) -> Result<(), Fail> {
     let mut directory = unless_out_of_memory(summed(rt.alloc()))?.expect(&rt, "epoch 1");
     let keeper = &mut NoKeeper;
-    let promise = unless_out_of_memory(calls::register(&mut directory, keeper, b"ab", b"k"))?;
+    let promise = unless_out_of_memory(directory.register(keeper, b"ab", b"k"))?;
     assert_eq!(rt; promise.expect(&rt, "a new name").promise.index, shared());
-    let again = unless_out_of_memory(calls::register(&mut directory, keeper, b"ba", b"k"))?;
+    let again = unless_out_of_memory(directory.register(keeper, b"ba", b"k"))?;
     assert_eq!(rt; again.err(), Some(Refusal::IndexTaken), "one waits");
-    let root = unless_out_of_memory(calls::close(&mut directory, keeper, 2))?.expect(&rt, "later");
-    let again = unless_out_of_memory(calls::register(&mut directory, keeper, b"ba", b"k"))?;
+    let root = unless_out_of_memory(directory.close(keeper, 2))?.expect(&rt, "later");
+    let again = unless_out_of_memory(directory.register(keeper, b"ba", b"k"))?;
     assert_eq!(rt; again.err(), Some(Refusal::IndexTaken), "one is shown");
-    let change = unless_out_of_memory(calls::change(&mut directory, keeper, b"ba", b"k"))?;
+    let change = unless_out_of_memory(directory.change(keeper, b"ba", b"k"))?;
     assert_eq!(rt; change.err(), Some(Refusal::NoSuchName));
 
     // The leaf of the other name is no proof of absence.
-    let reply = calls::lookup(&mut directory, b"ba", 0).expect(&rt, "a reply");
+    let reply = directory.lookup(b"ba", 0).expect(&rt, "a reply");
     // Behind the body and the value of two bytes: the kind, the index, the commitment, no siblings.
     let end = reply.bytes().get(150..).expect(&rt, "an end");
     assert_eq!(rt; end.len(), 67);
@@ -60,7 +60,7 @@ fn index_is_taken_once(rt: HostRuntime) -> Result<(), Fail> {
         refused(&root.body, b"ba", reply.bytes()),
         Some(proofs::Refusal::SameIndex)
     );
-    let own = calls::lookup(&mut directory, b"ab", 0).expect(&rt, "a reply");
+    let own = directory.lookup(b"ab", 0).expect(&rt, "a reply");
     assert_eq!(rt; refused(&root.body, b"ab", own.bytes()), None);
     Ok(())
 }

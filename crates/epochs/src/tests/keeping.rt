@@ -89,7 +89,7 @@ fn opened(reply: &[u8]) -> Option<Hash32> {
 
 /// The salt of the name's leaf in the latest page.
 fn shown_salt(directory: &mut Provided, name: &[u8]) -> Option<Hash32> {
-    let reply = calls::lookup(directory, name, 0).ok()?;
+    let reply = directory.lookup(name, 0).ok()?;
     stated(directory, name, reply.bytes())?;
     opened(reply.bytes())
 }
@@ -131,17 +131,14 @@ fn is_close(notes: &Notes, epoch: u64) -> bool {
 fn refused_record_uses_no_salt(rt: HostRuntime) -> Result<(), Fail> {
     let mut directory = started(rt.alloc())?;
     let keeper = &mut keeper_that_fails_at(2);
-    let first = unless_out_of_memory(calls::register(&mut directory, keeper, b"a", b"k"))?;
+    let first = unless_out_of_memory(directory.register(keeper, b"a", b"k"))?;
     assert!(rt; first.is_ok());
-    let second = unless_out_of_memory(calls::register(&mut directory, keeper, b"b", b"l"))?;
+    let second = unless_out_of_memory(directory.register(keeper, b"b", b"l"))?;
     assert_eq!(rt; second.err(), Some(Refusal::KeepFailed));
-    assert_eq!(rt;
-        calls::promise(&mut directory, b"b").err(),
-        Some(Refusal::NoPromise)
-    );
-    let second = unless_out_of_memory(calls::register(&mut directory, keeper, b"b", b"l"))?;
+    assert_eq!(rt; directory.promise(b"b").err(), Some(Refusal::NoPromise));
+    let second = unless_out_of_memory(directory.register(keeper, b"b", b"l"))?;
     assert!(rt; second.is_ok());
-    let closed = unless_out_of_memory(calls::close(&mut directory, keeper, 2))?;
+    let closed = unless_out_of_memory(directory.close(keeper, 2))?;
     assert!(rt; closed.is_ok());
     let [first, second, _] = fillings();
     assert_eq!(rt; shown_salt(&mut directory, b"a"), Some(first));
@@ -154,21 +151,18 @@ fn refused_record_uses_no_salt(rt: HostRuntime) -> Result<(), Fail> {
 fn refused_closing_changes_nothing(rt: HostRuntime) -> Result<(), Fail> {
     let mut directory = started(rt.alloc())?;
     let keeper = &mut keeper_that_fails_at(2);
-    let before = unless_out_of_memory(calls::register(&mut directory, keeper, b"a", b"k"))?;
+    let before = unless_out_of_memory(directory.register(keeper, b"a", b"k"))?;
     let before = before.expect(&rt, "a promise");
-    let closed = unless_out_of_memory(calls::close(&mut directory, keeper, 2))?;
+    let closed = unless_out_of_memory(directory.close(keeper, 2))?;
     assert_eq!(rt; closed.err(), Some(Refusal::KeepFailed));
-    assert_eq!(rt; calls::head(&directory).body.epoch, 1);
-    let after = calls::promise(&mut directory, b"a").expect(&rt, "the promise");
+    assert_eq!(rt; directory.head().body.epoch, 1);
+    let after = directory.promise(b"a").expect(&rt, "the promise");
     assert_eq!(rt; after.write().bytes(), before.write().bytes());
 
     // The next closing shows what waited.
-    let root = unless_out_of_memory(calls::close(&mut directory, keeper, 2))?.expect(&rt, "a root");
+    let root = unless_out_of_memory(directory.close(keeper, 2))?.expect(&rt, "a root");
     assert_eq!(rt; root.body.previous_hash, after.promise.root_hash);
-    assert_eq!(rt;
-        calls::promise(&mut directory, b"a").err(),
-        Some(Refusal::NoPromise)
-    );
+    assert_eq!(rt; directory.promise(b"a").err(), Some(Refusal::NoPromise));
     let [first, _, _] = fillings();
     assert_eq!(rt; shown_salt(&mut directory, b"a"), Some(first));
     Ok(())
@@ -178,16 +172,13 @@ fn refused_closing_changes_nothing(rt: HostRuntime) -> Result<(), Fail> {
 fn refused_change_keeps_the_old_key(rt: HostRuntime) -> Result<(), Fail> {
     let mut directory = started(rt.alloc())?;
     let keeper = &mut keeper_that_fails_at(3);
-    assert!(rt; unless_out_of_memory(calls::register(&mut directory, keeper, b"a", b"k"))?.is_ok());
-    assert!(rt; unless_out_of_memory(calls::close(&mut directory, keeper, 2))?.is_ok());
-    let changed = unless_out_of_memory(calls::change(&mut directory, keeper, b"a", b"l"))?;
+    assert!(rt; unless_out_of_memory(directory.register(keeper, b"a", b"k"))?.is_ok());
+    assert!(rt; unless_out_of_memory(directory.close(keeper, 2))?.is_ok());
+    let changed = unless_out_of_memory(directory.change(keeper, b"a", b"l"))?;
     assert_eq!(rt; changed.err(), Some(Refusal::KeepFailed));
-    assert_eq!(rt;
-        calls::promise(&mut directory, b"a").err(),
-        Some(Refusal::NoPromise)
-    );
-    assert!(rt; unless_out_of_memory(calls::close(&mut directory, keeper, 3))?.is_ok());
-    let reply = calls::lookup(&mut directory, b"a", 0).expect(&rt, "a reply");
+    assert_eq!(rt; directory.promise(b"a").err(), Some(Refusal::NoPromise));
+    assert!(rt; unless_out_of_memory(directory.close(keeper, 3))?.is_ok());
+    let reply = directory.lookup(b"a", 0).expect(&rt, "a reply");
     let stated = stated(&directory, b"a", reply.bytes());
     assert!(rt; stated == Some((3, Statement::Present(b"k"))));
     Ok(())
@@ -198,31 +189,31 @@ fn records_of_accepted_commands(rt: HostRuntime) -> Result<(), Fail> {
     let mut directory = started(rt.alloc())?;
     let keeper = &mut keeper_that_fails_at(0);
     let [first, second, third] = fillings();
-    assert!(rt; unless_out_of_memory(calls::register(&mut directory, keeper, b"a", b"k"))?.is_ok());
+    assert!(rt; unless_out_of_memory(directory.register(keeper, b"a", b"k"))?.is_ok());
     assert!(rt; is_register(keeper, &first, b"a", b"k"));
 
     // A refused command is not kept, and uses no salt.
     let refused: [(&[u8], &[u8]); 3] = [(b"a", b"m"), (b"", b"m"), (b"b", b"")];
     for (name, key) in refused {
-        let refused = unless_out_of_memory(calls::register(&mut directory, keeper, name, key))?;
+        let refused = unless_out_of_memory(directory.register(keeper, name, key))?;
         assert!(rt; refused.is_err());
     }
-    assert!(rt; unless_out_of_memory(calls::change(&mut directory, keeper, b"b", b"m"))?.is_err());
-    assert!(rt; unless_out_of_memory(calls::close(&mut directory, keeper, 1))?.is_err());
+    assert!(rt; unless_out_of_memory(directory.change(keeper, b"b", b"m"))?.is_err());
+    assert!(rt; unless_out_of_memory(directory.close(keeper, 1))?.is_err());
     assert_eq!(rt; keeper.calls, 1);
 
-    assert!(rt; unless_out_of_memory(calls::register(&mut directory, keeper, b"b", b"l"))?.is_ok());
+    assert!(rt; unless_out_of_memory(directory.register(keeper, b"b", b"l"))?.is_ok());
     assert!(rt; is_register(keeper, &second, b"b", b"l"));
-    assert!(rt; unless_out_of_memory(calls::close(&mut directory, keeper, 5))?.is_ok());
+    assert!(rt; unless_out_of_memory(directory.close(keeper, 5))?.is_ok());
     assert!(rt; is_close(keeper, 5));
-    assert!(rt; unless_out_of_memory(calls::change(&mut directory, keeper, b"a", b"m"))?.is_ok());
+    assert!(rt; unless_out_of_memory(directory.change(keeper, b"a", b"m"))?.is_ok());
     assert!(rt; is_change(keeper, &third, b"a", b"m"));
-    assert!(rt; unless_out_of_memory(calls::close(&mut directory, keeper, 6))?.is_ok());
+    assert!(rt; unless_out_of_memory(directory.close(keeper, 6))?.is_ok());
     assert_eq!(rt; keeper.calls, 5);
 
     assert_eq!(rt; shown_salt(&mut directory, b"a"), Some(third));
     assert_eq!(rt; shown_salt(&mut directory, b"b"), Some(second));
-    let old = calls::lookup(&mut directory, b"a", 5).expect(&rt, "a reply");
+    let old = directory.lookup(b"a", 5).expect(&rt, "a reply");
     assert_eq!(rt; opened(old.bytes()), Some(first));
     Ok(())
 }
@@ -245,7 +236,7 @@ fn run_goes_on_behind_a_lost_record(rt: HostRuntime) -> Result<(), Fail> {
         register_b,
         Command::Close { epoch: 2 },
     ];
-    let replies = calls::run(&mut directory, keeper, &commands)?;
+    let replies = directory.run(keeper, &commands)?;
     let mut numbers = [0; 5];
     for (number, reply) in numbers.iter_mut().zip(replies.iter()) {
         match reply {
@@ -256,6 +247,6 @@ fn run_goes_on_behind_a_lost_record(rt: HostRuntime) -> Result<(), Fail> {
     }
     assert_eq!(rt; replies.len(), 5);
     assert_eq!(rt; numbers, [0, 19, 13, 0, 0]);
-    assert_eq!(rt; calls::head(&directory).body.epoch, 2);
+    assert_eq!(rt; directory.head().body.epoch, 2);
     Ok(())
 }

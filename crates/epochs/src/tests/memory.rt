@@ -34,7 +34,7 @@ const SCRIPT: [Command<'static>; 8] = [
 
 /// A digest of the promise that waits for a name.
 fn promised(directory: &mut Provided, name: &[u8]) -> Hash32 {
-    match calls::promise(directory, name) {
+    match directory.promise(name) {
         Ok(signed) => Sha256Hash::new().digest(signed.write().bytes()),
         Err(why) => Hash32::new([why.number(); 32]),
     }
@@ -42,7 +42,7 @@ fn promised(directory: &mut Provided, name: &[u8]) -> Hash32 {
 
 /// A digest of the latest reply to a name.
 fn found(directory: &mut Provided, name: &[u8]) -> Hash32 {
-    match calls::lookup(directory, name, 0) {
+    match directory.lookup(name, 0) {
         Ok(reply) => Sha256Hash::new().digest(reply.bytes()),
         Err(why) => Hash32::new([why.number(); 32]),
     }
@@ -52,7 +52,7 @@ fn found(directory: &mut Provided, name: &[u8]) -> Hash32 {
 /// latest reply to each name.
 fn seen(directory: &mut Provided) -> [Hash32; 7] {
     [
-        Sha256Hash::new().digest(calls::head(directory).write().bytes()),
+        Sha256Hash::new().digest(directory.head().write().bytes()),
         promised(directory, b"a"),
         promised(directory, b"b"),
         promised(directory, b"c"),
@@ -135,7 +135,7 @@ fn finish(rt: &impl Abort, alloc: Global, directory: &mut Provided) -> Result<()
     let begun = begun(alloc, directory)?;
     let rest = SCRIPT.get(begun.expect(rt, "some beginning")..);
     let rest = rest.expect(rt, "no more than the script");
-    let replies = calls::run(directory, &mut NoKeeper, rest)?;
+    let replies = directory.run(&mut NoKeeper, rest)?;
     assert_eq!(rt; replies.len(), rest.len());
     assert!(rt; stands_after(alloc, directory, SCRIPT.len())?);
     Ok(())
@@ -144,7 +144,7 @@ fn finish(rt: &impl Abort, alloc: Global, directory: &mut Provided) -> Result<()
 #[test]
 fn refused_list_stops_after_a_beginning(rt: HostRuntime) -> Result<(), Fail> {
     let mut directory = given_again(rt.alloc(), &[])?;
-    match calls::run(&mut directory, &mut NoKeeper, &SCRIPT) {
+    match directory.run(&mut NoKeeper, &SCRIPT) {
         Ok(replies) => {
             // Nothing of a command that memory was refused to.
             assert_eq!(rt; replies.len(), SCRIPT.len());

@@ -8,7 +8,7 @@ use rootchain::SignedRoot;
 fn seventy_pages(alloc: Global) -> Result<Provided, Refusal> {
     let mut directory = first_page(alloc, 10)?;
     for page in 2..=70_u64 {
-        calls::close(&mut directory, &mut NoKeeper, page.saturating_mul(10))?;
+        directory.close(&mut NoKeeper, page.saturating_mul(10))?;
     }
     Ok(directory)
 }
@@ -40,29 +40,21 @@ fn roots_of_seventy_epochs(rt: HostRuntime) -> Result<(), Fail> {
         (701, 64, None),
         (u64::MAX, 1, None),
     ] {
-        let roots = calls::history(&directory, from, count).expect(&rt, "roots");
+        let roots = directory.history(from, count).expect(&rt, "roots");
         assert_eq!(rt; ends(roots), wanted, "{count} from {from}");
     }
+    assert_eq!(rt; directory.history(0, 65).err(), Some(Refusal::BadRange));
     assert_eq!(rt;
-        calls::history(&directory, 0, 65).err(),
+        directory.history(0, u16::MAX).err(),
         Some(Refusal::BadRange)
     );
-    assert_eq!(rt;
-        calls::history(&directory, 0, u16::MAX).err(),
-        Some(Refusal::BadRange)
-    );
-    assert_eq!(rt;
-        calls::history(&directory, 0, 0).err(),
-        Some(Refusal::BadRange)
-    );
-    assert_eq!(rt; calls::head(&directory).body.epoch, 700);
+    assert_eq!(rt; directory.history(0, 0).err(), Some(Refusal::BadRange));
+    assert_eq!(rt; directory.head().body.epoch, 700);
 
     // Each root is tied to the one before it.
-    let roots = calls::history(&directory, 70, 64).expect(&rt, "roots");
+    let roots = directory.history(70, 64).expect(&rt, "roots");
     let mut hash = Sha256Hash::new();
-    let mut last = calls::history(&directory, 60, 1)
-        .expect(&rt, "a root")
-        .first();
+    let mut last = directory.history(60, 1).expect(&rt, "a root").first();
     for root in roots {
         let before = last.expect(&rt, "a root");
         assert_eq!(rt; root.body.previous_epoch, before.body.epoch);
@@ -81,8 +73,8 @@ fn epoch_zero_is_no_beginning(rt: HostRuntime) -> Result<(), Fail> {
     assert!(rt; matches!(none, Err(Refusal::EpochNotLater)));
     let last = unless_out_of_memory(first_page(rt.alloc(), u64::MAX))?;
     let mut last = last.expect(&rt, "an epoch");
-    assert_eq!(rt; calls::head(&last).body.previous_epoch, 0);
-    let closed = unless_out_of_memory(calls::close(&mut last, &mut NoKeeper, u64::MAX))?;
+    assert_eq!(rt; last.head().body.previous_epoch, 0);
+    let closed = unless_out_of_memory(last.close(&mut NoKeeper, u64::MAX))?;
     assert_eq!(rt; closed.err(), Some(Refusal::EpochNotLater));
     Ok(())
 }

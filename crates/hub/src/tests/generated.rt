@@ -2,9 +2,6 @@
 //! plain list of messages, which the directory answers call by call.
 
 use super::*;
-use book::Refusal;
-use encoding::ProofText;
-use rootchain::{SignedPromise, SignedRoot};
 use wire::{Answer, Request};
 
 /// How many events are generated.
@@ -97,44 +94,6 @@ fn refuse(code: u8, output: &mut Vec<u8>) -> Result<(), AllocError> {
     Answer::Refused(code).write(output)
 }
 
-fn write_promise(
-    answer: Result<SignedPromise, Refusal>,
-    output: &mut Vec<u8>,
-) -> Result<(), AllocError> {
-    match answer {
-        Ok(promise) => Answer::Promise(&promise).write(output),
-        Err(why) => refuse(why.number(), output),
-    }
-}
-
-fn write_proof(
-    answer: &Result<ProofText, Refusal>,
-    output: &mut Vec<u8>,
-) -> Result<(), AllocError> {
-    match answer {
-        Ok(text) => Answer::Proof(text).write(output),
-        Err(why) => refuse(why.number(), output),
-    }
-}
-
-fn write_roots(
-    answer: Result<&[SignedRoot], Refusal>,
-    output: &mut Vec<u8>,
-) -> Result<(), AllocError> {
-    match answer {
-        Ok(roots) if roots.len() <= 64 => Answer::Roots(roots).write(output),
-        Ok(_) => refuse(0, output),
-        Err(why) => refuse(why.number(), output),
-    }
-}
-
-fn write_root(answer: Result<SignedRoot, Refusal>, output: &mut Vec<u8>) -> Result<(), AllocError> {
-    match answer {
-        Ok(root) => Answer::Root(&root).write(output),
-        Err(why) => refuse(why.number(), output),
-    }
-}
-
 /// Answers a message by a call of the directory.
 fn answer(
     directory: &mut Provided,
@@ -147,24 +106,37 @@ fn answer(
         Message::OfNoForm => return refuse(3, output),
         Message::OfNoLength => return refuse(1, output),
     };
-    match request {
-        Request::Register { name, key } => {
-            write_promise(calls::register(directory, name, key), output)
-        }
-        Request::Change { name, key } => {
-            write_promise(calls::change(directory, name, key), output)
-        }
-        Request::Promise { name } => write_promise(calls::promise(directory, name), output),
-        Request::Lookup { epoch, name } => {
-            write_proof(&calls::lookup(directory, name, *epoch), output)
-        }
-        Request::History { from, count } => {
-            write_roots(calls::history(directory, *from, *count), output)
-        }
-        Request::Head => Answer::Root(calls::head(directory)).write(output),
-        Request::Close { token, .. } if *token != Hash32::new(TOKEN) => refuse(12, output),
-        Request::Close { epoch, .. } => write_root(calls::close(directory, *epoch), output),
-    }
+    let keeper = &mut NoKeeper;
+    let refused = match request {
+        Request::Register { name, key } => match directory.register(keeper, name, key) {
+            Ok(promise) => return Answer::Promise(&promise).write(output),
+            Err(why) => why.number(),
+        },
+        Request::Change { name, key } => match directory.change(keeper, name, key) {
+            Ok(promise) => return Answer::Promise(&promise).write(output),
+            Err(why) => why.number(),
+        },
+        Request::Promise { name } => match directory.promise(name) {
+            Ok(promise) => return Answer::Promise(&promise).write(output),
+            Err(why) => why.number(),
+        },
+        Request::Lookup { epoch, name } => match directory.lookup(name, *epoch) {
+            Ok(text) => return Answer::Proof(&text).write(output),
+            Err(why) => why.number(),
+        },
+        Request::History { from, count } => match directory.history(*from, *count) {
+            Ok(roots) if roots.len() <= 64 => return Answer::Roots(roots).write(output),
+            Ok(_) => 0,
+            Err(why) => why.number(),
+        },
+        Request::Head => return Answer::Root(directory.head()).write(output),
+        Request::Close { token, .. } if *token != Hash32::new(TOKEN) => 12,
+        Request::Close { epoch, .. } => match directory.close(keeper, *epoch) {
+            Ok(root) => return Answer::Root(&root).write(output),
+            Err(why) => why.number(),
+        },
+    };
+    refuse(refused, output)
 }
 
 /// A generated event.
@@ -252,18 +224,12 @@ impl Talk {
             self.answer(directory, &message)?;
         }
         for _ in 0..numbers.below(3) {
-            let message = some_message(
-                numbers,
-                calls::head(directory).body.epoch.saturating_add(1),
-            );
+            let message = some_message(numbers, directory.head().body.epoch.saturating_add(1));
             piece.extend_from_slice(&frame(alloc, &message)?)?;
             self.answer(directory, &message)?;
         }
         if numbers.below(2) == 0 {
-            let message = some_message(
-                numbers,
-                calls::head(directory).body.epoch.saturating_add(1),
-            );
+            let message = some_message(numbers, directory.head().body.epoch.saturating_add(1));
             let frame = frame(alloc, &message)?;
             let end = numbers.below(frame.len()).min(frame.len());
             let (now, later) = frame.split_at(end);
@@ -322,7 +288,7 @@ fn sessions_are_told_what_a_list_of_messages_is(rt: HostRuntime) -> Result<(), F
         let happening = talk.next(rt.alloc(), &mut numbers, &mut directory)?;
         script.push((*session, happening))?;
     }
-    let outputs = calls::run(&mut started(rt.alloc())?, &events(rt.alloc(), &script)?)?;
+    let outputs = started(rt.alloc())?.run(&events(rt.alloc(), &script)?)?;
     if wanted_memory(&outputs, &talks) {
         return Err(AllocError)?;
     }
@@ -337,6 +303,6 @@ fn sessions_are_told_what_a_list_of_messages_is(rt: HostRuntime) -> Result<(), F
         assert_eq!(rt; output, &talk.told, "{session}");
         place += 1;
     }
-    assert!(rt; 4 < calls::head(&directory).body.epoch);
+    assert!(rt; 4 < directory.head().body.epoch);
     Ok(())
 }

@@ -14,14 +14,14 @@ fn what_waits_is_answered_by_a_later_piece(rt: HostRuntime) -> Result<(), Fail> 
     assert_eq!(rt; handle(&mut hub, &Event::Open(1), &mut output), Ok(()));
     // Three frames, and the beginning of a fourth.
     let piece = [0, 0, 0, 1, 6, 0, 0, 0, 1, 6, 0, 0, 0, 1, 6, 0, 0];
-    let mut done = calls::event(&mut hub, &Event::Bytes(1, &piece), &mut output);
+    let mut done = hub.event(&Event::Bytes(1, &piece), &mut output);
     if done == Err(HubRefusal::Memory { taken: false }) {
         assert!(rt; output.is_empty());
-        done = calls::event(&mut hub, &Event::Bytes(1, &piece), &mut output);
+        done = hub.event(&Event::Bytes(1, &piece), &mut output);
     }
     if done == Err(HubRefusal::Memory { taken: true }) {
         assert!(rt; count(&output) < 3);
-        done = calls::event(&mut hub, &Event::Bytes(1, &[]), &mut output);
+        done = hub.event(&Event::Bytes(1, &[]), &mut output);
     }
     assert_eq!(rt; done, Ok(()));
     assert_eq!(rt; count(&output), 3);
@@ -41,13 +41,13 @@ fn a_run_stops_after_a_beginning(rt: HostRuntime) -> Result<(), Fail> {
         Event::Bytes(2, &HEAD),
         Event::End(1),
     ];
-    if calls::run(&mut hub, &events).is_err() {
+    if hub.run(&events).is_err() {
         // Whatever was done, the sessions can be ended and the run tried again.
         let mut output = Vec::new(rt.alloc());
         for session in 1..3 {
             let _ = handle(&mut hub, &Event::End(session), &mut output);
         }
-        let outputs = calls::run(&mut hub, &events)?;
+        let outputs = hub.run(&events)?;
         assert_eq!(rt; outputs.len(), 2);
     }
     Ok(())

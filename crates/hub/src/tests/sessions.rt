@@ -215,7 +215,7 @@ fn a_record_that_was_not_kept_is_told_once(rt: HostRuntime) -> Result<(), Fail> 
         rt.alloc(),
         "000000070100016100016b000000070100016200016b000000070100016200016b0000000106",
     )?;
-    let outputs = calls::run(&mut hub, &[Event::Open(1), Event::Bytes(1, &piece)])?;
+    let outputs = hub.run(&[Event::Open(1), Event::Bytes(1, &piece)])?;
     assert_eq!(rt; outputs.len(), 1);
     for (_, output) in &outputs {
         let told = told(rt.alloc(), output)?;
@@ -229,9 +229,9 @@ fn a_record_that_was_not_kept_is_told_once(rt: HostRuntime) -> Result<(), Fail> 
 
 /// The outputs of a run, tried once more where memory was refused.
 fn run_all(alloc: Global, events: &[Event<'_>]) -> Result<Vec<(u32, Vec<u8>)>, AllocError> {
-    match calls::run(&mut started(alloc)?, events) {
+    match started(alloc)?.run(events) {
         Ok(outputs) => Ok(outputs),
-        Err(_) => calls::run(&mut started(alloc)?, events),
+        Err(_) => started(alloc)?.run(events),
     }
 }
 

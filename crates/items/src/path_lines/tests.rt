@@ -5,29 +5,6 @@ use std::io::ErrorKind;
 use std::test::Fail;
 use textio::CutWriter;
 
-/// `prove` by a function without clauses. A proof reads the clauses of each call that a function makes.
-fn called<R: BufRead, W: Write>(
-    alloc: Global,
-    order: ProveOrder<'_>,
-    reader: &mut R,
-    writer: &mut W,
-) -> Result<(), ProgramFault> {
-    prove(alloc, order, reader, writer)
-}
-
-/// The same for this input, once more where memory was refused.
-fn called_again(
-    alloc: Global,
-    order: ProveOrder<'_>,
-    input: &str,
-    writer: &mut CutWriter,
-) -> Result<(), ProgramFault> {
-    match called(alloc, order, &mut input.as_bytes(), writer) {
-        Err(ProgramFault::OutOfMemory) => called(alloc, order, &mut input.as_bytes(), writer),
-        answer => answer,
-    }
-}
-
 /// What `prove` answers and writes.
 fn told<R: BufRead>(
     alloc: Global,
@@ -35,7 +12,7 @@ fn told<R: BufRead>(
     reader: &mut R,
 ) -> Result<(Result<(), ProgramFault>, Vec<u8>), Fail> {
     let mut written = Vec::with_capacity(alloc, 32768)?;
-    let answer = unless_out_of_memory(called(alloc, order, reader, &mut written))?;
+    let answer = unless_out_of_memory(prove(alloc, order, reader, &mut written))?;
     Ok((answer, written))
 }
 
@@ -105,7 +82,10 @@ fn longest_path(rt: HostRuntime) -> Result<(), Fail> {
     for index in [zeros.as_str(), one.as_str()] {
         let order = ProveOrder { index, root: SUM };
         let mut writer = CutWriter::new(alloc, 32768, 1)?;
-        let answer = called_again(alloc, order, input.as_str(), &mut writer);
+        let mut answer = prove(alloc, order, &mut input.as_bytes(), &mut writer);
+        if answer == Err(ProgramFault::OutOfMemory) {
+            answer = prove(alloc, order, &mut input.as_bytes(), &mut writer);
+        }
         assert_eq!(rt; answer, Ok(()), "at {index}");
         let written = writer.taken();
         assert!(rt; written.starts_with(b"level 256\npresent "), "at {index}");
@@ -191,7 +171,7 @@ fn one_write_fails(rt: HostRuntime) -> Result<(), Fail> {
         for kind in [Some(ErrorKind::BrokenPipe), None] {
             let mut input: &[u8] = &[];
             let mut writer = CutWriter::new(alloc, 32, 6)?.fail_at(call, kind);
-            let answer = unless_out_of_memory(called(alloc, order, &mut input, &mut writer))?;
+            let answer = unless_out_of_memory(prove(alloc, order, &mut input, &mut writer))?;
             assert_eq!(rt; answer, Err(ProgramFault::CannotWrite), "at {call}");
             assert_eq!(rt; Some(writer.taken()), front, "at {call}");
         }

@@ -1,7 +1,7 @@
 use super::*;
 use crate::for_tests::{SUM, cut_buffer, items_at, listed_many, unless_out_of_memory};
 use std::alloc::AllocError;
-use std::io::{self, ErrorKind};
+use std::io::ErrorKind;
 use std::test::Fail;
 use textio::CutWriter;
 
@@ -28,40 +28,6 @@ fn line_of(
     format!(in alloc; "{front}{separator}{back}{end}")
 }
 
-/// `root` by a function without clauses. A proof reads the clauses of each call that a function makes.
-fn called<R: BufRead, W: Write>(
-    alloc: Global,
-    order: RootOrder<'_>,
-    reader: &mut R,
-    writer: &mut W,
-) -> Result<(), ProgramFault> {
-    root(alloc, order, reader, writer)
-}
-
-/// The same for this input, once more where memory was refused.
-fn called_again(alloc: Global, input: &str, writer: &mut Vec<u8>) -> Result<(), ProgramFault> {
-    match called(alloc, SUM, &mut input.as_bytes(), writer) {
-        Err(ProgramFault::OutOfMemory) => called(alloc, SUM, &mut input.as_bytes(), writer),
-        answer => answer,
-    }
-}
-
-/// The same for this input by one byte a read, once more where memory was refused.
-fn called_by_single_bytes(
-    alloc: Global,
-    input: &str,
-    writer: &mut Vec<u8>,
-) -> io::Result<Result<(), ProgramFault>> {
-    let mut reader = cut_buffer(alloc, input, 1, None)?;
-    match called(alloc, SUM, &mut reader, writer) {
-        Err(ProgramFault::OutOfMemory) => {
-            let mut reader = cut_buffer(alloc, input, 1, None)?;
-            Ok(called(alloc, SUM, &mut reader, writer))
-        }
-        answer => Ok(answer),
-    }
-}
-
 /// What `root` answers and writes.
 fn told<R: BufRead>(
     alloc: Global,
@@ -69,7 +35,7 @@ fn told<R: BufRead>(
     reader: &mut R,
 ) -> Result<(Result<(), ProgramFault>, Vec<u8>), Fail> {
     let mut written = Vec::with_capacity(alloc, 128)?;
-    let answer = unless_out_of_memory(called(alloc, order, reader, &mut written))?;
+    let answer = unless_out_of_memory(root(alloc, order, reader, &mut written))?;
     Ok((answer, written))
 }
 
@@ -199,11 +165,19 @@ fn one_read_fails(rt: HostRuntime) -> Result<(), Fail> {
 fn many_items_by_single_bytes(rt: HostRuntime) -> Result<(), Fail> {
     let input = listed_many(rt.alloc(), 300)?;
     let mut whole = Vec::with_capacity(rt.alloc(), 128)?;
-    let answer = called_again(rt.alloc(), input.as_str(), &mut whole);
+    let mut answer = root(rt.alloc(), SUM, &mut input.as_bytes(), &mut whole);
+    if answer == Err(ProgramFault::OutOfMemory) {
+        answer = root(rt.alloc(), SUM, &mut input.as_bytes(), &mut whole);
+    }
     assert_eq!(rt; answer, Ok(()));
 
     let mut written = Vec::with_capacity(rt.alloc(), 128)?;
-    let answer = called_by_single_bytes(rt.alloc(), input.as_str(), &mut written)?;
+    let mut reader = cut_buffer(rt.alloc(), input.as_str(), 1, None)?;
+    let mut answer = root(rt.alloc(), SUM, &mut reader, &mut written);
+    if answer == Err(ProgramFault::OutOfMemory) {
+        let mut reader = cut_buffer(rt.alloc(), input.as_str(), 1, None)?;
+        answer = root(rt.alloc(), SUM, &mut reader, &mut written);
+    }
     assert_eq!(rt; answer, Ok(()));
     assert_eq!(rt; written.as_slice(), whole.as_slice());
     Ok(())
@@ -237,7 +211,7 @@ fn one_write_fails(rt: HostRuntime) -> Result<(), Fail> {
         for kind in [Some(ErrorKind::BrokenPipe), None] {
             let mut writer = CutWriter::new(rt.alloc(), 70, 2)?.fail_at(call, kind);
             let mut input: &[u8] = &[];
-            let answer = unless_out_of_memory(called(rt.alloc(), SUM, &mut input, &mut writer))?;
+            let answer = unless_out_of_memory(root(rt.alloc(), SUM, &mut input, &mut writer))?;
             assert_eq!(rt; answer, Err(ProgramFault::CannotWrite), "at {call}");
             let front = line.as_bytes().get(..2 * call);
             assert_eq!(rt; Some(writer.taken()), front, "at {call}");
@@ -253,8 +227,11 @@ fn repeat_after_many_items(rt: HostRuntime) -> Result<(), Fail> {
     let last = items_at(rt.alloc(), &["0150"])?;
     input.push_str(&last)?;
     let mut written = Vec::with_capacity(rt.alloc(), 128)?;
+    let mut answer = root(rt.alloc(), SUM, &mut input.as_bytes(), &mut written);
     // Once more: a body that gives up does so again.
-    let answer = called_again(rt.alloc(), input.as_str(), &mut written);
+    if answer == Err(ProgramFault::OutOfMemory) {
+        answer = root(rt.alloc(), SUM, &mut input.as_bytes(), &mut written);
+    }
     assert_eq!(rt; answer, Err(ProgramFault::IndexRepeated(301)));
     assert!(rt; written.is_empty());
     Ok(())

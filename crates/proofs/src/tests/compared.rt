@@ -33,13 +33,14 @@ pub(super) fn accepted<'a, V: VufCheck>(
     name: &[u8],
     bytes: &'a [u8],
 ) -> Result<Accepted<'a, SumHash, V>, Fail> {
+    let view = ReplyView::read(bytes)?;
     let name = Name::new(name)?;
-    Ok(calls::accept(&mut SumHash::new(), vuf, body, &name, bytes)?)
+    Ok(check(&mut SumHash::new(), vuf, body, &name, &view)?)
 }
 
 /// What two replies for a name under the first body come to, as byte strings.
 fn compared(name: &Name, first: &[u8], second: &[u8]) -> Result<SameOr, RefusedReply> {
-    calls::compare_bytes(&PlainVuf, &body(), name, first, second)
+    compare_replies(&mut SumHash::new(), &PlainVuf, &body(), name, first, second)
 }
 
 /// The text of the commitment to this key, for the name `a`.
@@ -81,7 +82,7 @@ fn collide(
     y: &[u8],
 ) -> bool {
     let mut hash = SumHash::new();
-    let answer = calls::compare(&mut hash, first, second);
+    let answer = same_or_collision(&mut hash, first, second);
     is_collision(&answer, x, y) && hash.digest(x) == hash.digest(y)
 }
 
@@ -99,16 +100,16 @@ fn same_or_not_comparable(rt: HostRuntime) -> Result<(), Fail> {
     let text = reply_of_a(b"ab")?;
     let one = accepted(&PlainVuf, &body(), b"a", text.bytes())?;
     let again = accepted(&PlainVuf, &body(), b"a", text.bytes())?;
-    let answer = calls::compare(&mut hash, &one, &one);
+    let answer = same_or_collision(&mut hash, &one, &one);
     assert!(rt; matches!(answer, SameOr::Same));
-    let answer = calls::compare(&mut hash, &one, &again);
+    let answer = same_or_collision(&mut hash, &one, &again);
     assert!(rt; matches!(answer, SameOr::Same));
 
     let text = reply(b"b", &leaf_of_a(), &[])?;
     let of_b = accepted(&PlainVuf, &body(), b"b", text.bytes())?;
-    let answer = calls::compare(&mut hash, &one, &of_b);
+    let answer = same_or_collision(&mut hash, &one, &of_b);
     assert!(rt; matches!(answer, SameOr::NotComparable));
-    let answer = calls::compare(&mut hash, &of_b, &one);
+    let answer = same_or_collision(&mut hash, &of_b, &one);
     assert!(rt; matches!(answer, SameOr::NotComparable));
     Ok(())
 }
@@ -170,7 +171,7 @@ fn first_refused_reply_is_told(rt: HostRuntime) -> Result<(), Fail> {
     assert_eq!(rt; answer, Some(RefusedReply::First(Refusal::Trailing)));
 
     let other = Body { epoch: 2, ..body() };
-    let answer = calls::compare_bytes(&PlainVuf, &other, &name, right, right);
+    let answer = compare_replies(&mut SumHash::new(), &PlainVuf, &other, &name, right, right);
     let refused = RefusedReply::First(Refusal::OtherRoot);
     assert_eq!(rt; answer.err(), Some(refused));
     Ok(())
@@ -181,10 +182,10 @@ fn two_values_of_one_name(rt: HostRuntime) -> Result<(), Fail> {
     // The leaf of `a` shows that another value has no leaf.
     let (present, absent) = (reply_of_a(b"ab")?, reply(b"b", &leaf_of_a(), &[])?);
     let (present, absent) = (present.bytes(), absent.bytes());
-    let name = Name::new(b"a")?;
-    let answer = calls::compare_bytes(&AnyVuf, &body(), &name, present, absent)?;
+    let (name, mut hash) = (Name::new(b"a")?, SumHash::new());
+    let answer = compare_replies(&mut hash, &AnyVuf, &body(), &name, present, absent)?;
     assert!(rt; matches!(answer, SameOr::TwoValues));
-    let answer = calls::compare_bytes(&AnyVuf, &body(), &name, absent, present)?;
+    let answer = compare_replies(&mut hash, &AnyVuf, &body(), &name, absent, present)?;
     assert!(rt; matches!(answer, SameOr::TwoValues));
     Ok(())
 }

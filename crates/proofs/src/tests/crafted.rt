@@ -251,7 +251,7 @@ fn craft(shape: Shape, root: u16) -> Result<Crafted, Fail> {
     let value = Small::new(&value(shape.ending))?;
     Ok(Crafted {
         shape,
-        reply: calls::make_reply(&body(root), &value, &end, &path),
+        reply: make(&body(root), &value, &end, &path),
         digests: digests_on(&path, &text),
         path,
     })
@@ -277,7 +277,7 @@ fn comes_out(first: &Crafted, second: &Crafted, root: u16) -> Result<bool, Fail>
     let body = body(root);
     let one = accepted(&AnyVuf, &body, b"a", first.reply.bytes())?;
     let two = accepted(&AnyVuf, &body, b"a", second.reply.bytes())?;
-    let answer = calls::compare(&mut SumHash::new(), &one, &two);
+    let answer = same_or_collision(&mut SumHash::new(), &one, &two);
     let (ab, ba) = (key(first.shape.ending), key(second.shape.ending));
     if ab == ba {
         return Ok(matches!(answer, SameOr::Same));

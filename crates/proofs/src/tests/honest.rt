@@ -31,7 +31,7 @@ fn body(tree: &Tree<Sha256Hash>) -> Body {
     Body {
         epoch: 7,
         previous_epoch: 3,
-        root: calls::root(tree),
+        root: tree.root(),
         previous_hash: rising(0x40),
         nonce: rising(0xA0),
         vuf_key: vuf().public(),
@@ -56,8 +56,8 @@ fn opened<'a>(end: &prefixtree::End, key: &'a KeyData) -> End<'a> {
 /// The reply to a name, where `key` is bound to `alice`.
 fn reply(tree: &Tree<Sha256Hash>, name: &Name, key: &KeyData) -> ProofText {
     let value = vuf().value(name);
-    let path = calls::path(tree, &index_of(&mut Sha256Hash::new(), value.bytes()));
-    calls::make_reply(&body(tree), &value, &opened(&path.end, key), &path)
+    let path = tree.path(&index_of(&mut Sha256Hash::new(), value.bytes()));
+    make(&body(tree), &value, &opened(&path.end, key), &path)
 }
 
 /// What the bytes state of the name, or why they are refused.
@@ -136,7 +136,7 @@ fn lengths_beyond_their_limits(rt: HostRuntime) -> Result<(), Fail> {
         bytes[place] = high;
         bytes[place + 1] = low;
         assert_eq!(rt;
-            calls::read(&bytes).err(),
+            ReplyView::read(&bytes).err(),
             Some(Refusal::Malformed),
             "{number} at {place}"
         );

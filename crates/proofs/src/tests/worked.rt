@@ -31,7 +31,7 @@ pub(super) fn reply(value: &[u8], end: &End<'_>, siblings: &[Hash32]) -> Result<
     for sibling in siblings {
         path.siblings.try_push(*sibling)?;
     }
-    Ok(calls::make_reply(&body(), &Small::new(value)?, end, &path))
+    Ok(make(&body(), &Small::new(value)?, end, &path))
 }
 
 /// A reply that binds this key to the name `a`.
@@ -58,11 +58,11 @@ fn one_binding(rt: HostRuntime) -> Result<(), Fail> {
     assert_eq!(rt; commitment, sum(0x016B));
     let items = [(index, commitment)];
     let tree = tree_of(rt.alloc(), &mut hash, Hash32::default(), &items)?;
-    assert_eq!(rt; calls::root(&tree), body().root);
+    assert_eq!(rt; tree.root(), body().root);
 
     let end = End::Present { salt, key: &key };
     let value = PlainVuf.value(&name);
-    let text = calls::make_reply(&body(), &value, &end, &calls::path(&tree, &index));
+    let text = make(&body(), &value, &end, &tree.path(&index));
     assert!(rt;
         is_known(
             text.bytes(),
@@ -71,11 +71,11 @@ fn one_binding(rt: HostRuntime) -> Result<(), Fail> {
             0xf907bc0131aa957d6bfe62a569e36ab9,
         )
     );
-    let view = calls::read(text.bytes())?;
+    let view = ReplyView::read(text.bytes())?;
     assert!(rt; view.siblings().is_empty());
 
     let mut hash = SumHash::new();
-    let accepted = calls::accept(&mut hash, &PlainVuf, &body(), &name, text.bytes())?;
+    let accepted = check(&mut hash, &PlainVuf, &body(), &name, &view)?;
     assert!(rt; hash.count() <= 3);
     assert_eq!(rt; accepted.statement(), Statement::Present(b"ab"));
     assert_eq!(rt; accepted.index().to_bytes(), sum(0x61).to_bytes());
@@ -142,14 +142,17 @@ fn beginnings_and_more(rt: HostRuntime) -> Result<(), Fail> {
     assert_eq!(rt; text.bytes().len(), 188);
     for len in 0..188 {
         assert_eq!(rt;
-            calls::read(&text.bytes()[..len]).err(),
+            ReplyView::read(&text.bytes()[..len]).err(),
             Some(Refusal::Malformed),
             "{len}"
         );
     }
-    assert!(rt; calls::read(text.bytes()).is_ok());
+    assert!(rt; ReplyView::read(text.bytes()).is_ok());
     text.push(0);
-    assert_eq!(rt; calls::read(text.bytes()).err(), Some(Refusal::Trailing));
+    assert_eq!(rt;
+        ReplyView::read(text.bytes()).err(),
+        Some(Refusal::Trailing)
+    );
     Ok(())
 }
 
@@ -214,16 +217,16 @@ fn as_many_siblings_as_bits(rt: HostRuntime) -> Result<(), Fail> {
         Err(_) => tree_of(rt.alloc(), &mut hash, zero, &items)?,
     };
     let body = Body {
-        root: calls::root(&tree),
+        root: tree.root(),
         ..body()
     };
     let value = PlainVuf.value(&b);
-    let path = calls::path(&tree, &items[0].0);
+    let path = tree.path(&items[0].0);
     let end = End::Present {
         salt: zero,
         key: &k1,
     };
-    let text = calls::make_reply(&body, &value, &end, &path);
+    let text = make(&body, &value, &end, &path);
     assert!(rt;
         is_known(
             text.bytes(),
@@ -232,7 +235,7 @@ fn as_many_siblings_as_bits(rt: HostRuntime) -> Result<(), Fail> {
             0x303b637cbccd3bcb2a8bd7690eac7337,
         )
     );
-    let view = calls::read(text.bytes())?;
+    let view = ReplyView::read(text.bytes())?;
     assert_eq!(rt; view.siblings().len(), 8192);
     assert_eq!(rt;
         stated(&body, &b, text.bytes()),
@@ -249,6 +252,6 @@ fn longest_reply(rt: HostRuntime) -> Result<(), Fail> {
     };
     let text = reply(&[0xFF; 256], &end, &[sum(1); 256])?;
     assert_eq!(rt; text.bytes().len(), 10_681);
-    assert!(rt; calls::read(text.bytes()).is_ok());
+    assert!(rt; ReplyView::read(text.bytes()).is_ok());
     Ok(())
 }

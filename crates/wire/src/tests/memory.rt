@@ -5,8 +5,8 @@ use super::*;
 
 /// Feeds a piece, once more where memory was refused.
 fn fed_again(feed: &mut Feed, piece: &[u8]) -> Result<(), FeedRefusal> {
-    match calls::feed(feed, piece) {
-        Err(FeedRefusal::Memory) => calls::feed(feed, piece),
+    match feed.feed(piece) {
+        Err(FeedRefusal::Memory) => feed.feed(piece),
         answer => answer,
     }
 }
@@ -22,12 +22,12 @@ fn refused_piece_leaves_the_feed(rt: HostRuntime) -> Result<(), Fail> {
         piece[length + 3] = 0;
         piece[length + 4] = 0;
         assert_eq!(rt; fed_again(&mut feed, &piece[..length + 5]), Ok(()));
-        let Next::Frame(kind, body) = calls::next(&mut feed) else {
+        let Next::Frame(kind, body) = feed.next() else {
             panic!(rt; "the frame is whole")
         };
         assert_eq!(rt; (kind, body.len()), (5, length));
         assert!(rt; body.iter().all(|byte| *byte == 7));
-        assert!(rt; matches!(calls::next(&mut feed), Next::Wait));
+        assert!(rt; matches!(feed.next(), Next::Wait));
     }
     Ok(())
 }
@@ -37,13 +37,13 @@ fn refused_writes_append_nothing(rt: HostRuntime) -> Result<(), Fail> {
     let mut output = Vec::new(rt.alloc());
     for number in 0..100_usize {
         assert_eq!(rt; output.len(), number.wrapping_mul(11));
-        if calls::write_request(&rt, &Request::Head, &mut output).is_err() {
+        if (Request::Head).write(&mut output).is_err() {
             assert_eq!(rt; output.len(), number.wrapping_mul(11));
-            calls::write_request(&rt, &Request::Head, &mut output)?;
+            (Request::Head).write(&mut output)?;
         }
-        if calls::write_answer(&Answer::Refused(14), &mut output).is_err() {
+        if Answer::Refused(14).write(&mut output).is_err() {
             assert_eq!(rt; output.len(), number.wrapping_mul(11).wrapping_add(5));
-            calls::write_answer(&Answer::Refused(14), &mut output)?;
+            Answer::Refused(14).write(&mut output)?;
         }
     }
     Ok(())
@@ -52,7 +52,7 @@ fn refused_writes_append_nothing(rt: HostRuntime) -> Result<(), Fail> {
 #[test]
 fn writes_into_reserved_room_succeed(rt: HostRuntime) -> Result<(), Fail> {
     let mut output = Vec::with_capacity(rt.alloc(), MAX_ANSWER_LEN)?;
-    let written = calls::write_answer(&Answer::Refused(1), &mut output);
+    let written = Answer::Refused(1).write(&mut output);
     assert!(rt; written.is_ok());
     assert_eq!(rt; output.as_slice(), [0, 0, 0, 2, 255, 1].as_slice());
     Ok(())

@@ -6,7 +6,7 @@ use super::*;
 
 /// Feeds a piece, or ends the test if memory runs out.
 fn fed(rt: &impl Abort, feed: &mut Feed, piece: &[u8]) -> Result<(), AllocError> {
-    match calls::feed(feed, piece) {
+    match feed.feed(piece) {
         Ok(()) => Ok(()),
         Err(refusal) => {
             assert_eq!(rt; refusal, FeedRefusal::Memory, "a piece is refused");
@@ -19,14 +19,14 @@ fn fed(rt: &impl Abort, feed: &mut Feed, piece: &[u8]) -> Result<(), AllocError>
 fn registration_cut_in_two(rt: HostRuntime) -> Result<(), Fail> {
     let mut feed = Feed::new(rt.alloc());
     fed(&rt, &mut feed, &[0, 0, 0, 7, 1, 0, 1])?;
-    assert!(rt; !calls::ready(&feed));
-    assert!(rt; matches!(calls::next(&mut feed), Next::Wait));
+    assert!(rt; !feed.ready());
+    assert!(rt; matches!(feed.next(), Next::Wait));
     fed(&rt, &mut feed, &[0x61, 0, 1, 0x6b])?;
-    assert!(rt; calls::ready(&feed));
-    let Next::Frame(kind, body) = calls::next(&mut feed) else {
+    assert!(rt; feed.ready());
+    let Next::Frame(kind, body) = feed.next() else {
         panic!(rt; "the frame is whole")
     };
-    let read = calls::read_request(kind, body);
+    let read = Request::read(kind, body);
     assert!(rt;
         matches!(
             read,
@@ -36,17 +36,17 @@ fn registration_cut_in_two(rt: HostRuntime) -> Result<(), Fail> {
             })
         )
     );
-    assert!(rt; !calls::ready(&feed));
-    assert!(rt; matches!(calls::next(&mut feed), Next::Wait));
+    assert!(rt; !feed.ready());
+    assert!(rt; matches!(feed.next(), Next::Wait));
     Ok(())
 }
 
 /// Three Head frames are taken, and then nothing is ready.
 fn takes_heads(rt: &impl Abort, feed: &mut Feed, count: usize) {
     for taken in 0..count {
-        assert!(rt; matches!(calls::next(feed), Next::Frame(6, [])), "{taken}");
+        assert!(rt; matches!(feed.next(), Next::Frame(6, [])), "{taken}");
     }
-    assert!(rt; matches!(calls::next(feed), Next::Wait));
+    assert!(rt; matches!(feed.next(), Next::Wait));
 }
 
 #[test]
@@ -64,10 +64,10 @@ fn three_heads_in_one_piece_and_one_byte_a_piece(rt: HostRuntime) -> Result<(), 
 
 /// What reading the next frame of the feed as a request refuses, if it does.
 fn next_refusal(rt: &impl Abort, feed: &mut Feed) -> Option<ReadRefusal> {
-    let Next::Frame(kind, body) = calls::next(feed) else {
+    let Next::Frame(kind, body) = feed.next() else {
         panic!(rt; "the frame is whole")
     };
-    match calls::read_request(kind, body) {
+    match Request::read(kind, body) {
         Ok(_) => None,
         Err(refusal) => Some(refusal),
     }
@@ -81,7 +81,7 @@ fn stream_goes_on_behind_a_refused_frame(rt: HostRuntime) -> Result<(), Fail> {
     assert_eq!(rt; next_refusal(&rt, &mut feed), Some(ReadRefusal::BadKind));
     assert_eq!(rt; next_refusal(&rt, &mut feed), Some(ReadRefusal::BadBody));
     assert_eq!(rt; next_refusal(&rt, &mut feed), None);
-    assert!(rt; matches!(calls::next(&mut feed), Next::Wait));
+    assert!(rt; matches!(feed.next(), Next::Wait));
     Ok(())
 }
 
@@ -90,26 +90,14 @@ fn fails(rt: &impl Abort, alloc: Global, length: [u8; 4]) -> Result<(), AllocErr
     let mut feed = Feed::new(alloc);
     fed(rt, &mut feed, &[0, 0, 0, 1, 6])?;
     fed(rt, &mut feed, &length)?;
-    assert!(rt;
-        matches!(calls::next(&mut feed), Next::Frame(6, [])),
-        "{length:?}"
-    );
-    assert!(rt; calls::ready(&feed));
-    assert!(rt;
-        matches!(calls::next(&mut feed), Next::Failed),
-        "{length:?}"
-    );
-    assert!(rt; calls::ready(&feed));
-    assert!(rt;
-        matches!(calls::next(&mut feed), Next::Failed),
-        "{length:?}"
-    );
-    let refused = calls::feed(&mut feed, &[0, 0, 0, 1, 6]);
+    assert!(rt; matches!(feed.next(), Next::Frame(6, [])), "{length:?}");
+    assert!(rt; feed.ready());
+    assert!(rt; matches!(feed.next(), Next::Failed), "{length:?}");
+    assert!(rt; feed.ready());
+    assert!(rt; matches!(feed.next(), Next::Failed), "{length:?}");
+    let refused = feed.feed(&[0, 0, 0, 1, 6]);
     assert_eq!(rt; refused, Err(FeedRefusal::BadFrame), "{length:?}");
-    assert!(rt;
-        matches!(calls::next(&mut feed), Next::Failed),
-        "{length:?}"
-    );
+    assert!(rt; matches!(feed.next(), Next::Failed), "{length:?}");
     Ok(())
 }
 
@@ -133,9 +121,9 @@ fn longest_frame(rt: HostRuntime) -> Result<(), Fail> {
     let mut half = Vec::new(rt.alloc());
     half.resize(65_534, 7)?;
     fed(&rt, &mut feed, half.as_slice())?;
-    assert!(rt; matches!(calls::next(&mut feed), Next::Wait));
+    assert!(rt; matches!(feed.next(), Next::Wait));
     fed(&rt, &mut feed, &[8])?;
-    let Next::Frame(kind, body) = calls::next(&mut feed) else {
+    let Next::Frame(kind, body) = feed.next() else {
         panic!(rt; "the frame is whole")
     };
     assert_eq!(rt; (kind, body.len(), body.last()), (9, 65_535, Some(&8)));
@@ -159,7 +147,7 @@ fn many_frames(alloc: Global) -> Result<Vec<u8>, AllocError> {
 fn takes_all(rt: &impl Abort, feed: &mut Feed, first: u16, most: usize) -> u16 {
     let mut number = first;
     for _ in 0..most {
-        let Next::Frame(kind, body) = calls::next(feed) else {
+        let Next::Frame(kind, body) = feed.next() else {
             return number;
         };
         let length = number % 40;
