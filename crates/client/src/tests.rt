@@ -125,9 +125,9 @@ fn forged_promise(root: &SignedRoot, key: &KeyData) -> Result<SignedPromise, All
 }
 
 /// The number of the refusal, if it is one. Ends the test if memory ran out.
-fn refused<T: Drop>(answer: Result<T, Refusal>) -> Result<Option<u8>, AllocError> {
+fn refused(answer: Result<(), Refusal>) -> Result<Option<u8>, AllocError> {
     match answer {
-        Ok(_) => Ok(None),
+        Ok(()) => Ok(None),
         Err(Refusal::Memory) => Err(AllocError),
         Err(why) => Ok(Some(why.number())),
     }
@@ -141,9 +141,10 @@ fn started(alloc: Global, root: &SignedRoot) -> Result<Watching, AllocError> {
 
 /// The number of the refusal of these bytes for a first root, if they are refused.
 fn refused_start(alloc: Global, bytes: &[u8]) -> Result<Option<u8>, AllocError> {
-    let started: Result<Watching, Refusal> =
-        Client::start(alloc, &provider(), provider().public(), bytes);
-    refused(started)
+    match Watching::start(alloc, &provider(), provider().public(), bytes) {
+        Err(Refusal::Memory) => Err(AllocError),
+        answer => Ok(answer.err().map(|why| why.number())),
+    }
 }
 
 /// What comes of the list of these two roots.
