@@ -83,12 +83,12 @@ AUDIT_RUNS = {1_000: 10, 10_000: 10, 100_000: 10}
 AUDIT_MORE, JUDGEMENTS, AUDIT_SIBLINGS = 20_000, 10_000, 20
 EVIDENCE = ("fork", "link", "skip", "broken-promise")
 
-# The names that a client looks up, the siblings of their replies, the bytes and digests of such a reply
-# with a key of 32 bytes, and the roots of the client's chain. For the
+# The names that a client looks up, the siblings of their replies, the bytes of such a reply with a key of
+# 32 bytes, and the roots of the client's chain. For the
 # epochs at which it looked all up before, the rounds of a run, in each of which it looks all up at one
 # more epoch; and the runs.
 LOOK_NAMES, LOOK_SIBLINGS, LOOK_ROOTS = 1_000, 20, 1_100
-LOOK_REPLY, LOOK_DIGESTS = 249 + 32 * LOOK_SIBLINGS, LOOK_SIBLINGS + 3
+LOOK_REPLY = 249 + 32 * LOOK_SIBLINGS
 LOOK_RUNS = {1: (1, 20), 10: (2, 10), 100: (10, 5), 1_000: (20, 3)}
 # The lists of 64 roots that a client takes when it has so many lists, and the runs.
 UPDATE_LISTS, UPDATE_RUNS = 100, {16: 10, 160: 10, 1_600: 10}
@@ -531,14 +531,24 @@ def chain_rows(roots):
         yield [*row, f"{times.least / roots * 1e9:.1f}"]
 
 
+def digests_of(size, count):
+    """The digests that the checks of so many replies take, which have so many bytes together. A few of
+    them have more siblings than the others."""
+    siblings, rest = divmod(size - count * (LOOK_REPLY - 32 * LOOK_SIBLINGS), 32)
+    if rest or not LOOK_SIBLINGS <= siblings / count <= 1.01 * LOOK_SIBLINGS:
+        sys.exit(f"{count} replies of {size} bytes, which is not that of {LOOK_SIBLINGS} siblings each")
+    return siblings + 3 * count
+
+
 def clients_row(kind, epochs):
     """The row of two clients that both look up so many of their names, at so many epochs."""
     looks, rounds, times = CLIENT_NAMES * epochs, CLIENT_ROUNDS[epochs], []
     for _ in range(CLIENT_RUNS):
         words = [LOOK_SIBLINGS, CLIENT_NAMES, CLIENT_SHARED[kind], epochs, rounds]
         kept, (reconciled,) = steps(1, "clients", *words)
-        if [kept, reconciled.number] != [2 * looks * LOOK_REPLY, rounds]:
-            sys.exit(f"clients: {kept} bytes of replies, and {reconciled.number} times they agree")
+        digests_of(kept, 2 * looks)
+        if reconciled.number != rounds:
+            sys.exit(f"clients: they agree {reconciled.number} times, and {rounds} was wanted")
         times.append(reconciled.seconds)
     times = Spread(times, rounds)
     return [f"{looks:,}", kind, *times.cells(1e3, 3), f"{times.least / looks * 1e9:.0f}"]
@@ -971,8 +981,8 @@ class Turns:
         self.count = count
         self.checks, self.taken, self.ratios = [], [], []
 
-    def round(self, before, taken, after):
-        wanted = [self.count * LOOK_DIGESTS, self.count, self.count * LOOK_DIGESTS]
+    def round(self, digests, before, taken, after):
+        wanted = [digests, self.count, digests]
         numbers = [before.number, taken.number, after.number]
         if numbers != wanted:
             sys.exit(f"digests and looks: {numbers}, and {wanted} was wanted")
@@ -996,11 +1006,10 @@ def look_row(epochs):
     for _ in range(runs_made):
         words = [LOOK_NAMES, LOOK_SIBLINGS, LOOK_ROOTS, epochs, rounds]
         _, (kept, *run_steps) = steps(1 + 4 * rounds, "looks", *words)
-        if kept.number != looks * LOOK_REPLY:
-            sys.exit(f"looks: {kept.number} bytes, and {looks * LOOK_REPLY} was wanted")
-        memory.append(kept.memory / looks - LOOK_REPLY)
+        digests = digests_of(kept.number // epochs, LOOK_NAMES)
+        memory.append((kept.memory - kept.number) / looks)
         for k in range(0, 4 * rounds, 4):
-            turns.round(*run_steps[k + 1 : k + 4])
+            turns.round(digests, *run_steps[k + 1 : k + 4])
     return [f"{looks:,}", *turns.cells(), f"{statistics.median(memory):.0f}"]
 
 
@@ -1032,7 +1041,7 @@ def watch_row():
     for _ in range(WATCH_RUNS):
         _, run_steps = steps(4 * WATCH_ROUNDS, "watch", LOOK_SIBLINGS, WATCH_EPOCHS, WATCH_ROUNDS)
         for k in range(0, 4 * WATCH_ROUNDS, 4):
-            turns.round(*run_steps[k + 1 : k + 4])
+            turns.round(WATCH_EPOCHS * (LOOK_SIBLINGS + 3), *run_steps[k + 1 : k + 4])
     return turns.cells()
 
 
