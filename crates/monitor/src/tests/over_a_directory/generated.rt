@@ -182,7 +182,7 @@ fn compare_with_plain(rt: &impl Abort, alloc: Global) -> Result<(), AllocError> 
         for _ in 0..numbers.below(3) {
             ask(rt, &mut numbers, &mut book, &mut caller, &mut owner)?;
         }
-        let step = 1 + numbers.below(3) as u64;
+        let step = numbers.below(3).saturating_add(1) as u64;
         let epoch = book.epoch(book.latest()).saturating_add(step);
         book.close(rt, epoch)?;
         caller.call(rt, alloc, &mut numbers, &mut book)?;
