@@ -29,6 +29,15 @@ impl Numbers {
     }
 }
 
+/// How many roots are asked for.
+fn some_count(numbers: &mut Numbers) -> u16 {
+    match numbers.below(3) {
+        0 => 1,
+        1 => 3,
+        _ => 64,
+    }
+}
+
 /// The name at this place.
 fn name_at(place: usize) -> &'static [u8] {
     NAMES.get(place).copied().unwrap_or(b"")
@@ -151,7 +160,7 @@ fn ask(
     owner: &mut Owner,
 ) -> Result<(), AllocError> {
     let name = numbers.below(NAMES.len());
-    let key = numbers.below(50_000) as u16;
+    let key = u16::try_from(numbers.below(50_000)).unwrap_or(0);
     let page = book.latest();
     let Some(promise) = book.promise(rt, name, key)? else {
         return Ok(());
@@ -173,7 +182,7 @@ fn compare_with_plain(rt: &impl Abort, alloc: Global) -> Result<(), AllocError> 
         for _ in 0..numbers.below(3) {
             ask(rt, &mut numbers, &mut book, &mut caller, &mut owner)?;
         }
-        let step = 1 + numbers.below(3) as u64;
+        let step = numbers.below(3).saturating_add(1) as u64;
         let epoch = book.epoch(book.latest()).saturating_add(step);
         book.close(rt, epoch)?;
         caller.call(rt, alloc, &mut numbers, &mut book)?;

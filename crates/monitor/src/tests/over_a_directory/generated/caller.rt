@@ -60,7 +60,7 @@ impl Caller {
                 .known
                 .saturating_add(1)
                 .saturating_sub(numbers.below(4));
-            let count = [1, 3, 64][numbers.below(3)];
+            let count = some_count(numbers);
             self.update(rt, alloc, from.min(book.latest()), count, book)?;
         }
         self.look(rt, numbers, book)?;
@@ -155,6 +155,8 @@ impl Caller {
         let reply = book.reply(rt, next, name);
         let told = due(&mut self.client, &asked, reply.bytes());
         assert!(rt; matches!(told, Ok(Due::Kept)));
-        let _ = self.promises.remove(place);
+        if place < self.promises.len() {
+            let _ = self.promises.remove(place);
+        }
     }
 }

@@ -55,7 +55,7 @@ impl Owner {
                 .known
                 .saturating_add(1)
                 .saturating_sub(numbers.below(4));
-            let count = [1, 3, 64][numbers.below(3)];
+            let count = some_count(numbers);
             self.update(rt, alloc, from.min(book.latest()), count, book)?;
         }
         if numbers.below(4) != 0 {
