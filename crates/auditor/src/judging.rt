@@ -62,9 +62,7 @@ fn contradicts<H: NodeHash, V: VufCheck>(
     ensures counted { H.digests hash.new ≤ H.digests hash.old + 259 }
 {
     match accept(hash, vuf, body, &promise.name, bytes) {
-        Ok(reply) => {
-            reply.index() == promise.index && !reply.statement().binds(&promise.key)
-        }
+        Ok(reply) => { reply.index() == promise.index && !reply.statement().binds(&promise.key) }
         Err(_) => false,
     }
 }

@@ -400,6 +400,9 @@ fn promises_that_are_not_kept(rt: HostRuntime) -> Result<(), Fail> {
     let next = signed_page(rt.alloc(), 7, &first.root.body, None)?;
     let mut client = started(rt.alloc(), &first.root)?;
     assert_eq!(rt; kept(&mut client, &promise(&next.root, &key)?)?, Some(20));
-    assert_eq!(rt; kept(&mut client, &forged_promise(&first.root, &key)?)?, Some(2));
+    assert_eq!(rt;
+        kept(&mut client, &forged_promise(&first.root, &key)?)?,
+        Some(2)
+    );
     Ok(())
 }
