@@ -4,7 +4,7 @@
 #
 #   bench/client.sh
 #
-# Needs the kit (`rt` on the PATH) and Python 3, on Linux, and 2 GB of memory. Takes about two minutes
+# Needs the kit (`rt` on the PATH) and Python 3, on Linux, and 2 GB of memory. Takes about three minutes
 # once the program is proved and built, which it does first. docs/SPEED.md says what the columns mean.
 # The status is 0 unless something could not be measured.
 set -euo pipefail
