@@ -3,11 +3,7 @@ use Rattle.std.proofs.Common.{◌≡◌, ◌≢◌, ◌↔◌, ◌⊎◌, inl, i
 use Rattle.std.specs.List.{AllByRecursion}
 use Rattle.encoding.specs.Limits.{IsName}
 use Rattle.rootchain.specs.Chains.{Ascend, IsAt, KeyedRoots}
-use Rattle.rootchain.specs.Comparisons.{ChainsAgree, EvidenceIs}
-use Rattle.rootchain.specs.Evidence.{BothAre}
-use Rattle.rootchain.specs.declared.compare.Compare.TheVariants as chains
-use Rattle.rootchain.specs.declared.evidence.RootEvidence.TheVariants.{Fork, Link, Skip}
-use Rattle.rootchain.specs.declared.evidence.RootEvidence.{RootEvidence}
+use Rattle.rootchain.specs.Comparisons.{ChainsAgree}
 use Rattle.rootchain.specs.declared.signed_root.SignedRoot.{SignedRoot}
 use Rattle.rootchain.proofs.Agreement.{spans-at, unique}
 use Rattle.proofs.specs.Accepts.{stated, NamedReply}

@@ -1,5 +1,5 @@
 -- What a reply spells are bytes, and how many at most.
-use Rattle.std.proofs.Common.{ℕ, ◌+◌, ◌*◌, ◌≤◌, ◌<◌, List, length, arith, lit≤}
+use Rattle.std.proofs.Common.{ℕ, ◌+◌, ◌*◌, List, length, arith, lit≤}
 use Rattle.encoding.specs.Bytes.{Is32Bytes}
 use Rattle.proofs.specs.Replies.{reply_bytes, reply_end_bytes, sibling_bytes, AreSiblings, End, Present, Empty, Other, IsEnd, IsReply, Reply}
 use Rattle.rootchain.proofs.Sizes.{body_few, both_few, counted_few, each_few, fewer, hash_few, number_few, one_few, AreFew}
