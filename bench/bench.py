@@ -2,8 +2,8 @@
 """Times the built programs and prints the tables of the scripts beside it. docs/SPEED.md says what
 the columns mean.
 
-usage: bench/bench.py root|tree|changes|replies|reconcile|epochs|hub|serve|audit, at the top of the
-repository
+usage: bench/bench.py root|tree|changes|replies|reconcile|epochs|hub|serve|audit|client, at the top of
+the repository
 
 BEFORE, if it is set, is the top of another clone, in which directoryd and measure are built. `root`
 then times the programs of both, in turn.
@@ -47,8 +47,12 @@ CHANGE_ROUNDS = {1: (500, 40), 10: (50, 40), 1_000: (1, 100), 100_000: (1, 6)}
 SIBLINGS, REPLY_RUNS = (10, 20, 256), 10
 # How many replies are measured, and about how many digests the checks of a run take.
 REPLIES, CHECK_DIGESTS = 1_000, 800_000
-# The roots of each of two chains, how often they are compared in a run, and the runs.
-CHAIN_ROOTS, CHAIN_ROUNDS, CHAIN_RUNS = 100_000, 20, 10
+# For the roots of each of two chains: how often they are compared in a run. And the runs.
+CHAIN_ROUNDS, CHAIN_RUNS = {10_000: 200, 100_000: 20}, 10
+# The names that each of two clients looks up; how many of them both do; and for the epochs, at each of
+# which they look all up, how often they are reconciled in a run. And the runs.
+CLIENT_NAMES, CLIENT_SHARED = 100, {"all": 100, "one in ten": 10, "none": 0}
+CLIENT_ROUNDS, CLIENT_RUNS = {10: 500, 100: 50, 1_000: 5}, 3
 # How often each size of a directory is measured. In a run: the epochs with changes, the changes of
 # each, the look-ups of a step, and the steps of look-ups.
 EPOCH_RUNS = {1_000: 10, 10_000: 10, 100_000: 10, 1_000_000: 5}
@@ -78,6 +82,18 @@ SERVE_KEYS = {"sign-key": "01", "vuf-key": "02", "salt-key": "00", "token": "04"
 AUDIT_RUNS = {1_000: 10, 10_000: 10, 100_000: 10}
 AUDIT_MORE, JUDGEMENTS, AUDIT_SIBLINGS = 20_000, 10_000, 20
 EVIDENCE = ("fork", "link", "skip", "broken-promise")
+
+# The names that a client looks up, the siblings of their replies, the bytes of such a reply with a key of
+# 32 bytes, and the roots of the client's chain. For the
+# epochs at which it looked all up before, the rounds of a run, in each of which it looks all up at one
+# more epoch; and the runs.
+LOOK_NAMES, LOOK_SIBLINGS, LOOK_ROOTS = 1_000, 20, 1_100
+LOOK_REPLY = 249 + 32 * LOOK_SIBLINGS
+LOOK_RUNS = {1: (1, 20), 10: (2, 10), 100: (10, 5), 1_000: (20, 3)}
+# The lists of 64 roots that a client takes when it has so many lists, and the runs.
+UPDATE_LISTS, UPDATE_RUNS = 100, {16: 10, 160: 10, 1_600: 10}
+# The epochs of a round that a monitor watches, the rounds, and the runs.
+WATCH_EPOCHS, WATCH_ROUNDS, WATCH_RUNS = 1_000, 10, 3
 
 
 class Spread:
@@ -488,31 +504,64 @@ def replies(_folder):
     table(title, [*head, "value, us", "a digest, ns"], rows)
 
 
-def chain_times(shared):
-    """The times of comparing two chains of which so many first roots are the same: their bodies as
-    byte strings, and the chains."""
-    agree = shared == CHAIN_ROOTS
-    wanted = [CHAIN_ROUNDS if agree else 0, 0 if agree else CHAIN_ROUNDS * (shared + 1)]
+def chain_times(roots, shared):
+    """The times of comparing two chains of so many roots, of which so many first ones are the same: their
+    bodies as byte strings, and the chains."""
+    rounds, agree = CHAIN_ROUNDS[roots], shared == roots
+    wanted = [rounds if agree else 0, 0 if agree else rounds * (shared + 1)]
     times = [[], []]
     for _ in range(CHAIN_RUNS):
-        _, run_steps = steps(2, "chains", CHAIN_ROOTS, shared, CHAIN_ROUNDS)
+        _, run_steps = steps(2, "chains", roots, shared, rounds)
         if [step.number for step in run_steps] != wanted:
             sys.exit(f"chains: {[step.number for step in run_steps]}, and {wanted} was wanted")
         for kept, step in zip(times, run_steps):
             kept.append(step.seconds)
-    return [Spread(taken, CHAIN_ROUNDS) for taken in times]
+    return [Spread(taken, rounds) for taken in times]
+
+
+def chain_rows(roots):
+    parts = {"they agree": roots, "at the end": roots - 1}
+    parts |= {"in the middle": roots // 2, "at the first epoch": 0}
+    taken = {where: chain_times(roots, shared) for where, shared in parts.items()}
+    strings = taken["they agree"][0]
+    rows = [("byte strings", strings), *((where, chains) for where, (_, chains) in taken.items())]
+    for where, times in rows:
+        ratio = times.least / strings.least
+        row = [f"{roots:,}", where, *times.cells(1e3, 3), f"{ratio:.2f}"]
+        yield [*row, f"{times.least / roots * 1e9:.1f}"]
+
+
+def digests_of(size, count):
+    """The digests that the checks of so many replies take, which have so many bytes together. A few of
+    them have more siblings than the others."""
+    siblings, rest = divmod(size - count * (LOOK_REPLY - 32 * LOOK_SIBLINGS), 32)
+    if rest or not LOOK_SIBLINGS <= siblings / count <= 1.01 * LOOK_SIBLINGS:
+        sys.exit(f"{count} replies of {size} bytes, which is not that of {LOOK_SIBLINGS} siblings each")
+    return siblings + 3 * count
+
+
+def clients_row(kind, epochs):
+    """The row of two clients that both look up so many of their names, at so many epochs."""
+    looks, rounds, times = CLIENT_NAMES * epochs, CLIENT_ROUNDS[epochs], []
+    for _ in range(CLIENT_RUNS):
+        words = [LOOK_SIBLINGS, CLIENT_NAMES, CLIENT_SHARED[kind], epochs, rounds]
+        kept, (reconciled,) = steps(1, "clients", *words)
+        digests_of(kept, 2 * looks)
+        if reconciled.number != rounds:
+            sys.exit(f"clients: they agree {reconciled.number} times, and {rounds} was wanted")
+        times.append(reconciled.seconds)
+    times = Spread(times, rounds)
+    return [f"{looks:,}", kind, *times.cells(1e3, 3), f"{times.least / looks * 1e9:.0f}"]
 
 
 def reconcile(_folder):
-    parts = {"they agree": CHAIN_ROOTS, "at the end": CHAIN_ROOTS - 1}
-    parts |= {"in the middle": CHAIN_ROOTS // 2, "at the first epoch": 0}
-    taken = {where: chain_times(shared) for where, shared in parts.items()}
-    strings = taken["they agree"][0]
-    rows = [["byte strings", *strings.cells(1e3, 2), "1.00"]]
-    for where, (_, chains) in taken.items():
-        rows.append([where, *chains.cells(1e3, 2), f"{chains.least / strings.least:.2f}"])
-    title = f"two chains of {CHAIN_ROOTS:,} roots compared, by where they part; milliseconds"
-    table(title, ["", "least", "median", "greatest", "ratio"], rows)
+    spread = ["least", "median", "greatest"]
+    rows = [row for roots in CHAIN_ROUNDS for row in chain_rows(roots)]
+    title = "two chains compared, by where they part; milliseconds"
+    table(title, ["roots", "", *spread, "ratio", "a root, ns"], rows)
+    rows = [clients_row(kind, epochs) for epochs in CLIENT_ROUNDS for kind in CLIENT_SHARED]
+    title = "two clients reconciled, by the names that both looked up; milliseconds"
+    table(title, ["looks of each", "shared", *spread, "a look, ns"], rows)
 
 
 def index_of_name(number):
@@ -923,12 +972,97 @@ def audit(_folder):
     table("evidence judged, microseconds", head, rows)
 
 
+class Turns:
+    """Rounds in which the same replies are read and checked, taken by a client or a monitor, and read and
+    checked once more: the times, and for each round the ratio of what is taken to the mean of its
+    checks."""
+
+    def __init__(self, count):
+        self.count = count
+        self.checks, self.taken, self.ratios = [], [], []
+
+    def round(self, digests, before, taken, after):
+        wanted = [digests, self.count, digests]
+        numbers = [before.number, taken.number, after.number]
+        if numbers != wanted:
+            sys.exit(f"digests and looks: {numbers}, and {wanted} was wanted")
+        self.checks += [before.seconds, after.seconds]
+        self.taken.append(taken.seconds)
+        self.ratios.append(2 * taken.seconds / (before.seconds + after.seconds))
+
+    def cells(self):
+        taken, checks = (Spread(times, self.count) for times in (self.taken, self.checks))
+        row = [f"{1 / taken.median:,.0f}", *taken.cells(1e6, 2), *checks.cells(1e6, 2)]
+        return [*row, f"{taken.least / checks.least:.2f}", f"{statistics.median(self.ratios):.2f}"]
+
+
+TURN_HEAD = ["a second", "least", "median", "greatest", "checks", "median", "greatest", "ratio", "rounds"]
+
+
+def look_row(epochs):
+    """The row of a client that looked all names up at so many epochs."""
+    rounds, runs_made = LOOK_RUNS[epochs]
+    looks, turns, memory = epochs * LOOK_NAMES, Turns(LOOK_NAMES), []
+    for _ in range(runs_made):
+        words = [LOOK_NAMES, LOOK_SIBLINGS, LOOK_ROOTS, epochs, rounds]
+        _, (kept, *run_steps) = steps(1 + 4 * rounds, "looks", *words)
+        digests = digests_of(kept.number // epochs, LOOK_NAMES)
+        memory.append((kept.memory - kept.number) / looks)
+        for k in range(0, 4 * rounds, 4):
+            turns.round(digests, *run_steps[k + 1 : k + 4])
+    return [f"{looks:,}", *turns.cells(), f"{statistics.median(memory):.0f}"]
+
+
+def update_row(before):
+    """The row of a client that has so many lists of 64 roots."""
+    digests, taken, known = [[], []], [], []
+    for _ in range(UPDATE_RUNS[before]):
+        words = [before, UPDATE_LISTS, DIGESTS // 10]
+        _, run_steps = steps(7, "updates", *words)
+        body, signature, first, more, again, *after = run_steps
+        roots = [64 * before, 64 * (before + UPDATE_LISTS)]
+        if [first.number, more.number, again.number] != [*roots, roots[1]]:
+            sys.exit(f"updates: the heads are {first.number}, {more.number} and {again.number}")
+        for kept, steps_of in zip(digests, zip((body, signature), after)):
+            kept += [step.seconds for step in steps_of]
+        taken.append(more.seconds)
+        known.append(again.seconds)
+    body, signature = (min(times) * 10 / DIGESTS for times in digests)
+    row = [f"{64 * before:,}"]
+    for times, each in ((taken, body + signature), (known, signature)):
+        spread = Spread(times, UPDATE_LISTS)
+        row += [f"{1 / spread.least:,.0f}", *spread.cells(1e6, 1)]
+        row.append(f"{spread.least / (64 * each):.2f}")
+    return [*row, f"{body * 1e9:.0f}", f"{signature * 1e9:.0f}"]
+
+
+def watch_row():
+    turns = Turns(WATCH_EPOCHS)
+    for _ in range(WATCH_RUNS):
+        _, run_steps = steps(4 * WATCH_ROUNDS, "watch", LOOK_SIBLINGS, WATCH_EPOCHS, WATCH_ROUNDS)
+        for k in range(0, 4 * WATCH_ROUNDS, 4):
+            turns.round(WATCH_EPOCHS * (LOOK_SIBLINGS + 3), *run_steps[k + 1 : k + 4])
+    return turns.cells()
+
+
+def client(_folder):
+    rows = [look_row(epochs) for epochs in LOOK_RUNS]
+    title = "a look, and the reading and check of its reply, microseconds; bytes kept beside the reply's"
+    table(title, ["looks kept", *TURN_HEAD, "bytes"], rows)
+    rows = [update_row(before) for before in UPDATE_RUNS]
+    spread = ["least", "median", "greatest", "ratio"]
+    head = ["roots", "new/s", *spread, "known/s", *spread, "body, ns", "signature, ns"]
+    table("an update by 64 roots, new ones and known ones, microseconds", head, rows)
+    title = "a step of a monitor, and the reading and check of its reply, microseconds"
+    table(title, TURN_HEAD, [watch_row()])
+
+
 def main(which):
     with tempfile.TemporaryDirectory() as folder:
         print_machine()
         of = {"root": root, "tree": tree, "changes": changes, "replies": replies}
         of |= {"reconcile": reconcile, "epochs": epochs, "hub": hub, "serve": serve}
-        of |= {"audit": audit}
+        of |= {"audit": audit, "client": client}
         of[which](folder)
     print(f"\nload at the end {os.getloadavg()[0]:.2f}")
 

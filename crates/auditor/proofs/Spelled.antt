@@ -8,7 +8,7 @@ use Rattle.rootchain.specs.declared.signed_root.SignedRoot.{SignedRoot}
 use Rattle.rootchain.specs.Chains.{KeyedRoots}
 use Rattle.rootchain.specs.Places.{IsPlace, IsPlaceAbove, IsPlaceBelow, IsPlaceWithin}
 use Rattle.rootchain.proofs.Places.{ends}
-use Rattle.auditor.specs.Observing.{BothAre}
+use Rattle.rootchain.specs.Evidence.{BothAre}
 
 module _ (hash : List ℕ → List ℕ) (P : SignedRoot → Type 0) where
   abbrev pub Given : Place → Type 0

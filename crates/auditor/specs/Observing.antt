@@ -1,17 +1,15 @@
 -- What an auditor tells of a root, and what it then holds (CONIKS, section 4).
 use Rattle.std.specs.Prelude.{◌≡◌, ◌⊎◌, ℕ, List, [], ◌∷◌, Option, Some, None, Result, Ok, Err}
-use Rattle.encoding.specs.Fields.{Spells}
 use Rattle.rootchain.specs.declared.chain.placing.Place.{Place}
 use Rattle.rootchain.specs.declared.chain.placing.Place.TheVariants as place
 use Rattle.rootchain.specs.declared.evidence.RootEvidence.{RootEvidence}
-use Rattle.rootchain.specs.declared.evidence.RootEvidence.TheVariants.{Fork, Link, Skip}
 use Rattle.rootchain.specs.declared.refusal.Refusal.{Refusal}
 use Rattle.rootchain.specs.declared.refusal.Refusal.TheVariants.{Malformed, BadSignature, NotLater, BadLink, Memory}
 use Rattle.rootchain.specs.declared.signed_root.SignedRoot.{SignedRoot}
 use Rattle.rootchain.specs.Chains.{KeyedRoots, Verifies}
-use Rattle.rootchain.specs.Evidence.{IsRootEvidence}
+use Rattle.rootchain.specs.Evidence.{BothAre, IsRootEvidence}
 use Rattle.rootchain.specs.Places.{IsPlace}
-use Rattle.rootchain.specs.SignedRoots.{signed_root_bytes, IsSignedRoot}
+use Rattle.rootchain.specs.SignedRoots.{IsSignedRoot, SpellsRoot}
 use Rattle.rootchain.specs.Taking.{with_root}
 use Rattle.auditor.specs.Chains.{Chains, NowHas, chain_of}
 use Rattle.auditor.specs.declared.auditor.Observed.{Observed}
@@ -52,10 +50,6 @@ HoldsAfter before key root Ahead after = after ≡ before
 HoldsAfter before key root BeforeStart after = after ≡ before
 HoldsAfter before key root (Evidence evidence) after = after ≡ before
 
--- the bytes spell this root
-abbrev pub SpellsRoot : List ℕ → SignedRoot → Type 0
-SpellsRoot = Spells signed_root_bytes IsSignedRoot
-
 module _ (hash : List ℕ → List ℕ) (verified : List ℕ → List ℕ → List ℕ → Type 0) where
   -- when a root that was read is refused so: memory is wanted only to start a chain or to extend one
   abbrev pub IsRefused : Option KeyedRoots → List ℕ → SignedRoot → Refusal → Type 0
@@ -89,12 +83,6 @@ module _ (hash : List ℕ → List ℕ) (verified : List ℕ → List ℕ → Li
   Compares chains key bytes result =
       ((root : SignedRoot) × SpellsRoot bytes root × ComparesRoot chains key root result)
       ⊎ (((root : SignedRoot) → ¬ SpellsRoot bytes root) × (result ≡ Err Malformed))
-
--- this holds of both roots
-abbrev pub BothAre : (SignedRoot → Type 0) → RootEvidence → Type 0
-BothAre P (Fork one other) = P one × P other
-BothAre P (Link one other) = P one × P other
-BothAre P (Skip one other) = P one × P other
 
 module _ (hash : List ℕ → List ℕ) (verified : List ℕ → List ℕ → List ℕ → Type 0) (key : List ℕ) where
   -- evidence against this provider, of roots that have a spelling

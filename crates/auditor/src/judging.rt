@@ -1,12 +1,11 @@
-ghost use Rattle.std.specs.Prelude.{◌≡◌, ◌↔◌, ◌+◌, ◌≤◌, IsTrue, Some};
+ghost use Rattle.std.specs.Prelude.{◌≡◌, ◌↔◌, ◌+◌, ◌≤◌, IsTrue};
 ghost use Rattle.auditor.specs.Evidence.{IsEvidence};
 ghost use Rattle.proofs.specs.BrokenPromises.{Contradicts, IsBrokenPromise};
-ghost use Rattle.proofs.specs.Views.{key_stated};
 
 use crate::Evidence;
-use encoding::{Hash32, KeyData};
+use encoding::Hash32;
 use nodehash::NodeHash;
-use proofs::{BrokenPromise, Statement, accept};
+use proofs::{BrokenPromise, accept};
 use rootchain::{Body, Promise};
 use sigiface::Verifier;
 use vrfiface::VufCheck;
@@ -63,19 +62,7 @@ fn contradicts<H: NodeHash, V: VufCheck>(
     ensures counted { H.digests hash.new ≤ H.digests hash.old + 259 }
 {
     match accept(hash, vuf, body, &promise.name, bytes) {
-        Ok(reply) => {
-            reply.index() == promise.index && !is_of_key(reply.statement(), &promise.key)
-        }
+        Ok(reply) => { reply.index() == promise.index && !reply.statement().binds(&promise.key) }
         Err(_) => false,
-    }
-}
-
-/// Whether it states this key.
-fn is_of_key(statement: Statement<'_>, key: &KeyData) -> bool
-    ensures { IsTrue result ↔ (key_stated statement.entry ≡ Some key.now) }
-{
-    match statement {
-        Statement::Present(stated) => stated == key.bytes(),
-        Statement::Absent => false,
     }
 }

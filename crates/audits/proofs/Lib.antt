@@ -1,5 +1,4 @@
 pub mod Files
-pub mod Forms
 pub mod Found
 pub mod Parts
 pub mod Midway

@@ -16,10 +16,10 @@ use Rattle.textio.specs.Output.{WritesBeginning}
 use Rattle.textio.specs.declared.program_fault.ProgramFault.TheVariants.{CannotRead, CannotWrite, OutOfMemory}
 use Rattle.auditor.specs.declared.auditor.Observed.{Observed}
 use Rattle.auditor.specs.Chains.{Chains}
-use Rattle.auditor.specs.Observing.{SpellsRoot}
+use Rattle.rootchain.specs.SignedRoots.{SpellsRoot}
 use Rattle.audits.specs.Auditing.{answer_line, answer_lines, AnswersFirst, Audits, AuditsInput, IsAnswer, ObservesDecoded, ObservesLine}
 use Rattle.rootchain.specs.SignedRoots.{signed_root_bytes}
-use Rattle.audits.proofs.Forms.{length-signed_root_bytes}
+use Rattle.rootchain.proofs.Sizes.{root_few}
 
 abbrev Answer : Type 0
 Answer = Result Observed Refusal
@@ -32,7 +32,7 @@ answer_lines_more (x ∷ answers) answer =
 -- the longest signed root has 404 bytes
 too_long : (bytes : List ℕ) (root : SignedRoot) → 405 ≤ length bytes → SpellsRoot bytes root → ⊥
 too_long bytes root long (is, formed) =
-    let most = length-signed_root_bytes root formed in
+    let most = (root_few root formed).few in
     let same : length bytes ≡ length (signed_root_bytes root) = ap length is in
     omega (arith, long, most, same)
 

@@ -14,7 +14,8 @@ use Rattle.encoding.specs.Bytes.{IsBytes}
 use Rattle.encoding.proofs.ByteLists.{IsBytes-append}
 use Rattle.json.specs.Print.{escape, escape_byte}
 use Rattle.json.proofs.Printed.Utf8.{are_ascii}
-use Rattle.audits.proofs.Forms.{IsBytes-reply_bytes, IsBytes-signed_promise_bytes, IsBytes-signed_root_bytes}
+use Rattle.proofs.proofs.Sizes.{reply_few}
+use Rattle.rootchain.proofs.Sizes.{root_few, signed_promise_few}
 use Rattle.rootchain.specs.SignedRoots.{read_signed_root, signed_root_bytes, IsSignedRoot}
 use Rattle.audits.specs.Parts.{parts_of, HasParts, IsFormed, Parts}
 use Rattle.audits.specs.Steps.{AreRoots, IsProof, IsRootWithProof}
@@ -78,18 +79,18 @@ same_evidence one other p q e = absurd (apart (first_letter (parts_of one)) (fir
 
 -- the parts of well-formed evidence are bytes
 pub IsBytes-first : (evidence : Evidence) → IsFormed evidence → IsBytes (parts_of evidence).first
-IsBytes-first (Root (Fork one other)) h = IsBytes-signed_root_bytes one h.0
-IsBytes-first (Root (Link one other)) h = IsBytes-signed_root_bytes one h.0
-IsBytes-first (Root (Skip one other)) h = IsBytes-signed_root_bytes one h.0
-IsBytes-first (Broken broken) h = IsBytes-signed_promise_bytes broken.promise h.0
+IsBytes-first (Root (Fork one other)) h = (root_few one h.0).small
+IsBytes-first (Root (Link one other)) h = (root_few one h.0).small
+IsBytes-first (Root (Skip one other)) h = (root_few one h.0).small
+IsBytes-first (Broken broken) h = (signed_promise_few broken.promise h.0).small
 
 pub IsBytes-second : (evidence : Evidence) → IsFormed evidence → IsBytes (parts_of evidence).second
-IsBytes-second (Root (Fork one other)) h = IsBytes-signed_root_bytes other h.1
-IsBytes-second (Root (Link one other)) h = IsBytes-signed_root_bytes other h.1
-IsBytes-second (Root (Skip one other)) h = IsBytes-signed_root_bytes other h.1
+IsBytes-second (Root (Fork one other)) h = (root_few other h.1).small
+IsBytes-second (Root (Link one other)) h = (root_few other h.1).small
+IsBytes-second (Root (Skip one other)) h = (root_few other h.1).small
 IsBytes-second (Broken broken) h =
-    IsBytes-append (signed_root_bytes broken.root) broken.proof (IsBytes-signed_root_bytes broken.root h.1)
-    (subst IsBytes (sym h.2.1.0) (IsBytes-reply_bytes h.2.0 h.2.1.1))
+    IsBytes-append (signed_root_bytes broken.root) broken.proof (root_few broken.root h.1).small
+    (subst IsBytes (sym h.2.1.0) (reply_few h.2.0 h.2.1.1).small)
 
 -- kinds have no character that JSON escapes
 pub escape-kind : (evidence : Evidence) → escape (parts_of evidence).kind ≡ (parts_of evidence).kind

@@ -4,6 +4,7 @@ use Rattle.std.specs.Prelude.{◌≡◌, ℕ, List, ◌++◌, codes}
 use Rattle.auditor.specs.declared.evidence.Evidence.{Evidence}
 use Rattle.auditor.specs.declared.evidence.Evidence.TheVariants.{Root, Broken}
 use Rattle.proofs.specs.Replies.{Reply, Spells}
+use Rattle.rootchain.specs.Evidence.{BothAre}
 use Rattle.rootchain.specs.declared.evidence.RootEvidence.TheVariants.{Fork, Link, Skip}
 use Rattle.rootchain.specs.Promises.{signed_promise_bytes, IsSignedPromise}
 use Rattle.rootchain.specs.SignedRoots.{signed_root_bytes, IsSignedRoot}
@@ -23,9 +24,7 @@ parts_of (Broken broken) = record { first = signed_promise_bytes broken.promise;
 
 -- the roots and the promise are well formed, and the proof spells a reply
 abbrev pub IsFormed : Evidence → Type 0
-IsFormed (Root (Fork one other)) = IsSignedRoot one × IsSignedRoot other
-IsFormed (Root (Link one other)) = IsSignedRoot one × IsSignedRoot other
-IsFormed (Root (Skip one other)) = IsSignedRoot one × IsSignedRoot other
+IsFormed (Root roots) = BothAre IsSignedRoot roots
 IsFormed (Broken broken) = IsSignedPromise broken.promise × IsSignedRoot broken.root × ((reply : Reply) × Spells broken.proof reply)
 
 -- the well-formed evidence of this kind with these two parts

@@ -221,7 +221,9 @@ fn fork_goes_from_auditor_to_judge(rt: HostRuntime) -> Result<(), Fail> {
     let verifier = signer();
     let key = verifier.public();
     let mut auditor = Auditor::new(rt.alloc());
-    let started = auditor.observe(hash, &verifier, &key, third().write().bytes())?;
+    let started = auditor
+        .observe(hash, &verifier, &key, third().write().bytes())
+        .map_err(|_| AllocError)?;
     assert_eq!(rt; started, Observed::Started);
     match auditor.observe(hash, &verifier, &key, other_third().write().bytes())? {
         Observed::Evidence(roots) => {

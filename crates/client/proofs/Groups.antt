@@ -1,26 +1,26 @@
 -- The entries for one name and epoch, in a map by places.
-use Rattle.std.proofs.Common.{◌≡◌, ◌⊎◌, inl, inr, ℕ, zero, suc, ◌<◌, ◌≤◌, ◌&&◌, not, is_gt, List, [], ◌∷◌, ◌++◌, append_assoc, filter, Bool, true, false, cond, refl, sym, ap, subst, ◌∙◌, arith}
+use Rattle.std.proofs.Common.{◌≡◌, ◌⊎◌, inl, inr, ℕ, ◌<◌, ◌≤◌, ◌&&◌, not, List, [], ◌∷◌, ◌++◌, append_assoc, filter, Bool, true, false, cond, refl, sym, ap, subst, ◌∙◌, arith}
 use Rattle.std.specs.List.{AllByRecursion}
 use Rattle.std.specs.List.Sorted.{IsStrictlySortedBy}
+use Rattle.std.specs.BTreeMap.Range.{entries_between}
 use Rattle.std.specs.Map.{keys_of}
 use Rattle.std.specs.Cmp.Lexicographic.{slice_cmp}
-use Rattle.std.specs.Ordering.{nat_cmp, ordering_then, ordering_reverse, is_le, is_eq}
+use Rattle.std.specs.Ordering.{nat_cmp, ordering_then, ordering_reverse, is_le}
 use Rattle.std.specs.declared.cmp.Ordering.{Ordering}
 use Rattle.std.specs.declared.cmp.Ordering.TheVariants.{Less, Equal, Greater}
 use Rattle.std.proofs.lemmas.Cmp.{nat_list_cmp_total, nat_cmp_total, ranked}
 use Rattle.std.proofs.lemmas.Map.Lookups.{exact_bytes}
+use Rattle.std.specs.declared.ops.Bound.TheVariants.{Included, Excluded, Unbounded}
+use Rattle.client.specs.Agreements.{AreBeside}
 use Rattle.client.specs.declared.looks.Asked.{Asked}
 use Rattle.client.specs.declared.looks.LookPlace.{LookPlace}
 use Rattle.client.proofs.Numbering.{one-number}
 
 abbrev pub cmp_asked : Asked → Asked → Ordering
-cmp_asked a b = ordering_then (slice_cmp nat_cmp a.name b.name) (nat_cmp a.epoch b.epoch)
+cmp_asked a b = ordering_then (slice_cmp nat_cmp a.name.items b.name.items) (nat_cmp a.epoch b.epoch)
 
 abbrev pub cmp_place : LookPlace → LookPlace → Ordering
 cmp_place a b = ordering_then (cmp_asked a.asked b.asked) (nat_cmp a.number b.number)
-
-abbrev pub IsSameAsked : LookPlace → LookPlace → Type 0
-IsSameAsked a b = (b.asked.name ≡ a.asked.name) × (b.asked.epoch ≡ a.asked.epoch)
 
 own_reverse : (o : Ordering) → o ≡ ordering_reverse o → o ≡ Equal
 own_reverse Less same = absurd cc
@@ -38,44 +38,60 @@ equal-before Less b same = absurd cc
 equal-before Equal b same = refl
 equal-before Greater b same = absurd cc
 
-pub same-equal : (a b : LookPlace) → IsSameAsked a b → cmp_asked a.asked b.asked ≡ Equal
-same-equal a b same = rw (same.0, same.1, equal-names a.asked.name) (equal-numbers a.asked.epoch)
+pub same-equal : (a b : LookPlace) → AreBeside a b → cmp_asked a.asked b.asked ≡ Equal
+same-equal a b same = rw (same.0, same.1, equal-names a.asked.name.items) (equal-numbers a.asked.epoch)
 
-pub equal-same : (a b : LookPlace) → cmp_asked a.asked b.asked ≡ Equal → IsSameAsked a b
+pub equal-same : (a b : LookPlace) → cmp_asked a.asked b.asked ≡ Equal → AreBeside a b
 equal-same a b same = (
-  sym (exact_bytes a.asked.name b.asked.name (equal-before _ _ same)),
+  sym (exact_bytes a.asked.name.items b.asked.name.items (equal-before _ _ same)),
   sym (one-number _ a.asked.epoch b.asked.epoch same),
 )
 
--- whether a place lies from number 0 on and before a number
-abbrev pub is_between : Ordering → ℕ → ℕ → Bool
-is_between o most n = is_le (ordering_then o (nat_cmp 0 n)) && not (is_le (ordering_then o (nat_cmp most n)))
+then-reverse : (x y : Ordering) → ordering_then (ordering_reverse x) (ordering_reverse y) ≡ ordering_reverse (ordering_then x y)
+then-reverse Less y = refl
+then-reverse Equal y = refl
+then-reverse Greater y = refl
 
-pub between-equal : (o : Ordering) (most n : ℕ) → is_between o most n ≡ true → o ≡ Equal
-between-equal Less most n is = absurd cc
-between-equal Equal most n is = refl
-between-equal Greater most n is = absurd cc
+asked-reverse : (a b : Asked) → cmp_asked a b ≡ ordering_reverse (cmp_asked b a)
+asked-reverse a b =
+    ap (λ (o : Ordering). ordering_then o (nat_cmp a.epoch b.epoch)) (nat_list_cmp_total.antisymm a.name.items b.name.items)
+    ∙ ap (λ (o : Ordering). ordering_then (ordering_reverse (slice_cmp nat_cmp b.name.items a.name.items)) o) (nat_cmp_total.antisymm a.epoch b.epoch)
+    ∙ then-reverse (slice_cmp nat_cmp b.name.items a.name.items) (nat_cmp b.epoch a.epoch)
 
-le-from-0 : (n : ℕ) (o : Ordering) → o ≡ nat_cmp 0 n → is_le o ≡ true
-le-from-0 n Less is = refl
-le-from-0 n Equal is = refl
-le-from-0 n Greater is = absurd (omega (arith, ranked 0 n Greater is))
+-- whether a place lies below another, as it compares to it, and whether it lies from it on
+abbrev pub is_below : Ordering → Bool
+is_below o = not (is_le o)
 
-not-le : (most n : ℕ) (o : Ordering) → n < most → o ≡ nat_cmp most n → is_le o ≡ false
-not-le most n Less low is = absurd (omega (arith, low, ranked most n Less is))
-not-le most n Equal low is = absurd (omega (arith, low, ranked most n Equal is))
-not-le most n Greater low is = refl
+abbrev pub is_from : Ordering → Bool
+is_from o = is_le o && true
 
-pub equal-between : (o : Ordering) (most n : ℕ) → o ≡ Equal → n < most → is_between o most n ≡ true
-equal-between o most n same low = rw (same, le-from-0 n _ refl, not-le most n _ low refl) refl
-
-pub forward : (asked : Asked) (most : ℕ) → is_gt (cmp_place (record { asked = asked; number = 0 }) (record { asked = asked; number = most })) ≡ false
-forward asked most = rw (same-equal (record { asked = asked; number = 0 }) (record { asked = asked; number = most }) (refl, refl)) (by (nat_cmp 0 most) refl)
+pub beside-below : (place other : LookPlace) → AreBeside place other → other.number < place.number → is_below (cmp_place place other) ≡ true
+beside-below place other beside low = rw (same-equal place other beside) (by (nat_cmp place.number other.number) refl)
   where
-    by : (r : Ordering) → r ≡ nat_cmp 0 most → is_gt r ≡ false
+    by : (o : Ordering) → o ≡ nat_cmp place.number other.number → is_below o ≡ true
+    by Less is = absurd (omega (arith, low, ranked place.number other.number Less is))
+    by Equal is = absurd (omega (arith, low, ranked place.number other.number Equal is))
+    by Greater is = refl
+
+pub beside-from : (place other : LookPlace) → AreBeside place other → place.number ≤ other.number → is_from (cmp_place place other) ≡ true
+beside-from place other beside high = rw (same-equal place other beside) (by (nat_cmp place.number other.number) refl)
+  where
+    by : (o : Ordering) → o ≡ nat_cmp place.number other.number → is_from o ≡ true
     by Less is = refl
     by Equal is = refl
-    by Greater is = absurd (omega (arith, ranked 0 most Greater is))
+    by Greater is = absurd (omega (arith, high, ranked place.number other.number Greater is))
+
+pub below-number : (place other : LookPlace) → AreBeside place other → is_below (cmp_place place other) ≡ true → other.number < place.number
+below-number place other beside is = by (nat_cmp place.number other.number) refl (subst (λ (o : Ordering). is_below (ordering_then o (nat_cmp place.number other.number)) ≡ true) (same-equal place other beside) is)
+  where
+    by : (o : Ordering) → o ≡ nat_cmp place.number other.number → is_below o ≡ true → other.number < place.number
+    by Less same below = absurd cc
+    by Equal same below = absurd cc
+    by Greater same below = ranked place.number other.number Greater same
+
+-- a place beside another compares to a third as that one does
+compares-alike : (place other x : LookPlace) → AreBeside place other → cmp_asked other.asked x.asked ≡ cmp_asked place.asked x.asked
+compares-alike place other x beside = rw (beside.0, beside.1) refl
 
 -- ---- elements
 
@@ -155,17 +171,62 @@ module _ {X : Type 0} where
   sorted-end [] rest is = is
   sorted-end (e ∷ done) rest is = sorted-end done rest is.1
 
+  pub before-last : (x : LookPlace × X) (more : Entries X) (e : LookPlace × X) → AreSorted (more ++ x ∷ []) → IsIn more e → cmp_place e.0 x.0 ≡ Less
+  before-last x [] e is earlier = absurd earlier
+  before-last x (y ∷ more) e is (inl same) = subst (λ (z : LookPlace × X). cmp_place z.0 x.0 ≡ Less) same (of-each _ (more ++ x ∷ []) x is.0 (in-second more (x ∷ []) x (inl refl)))
+  before-last x (y ∷ more) e is (inr earlier) = before-last x more e is.1 earlier
+
+  front-all : (P : LookPlace × X → Type 0) (done rest : Entries X) → AllByRecursion P (done ++ rest) → AllByRecursion P done
+  front-all P [] rest all = tt
+  front-all P (e ∷ done) rest all = (all.0, front-all P done rest all.1)
+
+  pub sorted-front : (done rest : Entries X) → AreSorted (done ++ rest) → AreSorted done
+  sorted-front [] rest is = tt
+  sorted-front (e ∷ done) rest is = (front-all _ done rest is.0, sorted-front done rest is.1)
+
   -- of one name and epoch, what comes later has a greater number
-  pub later-number : (place : LookPlace) (x e : LookPlace × X) (rest : Entries X) → AreSorted (x ∷ rest) → IsIn rest e → IsSameAsked place x.0 → IsSameAsked place e.0 → x.0.number < e.0.number
+  pub later-number : (place : LookPlace) (x e : LookPlace × X) (rest : Entries X) → AreSorted (x ∷ rest) → IsIn rest e → AreBeside place x.0 → AreBeside place e.0 → x.0.number < e.0.number
   later-number place x e rest is later one other =
       let same : cmp_asked x.0.asked e.0.asked ≡ Equal = same-equal x.0 e.0 (other.0 ∙ sym one.0, other.1 ∙ sym one.1) in
       let less : cmp_place x.0 e.0 ≡ Less = of-each _ rest e is.0 later in
       let numbers : nat_cmp x.0.number e.0.number ≡ Less = ap (λ (o : Ordering). ordering_then o (nat_cmp x.0.number e.0.number)) (sym same) ∙ less in
       ranked x.0.number e.0.number Less (sym numbers)
 
--- the entries of the name and epoch of a place, of whose numbers all are below this one
-abbrev pub group_of : {X : Type 0} → LookPlace → ℕ → Entries X → Entries X
-group_of place most es = filter (λ e. is_between (cmp_asked place.asked e.0.asked) most e.0.number) es
+module _ {X : Type 0} (place : LookPlace) where
+  -- the entries that lie below a place, and those from it on
+  abbrev pub below_of : Entries X → Entries X
+  below_of es = entries_between cmp_place Unbounded (Excluded place) es
+
+  abbrev pub from_of : Entries X → Entries X
+  from_of es = entries_between cmp_place (Included place) Unbounded es
+
+  -- where one that lies from a place on is not beside it, none after it is
+  pub none-above : (x : LookPlace × X) (more : Entries X) → AreSorted (x ∷ more) → is_from (cmp_place place x.0) ≡ true → ¬ AreBeside place x.0
+      → (e : LookPlace × X) → IsIn (x ∷ more) e → ¬ AreBeside place e.0
+  none-above x more is from apart e (inl same) beside = apart (subst (λ (y : LookPlace × X). AreBeside place y.0) (sym same) beside)
+  none-above x more is from apart e (inr later) beside =
+      by (cmp_asked place.asked x.0.asked) refl from (ap (λ (o : Ordering). ordering_then o (nat_cmp x.0.number e.0.number)) (sym alike) ∙ of-each _ more e is.0 later)
+    where
+      alike : cmp_asked x.0.asked e.0.asked ≡ ordering_reverse (cmp_asked place.asked x.0.asked)
+      alike = asked-reverse x.0.asked e.0.asked ∙ ap ordering_reverse (compares-alike place e.0 x.0 beside)
+
+      by : (o : Ordering) → cmp_asked place.asked x.0.asked ≡ o → is_from (ordering_then o (nat_cmp place.number x.0.number)) ≡ true
+          → ordering_then (ordering_reverse o) (nat_cmp x.0.number e.0.number) ≡ Less → ⊥
+      by Less o f less = absurd cc
+      by Equal o f less = apart (equal-same place x.0 o)
+      by Greater o f less = absurd cc
+
+  -- where one that lies below a place is not beside it, none before it is
+  pub none-below : (x : LookPlace × X) (more : Entries X) → AreSorted (more ++ x ∷ []) → is_below (cmp_place place x.0) ≡ true → ¬ AreBeside place x.0
+      → (e : LookPlace × X) → IsIn more e → ¬ AreBeside place e.0
+  none-below x more is below apart e earlier beside =
+      by (cmp_asked place.asked x.0.asked) refl below (ap (λ (o : Ordering). ordering_then o (nat_cmp e.0.number x.0.number)) (sym (compares-alike place e.0 x.0 beside)) ∙ before-last x more e is earlier)
+    where
+      by : (o : Ordering) → cmp_asked place.asked x.0.asked ≡ o → is_below (ordering_then o (nat_cmp place.number x.0.number)) ≡ true
+          → ordering_then o (nat_cmp e.0.number x.0.number) ≡ Less → ⊥
+      by Less o b less = absurd cc
+      by Equal o b less = apart (equal-same place x.0 o)
+      by Greater o b less = absurd cc
 
 -- those that were gone through are such
 pub record AreGone {X : Type 0} (States : LookPlace × X → Type 0) (group rest : Entries X) : Type 0 where

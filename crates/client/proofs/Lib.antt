@@ -3,7 +3,6 @@ pub mod Rooted
 pub mod Breaking
 pub mod Growing
 pub mod Keeping
-pub mod Sizes
 pub mod Tested
 pub mod Groups
 pub mod Seen

@@ -1,24 +1,18 @@
 -- What the looks of two clients tell, and what comes of it.
-use Rattle.std.proofs.Common.{◌≡◌, ◌≢◌, ◌↔◌, ◌⊎◌, inl, inr, ℕ, zero, suc, List, [], ◌∷◌, slice_get, Contains, Option, Some, refl, sym, ap, subst, ◌∙◌}
+use Rattle.std.proofs.Common.{◌≡◌, ◌≢◌, ◌↔◌, ◌⊎◌, inl, inr, ℕ, zero, suc, List, [], ◌∷◌, slice_get, Contains, Some, refl, sym, ap, subst, ◌∙◌}
 use Rattle.std.specs.List.{AllByRecursion}
 use Rattle.encoding.specs.Limits.{IsName}
-use Rattle.nodehash.specs.Collisions.{IsCollision}
-use Rattle.rootchain.specs.Chains.{Ascend, IsAt, IsChain, KeyedRoots}
-use Rattle.rootchain.specs.Comparisons.{AreAlikeAt, ChainsAgree, EvidenceIs, IsCommon}
-use Rattle.rootchain.specs.Evidence.{BothAre}
-use Rattle.rootchain.specs.declared.compare.Compare.TheVariants as chains
-use Rattle.rootchain.specs.declared.evidence.RootEvidence.TheVariants.{Fork, Link, Skip}
-use Rattle.rootchain.specs.declared.body.Body.{Body}
-use Rattle.rootchain.specs.declared.evidence.RootEvidence.{RootEvidence}
+use Rattle.rootchain.specs.Chains.{Ascend, IsAt, KeyedRoots}
+use Rattle.rootchain.specs.Comparisons.{ChainsAgree}
 use Rattle.rootchain.specs.declared.signed_root.SignedRoot.{SignedRoot}
 use Rattle.rootchain.proofs.Agreement.{spans-at, unique}
 use Rattle.proofs.specs.Accepts.{stated, NamedReply}
-use Rattle.proofs.specs.Comparisons.{Answers, AreComparable, AreTwoValues, IsOnceAccepted, StateTheSame}
+use Rattle.proofs.specs.Comparisons.{Answers, AreComparable, IsOnceAccepted, StateTheSame}
 use Rattle.proofs.specs.Replies.{Reply, Spells}
 use Rattle.proofs.specs.declared.comparing.SameOr.{SameOr}
 use Rattle.proofs.specs.declared.comparing.SameOr.TheVariants as replies
 use Rattle.proofs.proofs.Passing.{one_reply}
-use Rattle.client.specs.Agreements.{AreFirstUnlike, AreOfOne, AreReconciled, AreTwoValuesFor, HaveOneStatement, IsToldByLooks, LooksAgree, OutcomeHolds, OutcomeIsSpelled, RepliesAnswer, SpellsOne}
+use Rattle.client.specs.Agreements.{AreFirstUnlike, AreOfOne, AreReconciled, HaveOneStatement, IsToldByLooks, LooksAgree, OutcomeHolds, OutcomeIsSpelled, SpellsOne}
 use Rattle.client.specs.Clients.{IsAcceptedLook, Look}
 use Rattle.client.proofs.Unlikes.{is-among}
 use Rattle.client.specs.declared.outcome.Outcome.{Outcome}
@@ -50,6 +44,9 @@ module _ (hash : List ℕ → List ℕ) (accepted : List ℕ → List ℕ → Li
 
     is-also : IsAcceptedLook hash accepted other also
     is-also = accepted-at other others all' is.j also is.at-other
+
+    pub first-named : (name : List ℕ) → name ≡ look.name → IsName name
+    first-named name named = rw named is-look.named
 
     pub first-once : (name bytes : List ℕ) → name ≡ look.name → bytes ≡ look.reply → IsOnceAccepted hash accepted name bytes
     first-once name bytes named spelled = once one look is-look name bytes named spelled
@@ -121,9 +118,3 @@ module _ (hash : List ℕ → List ℕ) (accepted : List ℕ → List ℕ → Li
     looks-spelled (Evidence evidence) is = absurd is
     looks-spelled (Collision x y) is = tt
     looks-spelled TwoValues is = tt
-
--- what holds of both roots of the chains' evidence
-pub both-are : (P : SignedRoot → Type 0) (evidence : RootEvidence) → EvidenceIs P (chains.Evidence evidence) → BothAre P evidence
-both-are P (Fork root also) is = is
-both-are P (Link root also) is = is
-both-are P (Skip root also) is = is

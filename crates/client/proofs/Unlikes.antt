@@ -1,5 +1,5 @@
 -- All looks of one client, gone through for the first that has an unlike partner.
-use Rattle.std.proofs.Common.{◌≡◌, ◌≢◌, ◌⊎◌, inl, inr, ℕ, zero, suc, ◌<◌, ◌≤◌, List, [], ◌∷◌, ◌++◌, append_assoc, length, slice_get, Option, Some, None, Contains, IsSomeAnd, MatchOption, refl, sym, ap, subst, ◌∙◌, arith}
+use Rattle.std.proofs.Common.{◌≡◌, ◌⊎◌, inl, inr, ℕ, ◌<◌, List, [], ◌∷◌, ◌++◌, append_assoc, length, slice_get, Option, Some, None, Contains, IsSomeAnd, MatchOption, refl, sym, ap, subst, ◌∙◌, arith}
 use Rattle.std.specs.List.{AllByRecursion}
 use Rattle.std.proofs.lemmas.Bool.{cases_lt}
 use Rattle.std.proofs.lemmas.List.{append-nil}
@@ -7,14 +7,12 @@ use Rattle.std.proofs.lemmas.Option.{get_or_from_slice_get, slice_get_read, slic
 use Rattle.proofs.specs.Accepts.{stated}
 use Rattle.proofs.specs.Replies.{Reply, Spells}
 use Rattle.proofs.proofs.Passing.{one_reply}
-use Rattle.client.specs.Agreements.{AllState, AreFirstUnlike, AreOfOne, HaveOneStatement, IsFirstOther, LookStates, LooksAgree, SpellsOne}
+use Rattle.client.specs.Agreements.{AllState, AreFirstUnlike, AreOfOne, HaveOneStatement, IsFirstOther, LooksAgree, SpellsOne}
 use Rattle.client.specs.Clients.{Look}
-use Rattle.client.specs.Numbered.{AreNumbered, in_order}
 use Rattle.client.specs.declared.looks.LookPlace.{LookPlace}
 use Rattle.client.specs.declared.looks.comparing.Unlike.{Unlike}
 use Rattle.client.proofs.Groups.{Entries, IsIn, in-second, of-each, one-more}
-use Rattle.client.proofs.Others.{look_of, spelled-at}
-use Rattle.client.proofs.Seen.{seen, stored, IsStored}
+use Rattle.client.proofs.Others.{look_of, spelled-at, AreAll}
 
 -- where an element stands
 pub at-place : {X : Type 0} (xs : List X) (x : X) (has : Contains xs x) → slice_get xs has.0 ≡ Some x
@@ -46,27 +44,16 @@ module _ {X : Type 0} (bytes : X → List ℕ) where
   abbrev Entry : Type 0
   Entry = LookPlace × X
 
-  -- these are the looks, in some order
-  pub record AreAll (looks : List Look) (entries : Entries X) : Type 0 where
-    pub seen : (e : LookPlace × X) → IsIn entries e → slice_get looks e.0.number ≡ Some (look_of bytes e)
-    pub whole : (n : ℕ) (look : Look) → slice_get looks n ≡ Some look → (e : LookPlace × X) × IsIn entries e × (e.0.number ≡ n) × (look_of bytes e ≡ look)
-
-  pub all-are : (entries : Entries X) → AreNumbered (λ p. p.number) entries → AreAll (in_order (λ p. p.number) (look_of bytes) entries) entries
-  all-are entries numbered = record {
-    seen = λ e is. seen (λ p. p.number) (look_of bytes) entries numbered e is;
-    whole = λ n look at. let s = stored (λ p. p.number) (look_of bytes) entries numbered n look at in (s.entry, s.in_entries, s.numbered_so, s.same);
-  }
-
   module _ (others : List Look) where
     -- each partner states the same
     abbrev pub HasNone : LookPlace × X → Type 0
-    HasNone e = (read : Reply) → Spells (bytes e.1) read → AllState others e.0.asked.name e.0.asked.epoch (stated read.end)
+    HasNone e = (read : Reply) → Spells (bytes e.1) read → AllState others e.0.asked.name.items e.0.asked.epoch (stated read.end)
 
     pub record IsOf (e : LookPlace × X) (found : Found) : Type 0 where
       pub number : found.number ≡ e.0.number
-      pub name : found.name ≡ e.0.asked.name
+      pub name : found.name ≡ e.0.asked.name.items
       pub one : found.one ≡ bytes e.1
-      pub other : (read : Reply) → Spells (bytes e.1) read → IsFirstOther others e.0.asked.name e.0.asked.epoch (stated read.end) found.other
+      pub other : (read : Reply) → Spells (bytes e.1) read → IsFirstOther others e.0.asked.name.items e.0.asked.epoch (stated read.end) found.other
 
     -- what was found among these is the least
     abbrev pub IsLeast : Entries X → Option Found → Type 0
@@ -128,14 +115,14 @@ module _ {X : Type 0} (bytes : X → List ℕ) where
         );
       }
 
-    module _ (looks : List Look) (entries : Entries X) (all : AreAll looks entries) (spelled : AllByRecursion (λ look. SpellsOne look.reply) looks) where
+    module _ (looks : List Look) (entries : Entries X) (all : AreAll bytes looks entries) (spelled : AllByRecursion (λ look. SpellsOne look.reply) looks) where
       -- a look without an unlike partner has one statement with each
       agrees : (i j : ℕ) (look also : Look) → slice_get looks i ≡ Some look → slice_get others j ≡ Some also → AreOfOne look also → (e : LookPlace × X) → look_of bytes e ≡ look → HasNone e → HaveOneStatement look also
       agrees i j look also at-one at-other of_one e same none =
           let spells = spelled-at looks spelled i look at-one in
           let bytes-same : look.reply ≡ bytes e.1 = ap (λ (l : Look). l.reply) (sym same) in
           let own : Spells (bytes e.1) spells.0 = subst (λ (b : List ℕ). Spells b spells.0) bytes-same spells.1 in
-          let name : also.name ≡ e.0.asked.name = sym of_one.0 ∙ ap (λ (l : Look). l.name) (sym same) in
+          let name : also.name ≡ e.0.asked.name.items = sym of_one.0 ∙ ap (λ (l : Look). l.name) (sym same) in
           let epoch : also.epoch ≡ e.0.asked.epoch = sym of_one.1 ∙ ap (λ (l : Look). l.epoch) (sym same) in
           (stated spells.0.end, (spells.0, spells.1, refl), none spells.0 own j also at-other name epoch)
 
@@ -192,7 +179,7 @@ module _ {X : Type 0} (bytes : X → List ℕ) where
                         let own : slice_get looks e.0.number ≡ Some x = subst (λ (n : ℕ). slice_get looks n ≡ Some x) same.0 at-k in
                         let both : Some (look_of bytes e) ≡ Some x = sym at-one ∙ own in
                         let is : look_of bytes e ≡ x = cc in
-                        let name : y.name ≡ e.0.asked.name = sym of_one.0 ∙ ap (λ (v : Look). v.name) (sym is) in
+                        let name : y.name ≡ e.0.asked.name.items = sym of_one.0 ∙ ap (λ (v : Look). v.name) (sym is) in
                         let epoch : y.epoch ≡ e.0.asked.epoch = sym of_one.1 ∙ ap (λ (v : Look). v.epoch) (sym is) in
                         let states = f.before l y same.1 at-l name epoch in
                         subst (λ (v : Look). HaveOneStatement v y) is (stated spells.0.end, (spells.0, spells.1, refl), states)

@@ -2,18 +2,17 @@
 -- that told them two things).
 use Rattle.std.specs.Prelude.{◌≡◌, ◌≢◌, ◌⊎◌, ℕ, ◌<◌, List, Option, Some, Contains, slice_get}
 use Rattle.nodehash.specs.Collisions.{IsCollision}
-use Rattle.rootchain.specs.Chains.{KeyedRoots}
 use Rattle.rootchain.specs.Comparisons.{ChainsAgree, IsCompared}
 use Rattle.rootchain.specs.Evidence.{BothAre, IsRootEvidence}
 use Rattle.rootchain.specs.SignedRoots.{IsSignedRoot}
 use Rattle.rootchain.specs.declared.compare.Compare.TheVariants as chains
-use Rattle.rootchain.specs.declared.evidence.RootEvidence.{RootEvidence}
 use Rattle.proofs.specs.Accepts.{stated}
 use Rattle.proofs.specs.Comparisons.{Answers}
 use Rattle.proofs.specs.Replies.{Reply, Spells}
 use Rattle.proofs.specs.declared.comparing.SameOr.{SameOr}
 use Rattle.proofs.specs.declared.comparing.SameOr.TheVariants as replies
 use Rattle.client.specs.Clients.{Client, Look}
+use Rattle.client.specs.declared.looks.LookPlace.{LookPlace}
 use Rattle.client.specs.declared.outcome.Outcome.{Outcome}
 use Rattle.client.specs.declared.outcome.Outcome.TheVariants.{Agree, Evidence, Collision, TwoValues}
 
@@ -116,10 +115,18 @@ OutcomeIsSpelled TwoValues = Unit
 abbrev pub SpellsOne : List ℕ → Type 0
 SpellsOne bytes = (reply : Reply) × Spells bytes reply
 
+-- two places are for one name and epoch
+abbrev pub AreBeside : LookPlace → LookPlace → Type 0
+AreBeside place other = (other.asked.name.items ≡ place.asked.name.items) × (other.asked.epoch ≡ place.asked.epoch)
+
 module _ (looks : List Look) (name : List ℕ) (epoch : ℕ) (statement : Option (List ℕ)) where
   -- each look for the name and epoch states this
   abbrev pub AllState : Type 0
   AllState = (n : ℕ) (look : Look) → slice_get looks n ≡ Some look → look.name ≡ name → look.epoch ≡ epoch → LookStates look statement
+
+  -- each of them that was accepted before the look of this number
+  abbrev pub AllStateBelow : ℕ → Type 0
+  AllStateBelow number = (n : ℕ) (look : Look) → n < number → slice_get looks n ≡ Some look → look.name ≡ name → look.epoch ≡ epoch → LookStates look statement
 
   -- the reply of the first look for the name and epoch that does not
   pub record IsFirstOther (reply : List ℕ) : Type 0 where
@@ -130,4 +137,4 @@ module _ (looks : List Look) (name : List ℕ) (epoch : ℕ) (statement : Option
     pub of_epoch : look.epoch ≡ epoch
     pub is : look.reply ≡ reply
     pub other : ¬ LookStates look statement
-    pub before : (n : ℕ) (earlier : Look) → n < number → slice_get looks n ≡ Some earlier → earlier.name ≡ name → earlier.epoch ≡ epoch → LookStates earlier statement
+    pub before : AllStateBelow number

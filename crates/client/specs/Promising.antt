@@ -1,17 +1,12 @@
 -- Which signed promises a client keeps (CONIKS, section 4, temporary bindings).
 use Rattle.std.specs.Prelude.{◌≡◌, ℕ, List, Result, Ok, Err}
-use Rattle.encoding.specs.Fields.{Spells}
-use Rattle.rootchain.specs.Promises.{signed_promise_bytes, IsSignedPromise, PromiseVerifies}
+use Rattle.rootchain.specs.Promises.{PromiseVerifies, SpellsPromise}
 use Rattle.rootchain.specs.declared.refusal.Refusal.TheVariants.{Malformed, BadSignature, NotLater, BadLink}
 use Rattle.rootchain.specs.declared.refusal.Refusal.TheVariants as root
 use Rattle.rootchain.specs.declared.signed_promise.SignedPromise.{SignedPromise}
 use Rattle.client.specs.Clients.{Client, HasRootOf, with_promise}
 use Rattle.client.specs.declared.refusal.Refusal.{Refusal}
 use Rattle.client.specs.declared.refusal.Refusal.TheVariants.{Root, Proof, UnknownRoot, RootDiffers, Memory, NoPromise}
-
--- the bytes spell this signed promise
-abbrev pub SpellsPromise : List ℕ → SignedPromise → Type 0
-SpellsPromise = Spells signed_promise_bytes IsSignedPromise
 
 module _ (hash : List ℕ → List ℕ) (verified : List ℕ → List ℕ → List ℕ → Type 0) (before : Client) (bytes : List ℕ) where
   -- the bytes spell this promise, and it verifies under the chain's key
@@ -39,13 +34,9 @@ module _ (hash : List ℕ → List ℕ) (verified : List ℕ → List ℕ → Li
   -- what comes of a promise that is to be kept, and the client after it
   abbrev pub Keeps : {A : Type 0} → Result A Refusal → Client → Type 0
   Keeps (Ok _) after = (signed : SignedPromise) × IsGiven signed × (after ≡ with_promise before signed)
-  Keeps (Err (Root Malformed)) after = ((signed : SignedPromise) → ¬ SpellsPromise bytes signed) × (after ≡ before)
-  Keeps (Err (Root BadSignature)) after = ((signed : SignedPromise) × SpellsPromise bytes signed × ¬ PromiseVerifies verified before.chain.key signed) × (after ≡ before)
-  Keeps (Err (Root NotLater)) after = ⊥
-  Keeps (Err (Root BadLink)) after = ⊥
-  Keeps (Err (Root root.Memory)) after = ⊥
-  Keeps (Err UnknownRoot) after = ((signed : SignedPromise) × IsSpelledPromise signed × ¬ HasRootOf hash before.chain signed.promise) × (after ≡ before)
   Keeps (Err Memory) after = ((signed : SignedPromise) × IsGiven signed) × (after ≡ before)
+  Keeps (Err (Root why)) after = ReadsPromise (Err (Root why)) × (after ≡ before)
+  Keeps (Err UnknownRoot) after = ReadsPromise (Err UnknownRoot) × (after ≡ before)
   Keeps (Err (Proof why)) after = ⊥
   Keeps (Err (RootDiffers evidence)) after = ⊥
   Keeps (Err NoPromise) after = ⊥

@@ -1,18 +1,13 @@
 -- How a client starts: with one signed root of its provider.
 use Rattle.std.specs.Prelude.{◌≡◌, ℕ, List, Result, Ok, Err}
-use Rattle.encoding.specs.Fields.{Spells}
 use Rattle.rootchain.specs.Chains.{Verifies}
-use Rattle.rootchain.specs.SignedRoots.{signed_root_bytes, IsSignedRoot}
+use Rattle.rootchain.specs.SignedRoots.{SpellsRoot}
 use Rattle.rootchain.specs.declared.refusal.Refusal.TheVariants.{Malformed, BadSignature, NotLater, BadLink}
 use Rattle.rootchain.specs.declared.refusal.Refusal.TheVariants as root
 use Rattle.rootchain.specs.declared.signed_root.SignedRoot.{SignedRoot}
 use Rattle.client.specs.Clients.{Client, started}
 use Rattle.client.specs.declared.refusal.Refusal.{Refusal}
 use Rattle.client.specs.declared.refusal.Refusal.TheVariants.{Root, Proof, UnknownRoot, RootDiffers, Memory, NoPromise}
-
--- the bytes spell this root
-abbrev pub SpellsRoot : List ℕ → SignedRoot → Type 0
-SpellsRoot = Spells signed_root_bytes IsSignedRoot
 
 module _ (verified : List ℕ → List ℕ → List ℕ → Type 0) (key : List ℕ) (bytes : List ℕ) where
   -- the bytes spell a root that verifies under the key

@@ -1,9 +1,8 @@
 -- What comes of a list of roots: it is taken whole, or refused (after CONIKS, section 4).
 use Rattle.std.specs.Prelude.{◌≡◌, ◌⊎◌, ℕ, List, Result, Ok, Err}
-use Rattle.encoding.specs.Fields.{Spells}
 use Rattle.rootchain.specs.Chains.{KeyedRoots}
 use Rattle.rootchain.specs.Evidence.{BothAre, IsRootEvidence}
-use Rattle.rootchain.specs.RootLists.{root_list_bytes, IsRootList}
+use Rattle.rootchain.specs.RootLists.{SpellsRoots}
 use Rattle.rootchain.specs.SignedRoots.{IsSignedRoot}
 use Rattle.rootchain.specs.TakingLists.{IsListRefusal, Takes}
 use Rattle.rootchain.specs.declared.refusal.Refusal.TheVariants as root
@@ -13,10 +12,6 @@ use Rattle.rootchain.specs.declared.list_refusal.ListRefusal.TheVariants as list
 use Rattle.client.specs.Clients.{Client}
 use Rattle.client.specs.declared.refusal.Refusal.{Refusal}
 use Rattle.client.specs.declared.refusal.Refusal.TheVariants.{Root, Proof, UnknownRoot, RootDiffers, Memory, NoPromise}
-
--- the bytes spell this list of roots
-abbrev pub SpellsRoots : List ℕ → List SignedRoot → Type 0
-SpellsRoots = Spells root_list_bytes IsRootList
 
 -- how a client tells why its chain refuses a list
 abbrev pub told_as : ListRefusal → Refusal

@@ -13,7 +13,7 @@ pub(crate) use comparing::Unlike;
 /// What a look asked for.
 #[derive(Drop, PartialEq, Eq, PartialOrd, Ord)]
 struct Asked {
-    name: Name,
+    name: Vec<u8>,
     epoch: u64,
 }
 
@@ -40,7 +40,7 @@ impl Model for Looks {
     ghost Value = { List Look };
 
     ghost view = { λ looks. in_order (λ place. place.number)
-        (λ entry. record { name = entry.0.asked.name; epoch = entry.0.asked.epoch; reply = entry.1.items }) looks.replies.entries };
+        (λ entry. record { name = entry.0.asked.name.items; epoch = entry.0.asked.epoch; reply = entry.1.items }) looks.replies.entries };
 
     ghost invariant = { λ looks. AreNumbered (λ place. place.number) looks.replies.entries };
 }
@@ -64,7 +64,7 @@ impl Looks {
     {
         let place = LookPlace {
             asked: Asked {
-                name: name.copied(),
+                name: owned(self.alloc, name.bytes())?,
                 epoch,
             },
             number: self.replies.len(),

@@ -1,7 +1,7 @@
 use encoding::Text;
 use rootchain::RootEvidence;
 
-/// What two clients of one key come to.
+/// The result of reconciling two clients of one provider.
 #[derive(Debug, Drop)]
 pub enum Outcome {
     /// They agree: their chains do, and looks for one name and epoch state one thing.

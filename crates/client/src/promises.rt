@@ -1,15 +1,14 @@
-ghost use Rattle.std.specs.Prelude.{◌≡◌, ◌↔◌, ◌++◌, ◌∷◌, [], List, IsTrue, Some, length};
+ghost use Rattle.std.specs.Prelude.{◌≡◌, ◌++◌, ◌∷◌, [], List, length};
 ghost use Rattle.proofs.specs.Replies.{Spells};
-ghost use Rattle.proofs.specs.Views.{key_stated};
 ghost use Rattle.rootchain.specs.Chains.{IsChain};
 ghost use Rattle.rootchain.specs.declared.signed_promise.SignedPromise.{SignedPromise};
 ghost use Rattle.client.specs.Dues.{IsTold, Tests};
 ghost use Rattle.client.specs.Testing.{IsTestedAmong};
 
 use crate::{Due, Refusal};
-use encoding::{KeyData, Name, ProofText};
+use encoding::{Name, ProofText};
 use nodehash::NodeHash;
-use proofs::{Accepted, BrokenPromise, Statement, accept};
+use proofs::{Accepted, BrokenPromise, accept};
 use rootchain::{Chain, SignedPromise, SignedRoot};
 use sigiface::Verifier;
 use vrfiface::VufCheck;
@@ -85,7 +84,7 @@ fn tell<H: NodeHash, V: VufCheck>(
     if accepted.index() != signed.promise.index {
         return Due::OtherIndex;
     }
-    if is_of_key(accepted.statement(), &signed.promise.key) {
+    if accepted.statement().binds(&signed.promise.key) {
         return Due::Kept;
     }
     let mut proof = ProofText::new();
@@ -95,14 +94,4 @@ fn tell<H: NodeHash, V: VufCheck>(
         root: root.copied(),
         proof,
     })
-}
-
-/// Whether it states this key.
-fn is_of_key(statement: Statement<'_>, key: &KeyData) -> bool
-    ensures { IsTrue result ↔ (key_stated statement.entry ≡ Some key.now) }
-{
-    match statement {
-        Statement::Present(stated) => stated == key.bytes(),
-        Statement::Absent => false,
-    }
 }

@@ -6,14 +6,15 @@ ghost use Rattle.client.specs.Clients.{Look};
 ghost use Rattle.client.specs.declared.outcome.Outcome.TheVariants.{Agree};
 
 use crate::{Client, Outcome};
+use encoding::Name;
 use nodehash::NodeHash;
 use proofs::{Accepted, SameOr, same_or_collision};
 use rootchain::{Chain, Compare};
 use sigiface::Verifier;
 use vrfiface::VufCheck;
 
-/// What two clients of one provider come to, whatever bytes made them (after CONIKS, section 4). A client
-/// may be reconciled with itself.
+/// Reconciles two clients of one provider, whatever bytes made them (after CONIKS, section 4). A client may
+/// be reconciled with itself.
 ///
 /// First their chains are compared. If these agree, the looks are: of the pairs of a look of the first client
 /// and a look of the second for one name and epoch, in order of acceptance, the first that states two things
@@ -41,7 +42,7 @@ pub fn reconcile<H: NodeHash, V: VufCheck, S: Verifier>(
     }
 }
 
-/// What the looks of two clients come to whose chains agree.
+/// Reconciles the looks of two clients whose chains agree.
 fn reconcile_looks<H: NodeHash, V: VufCheck, S: Verifier>(
     hash: &mut H,
     one: &Client<H, V, S>,
@@ -53,8 +54,11 @@ fn reconcile_looks<H: NodeHash, V: VufCheck, S: Verifier>(
     let Some(unlike) = one.looks().first_unlike(other.looks()) else {
         return Outcome::Agree;
     };
-    let first: Accepted<'_, H, V> = Accepted::again(hash, unlike.name, unlike.one);
-    let second: Accepted<'_, H, V> = Accepted::again(hash, unlike.name, unlike.other);
+    let Ok(name) = Name::new(unlike.name) else {
+        unreachable!()
+    };
+    let first: Accepted<'_, H, V> = Accepted::again(hash, &name, unlike.one);
+    let second: Accepted<'_, H, V> = Accepted::again(hash, &name, unlike.other);
     match same_or_collision(hash, &first, &second) {
         SameOr::Collision(x, y) => Outcome::Collision(x, y),
         SameOr::TwoValues => Outcome::TwoValues,

@@ -2,7 +2,7 @@
 
 use super::*;
 use commit::commit;
-use encoding::{Hash32, KeyData, Name, ProofText};
+use encoding::{Hash32, Index, KeyData, Name, ProofText};
 use nodehash::{NodeHash, SumHash};
 use prefixtree::Tree;
 use proofs::{End, Statement, make};
@@ -12,6 +12,7 @@ use std::alloc::{AllocError, Global};
 use std::test::Fail;
 use vrfiface::{PlainVuf, Vuf, index_of};
 
+mod memory;
 mod reconciling;
 
 /// A client of the provider.
@@ -99,25 +100,36 @@ fn earlier() -> Body {
 
 /// A promise of this key for the name, made at this root.
 fn promise(root: &SignedRoot, key: &KeyData) -> Result<SignedPromise, AllocError> {
-    let name = name()?;
+    let index = index_of(&mut SumHash::new(), PlainVuf.value(&name()?).bytes());
+    promise_at(root, index, key)
+}
+
+/// The same, for this index.
+fn promise_at(root: &SignedRoot, index: Index, key: &KeyData) -> Result<SignedPromise, AllocError> {
     let promise = Promise {
         epoch: root.body.epoch,
         root_hash: hash_of(&root.body),
-        index: index_of(&mut SumHash::new(), PlainVuf.value(&name).bytes()),
-        name,
+        index,
+        name: name()?,
         key: key.copied(),
     };
     let signature = provider().sign(promise.write().bytes());
     Ok(SignedPromise { promise, signature })
 }
 
-/// Ends the test if memory ran out, else returns the answer.
-fn unless_out_of_memory<T: Drop>(
-    answer: Result<T, Refusal>,
-) -> Result<Result<T, Refusal>, AllocError> {
+/// Such a promise, signed by another signer.
+fn forged_promise(root: &SignedRoot, key: &KeyData) -> Result<SignedPromise, AllocError> {
+    let promise = promise(root, key)?.promise;
+    let signature = stranger().sign(promise.write().bytes());
+    Ok(SignedPromise { promise, signature })
+}
+
+/// The number of the refusal, if it is one. Ends the test if memory ran out.
+fn refused(answer: Result<(), Refusal>) -> Result<Option<u8>, AllocError> {
     match answer {
+        Ok(()) => Ok(None),
         Err(Refusal::Memory) => Err(AllocError),
-        answer => Ok(answer),
+        Err(why) => Ok(Some(why.number())),
     }
 }
 
@@ -127,8 +139,16 @@ fn started(alloc: Global, root: &SignedRoot) -> Result<Watching, AllocError> {
     Client::start(alloc, &provider(), provider().public(), bytes.bytes()).map_err(|_| AllocError)
 }
 
+/// The number of the refusal of these bytes for a first root, if they are refused.
+fn refused_start(alloc: Global, bytes: &[u8]) -> Result<Option<u8>, AllocError> {
+    match Watching::start(alloc, &provider(), provider().public(), bytes) {
+        Err(Refusal::Memory) => Err(AllocError),
+        answer => Ok(answer.err().map(|why| why.number())),
+    }
+}
+
 /// What comes of the list of these two roots.
-fn updated(
+fn update(
     alloc: Global,
     client: &mut Watching,
     one: &SignedRoot,
@@ -138,15 +158,30 @@ fn updated(
     list.extend_from_slice(&[0, 2])?;
     list.extend_from_slice(one.write().bytes())?;
     list.extend_from_slice(other.write().bytes())?;
-    unless_out_of_memory(client.update(&mut SumHash::new(), &provider(), &list))
+    Ok(client.update(&mut SumHash::new(), &provider(), &list))
 }
 
-/// The key that a look states, if it states one.
+/// The number of the refusal of the list of these two roots, if it is refused.
+fn updated(
+    alloc: Global,
+    client: &mut Watching,
+    one: &SignedRoot,
+    other: &SignedRoot,
+) -> Result<Option<u8>, AllocError> {
+    refused(update(alloc, client, one, other)?)
+}
+
+/// The epoch of the chain's last root.
+fn head_epoch(client: &Watching) -> u64 {
+    client.chain().head().body.epoch
+}
+
+/// The key of two bytes that a look states, if it states one, or the number of the refusal.
 fn looked_up(
     client: &mut Watching,
     epoch: u64,
     reply: &ProofText,
-) -> Result<Result<Option<KeyData>, Refusal>, AllocError> {
+) -> Result<Result<Option<[u8; 2]>, u8>, AllocError> {
     match client.look(
         &mut SumHash::new(),
         &PlainVuf,
@@ -154,17 +189,22 @@ fn looked_up(
         epoch,
         reply.bytes(),
     ) {
-        Ok(Statement::Present(key)) => Ok(Ok(KeyData::new(key).ok())),
+        Ok(Statement::Present(key)) => Ok(Ok(key.first_chunk().copied())),
         Ok(Statement::Absent) => Ok(Ok(None)),
         Err(Refusal::Memory) => Err(AllocError),
-        Err(why) => Ok(Err(why)),
+        Err(why) => Ok(Err(why.number())),
     }
 }
 
-/// What comes of a promise that is to be kept.
-fn kept(client: &mut Watching, signed: &SignedPromise) -> Result<Result<(), Refusal>, AllocError> {
+/// The number of the refusal of a promise that is to be kept, if it is refused.
+fn kept(client: &mut Watching, signed: &SignedPromise) -> Result<Option<u8>, AllocError> {
     let bytes = signed.write();
-    unless_out_of_memory(client.keep_promise(&mut SumHash::new(), &provider(), bytes.bytes()))
+    refused(client.keep_promise(&mut SumHash::new(), &provider(), bytes.bytes()))
+}
+
+/// The epoch whose reply is tested next.
+fn due_epoch(client: &Watching) -> Result<Option<u64>, AllocError> {
+    Ok(client.due_epoch(&name()?))
 }
 
 /// A client that keeps a promise of `k1` and has the next root, which binds this key to the name, if any;
@@ -179,14 +219,22 @@ fn owed(alloc: Global, bound: Option<&KeyData>) -> Result<(Watching, ProofText),
     Ok((client, next.reply))
 }
 
-/// The number of what comes of a reply that a promise is tested by: 0 where it was kept, 1 where it was
-/// broken, 2 where the index is another, else that of the refusal.
-fn tested_by(client: &mut Watching, reply: &ProofText) -> Result<u8, AllocError> {
+/// What a reply shows of the promise that it tests, or the number of the refusal.
+#[derive(Clone, Copy, Debug, PartialEq, Eq)]
+enum Tested {
+    Kept,
+    Broken,
+    OtherIndex,
+    Refused(u8),
+}
+
+/// What comes of a reply that a promise is tested by.
+fn tested_by(client: &mut Watching, reply: &ProofText) -> Result<Tested, AllocError> {
     match client.due(&mut SumHash::new(), &PlainVuf, &name()?, reply.bytes()) {
-        Ok(Due::Kept) => Ok(0),
-        Ok(Due::Broken(_)) => Ok(1),
-        Ok(Due::OtherIndex) => Ok(2),
-        Err(why) => Ok(why.number()),
+        Ok(Due::Kept) => Ok(Tested::Kept),
+        Ok(Due::Broken(_)) => Ok(Tested::Broken),
+        Ok(Due::OtherIndex) => Ok(Tested::OtherIndex),
+        Err(why) => Ok(Tested::Refused(why.number())),
     }
 }
 
@@ -194,28 +242,11 @@ fn tested_by(client: &mut Watching, reply: &ProofText) -> Result<u8, AllocError>
 fn client_starts_with_a_root(rt: HostRuntime) -> Result<(), Fail> {
     let first = signed_page(rt.alloc(), 3, &earlier(), None)?;
     let client = started(rt.alloc(), &first.root)?;
-    assert_eq!(rt; client.chain().head().body.epoch, 3);
+    assert_eq!(rt; head_epoch(&client), 3);
     assert_eq!(rt; *client.key(), provider().public());
     let forged = forged(&first.root).write();
-    let refused: Result<Watching, Refusal> = Client::start(
-        rt.alloc(),
-        &provider(),
-        provider().public(),
-        forged.bytes(),
-    );
-    assert!(rt;
-        matches!(
-            refused,
-            Err(Refusal::Root(rootchain::Refusal::BadSignature))
-        )
-    );
-    let refused: Result<Watching, Refusal> = Client::start(
-        rt.alloc(),
-        &provider(),
-        provider().public(),
-        b"R",
-    );
-    assert!(rt; matches!(refused, Err(Refusal::Root(rootchain::Refusal::Malformed))));
+    assert_eq!(rt; refused_start(rt.alloc(), forged.bytes())?, Some(2));
+    assert_eq!(rt; refused_start(rt.alloc(), b"R")?, Some(1));
     Ok(())
 }
 
@@ -225,22 +256,15 @@ fn looks_at_an_epoch_and_at_the_head(rt: HostRuntime) -> Result<(), Fail> {
     let first = signed_page(rt.alloc(), 3, &earlier(), None)?;
     let next = signed_page(rt.alloc(), 7, &first.root.body, Some(&key))?;
     let mut client = started(rt.alloc(), &first.root)?;
-    assert_eq!(rt;
-        looked_up(&mut client, 7, &next.reply)?,
-        Err(Refusal::UnknownRoot)
-    );
+    assert_eq!(rt; looked_up(&mut client, 7, &next.reply)?, Err(20));
     assert_eq!(rt;
         updated(rt.alloc(), &mut client, &first.root, &next.root)?,
-        Ok(())
+        None
     );
     assert_eq!(rt; looked_up(&mut client, 3, &first.reply)?, Ok(None));
-    assert_eq!(rt;
-        looked_up(&mut client, 7, &next.reply)?,
-        Ok(Some(key.copied()))
-    );
-    assert_eq!(rt; looked_up(&mut client, 0, &next.reply)?, Ok(Some(key)));
-    let other = Refusal::Proof(proofs::Refusal::OtherRoot);
-    assert_eq!(rt; looked_up(&mut client, 0, &first.reply)?, Err(other));
+    assert_eq!(rt; looked_up(&mut client, 7, &next.reply)?, Ok(Some(*b"k1")));
+    assert_eq!(rt; looked_up(&mut client, 0, &next.reply)?, Ok(Some(*b"k1")));
+    assert_eq!(rt; looked_up(&mut client, 0, &first.reply)?, Err(3));
     Ok(())
 }
 
@@ -262,10 +286,10 @@ fn lists_of_roots(rt: HostRuntime) -> Result<(), Fail> {
     let last = signed_page(rt.alloc(), 9, &next.root.body, None)?;
     let mut client = started(rt.alloc(), &first.root)?;
     let ahead = updated(rt.alloc(), &mut client, &first.root, &last.root)?;
-    assert_eq!(rt; ahead, Err(Refusal::Root(rootchain::Refusal::BadLink)));
+    assert_eq!(rt; ahead, Some(4));
     let taken = updated(rt.alloc(), &mut client, &next.root, &last.root)?;
-    assert_eq!(rt; taken, Ok(()));
-    assert_eq!(rt; client.chain().head().body.epoch, 9);
+    assert_eq!(rt; taken, None);
+    assert_eq!(rt; head_epoch(&client), 9);
     Ok(())
 }
 
@@ -276,11 +300,8 @@ fn refused_list_leaves_the_chain(rt: HostRuntime) -> Result<(), Fail> {
     let mut client = started(rt.alloc(), &first.root)?;
     let forged = forged(&next.root);
     let refused = updated(rt.alloc(), &mut client, &next.root, &forged)?;
-    assert_eq!(rt;
-        refused,
-        Err(Refusal::Root(rootchain::Refusal::BadSignature))
-    );
-    assert_eq!(rt; client.chain().head().body.epoch, 3);
+    assert_eq!(rt; refused, Some(2));
+    assert_eq!(rt; head_epoch(&client), 3);
     Ok(())
 }
 
@@ -291,7 +312,7 @@ fn fork_is_evidence(rt: HostRuntime) -> Result<(), Fail> {
     let other = signed_page(rt.alloc(), 3, &earlier(), Some(&key))?;
     let mut client = started(rt.alloc(), &first.root)?;
     let fork = RootEvidence::Fork(first.root.copied(), other.root.copied());
-    let told = updated(rt.alloc(), &mut client, &first.root, &other.root)?;
+    let told = update(rt.alloc(), &mut client, &first.root, &other.root)?;
     assert_eq!(rt; told, Err(Refusal::RootDiffers(fork)));
     Ok(())
 }
@@ -300,28 +321,75 @@ fn fork_is_evidence(rt: HostRuntime) -> Result<(), Fail> {
 fn promise_before_the_next_root(rt: HostRuntime) -> Result<(), Fail> {
     let first = signed_page(rt.alloc(), 3, &earlier(), None)?;
     let mut client = started(rt.alloc(), &first.root)?;
-    assert_eq!(rt; tested_by(&mut client, &first.reply)?, 23);
+    assert_eq!(rt; tested_by(&mut client, &first.reply)?, Tested::Refused(23));
     let signed = promise(&first.root, &KeyData::new(b"k1")?)?;
-    assert_eq!(rt; kept(&mut client, &signed)?, Ok(()));
-    assert_eq!(rt; client.due_epoch(&name()?), None);
-    assert_eq!(rt; tested_by(&mut client, &first.reply)?, 20);
+    assert_eq!(rt; kept(&mut client, &signed)?, None);
+    assert_eq!(rt; due_epoch(&client)?, None);
+    assert_eq!(rt; tested_by(&mut client, &first.reply)?, Tested::Refused(20));
     Ok(())
 }
 
 #[test]
 fn next_root_without_the_promised_key(rt: HostRuntime) -> Result<(), Fail> {
     let (mut client, reply) = owed(rt.alloc(), None)?;
-    assert_eq!(rt; client.due_epoch(&name()?), Some(7));
-    assert_eq!(rt; tested_by(&mut client, &reply)?, 1);
-    assert_eq!(rt; tested_by(&mut client, &reply)?, 1);
+    assert_eq!(rt; due_epoch(&client)?, Some(7));
+    assert_eq!(rt; tested_by(&mut client, &reply)?, Tested::Broken);
+    assert_eq!(rt; tested_by(&mut client, &reply)?, Tested::Broken);
     Ok(())
 }
 
 #[test]
 fn next_root_with_the_promised_key(rt: HostRuntime) -> Result<(), Fail> {
     let (mut client, reply) = owed(rt.alloc(), Some(&KeyData::new(b"k1")?))?;
-    assert_eq!(rt; tested_by(&mut client, &reply)?, 0);
-    assert_eq!(rt; tested_by(&mut client, &reply)?, 23);
+    assert_eq!(rt; tested_by(&mut client, &reply)?, Tested::Kept);
+    assert_eq!(rt; tested_by(&mut client, &reply)?, Tested::Refused(23));
+    Ok(())
+}
+
+#[test]
+fn reply_of_another_index_than_the_promised_one(rt: HostRuntime) -> Result<(), Fail> {
+    let key = KeyData::new(b"k1")?;
+    let first = signed_page(rt.alloc(), 3, &earlier(), None)?;
+    let next = signed_page(rt.alloc(), 7, &first.root.body, Some(&key))?;
+    let signed = promise_at(&first.root, Index::new([7; 32]), &key)?;
+    let mut client = started(rt.alloc(), &first.root)?;
+    assert_eq!(rt; kept(&mut client, &signed)?, None);
+    let updated = updated(rt.alloc(), &mut client, &first.root, &next.root)?;
+    assert_eq!(rt; updated, None);
+    assert_eq!(rt; tested_by(&mut client, &next.reply)?, Tested::OtherIndex);
+    // The promise stays.
+    assert_eq!(rt; tested_by(&mut client, &next.reply)?, Tested::OtherIndex);
+    Ok(())
+}
+
+#[test]
+fn two_promises_of_one_epoch(rt: HostRuntime) -> Result<(), Fail> {
+    let key = KeyData::new(b"k1")?;
+    let other = KeyData::new(b"k2")?;
+    let (mut client, reply) = owed(rt.alloc(), Some(&key))?;
+    let first = signed_page(rt.alloc(), 3, &earlier(), None)?;
+    assert_eq!(rt; kept(&mut client, &promise(&first.root, &other)?)?, None);
+    assert_eq!(rt; kept(&mut client, &promise(&first.root, &key)?)?, None);
+    assert_eq!(rt; tested_by(&mut client, &reply)?, Tested::Kept);
+    // That of `k2` comes before the second one of `k1`.
+    assert_eq!(rt; tested_by(&mut client, &reply)?, Tested::Broken);
+    Ok(())
+}
+
+#[test]
+fn promise_of_an_earlier_epoch_that_was_kept_later(rt: HostRuntime) -> Result<(), Fail> {
+    let key = KeyData::new(b"k1")?;
+    let first = signed_page(rt.alloc(), 3, &earlier(), None)?;
+    let next = signed_page(rt.alloc(), 7, &first.root.body, None)?;
+    let last = signed_page(rt.alloc(), 9, &next.root.body, Some(&key))?;
+    let mut client = started(rt.alloc(), &first.root)?;
+    let updated = updated(rt.alloc(), &mut client, &next.root, &last.root)?;
+    assert_eq!(rt; updated, None);
+    assert_eq!(rt; kept(&mut client, &promise(&next.root, &key)?)?, None);
+    assert_eq!(rt; due_epoch(&client)?, Some(9));
+    assert_eq!(rt; kept(&mut client, &promise(&first.root, &key)?)?, None);
+    assert_eq!(rt; due_epoch(&client)?, Some(7));
+    assert_eq!(rt; tested_by(&mut client, &next.reply)?, Tested::Broken);
     Ok(())
 }
 
@@ -331,11 +399,10 @@ fn promises_that_are_not_kept(rt: HostRuntime) -> Result<(), Fail> {
     let first = signed_page(rt.alloc(), 3, &earlier(), None)?;
     let next = signed_page(rt.alloc(), 7, &first.root.body, None)?;
     let mut client = started(rt.alloc(), &first.root)?;
-    let unknown = promise(&next.root, &key)?;
-    assert_eq!(rt; kept(&mut client, &unknown)?, Err(Refusal::UnknownRoot));
-    let mut forged = promise(&first.root, &key)?;
-    forged.signature = stranger().sign(forged.promise.write().bytes());
-    let refused = Refusal::Root(rootchain::Refusal::BadSignature);
-    assert_eq!(rt; kept(&mut client, &forged)?, Err(refused));
+    assert_eq!(rt; kept(&mut client, &promise(&next.root, &key)?)?, Some(20));
+    assert_eq!(rt;
+        kept(&mut client, &forged_promise(&first.root, &key)?)?,
+        Some(2)
+    );
     Ok(())
 }

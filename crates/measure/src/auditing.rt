@@ -1,23 +1,20 @@
 use crate::digests::take_digests;
 use crate::replies::tree_around;
+use crate::roots::{
+    BODY_BYTES, KEYED_BYTES, SIGNED_BYTES, after, bodies, first_body, hash_of, provider,
+    provider_vuf, signed,
+};
 use crate::steps::end_step;
 use anyhow::{Context, Result};
 use auditor::{Auditor, Evidence, Observed, judge};
 use commit::{commit, commit_text};
 use encoding::{Hash32, KeyData, Name, ProofText};
-use nodehash::{NodeHash, Sha256Hash};
+use nodehash::Sha256Hash;
 use proofs::{BrokenPromise, End, make};
-use rootchain::{Body, Promise, RootEvidence, SignedPromise, SignedRoot};
+use rootchain::{Body, Promise, RootEvidence, SignedPromise};
 use sigiface::{KeyedSign, Signer};
 use std::alloc::{AllocError, Global};
-use vrfiface::{KeyedVuf, Vuf, index_of};
-
-/// The bytes of a body, and those that the stand-in digests to sign it: a letter and a key before it.
-const BODY_BYTES: usize = 146;
-
-const KEYED_BYTES: usize = 33;
-
-const SIGNED_BYTES: usize = KEYED_BYTES + BODY_BYTES;
+use vrfiface::{Vuf, index_of};
 
 /// The bytes of a root with the stand-in's signature.
 const ROOT_BYTES: usize = BODY_BYTES + 2 + 32;
@@ -42,56 +39,11 @@ pub(crate) struct Audits {
     pub(crate) digests: usize,
 }
 
-/// The provider, whose key is the signer's.
-fn provider() -> KeyedSign {
-    KeyedSign::new(Hash32::new([1; 32]))
-}
-
-fn hash_of(body: &Body) -> Hash32 {
-    Sha256Hash::new().digest(body.write().bytes())
-}
-
-fn first_body() -> Body {
-    Body {
-        epoch: 1,
-        previous_epoch: 0,
-        root: Hash32::new([3; 32]),
-        previous_hash: Hash32::default(),
-        nonce: Hash32::new([4; 32]),
-        vuf_key: Hash32::new([2; 32]),
-    }
-}
-
-/// The body that follows this one, so many epochs later.
-fn after(body: &Body, epochs: u64) -> Body {
-    Body {
-        epoch: body.epoch.saturating_add(epochs),
-        previous_epoch: body.epoch,
-        previous_hash: hash_of(body),
-        ..*body
-    }
-}
-
-/// The body of the same epoch with another root.
-fn forked(body: &Body) -> Body {
-    Body {
-        root: Hash32::new([5; 32]),
-        ..*body
-    }
-}
-
-fn signed(body: Body) -> SignedRoot {
-    let signature = provider().sign(body.write().bytes());
-    SignedRoot { body, signature }
-}
-
 /// The bytes of a chain of so many signed roots, one behind the other.
 fn chain(alloc: Global, roots: usize) -> Result<Vec<u8>, AllocError> {
     let mut bytes = Vec::with_capacity(alloc, roots.saturating_mul(ROOT_BYTES))?;
-    let mut body = first_body();
-    for _ in 0..roots {
+    for body in bodies(alloc, first_body(), roots)? {
         bytes.extend_from_slice(signed(body).write().bytes())?;
-        body = after(&body, 1);
     }
     Ok(bytes)
 }
@@ -161,6 +113,14 @@ struct Case {
     lengths: Vec<usize>,
 }
 
+/// The body of the same epoch with another root.
+fn forked(body: &Body) -> Body {
+    Body {
+        root: Hash32::new([5; 32]),
+        ..*body
+    }
+}
+
 /// A fork, a broken link and a skipped epoch.
 fn cases_of_roots(alloc: Global) -> Result<Vec<Case>, AllocError> {
     let third = after(&first_body(), 2);
@@ -194,7 +154,7 @@ fn cases_of_roots(alloc: Global) -> Result<Vec<Case>, AllocError> {
 /// A promise that was broken: the next root's tree has another key at the name, below so many siblings.
 fn broken_case(alloc: Global, siblings: usize) -> Result<Case> {
     let hash = &mut Sha256Hash::new();
-    let vuf = KeyedVuf::new(Hash32::new([2; 32]));
+    let vuf = provider_vuf();
     let name = Name::new(b"somebody")?;
     let promised = KeyData::new(&[7; 32])?;
     let key = KeyData::new(&[8; 32])?;
@@ -202,7 +162,7 @@ fn broken_case(alloc: Global, siblings: usize) -> Result<Case> {
     let value = vuf.value(&name);
     let index = index_of(hash, value.bytes());
     let commitment = commit(hash, &salt, &name, &key);
-    let tree = tree_around(alloc, hash, (index, commitment), siblings)?;
+    let tree = tree_around(alloc, hash, &[(index, commitment)], siblings)?;
 
     let first = first_body();
     let mut second = after(&first, 1);
@@ -238,7 +198,7 @@ fn broken_case(alloc: Global, siblings: usize) -> Result<Case> {
 }
 
 /// Takes the digests of texts of these lengths, so often.
-fn take_all(room: &mut [u8], lengths: &[usize], times: usize) -> Result<u64> {
+pub(crate) fn take_all(room: &mut [u8], lengths: &[usize], times: usize) -> Result<u64> {
     let mut last: u64 = 0;
     for _ in 0..times {
         for length in lengths {
@@ -252,7 +212,7 @@ fn take_all(room: &mut [u8], lengths: &[usize], times: usize) -> Result<u64> {
 /// Judges the evidence so often, and counts how often it holds.
 fn judge_all(evidence: &Evidence, times: usize) -> u64 {
     let mut hash = Sha256Hash::new();
-    let vuf = KeyedVuf::new(Hash32::new([2; 32]));
+    let vuf = provider_vuf();
     let verifier = provider();
     let key = verifier.public();
     let mut held: u64 = 0;

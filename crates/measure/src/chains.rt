@@ -85,7 +85,8 @@ fn epoch_of(answer: &Compare) -> u64 {
     }
 }
 
-/// Compares the chains, first and second in turn, and adds up the epochs of their forks.
+/// Compares the chains, first and second in turn, and adds up the epochs of their forks. Each comparison
+/// takes at most one digest.
 fn compare_chains(one: &History, other: &History, rounds: usize) -> Result<u64> {
     let mut hash = Sha256Hash::new();
     let mut epochs: u64 = 0;
@@ -100,6 +101,9 @@ fn compare_chains(one: &History, other: &History, rounds: usize) -> Result<u64> 
         }
         let answer = Chain::compare(&mut hash, &one.chain, &other.chain);
         epochs = epochs.saturating_add(epoch_of(&answer));
+    }
+    if hash.count() > rounds as u64 {
+        bail!("a comparison took more than one digest");
     }
     Ok(epochs)
 }

@@ -13,11 +13,17 @@ mod digests;
 mod directory;
 mod exchange;
 mod feeding;
+mod looking;
+mod pages;
+mod reconciling;
 mod replies;
+mod roots;
 mod sessions;
 mod steps;
 mod texts;
 mod tree;
+mod updating;
+mod watching;
 mod whole;
 
 use anyhow::{Context, Result, bail};
@@ -30,7 +36,9 @@ const USAGE: &str = "usage: measure digests BYTES COUNT | texts COUNT ROUNDS \
     | changes ITEMS CHANGES LISTS ROUNDS DIGESTS | replies SIBLINGS REPLIES ROUNDS DIGESTS \
     | chains ROOTS SHARED ROUNDS | epochs NAMES CHANGES ROUNDS LOOK_UPS LOOK_UP_ROUNDS DIGESTS \
     | hub NAMES FRAMES PIECE ROUNDS | feed FRAMES TIMES \
-    | audit ROOTS MORE SIBLINGS TIMES DIGESTS | all \
+    | audit ROOTS MORE SIBLINGS TIMES DIGESTS | updates BEFORE LISTS DIGESTS \
+    | looks NAMES SIBLINGS ROOTS EPOCHS ROUNDS | watch SIBLINGS EPOCHS ROUNDS \
+    | clients SIBLINGS NAMES SHARED EPOCHS ROUNDS | all \
     | ask PORT NAMES FRAMES IN_FLIGHT ROUNDS | exchange PORT NAMES FRAMES ROUNDS \
     | answer REQUEST REPLY";
 
@@ -147,6 +155,57 @@ fn run_on_auditor(
             };
             auditing::measure(rt, alloc, &wanted)
         }
+        _ => run_on_clients(rt, alloc, program, numbers),
+    }
+}
+
+/// Runs the program of this name on these numbers, if it is one of those on clients and monitors.
+fn run_on_clients(
+    rt: &(impl Print + Input),
+    alloc: Global,
+    program: &str,
+    numbers: &[usize],
+) -> Result<()> {
+    match (program, numbers) {
+        ("looks", &[names, siblings, roots, epochs, rounds]) => {
+            let sizes = pages::Sizes {
+                names,
+                siblings,
+                roots,
+            };
+            let wanted = looking::Looks {
+                sizes,
+                epochs,
+                rounds,
+            };
+            looking::measure(rt, alloc, &wanted)
+        }
+        ("updates", &[before, lists, digests]) => {
+            let wanted = updating::Updates {
+                before,
+                lists,
+                digests,
+            };
+            updating::measure(rt, alloc, &wanted)
+        }
+        ("watch", &[siblings, epochs, rounds]) => {
+            let wanted = watching::Watches {
+                siblings,
+                epochs,
+                rounds,
+            };
+            watching::measure(rt, alloc, &wanted)
+        }
+        ("clients", &[siblings, names, shared, epochs, rounds]) => {
+            let wanted = reconciling::Clients {
+                siblings,
+                names,
+                shared,
+                epochs,
+                rounds,
+            };
+            reconciling::measure(rt, alloc, &wanted)
+        }
         _ => bail!("{USAGE}"),
     }
 }
@@ -196,7 +255,11 @@ fn run_all(rt: &(impl Print + Input), alloc: Global) -> Result<()> {
     run(rt, alloc, "epochs", &[5, 3, 2, 4, 2, 1])?;
     run(rt, alloc, "hub", &[5, 3, 16, 2])?;
     run(rt, alloc, "feed", &[3, 2])?;
-    run(rt, alloc, "audit", &[5, 3, 2, 2, 1])
+    run(rt, alloc, "audit", &[5, 3, 2, 2, 1])?;
+    run(rt, alloc, "looks", &[3, 12, 4, 2, 2])?;
+    run(rt, alloc, "updates", &[1, 2, 1])?;
+    run(rt, alloc, "watch", &[12, 2, 2])?;
+    run(rt, alloc, "clients", &[12, 3, 1, 2, 2])
 }
 
 fn main(rt: HostRuntime) -> Result<()> {

@@ -50,22 +50,22 @@ fn flipped(index: &Index, bit: usize) -> Index
     Index::new(bytes)
 }
 
-/// A tree in which the path of the item has so many siblings: for each of its first bits there is
-/// an item whose index differs in that bit alone.
+/// A tree in which the path of each of these items has so many siblings, unless two of them agree in as
+/// many bits: for each of the first bits of an item there is one whose index differs in that bit alone.
 pub(crate) fn tree_around(
     alloc: Global,
     hash: &mut Sha256Hash,
-    item: Item,
+    items: &[Item],
     siblings: usize,
 ) -> Result<Tree<Sha256Hash>> {
-    let (index, commitment) = item;
-    let mut items = Vec::with_capacity(alloc, siblings)?;
-    items.push(item)?;
-    for bit in 0..siblings.min(256) {
-        items.push((flipped(&index, bit), commitment))?;
+    let mut all = Vec::from_slice(alloc, items)?;
+    for (index, commitment) in items {
+        for bit in 0..siblings.min(256) {
+            all.push((flipped(index, bit), *commitment))?;
+        }
     }
-    let items = placed(alloc, &items)?.context("an index stands twice")?;
-    Ok(Tree::from_items(alloc, hash, Hash32::default(), &items)?)
+    let all = placed(alloc, &all)?.context("an index stands twice")?;
+    Ok(Tree::from_items(alloc, hash, Hash32::default(), &all)?)
 }
 
 impl LookUp {
@@ -80,7 +80,7 @@ impl LookUp {
         let salt = Hash32::new(digest);
         let index = index_of(&mut hash, value.bytes());
         let commitment = commit(&mut hash, &salt, &name, &key);
-        let tree = tree_around(alloc, &mut hash, (index, commitment), siblings)?;
+        let tree = tree_around(alloc, &mut hash, &[(index, commitment)], siblings)?;
         let body = Body {
             epoch: 1,
             previous_epoch: 0,

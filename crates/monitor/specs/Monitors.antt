@@ -46,9 +46,10 @@ IsNext monitor root = IsNextAfter monitor.client.chain monitor.watched root
 abbrev pub HasLook : Monitor → ℕ → Type 0
 HasLook monitor epoch = (look : Look) × Contains monitor.client.looks look × (look.name ≡ monitor.name) × (look.epoch ≡ epoch)
 
--- the monitor's client keeps a look for the name and epoch of this one, and both state one thing
+-- the monitor's client keeps a look of the watched name at the epoch of this one, and all that it keeps for
+-- the name and epoch state what this one states
 abbrev pub SawTheSame : Monitor → Look → Type 0
-SawTheSame monitor look = (own : Look) × Contains monitor.client.looks own × AreOfOne look own × HaveOneStatement look own
+SawTheSame monitor look = HasLook monitor look.epoch × ((own : Look) → Contains monitor.client.looks own → AreOfOne look own → HaveOneStatement look own)
 
 -- What is true of each monitor: the changes ascend by the epochs of their promises, the epoch that was
 -- watched last is one of the chain, and of each epoch that was watched the client keeps a look.

@@ -9,12 +9,14 @@ ghost use Rattle.monitor.specs.Monitors.{Monitor, IsWatched, IsWatching, SawTheS
 use nodehash::NodeHash;
 use vrfiface::VufCheck;
 
-/// Where a client is reconciled with that of a monitor, what the client saw of the watched name at an epoch
-/// that the monitor watched is what the monitor saw, or they do not agree (CONIKS, section 4). `reconcile`
-/// then returns evidence against the provider, a collision, or that two values were accepted.
+/// Where a client is reconciled with that of a monitor, in either order, what the client saw of the watched
+/// name at an epoch that the monitor watched is what the monitor saw, or they do not agree (CONIKS,
+/// section 4). `reconcile` then returns evidence against the provider, a collision, or that two values were
+/// accepted.
 pub fn what_was_seen_was_watched<H: NodeHash, V: VufCheck>()
     ensures { (monitor : Monitor) (client : Client) (outcome : Outcome)
-        → IsWatching monitor → IsReconciled H.digest_of V.accepted client monitor.client outcome
+        → IsWatching monitor
+        → IsReconciled H.digest_of V.accepted client monitor.client outcome ⊎ IsReconciled H.digest_of V.accepted monitor.client client outcome
         → (look : Look) (root : SignedRoot) → Contains client.looks look → look.name ≡ monitor.name
         → IsWatched monitor root → look.epoch ≡ root.body.epoch
         → SawTheSame monitor look ⊎ (outcome ≢ Agree) }

@@ -11,7 +11,7 @@
 //! while let Some(epoch) = monitor.next_epoch() {
 //!     let reply = ask(name, epoch);
 //!     if let Step::Alarm { epoch, found } = monitor.step(&mut hash, &vuf, reply)? {
-//!         // The provider bound the name to another key, and the owner did not ask for it.
+//!         // The provider states another key than the owner expects, or none.
 //!     }
 //! }
 //! ```

@@ -1,10 +1,10 @@
-ghost use Rattle.std.specs.Prelude.{◌≡◌, ◌↔◌, ◌<◌, ◌≤◌, All, AllPairs, IsTrue, OnOk, length, option_map};
+ghost use Rattle.std.specs.Prelude.{◌≡◌, ◌↔◌, ◌<◌, ◌≤◌, All, AllPairs, IfErr, IsTrue, OnOk, length, option_map};
 ghost use Rattle.std.specs.List.Sorted.{IsPartitionPoint};
 ghost use Rattle.rootchain.specs.declared.signed_promise.SignedPromise.{SignedPromise};
 ghost use Rattle.proofs.specs.Views.{key_stated};
 ghost use Rattle.proofs.specs.Watches.{expected};
 ghost use Rattle.client.specs.Promising.{IsGiven};
-ghost use Rattle.client.specs.Updating.{Updates};
+ghost use Rattle.client.specs.Updating.{RefusalHolds, Updates};
 ghost use Rattle.monitor.specs.Expecting.{Expects, ExpectsAbove, IsExpected, MayExpect, ReadsChange};
 ghost use Rattle.monitor.specs.Monitors.{begun, IsWatching};
 ghost use Rattle.monitor.specs.Stepping.{IsNextEpoch, Steps, Tells};
@@ -122,6 +122,7 @@ impl<H: NodeHash, V: VufCheck, S: Verifier> Monitor<H, V, S> {
     ) -> Result<(), client::Refusal>
         ensures updates { Updates H.digest_of S.verified self.old.client bytes.now result self.new.client }
         ensures others { self.new ≡ record self.old { client = self.new.client } }
+        ensures evidence { IfErr result (RefusalHolds H.digest_of S.verified self.old.client.chain.key) }
     {
         self.client.update(hash, verifier, bytes)
     }

@@ -1,6 +1,9 @@
 //! What a monitor tells of pages that are made by hand, as a provider and someone who changes a key
 //! without its owner would make them. Hashes are byte sums, and the value of a name is the name.
 
+mod memory;
+mod over_a_directory;
+
 use super::*;
 use client::Client;
 use commit::commit;

@@ -5,4 +5,5 @@ pub mod Honest
 pub mod Opposed
 pub mod Passing
 pub mod Replies
+pub mod Sizes
 pub mod Sound

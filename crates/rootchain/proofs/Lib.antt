@@ -7,6 +7,7 @@ pub mod NextRoots
 pub mod OneAnswer
 pub mod Places
 pub mod RootLists
+pub mod Sizes
 pub mod Spelled
 pub mod Taking
 pub mod TakingLists

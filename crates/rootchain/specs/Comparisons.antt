@@ -10,7 +10,7 @@ use Rattle.rootchain.specs.declared.evidence.RootEvidence.TheVariants.{Fork, Lin
 use Rattle.rootchain.specs.declared.signed_root.SignedRoot.{SignedRoot}
 use Rattle.rootchain.specs.Bodies.{body_bytes}
 use Rattle.rootchain.specs.Chains.{IsAt, IsHead, KeyedRoots}
-use Rattle.rootchain.specs.Evidence.{IsLink, IsRootEvidence, IsSkip}
+use Rattle.rootchain.specs.Evidence.{BothAre, IsLink, IsRootEvidence, IsSkip}
 use Rattle.rootchain.specs.Places.{IsFirst, IsMissing, IsNextAfter, IsPlace}
 
 -- ---- agreement
@@ -158,9 +158,7 @@ IsOfBoth one other (Collision x y) = Unit
 
 -- if it is evidence, both its roots are such
 abbrev pub EvidenceIs : (SignedRoot → Type 0) → Compare → Type 0
-EvidenceIs P (Evidence (Fork root also)) = P root × P also
-EvidenceIs P (Evidence (Link root also)) = P root × P also
-EvidenceIs P (Evidence (Skip root also)) = P root × P also
+EvidenceIs P (Evidence evidence) = BothAre P evidence
 EvidenceIs P Equal = Unit
 EvidenceIs P (Collision x y) = Unit
 

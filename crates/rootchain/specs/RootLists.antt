@@ -3,6 +3,7 @@
 use Rattle.std.specs.Prelude.{◌≡◌, ℕ, ◌≤◌, List, [], ◌++◌, length, Result, Ok, Err}
 use Rattle.std.specs.List.{flat_map, AllByRecursion}
 use Rattle.encoding.specs.Endian.{big_bytes}
+use Rattle.encoding.specs.Fields.{Spells}
 use Rattle.encoding.specs.declared.fault.Fault.{Fault}
 use Rattle.encoding.specs.Reading.{Reading, is_within, read_list, read_number, read_then, read_where}
 use Rattle.rootchain.specs.declared.signed_root.SignedRoot.{SignedRoot}
@@ -15,6 +16,10 @@ root_list_bytes roots = big_bytes 2 (length roots) ++ flat_map signed_root_bytes
 -- at most 64 signed roots
 abbrev pub IsRootList : List SignedRoot → Type 0
 IsRootList roots = (length roots ≤ 64) × AllByRecursion IsSignedRoot roots
+
+-- the bytes spell the list of these roots
+abbrev pub SpellsRoots : List ℕ → List SignedRoot → Type 0
+SpellsRoots = Spells root_list_bytes IsRootList
 
 -- ---- reading
 

@@ -1,11 +1,8 @@
 ghost use Rattle.std.specs.Prelude.{◌≡◌};
-ghost use Rattle.rootchain.specs.Chains.{IsChain, KeyedRoots};
-ghost use Rattle.rootchain.specs.Comparisons.{told_by_place, IsCompared};
+ghost use Rattle.rootchain.specs.Comparisons.{told_by_place};
 
 use crate::{Place, RootEvidence};
 use encoding::Text;
-use nodehash::NodeHash;
-use sigiface::Verifier;
 
 /// The result of comparing two chains of one provider.
 #[derive(Debug, Drop)]
@@ -30,11 +27,3 @@ impl Compare {
         }
     }
 }
-
-/// The definition allows exactly one result for two chains.
-pub fn comparison_is_unique<H: NodeHash, S: Verifier>()
-    ensures { (one other : KeyedRoots) (answer also : Compare)
-        → IsChain H.digest_of S.verified one → IsChain H.digest_of S.verified other
-        → IsCompared H.digest_of one other answer → IsCompared H.digest_of one other also
-        → answer ≡ also }
-{}

@@ -1,15 +1,15 @@
 //! Looks of two clients compared. Looks of one name and epoch stand beside each other, so for each look of
-//! the one client only those of the other are read that it is compared with.
+//! the one client only those of the other are read that it is compared with: they are found from the look's
+//! own place, without a name in memory of its own.
 ghost use Rattle.std.specs.Prelude.{◌≡◌, ◌↔◌, ◌<◌, IsTrue, IsSomeAnd, MatchOption};
-ghost use Rattle.client.specs.Agreements.{AllState, AreFirstUnlike, IsFirstOther, LooksAgree, SpellsOne};
+ghost use Rattle.client.specs.Agreements.{AllState, AllStateBelow, AreBeside, AreFirstUnlike, IsFirstOther, LooksAgree, SpellsOne};
 ghost use Rattle.client.specs.Clients.{Look};
 ghost use Rattle.std.specs.List.{AllByRecursion};
 ghost use Rattle.proofs.specs.Accepts.{stated};
 ghost use Rattle.proofs.specs.Replies.{Reply, Spells};
 ghost use Rattle.proofs.specs.Views.{key_stated};
 
-use super::{Asked, LookPlace, Looks};
-use encoding::Name;
+use super::{LookPlace, Looks};
 use proofs::{ReplyView, Statement};
 
 /// Two looks for one name and epoch whose replies state two things.
@@ -17,7 +17,7 @@ use proofs::{ReplyView, Statement};
 pub(crate) struct Unlike<'a> {
     /// How many looks the first client accepted before this one.
     number: usize,
-    pub(crate) name: &'a Name,
+    pub(crate) name: &'a [u8],
     pub(crate) one: &'a [u8],
     pub(crate) other: &'a [u8],
 }
@@ -42,30 +42,62 @@ fn states(reply: &[u8], told: &Statement<'_>) -> bool
 }
 
 impl LookPlace {
-    /// The place of this number for the same name and epoch.
-    fn numbered(&self, number: usize) -> LookPlace
-        ensures { result ≡ record self.now { number = number } }
+    /// Whether the other place is one for the same name and epoch.
+    fn is_beside(&self, other: &LookPlace) -> bool
+        ensures { IsTrue result ↔ AreBeside self.now other.now }
     {
-        LookPlace {
-            asked: Asked {
-                name: self.asked.name.copied(),
-                epoch: self.asked.epoch,
-            },
-            number,
-        }
+        self.asked == other.asked
     }
 }
 
 impl Looks {
     /// The reply of the first look for the name and epoch of a place that does not state this.
+    ///
+    /// The place may be one of other looks. Where it would stand here, those for its name and epoch lie
+    /// below and above it.
     fn first_other<'a>(&'a self, place: &LookPlace, told: &Statement<'_>) -> Option<&'a [u8]>
         requires { AllByRecursion (λ look. SpellsOne look.reply) self.now }
         ensures { MatchOption result
-            (AllState self.entry.now place.entry.now.asked.name place.entry.now.asked.epoch (key_stated told.entry.now))
-            (λ reply. IsFirstOther self.entry.now place.entry.now.asked.name place.entry.now.asked.epoch (key_stated told.entry.now) reply.now) }
+            (AllState self.entry.now place.entry.now.asked.name.items place.entry.now.asked.epoch (key_stated told.entry.now))
+            (λ reply. IsFirstOther self.entry.now place.entry.now.asked.name.items place.entry.now.asked.epoch (key_stated told.entry.now) reply.now) }
     {
-        let (first, end) = (place.numbered(0), place.numbered(self.replies.len()));
-        for (_, reply) in self.replies.range(&first..&end) {
+        match self.first_other_below(place, told) {
+            Some(reply) => Some(reply),
+            None => self.first_other_above(place, told),
+        }
+    }
+
+    /// The same, among the looks below the place.
+    fn first_other_below<'a>(&'a self, place: &LookPlace, told: &Statement<'_>) -> Option<&'a [u8]>
+        requires { AllByRecursion (λ look. SpellsOne look.reply) self.now }
+        ensures { MatchOption result
+            (AllStateBelow self.entry.now place.entry.now.asked.name.items place.entry.now.asked.epoch (key_stated told.entry.now) place.entry.now.number)
+            (λ reply. IsFirstOther self.entry.now place.entry.now.asked.name.items place.entry.now.asked.epoch (key_stated told.entry.now) reply.now) }
+    {
+        let mut found: Option<&'a [u8]> = None;
+        for (other, reply) in self.replies.range(..place).rev() {
+            if !place.is_beside(other) {
+                return found;
+            }
+            if !states(reply, told) {
+                found = Some(reply);
+            }
+        }
+        found
+    }
+
+    /// The same, where those below the place state this.
+    fn first_other_above<'a>(&'a self, place: &LookPlace, told: &Statement<'_>) -> Option<&'a [u8]>
+        requires ones { AllByRecursion (λ look. SpellsOne look.reply) self.now }
+        requires below { AllStateBelow self.now place.now.asked.name.items place.now.asked.epoch (key_stated told.now) place.now.number }
+        ensures { MatchOption result
+            (AllState self.entry.now place.entry.now.asked.name.items place.entry.now.asked.epoch (key_stated told.entry.now))
+            (λ reply. IsFirstOther self.entry.now place.entry.now.asked.name.items place.entry.now.asked.epoch (key_stated told.entry.now) reply.now) }
+    {
+        for (other, reply) in self.replies.range(place..) {
+            if !place.is_beside(other) {
+                return None;
+            }
             if !states(reply, told) {
                 return Some(reply);
             }

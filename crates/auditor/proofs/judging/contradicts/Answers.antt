@@ -6,10 +6,10 @@ use Rattle.auditor.proofs.judging.contradicts.Goals as goal
 
 pub returns-then-eq-clause-value : goal.returns-then-eq-clause-value
 returns-then-eq-clause-value g c =
-    let is : IsTrue c.is_of_key.result ↔ (stated c.in-Ok.reply.reply.end ≡ Some c.args.promise.now.key) = rw (← c.statement.ensures.value) c.is_of_key.ensures in
+    let is : IsTrue c.binds.result ↔ (stated c.in-Ok.reply.reply.end ≡ Some c.args.promise.now.key) = rw (← c.statement.ensures.value) c.binds.ensures in
     against_unless g.H.NodeHash.digest_of g.V.VufCheck.accepted c.args.promise.now c.args.body.now c.args.bytes.now c.in-Ok.reply.reply c.in-Ok.ensures.accepted
     (sym c.index.ensures ∙ (same-hashes c.eq.result c.index.result c.args.promise.now.index c.args.promise.now.index c.eq.ensures refl).0 c.if-eq.true)
-    c.is_of_key.result is
+    c.binds.result is
 
 pub returns-else-eq-clause-value : goal.returns-else-eq-clause-value
 returns-else-eq-clause-value g c = (

@@ -1,6 +1,6 @@
 use Rattle.std.proofs.Common.{sym, ap, ◌∙◌, ◌≡◌, ◌+◌, ◌≤◌, length, arith, lit≤}
 use Rattle.audits.proofs.Found.{no_reply, some_reply}
-use Rattle.audits.proofs.Forms.{length-reply_bytes}
+use Rattle.proofs.proofs.Sizes.{reply_few}
 use Rattle.audits.proofs.reading.proof.Goals as goal
 
 pub returns-then-is_err : goal.returns-then-is_err
@@ -9,7 +9,7 @@ returns-then-is_err c = λ y is. no_reply c.args.bytes.now c.read.result c.read.
 pub push_slice-requires : goal.push_slice-requires
 push_slice-requires c =
     let spelled = some_reply c.args.bytes.now c.read.result c.read.ensures.exact (sym c.is_err.ensures.value ∙ c.if-is_err.false) in
-    let few = length-reply_bytes spelled.0 spelled.1.1 in
+    let few = (reply_few spelled.0 spelled.1.1).few in
     let same = ap length spelled.1.0 in
     let empty : length c.new-text.result ≡ 0 = ap length c.new-text.ensures in
     let fits : length c.new-text.result + length c.args.bytes.now ≤ 10700 = omega (arith, few, same, empty) in

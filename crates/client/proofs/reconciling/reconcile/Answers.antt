@@ -2,7 +2,7 @@ use Rattle.std.proofs.Common.{refl}
 use Rattle.std.proofs.lemmas.List.Elements.{All-from_recursion}
 use Rattle.rootchain.specs.SignedRoots.{IsSignedRoot}
 use Rattle.rootchain.proofs.Chains.{ascend-linked}
-use Rattle.client.proofs.Telling.{agrees, both-are, looks-hold, looks-seen, one-body}
+use Rattle.client.proofs.Telling.{agrees, looks-hold, looks-seen, one-body}
 use Rattle.client.proofs.reconciling.reconcile.Goals as goal
 
 pub reconcile_looks-requires : goal.reconcile_looks-requires
@@ -24,8 +24,7 @@ returns-in-Equal-clause-holds g c =
 pub returns-in-Evidence-clause-spelled : goal.returns-in-Evidence-clause-spelled
 returns-in-Evidence-clause-spelled g c =
     let form = rw (c.chain.ensures.value, c.chain-2.ensures.value) at c.in-Evidence.ensures.form in
-    both-are IsSignedRoot c.in-Evidence.evidence
-    (form (All-from_recursion IsSignedRoot c.args.one.now.chain.roots c.chain.ensures.sound.roots) (All-from_recursion IsSignedRoot c.args.other.now.chain.roots c.chain-2.ensures.sound.roots))
+    form (All-from_recursion IsSignedRoot c.args.one.now.chain.roots c.chain.ensures.sound.roots) (All-from_recursion IsSignedRoot c.args.other.now.chain.roots c.chain-2.ensures.sound.roots)
 
 pub returns-in-Equal-clause-seen : goal.returns-in-Equal-clause-seen
 returns-in-Equal-clause-seen g c =

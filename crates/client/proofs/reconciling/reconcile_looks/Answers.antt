@@ -1,8 +1,8 @@
-use Rattle.std.proofs.Common.{inl, inr, subst}
+use Rattle.std.proofs.Common.{inl, inr, subst, ◌∙◌}
 use Rattle.proofs.specs.Comparisons.{Answers}
 use Rattle.proofs.specs.declared.comparing.SameOr.{SameOr}
 use Rattle.proofs.specs.declared.comparing.SameOr.TheVariants.{Collision, TwoValues}
-use Rattle.client.proofs.Telling.{compared, first-once, not-same, second-once, spelled-looks, told}
+use Rattle.client.proofs.Telling.{compared, first-named, first-once, not-same, second-once, spelled-looks, told}
 use Rattle.client.proofs.reconciling.reconcile_looks.Goals as goal
 
 pub first_unlike-requires-clause-ones : goal.first_unlike-requires-clause-ones
@@ -14,31 +14,38 @@ first_unlike-requires-clause-others g c = rw c.looks-2.ensures.value (spelled-lo
 pub again-first-requires : goal.again-first-requires
 again-first-requires g c =
     let u = rw (c.looks.ensures.value, c.looks-2.ensures.value) at c.in-Some.ensures in
-    first-once g.H.NodeHash.digest_of g.V.VufCheck.accepted c.args.one.now.chain c.args.other.now.chain c.args.one.now.looks c.args.other.now.looks c.looks.ensures.sound.looks c.looks-2.ensures.sound.looks u.0 u.1 u.2 c.in-Some.unlike.name.now c.in-Some.unlike.one.now u.3 u.4
+    first-once g.H.NodeHash.digest_of g.V.VufCheck.accepted c.args.one.now.chain c.args.other.now.chain c.args.one.now.looks c.args.other.now.looks c.looks.ensures.sound.looks c.looks-2.ensures.sound.looks u.0 u.1 u.2 c.in-Ok.name c.in-Some.unlike.one.now (c.in-Ok.ensures.value ∙ u.3) u.4
 
 pub again-second-requires : goal.again-second-requires
 again-second-requires g c =
     let u = rw (c.looks.ensures.value, c.looks-2.ensures.value) at c.in-Some.ensures in
-    second-once g.H.NodeHash.digest_of g.V.VufCheck.accepted c.args.one.now.chain c.args.other.now.chain c.args.one.now.looks c.args.other.now.looks c.looks.ensures.sound.looks c.looks-2.ensures.sound.looks u.0 u.1 u.2 c.in-Some.unlike.name.now c.in-Some.unlike.other.now u.3 u.5
+    second-once g.H.NodeHash.digest_of g.V.VufCheck.accepted c.args.one.now.chain c.args.other.now.chain c.args.one.now.looks c.args.other.now.looks c.looks.ensures.sound.looks c.looks-2.ensures.sound.looks u.0 u.1 u.2 c.in-Ok.name c.in-Some.unlike.other.now (c.in-Ok.ensures.value ∙ u.3) u.5
 
 pub unreachable-requires : goal.unreachable-requires
 unreachable-requires g c =
     let u = rw (c.looks.ensures.value, c.looks-2.ensures.value) at c.in-Some.ensures in
+    let named = first-named g.H.NodeHash.digest_of g.V.VufCheck.accepted c.args.one.now.chain c.args.other.now.chain c.args.one.now.looks c.args.other.now.looks c.looks.ensures.sound.looks c.looks-2.ensures.sound.looks u.0 u.1 u.2 c.in-Some.unlike.name.now u.3 in
+    let never = c.in_default-new.ensures.limits.1 named in
+    absurd cc
+
+pub unreachable-requires-in-Same : goal.unreachable-requires-in-Same
+unreachable-requires-in-Same g c =
+    let u = rw (c.looks.ensures.value, c.looks-2.ensures.value) at c.in-Some.ensures in
     let answers : SameOr → Type 0 = Answers g.H.NodeHash.digest_of g.V.VufCheck.accepted c.again-first.result c.again-second.result in
     elim c.in-Same.is [
-      | inl same ↦ not-same g.H.NodeHash.digest_of g.V.VufCheck.accepted c.args.one.now.chain c.args.other.now.chain c.args.one.now.looks c.args.other.now.looks c.looks.ensures.sound.looks c.looks-2.ensures.sound.looks u.0 u.1 u.2 c.in-Some.unlike.name.now c.in-Some.unlike.one.now c.in-Some.unlike.other.now u.3 u.4 u.5 c.again-first.result c.again-second.result c.again-first.ensures.named c.again-second.ensures.named c.again-first.ensures.spelled c.again-second.ensures.spelled (subst answers same c.same_or_collision.ensures)
-      | inr apart ↦ compared g.H.NodeHash.digest_of g.V.VufCheck.accepted c.args.one.now.chain c.args.other.now.chain c.args.one.now.looks c.args.other.now.looks c.looks.ensures.sound.looks c.looks-2.ensures.sound.looks u.0 u.1 u.2 c.in-Some.unlike.name.now c.in-Some.unlike.one.now c.in-Some.unlike.other.now u.3 u.4 u.5 c.again-first.result c.again-second.result c.again-first.ensures.named c.again-second.ensures.named c.again-first.ensures.spelled c.again-second.ensures.spelled c.requires (subst answers apart c.same_or_collision.ensures)
+      | inl same ↦ not-same g.H.NodeHash.digest_of g.V.VufCheck.accepted c.args.one.now.chain c.args.other.now.chain c.args.one.now.looks c.args.other.now.looks c.looks.ensures.sound.looks c.looks-2.ensures.sound.looks u.0 u.1 u.2 c.in-Ok.name c.in-Some.unlike.one.now c.in-Some.unlike.other.now (c.in-Ok.ensures.value ∙ u.3) u.4 u.5 c.again-first.result c.again-second.result c.again-first.ensures.named c.again-second.ensures.named c.again-first.ensures.spelled c.again-second.ensures.spelled (subst answers same c.same_or_collision.ensures)
+      | inr apart ↦ compared g.H.NodeHash.digest_of g.V.VufCheck.accepted c.args.one.now.chain c.args.other.now.chain c.args.one.now.looks c.args.other.now.looks c.looks.ensures.sound.looks c.looks-2.ensures.sound.looks u.0 u.1 u.2 c.in-Ok.name c.in-Some.unlike.one.now c.in-Some.unlike.other.now (c.in-Ok.ensures.value ∙ u.3) u.4 u.5 c.again-first.result c.again-second.result c.again-first.ensures.named c.again-second.ensures.named c.again-first.ensures.spelled c.again-second.ensures.spelled c.requires (subst answers apart c.same_or_collision.ensures)
     ]
 
 pub returns-in-Collision : goal.returns-in-Collision
 returns-in-Collision g c =
     let u = rw (c.looks.ensures.value, c.looks-2.ensures.value) at c.in-Some.ensures in
-    told g.H.NodeHash.digest_of g.V.VufCheck.accepted c.args.one.now.chain c.args.other.now.chain c.args.one.now.looks c.args.other.now.looks c.looks.ensures.sound.looks c.looks-2.ensures.sound.looks u.0 u.1 u.2 c.in-Some.unlike.name.now c.in-Some.unlike.one.now c.in-Some.unlike.other.now u.3 u.4 u.5 c.again-first.result c.again-second.result c.again-first.ensures.named c.again-second.ensures.named c.again-first.ensures.spelled c.again-second.ensures.spelled (Collision c.in-Collision.x c.in-Collision.y) c.in-Collision.ensures
+    told g.H.NodeHash.digest_of g.V.VufCheck.accepted c.args.one.now.chain c.args.other.now.chain c.args.one.now.looks c.args.other.now.looks c.looks.ensures.sound.looks c.looks-2.ensures.sound.looks u.0 u.1 u.2 c.in-Ok.name c.in-Some.unlike.one.now c.in-Some.unlike.other.now (c.in-Ok.ensures.value ∙ u.3) u.4 u.5 c.again-first.result c.again-second.result c.again-first.ensures.named c.again-second.ensures.named c.again-first.ensures.spelled c.again-second.ensures.spelled (Collision c.in-Collision.x c.in-Collision.y) c.in-Collision.ensures
 
 pub returns-in-TwoValues : goal.returns-in-TwoValues
 returns-in-TwoValues g c =
     let u = rw (c.looks.ensures.value, c.looks-2.ensures.value) at c.in-Some.ensures in
-    told g.H.NodeHash.digest_of g.V.VufCheck.accepted c.args.one.now.chain c.args.other.now.chain c.args.one.now.looks c.args.other.now.looks c.looks.ensures.sound.looks c.looks-2.ensures.sound.looks u.0 u.1 u.2 c.in-Some.unlike.name.now c.in-Some.unlike.one.now c.in-Some.unlike.other.now u.3 u.4 u.5 c.again-first.result c.again-second.result c.again-first.ensures.named c.again-second.ensures.named c.again-first.ensures.spelled c.again-second.ensures.spelled TwoValues c.in-TwoValues.ensures
+    told g.H.NodeHash.digest_of g.V.VufCheck.accepted c.args.one.now.chain c.args.other.now.chain c.args.one.now.looks c.args.other.now.looks c.looks.ensures.sound.looks c.looks-2.ensures.sound.looks u.0 u.1 u.2 c.in-Ok.name c.in-Some.unlike.one.now c.in-Some.unlike.other.now (c.in-Ok.ensures.value ∙ u.3) u.4 u.5 c.again-first.result c.again-second.result c.again-first.ensures.named c.again-second.ensures.named c.again-first.ensures.spelled c.again-second.ensures.spelled TwoValues c.in-TwoValues.ensures
 
 pub returns-in_default : goal.returns-in_default
 returns-in_default g c = rw (c.looks.ensures.value, c.looks-2.ensures.value) at c.in_default.ensures

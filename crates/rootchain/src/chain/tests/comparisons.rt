@@ -1,4 +1,4 @@
-//! What two chains of one key come to. Hashes are byte sums.
+//! Two chains of one key, compared. Hashes are byte sums.
 
 use super::*;
 use crate::{Compare, RootEvidence};
@@ -69,7 +69,7 @@ fn epoch_of(text: &Text) -> u64 {
     }
 }
 
-/// What two chains come to, by its name and epochs.
+/// How two chains compare, by name and epochs.
 fn compared(rt: &impl Abort, one: &SumChain, other: &SumChain) -> (&'static str, u64, u64) {
     assert!(rt; *one.key() == *other.key());
     let mut hash = SumHash::new();
@@ -113,7 +113,7 @@ fn next_after(chain: &SumChain, epoch: u64) -> u64 {
     0
 }
 
-/// What two chains come to whose epochs are up to 4, found epoch by epoch. The first root of each names
+/// How two chains compare whose epochs are up to 4, found epoch by epoch. The first root of each names
 /// no root before it.
 fn plainly(one: &SumChain, other: &SumChain) -> (&'static str, u64, u64) {
     let (first, head) = (one.first().body.epoch, one.head().body.epoch);

@@ -1,18 +1,18 @@
-use Rattle.std.proofs.Common.{◌≡◌, ℕ, List, [], Option, Vec, Global, inl, inr, refl, sym, subst, ◌∙◌}
-use Rattle.proofs.specs.Replies.{Reply, Spells}
+use Rattle.std.proofs.Common.{ℕ, List, [], Option, Vec, Global, inl, inr, refl, sym, subst, ◌∙◌}
+use Rattle.proofs.specs.Replies.{Spells}
 use Rattle.client.specs.Agreements.{AllState, IsFirstOther}
 use Rattle.client.specs.Clients.{Look}
 use Rattle.client.specs.declared.looks.LookPlace.{LookPlace}
 use Rattle.client.proofs.Groups.{Entries}
-use Rattle.client.proofs.Others.{items_of, look_of, spelled-at}
-use Rattle.client.proofs.Unlikes.{all-are, answer, found_of, is-before, not-before, passed, taken, there, AreAll, Found, IsLeastSoFar}
+use Rattle.client.proofs.Others.{all-are, items_of, look_of, spelled-at, AreAll}
+use Rattle.client.proofs.Unlikes.{answer, found_of, is-before, not-before, passed, taken, there, Found, IsLeastSoFar}
 use Rattle.client.proofs.looks.Looks.first_unlike.Goals as goal
 
 pub loop-place-init : goal.loop-place-init
 loop-place-init c =
     let entries = c.self.inside.replies.entries in (
       entries,
-      subst (λ (looks : List Look). AreAll items_of looks entries) c.self.view_is (all-are items_of entries c.self.invariant),
+      subst (λ (looks : List Look). AreAll items_of looks entries) c.self.view_is (all-are items_of entries c.self.invariant c.iter-place-items.ensures.ordered),
       record { done = []; parts = c.into_iter-place-iterator.ensures.into_iter_gives ∙ c.iter-place-items.ensures.rest; least = tt },
     )
 
@@ -42,7 +42,7 @@ loop-place-preserved-in_default c =
       passed items_of c.args.others.now inv.0 c.loop-place.place-iterator c.next.new.self x (found_of c.loop-place.found) inv.2 c.in-Some.ensures.steps
           (inl
           (λ read spelled.
-          subst (λ (told : Option (List ℕ)). AllState c.args.others.now x.0.asked.name x.0.asked.epoch told)
+          subst (λ (told : Option (List ℕ)). AllState c.args.others.now x.0.asked.name.items x.0.asked.epoch told)
           (c.statement.ensures read (subst (λ (bytes : List ℕ). Spells bytes read) (sym c.deref.ensures.value) spelled)) c.in_default.ensures)),
     )
 
@@ -50,16 +50,16 @@ pub loop-place-preserved : goal.loop-place-preserved
 loop-place-preserved c =
     let inv = c.loop-place.invariant in
     let x : LookPlace × Vec ℕ Global = (c.in-Some.place.now, c.in-Some.reply.now) in
-    let found : Found = record { number = x.0.number; name = x.0.asked.name; one = c.deref-in-loop-place.result.now; other = c.in-Some-first_other.other.now } in (
+    let found : Found = record { number = x.0.number; name = c.deref-in-loop-place.result.now; one = c.deref-in-loop-place-2.result.now; other = c.in-Some-first_other.other.now } in (
       inv.0,
       inv.1,
       taken items_of c.args.others.now inv.0 c.loop-place.place-iterator c.next.new.self x (found_of c.loop-place.found) inv.2 c.in-Some.ensures.steps found
           (record {
             number = refl;
-            name = refl;
-            one = c.deref-in-loop-place.ensures.value;
+            name = c.deref-in-loop-place.ensures.value;
+            one = c.deref-in-loop-place-2.ensures.value;
             other = λ read spelled.
-                subst (λ (told : Option (List ℕ)). IsFirstOther c.args.others.now x.0.asked.name x.0.asked.epoch told c.in-Some-first_other.other.now)
+                subst (λ (told : Option (List ℕ)). IsFirstOther c.args.others.now x.0.asked.name.items x.0.asked.epoch told c.in-Some-first_other.other.now)
                 (c.statement.ensures read (subst (λ (bytes : List ℕ). Spells bytes read) (sym c.deref.ensures.value) spelled)) c.in-Some-first_other.ensures;
           })
           (not-before c.loop-place.found x.0.number (λ is. let yes-it = c.is_before.ensures.1 is in let not-it = c.if-is_before.false in absurd cc)),

@@ -1,6 +1,6 @@
 use Rattle.client.proofs.Groups.{Entries}
-use Rattle.client.proofs.Others.{items_of}
-use Rattle.client.proofs.Unlikes.{found_of, AreAll, IsLeastSoFar}
+use Rattle.client.proofs.Others.{items_of, AreAll}
+use Rattle.client.proofs.Unlikes.{found_of, IsLeastSoFar}
 use Rattle.client.proofs.looks.Looks.first_unlike.Given as goal
 
 abbrev pub invariant-loop-place : goal.invariant-loop-place

@@ -1,0 +1,83 @@
+use anyhow::{Result, bail};
+use encoding::Hash32;
+use nodehash::{NodeHash, Sha256Hash};
+use rootchain::{Body, MAX_ROOTS, SignedRoot, write_list};
+use sigiface::{KeyedSign, Signer};
+use std::alloc::{AllocError, Global};
+use vrfiface::KeyedVuf;
+
+/// The bytes of a body, and those that the stand-in digests to sign it: a letter and a key before it.
+pub(crate) const BODY_BYTES: usize = 146;
+
+pub(crate) const KEYED_BYTES: usize = 33;
+
+pub(crate) const SIGNED_BYTES: usize = KEYED_BYTES + BODY_BYTES;
+
+/// The provider, whose key is the signer's.
+pub(crate) fn provider() -> KeyedSign {
+    KeyedSign::new(Hash32::new([1; 32]))
+}
+
+/// The verifiable function of the provider.
+pub(crate) fn provider_vuf() -> KeyedVuf {
+    KeyedVuf::new(Hash32::new([2; 32]))
+}
+
+pub(crate) fn hash_of(body: &Body) -> Hash32 {
+    Sha256Hash::new().digest(body.write().bytes())
+}
+
+pub(crate) fn first_body() -> Body {
+    Body {
+        epoch: 1,
+        previous_epoch: 0,
+        root: Hash32::new([3; 32]),
+        previous_hash: Hash32::default(),
+        nonce: Hash32::new([4; 32]),
+        vuf_key: Hash32::new([2; 32]),
+    }
+}
+
+/// The body that follows this one, so many epochs later.
+pub(crate) fn after(body: &Body, epochs: u64) -> Body {
+    Body {
+        epoch: body.epoch.saturating_add(epochs),
+        previous_epoch: body.epoch,
+        previous_hash: hash_of(body),
+        ..*body
+    }
+}
+
+pub(crate) fn signed(body: Body) -> SignedRoot {
+    let signature = provider().sign(body.write().bytes());
+    SignedRoot { body, signature }
+}
+
+/// So many bodies, of which each follows the one before it by an epoch.
+pub(crate) fn bodies(alloc: Global, first: Body, count: usize) -> Result<Vec<Body>, AllocError> {
+    let mut bodies = Vec::with_capacity(alloc, count)?;
+    let mut body = first;
+    for _ in 0..count {
+        bodies.push(body)?;
+        body = after(&body, 1);
+    }
+    Ok(bodies)
+}
+
+/// The lists of the signed roots of these bodies, each with as many as a list may have.
+pub(crate) fn lists(alloc: Global, bodies: &[Body]) -> Result<Vec<Vec<u8>>> {
+    let mut lists = Vec::new(alloc);
+    for part in bodies.chunks(MAX_ROOTS) {
+        let mut roots = Vec::with_capacity(alloc, part.len())?;
+        for body in part {
+            roots.push(signed(*body))?;
+        }
+        if roots.len() > MAX_ROOTS {
+            bail!("the list is too long");
+        }
+        let mut list = Vec::new(alloc);
+        write_list(&roots, &mut list)?;
+        lists.push(list)?;
+    }
+    Ok(lists)
+}
