@@ -133,6 +133,36 @@ fn refused(answer: Result<(), Refusal>) -> Result<Option<u8>, AllocError> {
     }
 }
 
+#[test]
+fn messages(rt: HostRuntime) -> Result<(), Fail> {
+    let root = signed(&provider(), earlier());
+    let evidence = RootEvidence::Fork(root.copied(), root);
+    for (refusal, message) in [
+        (
+            Refusal::Root(rootchain::Refusal::BadSignature),
+            "the signature does not verify",
+        ),
+        (
+            Refusal::Proof(proofs::Refusal::Trailing),
+            "more bytes follow the reply",
+        ),
+        (Refusal::UnknownRoot, "the chain has no such root"),
+        (
+            Refusal::RootDiffers(evidence),
+            "the root contradicts the chain",
+        ),
+        (Refusal::Memory, "out of memory"),
+        (
+            Refusal::NoPromise,
+            "no promise for the name is kept",
+        ),
+    ] {
+        let text = format!(in rt.alloc(); "{refusal}")?;
+        assert_eq!(rt; text.as_str(), message);
+    }
+    Ok(())
+}
+
 /// A client that starts with this root.
 fn started(alloc: Global, root: &SignedRoot) -> Result<Watching, AllocError> {
     let bytes = root.write();
