@@ -8,7 +8,7 @@ pub enum Refusal {
     /// The monitor's client refuses.
     #[error(transparent)]
     Client(#[from] client::Refusal),
-    /// The promise is of another name or key; or not later than that of a change that is expected; or an
+    /// The promise is of another name or key; or it is not later than that of some expected change; or an
     /// epoch above its own was watched.
     #[error("the promise is not one of this change, or comes too late")]
     OtherPromise,

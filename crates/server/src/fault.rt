@@ -1,7 +1,7 @@
 use textio::{ProgramFault, StreamFault};
 use thiserror::Error;
 
-/// Why a session is served no further.
+/// Why the serving of a session stopped.
 #[derive(Clone, Copy, Debug, PartialEq, Eq, Error)]
 pub enum ServeFault {
     #[error("cannot read")]
