@@ -16,10 +16,12 @@
 mod auditor;
 mod evidence;
 mod judging;
+mod laws;
 
 pub use auditor::{Auditor, Observed};
 pub use evidence::Evidence;
 pub use judging::judge;
+pub use laws::honest_roots_are_followed;
 
 #[cfg(test)]
 mod tests;
