@@ -291,10 +291,15 @@ fn looks_at_an_epoch_and_at_the_head(rt: HostRuntime) -> Result<(), Fail> {
         updated(rt.alloc(), &mut client, &first.root, &next.root)?,
         None
     );
-    assert_eq!(rt; looked_up(&mut client, 3, &first.reply)?, Ok(None));
-    assert_eq!(rt; looked_up(&mut client, 7, &next.reply)?, Ok(Some(*b"k1")));
-    assert_eq!(rt; looked_up(&mut client, 0, &next.reply)?, Ok(Some(*b"k1")));
-    assert_eq!(rt; looked_up(&mut client, 0, &first.reply)?, Err(3));
+    for (epoch, reply, wanted) in [
+        (3, &first.reply, Ok(None)),
+        (7, &next.reply, Ok(Some(*b"k1"))),
+        (0, &next.reply, Ok(Some(*b"k1"))),
+        (0, &first.reply, Err(3)),
+    ] {
+        let answer = looked_up(&mut client, epoch, reply)?;
+        assert_eq!(rt; answer, wanted, "at {epoch}");
+    }
     Ok(())
 }
 
