@@ -69,7 +69,7 @@ fn replies_before_the_next_read(rt: HostRuntime) -> Result<(), Fail> {
 fn hundreds_of_heads(rt: HostRuntime) -> Result<(), Fail> {
     let frames = THREE_HEADS.repeat(rt.alloc(), 100)?;
     let mut reader = CutReader::new(&frames, 1);
-    let mut replies = Vec::new(rt.alloc());
+    let mut replies = Vec::with_capacity(rt.alloc(), 300 * REPLY)?;
     let mut hub = begun(rt.alloc())?;
     let outcome = serve(rt.alloc(), &mut hub, SESSION, &mut reader, &mut replies);
     assert_eq!(rt; outcome, Ok(()));
