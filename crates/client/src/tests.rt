@@ -152,10 +152,7 @@ fn messages(rt: HostRuntime) -> Result<(), Fail> {
             "the root contradicts the chain",
         ),
         (Refusal::Memory, "out of memory"),
-        (
-            Refusal::NoPromise,
-            "no promise for the name is kept",
-        ),
+        (Refusal::NoPromise, "no promise for the name is kept"),
     ] {
         let text = format!(in rt.alloc(); "{refusal}")?;
         assert_eq!(rt; text.as_str(), message);

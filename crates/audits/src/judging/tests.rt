@@ -185,9 +185,13 @@ fn files_of_the_system(rt: HostRuntime) -> Result<(), Fail> {
     let one = digits(alloc, &third)?;
     let other = hex::encode_upper(alloc, signed(forked(&third)).write().bytes())?;
     let files = [
-        format!(in alloc; " {{ \"second\" : \"{other}\",\n\t\"kind\":\"fork\", \"first\":\"{one}\" }}\r\n")?,
+        format!(in alloc;
+            " {{ \"second\" : \"{other}\",\n\t\"kind\":\"fork\", \"first\":\"{one}\" }}\r\n"
+        )?,
         file(alloc, &one, "fork", &one)?,
-        format!(in alloc; "{{\"first\":\"{one}\",\"kind\":\"fork\",\"second\":\"{other}\",\"third\":\"\"}}")?,
+        format!(in alloc;
+            "{{\"first\":\"{one}\",\"kind\":\"fork\",\"second\":\"{other}\",\"third\":\"\"}}"
+        )?,
     ];
     let answers = [
         (Ok(Verdict::Evidence), "evidence\n"),
