@@ -96,8 +96,8 @@ status=0
 timeout --foreground 60 "$program" serve $keys <"$folder/heads" 2>"$folder/err" >/dev/full || status=$?
 same "serve to a full device" "1 cannot write" "$status $(cat "$folder/err")"
 
-# A server on a port that the system chooses, which answers six connections.
-"$program" listen $keys --count 6 127.0.0.1:0 >"$folder/server_out" 2>"$folder/server_err" &
+# A server on a port that the system chooses, which answers six connections and then three hundred.
+"$program" listen $keys --count 306 127.0.0.1:0 >"$folder/server_out" 2>"$folder/server_err" &
 server=$!
 address=
 for _ in {1..600}; do
@@ -130,10 +130,19 @@ well "a client that takes no reply" bash -c \
     'printf "\0\0\0\1\6%.0s" {1..2000} >"/dev/tcp/${0/://}"' "$address"
 well "the same directory after these" scripts/worked_frames.py --again "$address"
 
+# Each asks for the head, and reads the reply.
+same "bytes for three hundred connections" $((300 * 185)) "$(timeout --foreground 60 bash -c \
+    'for _ in {1..300}; do
+        exec 3<>"/dev/tcp/${0/://}"
+        printf "\0\0\0\1\6" >&3
+        head -c 185 <&3
+        exec 3>&-
+    done' "$address" | wc -c)"
+
 status=0
 wait "$server" || status=$?
 server=
-same "the server after six connections" 0 "$status"
+same "the server after all connections" 0 "$status"
 same "the server's errors" "listening on $address" "$(cat "$folder/server_err")"
 same "the server's output" "" "$(cat "$folder/server_out")"
 finish

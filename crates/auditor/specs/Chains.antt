@@ -30,6 +30,6 @@ pub record NowHas (before : Chains) (key : List ℕ) (chain : KeyedRoots) (after
 abbrev pub IsHeld : List ℕ → KeyedRoots → Type 0
 IsHeld key chain = (chain.key ≡ key) × All IsSignedRoot chain.roots
 
--- each chain is such a one
+-- this holds for each chain and its key
 abbrev pub AreHeld : Chains → Type 0
 AreHeld chains = AllByRecursion (λ held. IsHeld held.0 held.1) chains

@@ -15,7 +15,7 @@ use Rattle.auditor.specs.Chains.{Chains, NowHas, chain_of}
 use Rattle.auditor.specs.declared.auditor.Observed.{Observed}
 use Rattle.auditor.specs.declared.auditor.Observed.TheVariants.{Started, Extended, Known, Ahead, BeforeStart, Evidence}
 
--- how an auditor tells where a root stands that it observes
+-- the answer of an auditor that observes a root of this place
 abbrev pub observed_as : Place → Observed
 observed_as place.Known = Known
 observed_as place.Next = Extended
@@ -23,7 +23,7 @@ observed_as place.Ahead = Ahead
 observed_as place.BeforeStart = BeforeStart
 observed_as (place.Evidence evidence) = Evidence evidence
 
--- and one that it only compares: a root that may follow is told as one that is ahead
+-- and of one that only compares it: a root that may follow is ahead
 abbrev pub compared_as : Place → Place
 compared_as place.Known = place.Known
 compared_as place.Next = place.Ahead
@@ -32,7 +32,7 @@ compared_as place.BeforeStart = place.BeforeStart
 compared_as (place.Evidence evidence) = place.Evidence evidence
 
 module _ (hash : List ℕ → List ℕ) where
-  -- what is told of a root beside the chain of its provider, if there is one
+  -- the answer on a root beside the chain of its provider, if there is one
   abbrev pub IsObserved : Option KeyedRoots → SignedRoot → Observed → Type 0
   IsObserved None root told = told ≡ Started
   IsObserved (Some chain) root told = (stands : Place) × IsPlace hash chain root stands × (told ≡ observed_as stands)
@@ -41,7 +41,7 @@ module _ (hash : List ℕ → List ℕ) where
   IsCompared None root told = told ≡ place.Ahead
   IsCompared (Some chain) root told = (stands : Place) × IsPlace hash chain root stands × (told ≡ compared_as stands)
 
--- the chains once this was told of a root: only at the first two does the provider have another chain
+-- the chains after this answer on a root: only after the first two does the provider have another chain
 abbrev pub HoldsAfter : Chains → List ℕ → SignedRoot → Observed → Chains → Type 0
 HoldsAfter before key root Started after = NowHas before key (record { key = key; roots = root ∷ [] }) after
 HoldsAfter before key root Extended after = (chain : KeyedRoots) × (chain_of before key ≡ Some chain) × NowHas before key (with_root chain root) after
@@ -51,7 +51,7 @@ HoldsAfter before key root BeforeStart after = after ≡ before
 HoldsAfter before key root (Evidence evidence) after = after ≡ before
 
 module _ (hash : List ℕ → List ℕ) (verified : List ℕ → List ℕ → List ℕ → Type 0) where
-  -- when a root that was read is refused so: memory is wanted only to start a chain or to extend one
+  -- when a root that was read is refused in this way: only starting or extending a chain needs memory
   abbrev pub IsRefused : Option KeyedRoots → List ℕ → SignedRoot → Refusal → Type 0
   IsRefused held key root Malformed = ⊥
   IsRefused held key root BadSignature = ¬ Verifies verified key root

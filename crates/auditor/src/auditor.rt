@@ -13,7 +13,7 @@ use std::alloc::Global;
 use std::collections::BTreeMap;
 use std::marker::Model;
 
-/// What an auditor tells of a root that it observed.
+/// What an auditor answers on a root that it observed.
 #[derive(Debug, Drop, PartialEq, Eq)]
 pub enum Observed {
     /// It is the first root of its provider, and a chain starts with it.
@@ -92,8 +92,8 @@ impl<H: NodeHash + Drop, S: Verifier + Drop> Auditor<H, S> {
         Ok(tell_observed(place))
     }
 
-    /// Compares the signed root that these bytes spell with this provider's chain. One that may follow
-    /// is told as `Ahead`, and so is one of a provider that the auditor did not observe.
+    /// Compares the signed root that these bytes spell with this provider's chain. The answer is `Ahead`
+    /// for one that may follow, and for one of a provider that the auditor did not observe.
     ///
     /// # Errors
     ///
@@ -153,7 +153,7 @@ impl<H: NodeHash + Drop, S: Verifier + Drop> Auditor<H, S> {
         Ok(Observed::Started)
     }
 
-    /// The chain of a provider that has one takes a root.
+    /// Lets the chain of a provider that has one take a root.
     fn take(
         &mut self,
         hash: &mut H,
@@ -174,7 +174,7 @@ impl<H: NodeHash + Drop, S: Verifier + Drop> Auditor<H, S> {
     }
 }
 
-/// How the place of a root that is observed is told.
+/// The answer on an observed root of this place.
 fn tell_observed(place: Place) -> Observed
     ensures { result ≡ observed_as place }
 {
@@ -187,7 +187,7 @@ fn tell_observed(place: Place) -> Observed
     }
 }
 
-/// How the place of a root that is compared is told.
+/// The answer on a compared root of this place.
 fn tell_compared(place: Place) -> Place
     ensures { result ≡ compared_as place }
 {

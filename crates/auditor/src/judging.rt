@@ -10,7 +10,7 @@ use rootchain::{Body, Promise};
 use sigiface::Verifier;
 use vrfiface::VufCheck;
 
-/// Whether it is evidence against the provider that has this public key, whoever made it: whether each
+/// Whether this is evidence against the provider that has this public key, whoever made it: whether each
 /// signature verifies under the key, and the parts stand to each other as the kind of evidence says.
 /// Takes at most 259 digests.
 pub fn judge<H: NodeHash, V: VufCheck, S: Verifier>(

@@ -1,9 +1,8 @@
 //! Auditors of providers, and evidence against one. After CONIKS, sections 3 and 4.
 //!
 //! To the layers above: `judge` answers exactly whether something is evidence, whoever made it. An
-//! auditor holds one chain a provider; what it tells of a root is exactly where the root stands to that
-//! chain, and what it tells as evidence, `judge` accepts. Only `observe` changes an auditor, and only it
-//! allocates.
+//! auditor holds one chain for each provider and answers exactly where a root stands to it; what it
+//! reports as evidence, `judge` accepts. Only `observe` changes an auditor, and only it allocates.
 //!
 //! ```text
 //! let mut auditor = Auditor::new(alloc);
@@ -17,10 +16,12 @@
 mod auditor;
 mod evidence;
 mod judging;
+mod laws;
 
 pub use auditor::{Auditor, Observed};
 pub use evidence::Evidence;
 pub use judging::judge;
+pub use laws::honest_roots_are_followed;
 
 #[cfg(test)]
 mod tests;

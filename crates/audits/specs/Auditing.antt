@@ -35,7 +35,7 @@ answer_lines [] = []
 answer_lines (answer ∷ answers) = answer_line answer ++ answer_lines answers
 
 module _ (hash : List ℕ → List ℕ) (verified : List ℕ → List ℕ → List ℕ → Type 0) (key : List ℕ) where
-  -- the bytes of a line are observed; a line that gives none is no signed root
+  -- the bytes of a line are observed; a line that gives none is not a signed root
   abbrev pub ObservesDecoded : Chains → Result (List ℕ) FromHexError → Result Observed Refusal → Chains → Type 0
   ObservesDecoded before (Ok bytes) answer after = Observes hash verified before key bytes answer after
   ObservesDecoded before (Err fault) answer after = (answer ≡ Err Malformed) × (after ≡ before)
@@ -44,7 +44,7 @@ module _ (hash : List ℕ → List ℕ) (verified : List ℕ → List ℕ → Li
   abbrev pub ObservesLine : Chains → List ℕ → Result Observed Refusal → Chains → Type 0
   ObservesLine before line = ObservesDecoded before (decode_of line)
 
-  -- Evidence that is told holds. Want of memory is no answer.
+  -- Evidence that is told holds. Want of memory is not an answer.
   abbrev pub IsAnswer : Result Observed Refusal → Type 0
   IsAnswer (Ok told) = ObservedHolds hash verified key told
   IsAnswer (Err Memory) = ⊥
@@ -66,7 +66,7 @@ module _ (hash : List ℕ → List ℕ) (verified : List ℕ → List ℕ → Li
   AnswersFirst input answers = (lines later : List (List ℕ)) × (after : Chains)
       × IfSome input (λ bytes. lines_of bytes ≡ lines ++ later) × Audits [] lines answers after
 
-  -- What comes of an input: a line is written for each of its lines; or for the first ones, where a read
+  -- What comes of an input: a line is written for each of its lines; or for the first ones, if a read
   -- failed or memory was wanting; or a beginning of that, where a write failed.
   abbrev pub AuditsInput : Option (List ℕ) → Option (List ℕ) → Result (Unit {0}) ProgramFault → Option (List ℕ) → Type 0
   AuditsInput input old (Ok done) new = (answers : List (Result Observed Refusal)) × AnswersAll input answers × Appends old new (answer_lines answers)

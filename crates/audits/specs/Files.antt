@@ -57,7 +57,7 @@ IsJson bytes value = IsUtf8 bytes × (read bytes ≡ Some value)
 abbrev pub IsFileOf : List ℕ → Evidence → Type 0
 IsFileOf bytes evidence = (value : Data) × IsJson bytes value × IsEvidenceOf value evidence
 
--- What a call answers that looks for something: one that is so, or that there is none, or want of memory. The
+-- What a call returns that looks for something: one that is so, or that there is none, or want of memory. The
 -- first argument gives what was found from what was returned.
 abbrev pub Finds : {X A : Type 0} → (X → A) → (A → Type 0) → Result X ReadFault → Type 0
 Finds seen Is (Ok x) = Is (seen x)

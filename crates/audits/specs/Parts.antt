@@ -1,4 +1,4 @@
--- What evidence is made of when it is handed on: its kind, and the bytes of its two parts (the forms are this
+-- What evidence is made of when it is passed on: its kind, and the bytes of its two parts (the forms are this
 -- directory's own).
 use Rattle.std.specs.Prelude.{◌≡◌, ℕ, List, ◌++◌, codes}
 use Rattle.auditor.specs.declared.evidence.Evidence.{Evidence}

@@ -21,7 +21,7 @@ use textio::{ProgramFault, next_line, option_hex32, write_text};
 /// number, so a longer line is not read as one of whole bytes.
 const LINE_KEPT: usize = 809;
 
-/// The line that tells what an auditor answered.
+/// The line for an auditor's answer.
 fn told(alloc: Global, answer: Result<Observed, Refusal>) -> Result<String, AllocError>
     ensures { IfOk result (λ text. string_bytes text ≡ answer_line answer) }
 {
@@ -43,7 +43,7 @@ fn told(alloc: Global, answer: Result<Observed, Refusal>) -> Result<String, Allo
     }
 }
 
-/// What the auditor answers to a line. One that does not give bytes in hexadecimal digits is no signed
+/// What the auditor answers to a line. One that is not bytes in hexadecimal digits is not a signed
 /// root.
 fn observe_line<H: NodeHash + Drop, S: Verifier + Drop>(
     alloc: Global,
@@ -104,11 +104,11 @@ fn audit_under<H: NodeHash + Drop, S: Verifier + Drop, R: BufRead, W: Write>(
 
 /// Reads signed roots of one provider, one a line in hexadecimal digits of either case, and answers each
 /// with a line: `started`, `extended`, `known`, `ahead`, `before start`, evidence as JSON, `refused 1` for
-/// what is no signed root, or `refused 2` for one that does not verify under the provider's key.
+/// a line that is not a signed root, or `refused 2` for a root that does not verify under the provider's key.
 ///
 /// # Errors
 ///
-/// `BadHex`, before anything is read, where the key's text is not 64 hexadecimal digits; `CannotRead` and
+/// `BadHex`, before anything is read, if the key's text is not 64 hexadecimal digits; `CannotRead` and
 /// `OutOfMemory`, with an answer written to each line before; `CannotWrite`, with a beginning of the
 /// answers written.
 pub fn audit<R: BufRead, W: Write>(

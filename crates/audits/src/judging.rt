@@ -98,7 +98,7 @@ fn judge_keyed<W: Write>(
 ///
 /// # Errors
 ///
-/// `BadHex`, before the file is read, where the key's text is not 64 hexadecimal digits; `NotEvidence`;
+/// `BadHex`, before the file is read, if the key's text is not 64 hexadecimal digits; `NotEvidence`;
 /// `OutOfMemory`; `CannotWrite`, with a beginning of the line written.
 pub fn judge_file<W: Write>(
     alloc: Global,
@@ -116,7 +116,7 @@ pub fn judge_file<W: Write>(
 ///
 /// # Errors
 ///
-/// `BadHex`, before the file is opened; `CannotRead` where the file cannot be opened or read; then those
+/// `BadHex`, before the file is opened; `CannotRead` if the file cannot be opened or read; then those
 /// of `judge_file`.
 pub fn judge_at<F: Files, W: Write>(
     alloc: Global,

@@ -2,8 +2,8 @@
 //! section 4; the form of the file is this directory's own.
 //!
 //! To the layers above: `evidence_json` writes exactly the definition's bytes, and `read_evidence` reads
-//! exactly the files of evidence, so what was written is read again. White space, the keys in another
-//! order and hexadecimal digits in upper case are read too.
+//! exactly the files of evidence, so what was written is read back. It also reads white space, the keys
+//! in another order and hexadecimal digits in upper case.
 //!
 //! ```text
 //! let file = evidence_json(alloc, &evidence)?;

@@ -1,4 +1,4 @@
-// A file is opened by its name and read whole. What it has is known to the system alone, so the clause of
+// A file is opened by its name and read whole. Contracts do not know what it contains, so the clause of
 // `file_bytes` speaks of its faults, and that of `rest` of the bytes.
 ghost use Rattle.std.specs.Prelude.{◌≡◌, IfErr, IfOk, IfSome};
 ghost use Rattle.std.specs.IoError.{error_kind};
@@ -10,7 +10,7 @@ use std::fs::{self, Files};
 use std::io::{self, ErrorKind, Read};
 use textio::ProgramFault;
 
-/// What a program says of an error that the system gives for a file.
+/// The program's fault for an error that the system gives for a file.
 fn fault_of(error: &io::Error) -> ProgramFault
     ensures is { result ≡ of_system (error_kind error.now) }
     ensures device { IsDeviceFault result }

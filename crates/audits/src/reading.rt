@@ -13,7 +13,7 @@ use rootchain::{RootEvidence, SignedPromise, SignedRoot};
 use serde_json::Value;
 use std::alloc::Global;
 
-/// The proof that these bytes are.
+/// These bytes as a proof.
 fn proof(bytes: &[u8]) -> Result<ProofText, ReadFault>
     ensures { Finds (λ proof. proof) (IsProof bytes.now) result }
 {
@@ -147,11 +147,11 @@ fn parsed(alloc: Global, bytes: &[u8]) -> Result<Value, ReadFault>
 }
 
 /// The evidence of a file: one JSON object of the keys `first`, `kind` and `second`, in any order, with
-/// hexadecimal digits of either case. Of a key that is given twice, the last counts.
+/// hexadecimal digits of either case. If a key is given twice, the last counts.
 ///
 /// # Errors
 ///
-/// `NotEvidence` where the file is not of this form; `OutOfMemory`.
+/// `NotEvidence` if the file does not have this form; `OutOfMemory`.
 pub fn read_evidence(alloc: Global, bytes: &[u8]) -> Result<Evidence, ReadFault>
     ensures exact { Finds (λ evidence. evidence) (IsFileOf bytes.now) result }
     ensures again { ReadsAgain bytes.now result }

@@ -1,4 +1,4 @@
--- What is asked of a directory, without where its bytes lie.
+-- What is asked of a directory, regardless of where its bytes lie.
 use Rattle.std.specs.Prelude.{ℕ, List}
 use Rattle.book.specs.declared.command.Command.{Command}
 use Rattle.book.specs.declared.command.Command.TheVariants as command

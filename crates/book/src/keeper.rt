@@ -19,7 +19,7 @@ impl From<KeepFailed> for Refusal {
     }
 }
 
-/// Where records are kept before the changes that they tell of are made.
+/// Keeps the record of each change before the change is made.
 pub trait Keeper {
     // The keeper before, a record that it kept, and the keeper after.
     ghost kept: { Self → Record → Self → Type 0 };
@@ -31,7 +31,7 @@ pub trait Keeper {
     ///
     /// # Errors
     ///
-    /// `KeepFailed` where it was not kept. The directory then does not make the change.
+    /// `KeepFailed` if it was not kept. The directory then does not make the change.
     fn keep(&mut self, what: &Record) -> Result<(), KeepFailed>
         ensures { MatchResult result (λ _. kept self.old what.now self.new) (λ _. failed self.old what.now self.new) };
 }

@@ -26,7 +26,7 @@ use vrfiface::Vuf;
 
 /// Whatever is asked of a directory, from its first page on, and whatever is kept of it: the users
 /// of an honest provider see one chain of roots, accept each reply with what the pages have, and
-/// have each promise kept, where no look-up meets another name with its index.
+/// have each promise kept, if no look-up meets another name with its index.
 pub fn honest<H: NodeHash, V: Vuf, S: Signer>()
     ensures { (vuf : V) (signer : S) (provider : Provider) (commands : List Asked) (replies : List Reply) (after : Book)
         → provider ≡ provider_of H.digest_of V.value_of (V.public_key vuf) S.signature_of (S.public_key signer)
@@ -36,7 +36,7 @@ pub fn honest<H: NodeHash, V: Vuf, S: Signer>()
         → IsHonest provider V.accepted S.verified (S.public_key signer) after commands replies }
 {}
 
-/// A run with any keeper is one with a list that tells of each record whether it was kept.
+/// A run with any keeper is one with a list that says of each record whether it was kept.
 pub fn keeps_are_listed<K: Keeper>()
     ensures { (provider : Provider) (book after : Book) (keeper keeper_after : K) (commands : List Asked) (replies : List Reply)
         → Run provider K.kept K.failed book keeper commands replies after keeper_after
@@ -50,7 +50,7 @@ pub fn users_have_own_indices()
         → IsFirstRun provider commands replies after → UsersDiffer provider commands → IndicesDiffer provider commands replies after }
 {}
 
-/// A look-up that meets another name with its index is refused for just that.
+/// The reply to a look-up that meets another name with its index is refused for just that.
 pub fn doubles_are_refused<H: NodeHash, V: Vuf, S: Signer>()
     ensures { (vuf : V) (signer : S) (provider : Provider) (commands : List Asked) (replies : List Reply) (after : Book)
         → provider ≡ provider_of H.digest_of V.value_of (V.public_key vuf) S.signature_of (S.public_key signer)

@@ -1,5 +1,5 @@
-//! What a key directory means: pages of names with their keys, one an epoch, what it answers to
-//! each command, and what its users see. The directory itself is in `epochs`.
+//! What a key directory means: pages of names with their keys, one for each epoch; what it answers to
+//! each command; and what its users see. The directory itself is in `epochs`.
 //!
 //! Whoever keeps what a directory does is its [`Keeper`]:
 //!

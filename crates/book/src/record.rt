@@ -1,6 +1,6 @@
 use encoding::{Hash32, KeyData, Name};
 
-/// What is kept of a directory: how it began, which whoever begins one keeps, and each accepted
+/// What is kept of a directory: how it began, which the code that begins it keeps, and each accepted
 /// command, which the directory has kept before it makes the change.
 #[derive(Debug, Drop)]
 pub enum Record {

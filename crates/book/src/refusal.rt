@@ -3,8 +3,8 @@ ghost use Rattle.std.specs.Prelude.{◌≡◌};
 use std::alloc::{AllocError, AllocFailed};
 use thiserror::Error;
 
-/// Why a directory refuses a command. Where several reasons apply, the first of them in this order
-/// is told.
+/// Why a directory refuses a command. If several reasons apply, a call returns the first of them in
+/// this order.
 #[derive(Clone, Copy, Debug, PartialEq, Eq, Error)]
 pub enum Refusal {
     #[error("the name has no byte, or more than 255")]

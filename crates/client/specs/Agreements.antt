@@ -1,5 +1,5 @@
--- Two clients of one key compared (CONIKS, section 4: clients that compare what they saw find out a provider
--- that told them two things).
+-- Two clients of one key compared (CONIKS, section 4: clients that compare what they saw find out if their
+-- provider told them two things).
 use Rattle.std.specs.Prelude.{◌≡◌, ◌≢◌, ◌⊎◌, ℕ, ◌<◌, List, Option, Some, Contains, slice_get}
 use Rattle.nodehash.specs.Collisions.{IsCollision}
 use Rattle.rootchain.specs.Comparisons.{ChainsAgree, IsCompared}
@@ -76,14 +76,14 @@ module _ (hash : List ℕ → List ℕ) (accepted : List ℕ → List ℕ → Li
     abbrev pub IsToldByLooks : SameOr → Type 0
     IsToldByLooks answer = (look also : Look) × AreFirstUnlike ones others look also × RepliesAnswer look also answer
 
-    -- what the looks of two clients come to whose chains agree
+    -- the outcome for the looks of two clients whose chains agree
     abbrev pub AreReconciled : Outcome → Type 0
     AreReconciled Agree = LooksAgree ones others
     AreReconciled (Evidence evidence) = ⊥
     AreReconciled (Collision x y) = IsToldByLooks (replies.Collision x y)
     AreReconciled TwoValues = IsToldByLooks replies.TwoValues
 
-  -- First what the chains compare to. If that is nothing, then what the looks tell.
+  -- First what the chains compare to. If they agree, then what the looks show.
   abbrev pub IsReconciled : Client → Client → Outcome → Type 0
   IsReconciled one other outcome =
       IsToldByChains one other outcome ⊎ (IsCompared hash one.chain other.chain chains.Equal × AreReconciled one.looks other.looks outcome)
@@ -94,8 +94,8 @@ module _ (hash : List ℕ → List ℕ) (accepted : List ℕ → List ℕ → Li
 abbrev pub AreTwoValuesFor : (List ℕ → List ℕ → List ℕ → Type 0) → Type 0
 AreTwoValuesFor accepted = (key name value other : List ℕ) × accepted key name value × accepted key name other × (value ≢ other)
 
--- if it is evidence, that is evidence under the key; if it is a collision, it is of two different texts with
--- one digest; and if it is two values, there are such
+-- if it is evidence, it holds under the key; if it is a collision, it is of two different texts with one
+-- digest; and if it is two values, there are such
 abbrev pub OutcomeHolds : (List ℕ → List ℕ) → (List ℕ → List ℕ → List ℕ → Type 0) → (List ℕ → List ℕ → List ℕ → Type 0) → List ℕ → Outcome → Type 0
 OutcomeHolds hash accepted verified key Agree = Unit
 OutcomeHolds hash accepted verified key (Evidence evidence) = IsRootEvidence hash verified key evidence

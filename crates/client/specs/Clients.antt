@@ -1,5 +1,5 @@
--- What a client is to whoever sees it (CONIKS, section 4): a chain of the provider's roots, the looks that
--- it accepted, in order, and the promises that it keeps.
+-- What a client is to its callers (CONIKS, section 4): a chain of the provider's roots, the looks that it
+-- accepted, in order, and the promises that it keeps.
 use Rattle.std.specs.Prelude.{◌≡◌, ℕ, List, [], ◌∷◌, ◌++◌}
 use Rattle.std.specs.List.{AllByRecursion}
 use Rattle.encoding.specs.Limits.{IsName}
@@ -54,8 +54,8 @@ module _ (hash : List ℕ → List ℕ) where
     pub verifies : PromiseVerifies verified chain.key signed
     pub rooted : HasRootOf chain signed.promise
 
--- what is true of each client: its roots have spellings, its looks were accepted, and its promises are
--- those of its provider
+-- what is true of each client: its roots have spellings, its looks were accepted, and its promises are of
+-- its provider
 pub record IsSound (hash : List ℕ → List ℕ) (accepted verified : List ℕ → List ℕ → List ℕ → Type 0) (client : Client) : Type 0 where
   pub roots : AllByRecursion IsSignedRoot client.chain.roots
   pub looks : AllByRecursion (IsAcceptedLook hash accepted client.chain) client.looks

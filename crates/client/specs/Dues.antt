@@ -31,14 +31,14 @@ pub record IsTested (promises : List SignedPromise) (name : List ℕ) (place : �
 
 module _ (hash : List ℕ → List ℕ) (accepted : List ℕ → List ℕ → List ℕ → Type 0) where
   module _ (signed : SignedPromise) (root : SignedRoot) (bytes : List ℕ) (reply : Reply) where
-    -- what an accepted reply under the next root tells of a promise
+    -- what an accepted reply under the next root shows of a promise
     abbrev pub IsTold : Due → Type 0
     IsTold OtherIndex = hash reply.value ≢ signed.promise.index
     IsTold Kept = (hash reply.value ≡ signed.promise.index) × (stated reply.end ≡ Some signed.promise.key)
     IsTold (Broken broken) = (hash reply.value ≡ signed.promise.index) × (stated reply.end ≢ Some signed.promise.key)
         × (broken ≡ record { promise = signed; root = root; proof = bytes })
 
-  -- What comes of a reply that a promise is tested by: the root that it is to be accepted under is the
+  -- What comes of testing a promise by a reply: the root that the reply has to be accepted under is the
   -- chain's first one after that of the promise.
   module _ (chain : KeyedRoots) (name bytes : List ℕ) (signed : SignedPromise) where
     abbrev pub Tests : Result Due Refusal → Type 0
@@ -51,7 +51,7 @@ module _ (hash : List ℕ → List ℕ) (accepted : List ℕ → List ℕ → Li
     Tests (Err Memory) = ⊥
     Tests (Err NoPromise) = ⊥
 
--- the client once this was told of the promise at a place: only one that was kept is dropped
+-- the client after this result for the promise at a place: only a promise that was kept is dropped
 abbrev pub left : Client → ℕ → Due → Client
 left client place Kept = record client { promises = remove client.promises place }
 left client place (Broken broken) = client
@@ -72,7 +72,7 @@ module _ (hash : List ℕ → List ℕ) (accepted : List ℕ → List ℕ → Li
   Dues (Err (RootDiffers evidence)) after = ⊥
   Dues (Err Memory) after = ⊥
 
--- the epoch of the root that the next reply is tested under, if a promise is kept and there is the root
+-- the epoch of the root that the next reply is tested under, if there are a promise and such a root
 module _ (client : Client) (name : List ℕ) where
   abbrev pub IsDueEpoch : Option ℕ → Type 0
   IsDueEpoch None = HasNone client.promises name
@@ -80,7 +80,7 @@ module _ (client : Client) (name : List ℕ) where
   IsDueEpoch (Some epoch) = (place : ℕ) × (signed : SignedPromise) × (root : SignedRoot) × IsTested client.promises name place signed
       × IsNextAfter client.chain signed.promise.epoch root × (root.body.epoch ≡ epoch)
 
--- what is told as broken is evidence under the key, and has a spelling
+-- a promise that is reported as broken is evidence under the key, and has a spelling
 abbrev pub DueHolds : (List ℕ → List ℕ) → (List ℕ → List ℕ → List ℕ → Type 0) → (List ℕ → List ℕ → List ℕ → Type 0) → List ℕ → Due → Type 0
 DueHolds hash accepted verified key Kept = Unit
 DueHolds hash accepted verified key OtherIndex = Unit

@@ -11,13 +11,13 @@ use Rattle.client.specs.Clients.{Client, with_look}
 use Rattle.client.specs.declared.refusal.Refusal.{Refusal}
 use Rattle.client.specs.declared.refusal.Refusal.TheVariants.{Root, Proof, UnknownRoot, RootDiffers, Memory, NoPromise}
 
--- the root that a look at an epoch is asked under: at 0 the head, else the one of the epoch
+-- the root that a look at an epoch is checked under: for 0 the head, else the one of the epoch
 abbrev pub IsAsked : KeyedRoots → ℕ → SignedRoot → Type 0
 IsAsked chain zero root = IsHead chain root
 IsAsked chain (suc n) root = IsAt chain (suc n) root
 
 module _ (hash : List ℕ → List ℕ) (accepted : List ℕ → List ℕ → List ℕ → Type 0) (before : Client) (name : List ℕ) (epoch : ℕ) (bytes : List ℕ) where
-  -- the bytes are a reply for the name that is accepted under the root that is asked
+  -- the bytes are a reply for the name that is accepted under that root
   unfoldable pub IsAnswered : SignedRoot → Reply → Type 0
   IsAnswered root reply = IsAsked before.chain epoch root × IsAcceptedReply hash accepted root.body name bytes reply
 

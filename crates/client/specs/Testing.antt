@@ -1,4 +1,4 @@
--- The promise that code found to be tested.
+-- The promise that the code found to be tested.
 use Rattle.std.specs.Prelude.{ℕ, List, Option, Some, None}
 use Rattle.std.specs.Borrow.{Bor}
 use Rattle.rootchain.specs.declared.signed_promise.SignedPromise.{SignedPromise}

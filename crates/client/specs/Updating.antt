@@ -13,7 +13,7 @@ use Rattle.client.specs.Clients.{Client}
 use Rattle.client.specs.declared.refusal.Refusal.{Refusal}
 use Rattle.client.specs.declared.refusal.Refusal.TheVariants.{Root, Proof, UnknownRoot, RootDiffers, Memory, NoPromise}
 
--- how a client tells why its chain refuses a list
+-- the client's refusal for its chain's refusal of a list
 abbrev pub told_as : ListRefusal → Refusal
 told_as list.BadSignature = Root root.BadSignature
 told_as list.BeforeStart = Root root.NotLater

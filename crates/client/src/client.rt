@@ -88,7 +88,7 @@ impl<H: NodeHash, V: VufCheck, S: Verifier> Client<H, V, S> {
     }
 
     /// Checks a reply to a look-up of this name against the root of an epoch, where 0 asks for the latest
-    /// root, and keeps it. The answer is what it states of the name.
+    /// root, and keeps it. Returns what the reply states of the name.
     ///
     /// # Errors
     ///

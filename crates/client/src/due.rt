@@ -7,6 +7,6 @@ pub enum Due {
     Kept,
     /// The name has another key or none: this is evidence against the provider.
     Broken(BrokenPromise),
-    /// The reply is for another index than the promised one, and shows nothing of the promise.
+    /// The reply is for another index than the promised one, and shows nothing about the promise.
     OtherIndex,
 }

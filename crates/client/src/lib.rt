@@ -3,7 +3,7 @@
 //!
 //! To the layers above: a look is accepted exactly where its reply is accepted under the chain's root of
 //! its epoch, and each accepted look is kept. A promise is tested against the first root after its own,
-//! and what is told as broken, anyone can judge. A refused call leaves the client as it was.
+//! and anyone can judge one that is reported as broken. A refused call leaves the client as it was.
 //!
 //! ```text
 //! let mut client: Client<Sha256Hash, KeyedVuf, KeyedSign> = Client::start(alloc, &verifier, key, first)?;

@@ -75,7 +75,7 @@ impl Looks {
     }
 }
 
-/// The same bytes, in memory of their own.
+/// A copy of the bytes in newly allocated memory.
 fn owned(alloc: Global, bytes: &[u8]) -> Result<Vec<u8>, AllocError>
     ensures { IfOk result (λ own. own.items ≡ bytes.now) }
 {

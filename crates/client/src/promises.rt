@@ -28,7 +28,7 @@ pub(crate) fn tested<'a>(
     least
 }
 
-/// The promise that is tested once one more comes behind the others.
+/// The promise that is tested after one more is added behind the others.
 fn earlier<'a>(
     least: Option<(usize, &'a SignedPromise)>,
     place: usize,
@@ -71,7 +71,7 @@ pub(crate) fn test<H: NodeHash, V: VufCheck, S: Verifier>(
     }
 }
 
-/// What an accepted reply under the next root tells of a promise.
+/// What an accepted reply under the next root shows of a promise.
 fn tell<H: NodeHash, V: VufCheck>(
     accepted: &Accepted<'_, H, V>,
     signed: &SignedPromise,

@@ -18,7 +18,7 @@ use vrfiface::VufCheck;
 ///
 /// First their chains are compared. If these agree, the looks are: of the pairs of a look of the first client
 /// and a look of the second for one name and epoch, in order of acceptance, the first that states two things
-/// tells.
+/// decides.
 ///
 /// This allocates nothing. Only replies for one name and epoch are compared with each other.
 pub fn reconcile<H: NodeHash, V: VufCheck, S: Verifier>(

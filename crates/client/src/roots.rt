@@ -7,7 +7,7 @@ use nodehash::NodeHash;
 use rootchain::{Chain, Promise, SignedRoot};
 use sigiface::Verifier;
 
-/// The root that a look at an epoch is asked under: at 0 the head, else the one of the epoch.
+/// The root that a look at an epoch is checked under: for 0 the head, else the one of the epoch.
 pub(crate) fn asked<H: NodeHash, S: Verifier>(
     chain: &Chain<H, S>,
     epoch: u64,

@@ -133,6 +133,33 @@ fn refused(answer: Result<(), Refusal>) -> Result<Option<u8>, AllocError> {
     }
 }
 
+#[test]
+fn messages(rt: HostRuntime) -> Result<(), Fail> {
+    let root = signed(&provider(), earlier());
+    let evidence = RootEvidence::Fork(root.copied(), root);
+    for (refusal, message) in [
+        (
+            Refusal::Root(rootchain::Refusal::BadSignature),
+            "the signature does not verify",
+        ),
+        (
+            Refusal::Proof(proofs::Refusal::Trailing),
+            "more bytes follow the reply",
+        ),
+        (Refusal::UnknownRoot, "the chain has no such root"),
+        (
+            Refusal::RootDiffers(evidence),
+            "the root contradicts the chain",
+        ),
+        (Refusal::Memory, "out of memory"),
+        (Refusal::NoPromise, "no promise for the name is kept"),
+    ] {
+        let text = format!(in rt.alloc(); "{refusal}")?;
+        assert_eq!(rt; text.as_str(), message);
+    }
+    Ok(())
+}
+
 /// A client that starts with this root.
 fn started(alloc: Global, root: &SignedRoot) -> Result<Watching, AllocError> {
     let bytes = root.write();
@@ -261,10 +288,15 @@ fn looks_at_an_epoch_and_at_the_head(rt: HostRuntime) -> Result<(), Fail> {
         updated(rt.alloc(), &mut client, &first.root, &next.root)?,
         None
     );
-    assert_eq!(rt; looked_up(&mut client, 3, &first.reply)?, Ok(None));
-    assert_eq!(rt; looked_up(&mut client, 7, &next.reply)?, Ok(Some(*b"k1")));
-    assert_eq!(rt; looked_up(&mut client, 0, &next.reply)?, Ok(Some(*b"k1")));
-    assert_eq!(rt; looked_up(&mut client, 0, &first.reply)?, Err(3));
+    for (epoch, reply, wanted) in [
+        (3, &first.reply, Ok(None)),
+        (7, &next.reply, Ok(Some(*b"k1"))),
+        (0, &next.reply, Ok(Some(*b"k1"))),
+        (0, &first.reply, Err(3)),
+    ] {
+        let answer = looked_up(&mut client, epoch, reply)?;
+        assert_eq!(rt; answer, wanted, "at {epoch}");
+    }
     Ok(())
 }
 

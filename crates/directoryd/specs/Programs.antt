@@ -23,12 +23,12 @@ use Rattle.directoryd.specs.declared.ending.Ending.{Ending}
 use Rattle.directoryd.specs.CommandLine.{status_of, Refuses}
 use Rattle.directoryd.specs.Orders.{IsOrdered, Ordered, the_root, the_path, the_audit, the_verdict, the_session, the_connections}
 
--- a program says a text to its input, and answers this status where that was written
+-- a program gives a text for its input, and returns this status if the text was written
 abbrev pub EndsAt : ℕ → (List ℕ → Result (List ℕ) ProgramFault → Type 0) → Option (List ℕ) → Option (List ℕ) → Option (List ℕ) → Result ℕ ProgramFault → Type 0
 EndsAt status Says input old new (Ok given) = (given ≡ status) × Ends Says input old new (Ok tt)
 EndsAt status Says input old new (Err fault) = Ends Says input old new (Err fault)
 
--- an outcome without its status, which is 0 where all went well
+-- an outcome without its status, which is 0 if all went well
 abbrev pub without_status : Result ℕ ProgramFault → Result (Unit {0}) ProgramFault
 without_status (Ok given) = Ok tt
 without_status (Err fault) = Err fault
@@ -42,9 +42,9 @@ abbrev pub verdict_outcome : Result Verdict ProgramFault → Result ℕ ProgramF
 verdict_outcome (Ok verdict) = Ok (verdict_status verdict)
 verdict_outcome (Err fault) = Err fault
 
--- What is ordered is done: a root is told, or the path of an index; an input is audited; a file is judged;
--- a directory is begun, and one session is served; or one is begun, and connections are served: the errors
--- are told the address.
+-- What is ordered is done: a root is written, or the path of an index; an input is audited; a file is
+-- judged; a directory begins and serves one session; or one begins and serves connections, and writes its
+-- address to the errors.
 abbrev pub Obeys : Ordered → Option (List ℕ) → Option (List ℕ) → Option (List ℕ) → Option (List ℕ) → Option (List ℕ) → Result ℕ ProgramFault → Type 0
 Obeys (the_root asked) input out out-new err err-new outcome = EndsAt 0 (λ input said. root_answer asked input ≡ said) input out out-new outcome × Keeps err err-new
 Obeys (the_path index asked) input out out-new err err-new outcome = EndsAt 0 (Proves asked.hash (nonce_of asked.nonce) (hex32 index)) input out out-new outcome × Keeps err err-new
@@ -56,8 +56,8 @@ Obeys (the_session asked) input out out-new err err-new outcome = IsZero outcome
 Obeys (the_connections asked count address) input out out-new err err-new outcome = IsZero outcome × Keeps out out-new
     × ((outcome ≡ Err BadHex) ↔ (keys_of asked ≡ None)) × TellsAddress err (without_status outcome) err-new
 
--- a text is written whole, and this status answered; or less of it where a write failed, or nothing
--- for want of memory
+-- a text is written whole, and this status returned; or less of it if a write failed, or nothing for
+-- want of memory
 abbrev pub Prints : ℕ → List ℕ → Option (List ℕ) → Option (List ℕ) → Result ℕ ProgramFault → Type 0
 Prints status text old new (Ok given) = (given ≡ status) × Appends old new text
 Prints status text old new (Err CannotWrite) = WritesBeginning old new text
@@ -70,7 +70,7 @@ abbrev pub Shows : ℕ → Option (List ℕ) → Option (List ℕ) → Option (L
 Shows zero out out-new err err-new outcome = ((text : List ℕ) × Prints 0 text out out-new outcome) × Keeps err err-new
 Shows (suc n) out out-new err err-new outcome = Keeps out out-new × ((text : List ℕ) × Prints (suc n) text err err-new outcome)
 
--- memory is wanting, and nothing written
+-- memory ran out, and nothing is written
 abbrev pub WantsMemory : Option (List ℕ) → Option (List ℕ) → Option (List ℕ) → Option (List ℕ) → Result ℕ ProgramFault → Type 0
 WantsMemory out out-new err err-new outcome = (outcome ≡ Err OutOfMemory) × Keeps out out-new × Keeps err err-new
 
@@ -88,7 +88,7 @@ abbrev pub Runs : List Text → Option (List ℕ) → Option (List ℕ) → Opti
 Runs words input out out-new err err-new outcome =
     DoesOrder words input out out-new err err-new outcome ⊎ (Refused words out out-new err err-new outcome ⊎ WantsMemory out out-new err err-new outcome)
 
--- what is said of words that are no text
+-- the line about words that are not UTF-8
 abbrev pub no_text : List ℕ
 no_text = codes "error: invalid UTF-8 was detected in one or more arguments\n"
 
@@ -101,12 +101,12 @@ Starts remaining (Err error) reader out out-new err err-new outcome = Keeps out 
 Starts remaining (Ok words) (Err error) out out-new err err-new outcome = WantsMemory out out-new err err-new outcome
 Starts remaining (Ok words) (Ok reader) out out-new err err-new outcome = Runs (map string_bytes words.items) (remaining reader) out out-new err err-new outcome
 
--- a fault's line is written, whole or, where a write failed, less of it
+-- a fault's line is written, whole or, if a write failed, less of it
 abbrev pub TellsFault : Bool → List ℕ → Option (List ℕ) → Option (List ℕ) → Type 0
 TellsFault true text old new = Appends old new text
 TellsFault false text old new = WritesBeginning old new text
 
--- how the process ends: with the status that was answered, or with the fault's line and status 1
+-- how the process ends: with the status that was returned, or with the fault's line and status 1
 abbrev pub EndsAs : Result ℕ ProgramFault → Option (List ℕ) → Option (List ℕ) → Ending → Type 0
 EndsAs (Ok status) old new ending = (ending ≡ record { status = status; is_told = true }) × Keeps old new
 EndsAs (Err fault) old new ending = (ending.status ≡ 1) × TellsFault ending.is_told (fault_text fault) old new

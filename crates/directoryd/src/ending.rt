@@ -1,6 +1,6 @@
-// From the words to the end of the process. What the words order is done, and answers a status or a
-// fault; a fault's line goes to the errors. `main` only hands over the process's own words and streams,
-// so that all of this is in one contract.
+// From the words of the command line to the end of the process. What they order is done and returns a
+// status or a fault; a fault's line goes to the errors. `main` only passes on the process's own words and
+// streams, so that all of this is in one contract.
 ghost use Rattle.std.specs.Prelude.{◌≡◌, map, Result};
 ghost use Rattle.textio.specs.declared.program_fault.ProgramFault.{ProgramFault};
 ghost use Rattle.audits.specs.declared.judging.Verdict.{Verdict};
@@ -95,7 +95,7 @@ where
     }
 }
 
-/// Does what the process's words order, where there are words and an input.
+/// Does what the process's words order, if there are words and an input.
 fn start<N, R, W, E>(
     alloc: Global,
     system: &N,
@@ -123,7 +123,7 @@ where
     }
 }
 
-/// Tells a fault, and says how the process ends.
+/// Writes the line of a fault, if there is one, and says how the process ends.
 fn ended<E: Write>(outcome: Result<u8, ProgramFault>, errors: &mut E) -> Ending
     ensures { EndsAs outcome (E.contents errors.old) (E.contents errors.new) result }
 {
@@ -143,9 +143,9 @@ fn ended<E: Write>(outcome: Result<u8, ProgramFault>, errors: &mut E) -> Ending
 }
 
 /// Does what the words order, from the input to the output, and says how the process ends: with the
-/// status that the program answers; or with status 1 and the fault's line on the errors; or, where the
-/// words order nothing, with clap's text, on the output with status 0 where they ask for help, else on
-/// the errors with status 2.
+/// status that the program returns; or with status 1 and the fault's line on the errors; or, if the
+/// words order nothing, with clap's text: on the output with status 0 if they ask for help, else on the
+/// errors with status 2.
 pub fn end<N, R, W, E>(
     alloc: Global,
     system: &N,

@@ -1,5 +1,5 @@
-//! The key directory's programs. The words of the command line order one; what it does is in a crate
-//! below, and here are the words, the choice, and how the process ends.
+//! The key directory's programs. The command line chooses one. What each does is in a crate below; here
+//! are the command line, the choice, and how the process ends.
 #![tactic(auto)]
 
 mod ending;

@@ -11,10 +11,10 @@ use std::alloc::Global;
 use std::io::{self, ErrorKind as IoKind, Write};
 use textio::{ProgramFault, write_text};
 
-/// What is said of words that are not UTF-8.
+/// The line about words that are not UTF-8.
 static NO_TEXT: &[u8] = b"error: invalid UTF-8 was detected in one or more arguments\n";
 
-/// Writes a text whole, and answers this status.
+/// Writes a text whole, and returns this status.
 fn print<W: Write>(writer: &mut W, text: &[u8], status: u8) -> Result<u8, ProgramFault>
     ensures prints { Prints status text.now (W.contents writer.old) (W.contents writer.new) result }
     ensures err { IfErr result (λ fault. fault ≡ ProgramFault.CannotWrite) }
@@ -23,15 +23,15 @@ fn print<W: Write>(writer: &mut W, text: &[u8], status: u8) -> Result<u8, Progra
     Ok(status)
 }
 
-/// The status of words that order nothing: 0 where they ask for help, else 2.
+/// The status of words that order nothing: 0 if they ask for help, else 2.
 fn status(error: &Error) -> u8
     ensures { result ≡ status_of (kind_of error.now) }
 {
     if error.use_stderr() { 2 } else { 0 }
 }
 
-/// Writes clap's text about words that order nothing, to the output where they ask for help, else to
-/// the errors, and answers the status.
+/// Writes clap's text about words that order nothing, to the output if they ask for help, else to the
+/// errors, and returns the status.
 ///
 /// # Errors
 ///
@@ -56,11 +56,11 @@ pub fn refuse<W: Write, E: Write>(
     }
 }
 
-/// Says that the words are no text, or that memory was wanting for them.
+/// Says that the words are not UTF-8, or that there was no memory for them.
 ///
 /// # Errors
 ///
-/// `OutOfMemory` where the error is one of memory; `CannotWrite`.
+/// `OutOfMemory` if the error is one of memory; `CannotWrite`.
 pub fn refuse_bytes<E: Write>(error: &io::Error, errors: &mut E) -> Result<u8, ProgramFault>
     ensures memory { (result ≡ Err ProgramFault.OutOfMemory) ↔ (error_kind error.now ≡ IoKind.OutOfMemory) }
     ensures prints { Prints 2 no_text (E.contents errors.old) (E.contents errors.new) result }

@@ -29,7 +29,7 @@ impl<const MOST: usize> Model for Bounded<MOST> {
 }
 
 impl<const MOST: usize> Bounded<MOST> {
-    /// The same bytes once more.
+    /// A copy of the bytes.
     pub fn copied(&self) -> Self
         ensures { result ≡ self.now }
     {

@@ -23,7 +23,7 @@ mod changing;
 mod reading;
 mod running;
 
-/// The names and keys of a provider, in pages, one an epoch.
+/// The names and keys of a provider, in pages, one for each epoch.
 #[derive(Drop)]
 pub struct Directory<H: NodeHash, V: Vuf, S: Signer, R: Rng> {
     alloc: Global,
@@ -61,7 +61,7 @@ impl<H: NodeHash, V: Vuf, S: Signer, R: Rng> Directory<H, V, S, R> {
     ///
     /// # Errors
     ///
-    /// `EpochNotLater` where the epoch is 0, else `Memory` where memory runs out.
+    /// `EpochNotLater` if the epoch is 0, else `Memory` if memory runs out.
     pub fn new(
         alloc: Global,
         epoch: u64,

@@ -105,7 +105,7 @@ fn put_kept<K: Keeper>(
         (λ _. K.kept keeper.old what.now keeper.new × (at_bytes (λ key. key.items) histories.new.entries ≡ put (at_bytes (λ key. key.items) histories.old.entries) name.now history))
         (λ why. (histories.new.entries ≡ histories.old.entries) × IsUnkept K.failed keeper.old what.now why keeper.new) }
 {
-    // The history is put in first, since memory may be wanting for it, and taken out again if the
+    // The history is put in first, since memory may run out for it, and taken out again if the
     // record is not kept. (A vacant entry would do, but nothing says what the map is once the entry
     // is dropped with its key.)
     histories.insert(owned(alloc, name)?, history)?;

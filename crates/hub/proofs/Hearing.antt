@@ -33,7 +33,7 @@ module _ {S : Type 0} (answers : S → Frame → List ℕ → S → Type 0) wher
       (session, piece, exchanges, refl, (held, left, here, set, exchanged, waits), wrote)
   heard_happens before after session piece held left output grown (Err (Memory false)) here set (fine, same, kept, wrote) =
       let back = set ∙ ap (set_value (is_at (nat_cmp session)) before.sessions) kept ∙ set_value_same (is_at (nat_cmp session)) before.sessions held here in
-      (λ failed. fine (let is : held ≡ Failed = cc in is), none_due before.sessions session piece held here, same_hub after before same back, wrote)
+      ((fine.0, λ failed. fine.1 (let is : held ≡ Failed = cc in is)), none_due before.sessions session piece held here, same_hub after before same back, wrote)
   heard_happens before after session piece held left output grown (Err TooManySessions) here set h = absurd h
   heard_happens before after session piece held left output grown (Err SessionOpen) here set h = absurd h
   heard_happens before after session piece held left output grown (Err NoSession) here set h = absurd h

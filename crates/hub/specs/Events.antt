@@ -9,7 +9,7 @@ use Rattle.hub.specs.declared.event.Event.TheVariants as event
 use Rattle.hub.specs.declared.refusal.HubRefusal.{HubRefusal}
 use Rattle.hub.specs.declared.refusal.HubRefusal.TheVariants.{TooManySessions, SessionOpen, NoSession}
 
--- an event, without where its bytes lie
+-- an event, regardless of where its bytes lie
 pub data Happening : Type 0 where
   Open : ℕ → Happening
   Bytes : ℕ → List ℕ → Happening

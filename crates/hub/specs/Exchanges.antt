@@ -48,10 +48,10 @@ module _ {S : Type 0} (answers : S → Frame → List ℕ → S → Type 0) wher
   Drained service held before (Err no_memory) service_after after output =
       (exchanges : List Exchange) × Exchanges service held exchanges service_after after × (¬ IsSpent after) × (output ≡ before ++ replies exchanges)
 
-  -- where memory ran out nothing was done, and the stream had not failed; or the piece was taken, and a
-  -- whole message waits
+  -- where memory ran out nothing was done, the piece was not empty, and the stream had not failed; or the
+  -- piece was taken, and a whole message waits
   abbrev pub Wants : S → Held → List ℕ → List ℕ → Bool → S → Held → List ℕ → Type 0
-  Wants service held piece before false service_after after output = (held ≢ Failed) × (service_after ≡ service) × (after ≡ held) × (output ≡ before)
+  Wants service held piece before false service_after after output = ((piece ≢ []) × (held ≢ Failed)) × (service_after ≡ service) × (after ≡ held) × (output ≡ before)
   Wants service held piece before true service_after after output =
       (exchanges : List Exchange) × Exchanges service (with_more held piece) exchanges service_after after × (¬ IsSpent after) × (output ≡ before ++ replies exchanges)
 

@@ -1,5 +1,5 @@
 -- What an event does, and the messages that it brings.
-use Rattle.std.specs.Prelude.{◌≡◌, ◌⊎◌, ℕ, List, [], ◌∷◌, ◌++◌, Bool, true, false, Some, None, Result, Ok, Err, ⊤}
+use Rattle.std.specs.Prelude.{◌≡◌, ◌≢◌, ◌⊎◌, ℕ, List, [], ◌∷◌, ◌++◌, Bool, true, false, Some, None, Result, Ok, Err, ⊤}
 use Rattle.std.specs.Ordering.{nat_cmp}
 use Rattle.std.specs.BTreeMap.{is_at, insert_entry}
 use Rattle.std.specs.Map.{remove_entry, set_value}
@@ -10,10 +10,11 @@ use Rattle.hub.specs.declared.refusal.HubRefusal.TheVariants.{TooManySessions, S
 use Rattle.hub.specs.Events.{BySession, Happening, Open, Bytes, End, Hubbed, at, due}
 use Rattle.hub.specs.Exchanges.{Exchange, Exchanges, Hears, replies}
 
--- the event takes memory: the end of a session takes none, nor a piece of a stream that failed
+-- the event takes memory: the end of a session takes none, nor a piece that is empty or of a stream that
+-- failed
 abbrev pub TakesMemory : BySession Held → Happening → Type 0
 TakesMemory sessions (Open session) = ⊤
-TakesMemory sessions (Bytes session piece) = ¬ (at sessions session ≡ Some Failed)
+TakesMemory sessions (Bytes session piece) = (piece ≢ []) × ¬ (at sessions session ≡ Some Failed)
 TakesMemory sessions (End session) = ⊥
 
 -- what a piece leaves in its session: no whole message where all are answered, else at least one

@@ -85,7 +85,7 @@ impl<H: NodeHash, V: Vuf, S: Signer, R: Rng, K: Keeper> Desk<H, V, S, R, K> {
         write_promise(self.directory.change(&mut self.keeper, name, key), output)
     }
 
-    /// Tells the promise that waits for a name.
+    /// Answers with the promise that waits for a name.
     fn promise(&mut self, name: &[u8], output: &mut Vec<u8>)
         requires { vec_len output.old + 25863 ≤ vec_capacity output.old }
         ensures { (reply : List ℕ) × Serves H.digest_of V.value_of S.signature_of R.stream K.kept K.failed self.old (Promise name.now) reply self.new

@@ -8,7 +8,7 @@ pub enum Event<'a> {
     Open(u32),
     /// The next piece of the session's stream comes.
     Bytes(u32, &'a [u8]),
-    /// The session ends, and what its stream holds goes.
+    /// The session ends, and what is held of its stream is dropped.
     End(u32),
 }
 

@@ -14,8 +14,8 @@ pub enum HubRefusal {
     #[error("the session is not open")]
     NoSession,
 
-    /// Where the piece was not taken, nothing was done. Where it was, a first part of the messages
-    /// is answered, and the others wait for the next piece, which may be empty.
+    /// If the piece was not taken, nothing was done. If it was, a first part of the messages is
+    /// answered, and the others wait for the next piece, which may be empty.
     #[error("out of memory")]
     Memory { taken: bool },
 }

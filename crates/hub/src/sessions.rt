@@ -157,8 +157,8 @@ impl<D: Service + Drop> Hub<D> {
         }
     }
 
-    // `piece` has its contract by whether the session is found, as proves behind a `get_mut`. Here it
-    // becomes that of an event.
+    // The contract of `piece` goes by whether the session is found, which proves behind a `get_mut`. Here
+    // it becomes that of an event.
     fn bytes(&mut self, session: u32, piece: &[u8], output: &mut Vec<u8>) -> Result<(), HubRefusal>
         ensures happens { Happens D.answers self.old (AreBytes session piece.now) output.old.items result self.new output.new.items }
         ensures room { LacksRoom result (vec_len output.new) (vec_capacity output.new) }
@@ -166,7 +166,7 @@ impl<D: Service + Drop> Hub<D> {
         self.piece(session, piece, output)
     }
 
-    /// Takes a piece, where its session is found.
+    /// Takes a piece, if its session is found.
     fn piece(&mut self, session: u32, piece: &[u8], output: &mut Vec<u8>) -> Result<(), HubRefusal>
         ensures hears { HearsAt D.answers self.old session piece.now output.old.items result self.new output.new.items }
         ensures room { LacksRoom result (vec_len output.new) (vec_capacity output.new) }

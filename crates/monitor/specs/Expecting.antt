@@ -29,7 +29,7 @@ module _ (hash : List ℕ → List ℕ) (verified : List ℕ → List ℕ → Li
   ReadsChange (Err OtherPromise) = (signed : SignedPromise) × IsGiven hash verified before.client bytes signed × ¬ MayExpect before key signed.promise
   ReadsChange (Err (Client why)) = ReadsPromise hash verified before.client bytes (Err why)
 
-  -- What comes of a change that is to be expected, and the monitor after it. Memory is wanted last.
+  -- What comes of a change that is to be expected, and the monitor after it. `Memory` is the last refusal.
   abbrev pub Expects : {A : Type 0} → Result A Refusal → Monitor → Type 0
   Expects (Ok _) after = (signed : SignedPromise) × IsNew signed × (after ≡ with_change before signed)
   Expects (Err OtherPromise) after = ReadsChange (Err OtherPromise) × (after ≡ before)
@@ -41,7 +41,7 @@ module _ (hash : List ℕ → List ℕ) (verified : List ℕ → List ℕ → Li
   Expects (Err (Client NoPromise)) after = ⊥
 
 -- What a watch expects of an epoch: the key of the change with the greatest promise epoch below it, or,
--- where no change is promised below it, what was given at the start.
+-- if no change is promised below it, what was given at the start.
 abbrev pub IsExpected : Watch → ℕ → Option (List ℕ) → Type 0
 IsExpected watch epoch key =
     ((change : ℕ × List ℕ) × Contains watch.changes change × (change.0 < epoch)

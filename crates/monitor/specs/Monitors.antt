@@ -1,4 +1,4 @@
--- What a monitor is to whoever sees it (CONIKS, section 4): a client, the name that it watches for its
+-- What a monitor is to its callers (CONIKS, section 4): a client, the name that it watches for its
 -- owner, what the owner expects, and how far it watched.
 use Rattle.std.specs.Prelude.{◌≡◌, ◌⊎◌, ℕ, ◌<◌, ◌≤◌, List, [], ◌∷◌, ◌++◌, Option, AllPairs, Contains}
 use Rattle.rootchain.specs.Chains.{IsAt}
@@ -16,11 +16,11 @@ pub record Monitor : Type 0 where
   -- the epoch that was watched last, or 0
   pub watched : ℕ
 
--- the monitor that watched nothing yet and expects this from the first epoch on
+-- the monitor that has watched nothing yet and expects this from the first epoch on
 abbrev pub begun : Client → List ℕ → Option (List ℕ) → Monitor
 begun client name start = record { client = client; name = name; watch = record { start = start; changes = [] }; watched = 0 }
 
--- the monitor once it watched an epoch with this reply, which its client keeps
+-- the monitor after it watched an epoch with this reply, which its client keeps
 abbrev pub with_watched : Monitor → ℕ → List ℕ → Monitor
 with_watched monitor epoch reply = record monitor {
   client = with_look monitor.client (record { name = monitor.name; epoch = epoch; reply = reply });

@@ -13,12 +13,12 @@ use Rattle.monitor.specs.declared.refusal.Refusal.TheVariants.{Client, OtherProm
 use Rattle.monitor.specs.declared.step.Step.{Step}
 use Rattle.monitor.specs.declared.step.Step.TheVariants.{Kept, Alarm}
 
--- the epoch that is watched next, or none where each epoch of the chain was watched
+-- the epoch that is watched next, or none if each epoch of the chain was watched
 abbrev pub IsNextEpoch : Monitor → Option ℕ → Type 0
 IsNextEpoch monitor None = (root : SignedRoot) → ¬ IsNext monitor root
 IsNextEpoch monitor (Some epoch) = (root : SignedRoot) × IsNext monitor root × (root.body.epoch ≡ epoch)
 
--- what is told of the statement at an epoch: that it is what is expected, or else what it is
+-- what a step says of the statement at an epoch: that it is the expected one, or else what it is
 abbrev pub Tells : Watch → ℕ → Option (List ℕ) → Step → Type 0
 Tells watch epoch statement Kept = statement ≡ expected watch epoch
 Tells watch epoch statement (Alarm at found) = (statement ≢ expected watch epoch) × (at ≡ epoch) × (key_stated found ≡ statement)
@@ -28,7 +28,7 @@ module _ (hash : List ℕ → List ℕ) (accepted : List ℕ → List ℕ → Li
   abbrev pub IsFound : SignedRoot → Reply → Type 0
   IsFound root reply = IsNext before root × IsAcceptedReply hash accepted root.body before.name bytes reply
 
-  -- What a step tells, and the monitor after it. The epoch of the next root is then watched, also where
+  -- What a step returns, and the monitor after it. The epoch of the next root is then watched, even if
   -- the step is an alarm; a refusal watches nothing.
   abbrev pub Steps : Result Step Refusal → Monitor → Type 0
   Steps (Ok step) after = (root : SignedRoot) × (reply : Reply) × IsFound root reply × Tells before.watch root.body.epoch (stated reply.end) step

@@ -9,10 +9,10 @@ ghost use Rattle.monitor.specs.Monitors.{Monitor, IsWatched, IsWatching, SawTheS
 use nodehash::NodeHash;
 use vrfiface::VufCheck;
 
-/// Where a client is reconciled with that of a monitor, in either order, what the client saw of the watched
-/// name at an epoch that the monitor watched is what the monitor saw, or they do not agree (CONIKS,
-/// section 4). `reconcile` then returns evidence against the provider, a collision, or that two values were
-/// accepted.
+/// If a client is reconciled with that of a monitor, in either order, then what the client saw of the watched
+/// name at an epoch that the monitor watched is what the monitor saw, or the two do not agree (CONIKS,
+/// section 4). In that case `reconcile` returned evidence against the provider, a collision, or that two
+/// values were accepted.
 pub fn what_was_seen_was_watched<H: NodeHash, V: VufCheck>()
     ensures { (monitor : Monitor) (client : Client) (outcome : Outcome)
         → IsWatching monitor

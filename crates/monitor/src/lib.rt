@@ -1,6 +1,6 @@
 //! A monitor watches one name for its owner, epoch by epoch (CONIKS, section 4).
 //!
-//! To the layers above: `step` takes each epoch of the chain in order, and tells exactly whether the
+//! To the layers above: `step` takes each epoch of the chain in order, and answers exactly whether the
 //! accepted reply states what the owner expects. A change of the key is expected only where the provider
 //! promised it, from the epoch after the promise's on, so what is expected of a watched epoch never
 //! changes. The monitor's client keeps a look of every watched epoch. A refused call changes nothing.

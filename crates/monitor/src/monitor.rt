@@ -43,7 +43,7 @@ pub struct Monitor<H: NodeHash, V: VufCheck, S: Verifier> {
     name: Name,
     start: Option<KeyData>,
     changes: Vec<Change>,
-    /// The epoch that was watched last; 0 where none was, since epochs begin at 1.
+    /// The epoch that was watched last; 0 if none was, since epochs begin at 1.
     watched: u64,
 }
 
@@ -132,8 +132,8 @@ impl<H: NodeHash, V: VufCheck, S: Verifier> Monitor<H, V, S> {
     ///
     /// # Errors
     ///
-    /// `Client` with the refusal of `Client::keep_promise`, but `Memory` last; before it `OtherPromise`: the
-    /// first that applies. The monitor then stays as it was.
+    /// `Client` with the refusal of `Client::keep_promise` except `Memory`; `OtherPromise`; `Client` with
+    /// `Memory`: the first that applies. The monitor then stays as it was.
     pub fn expect_change(
         &mut self,
         hash: &mut H,
@@ -161,11 +161,11 @@ impl<H: NodeHash, V: VufCheck, S: Verifier> Monitor<H, V, S> {
     }
 
     /// Watches the next epoch by this reply to a look-up of the name at that epoch. The client keeps the
-    /// look, and the epoch counts as watched, also at an alarm.
+    /// look, and the epoch counts as watched, even if the step is an alarm.
     ///
     /// # Errors
     ///
-    /// `Client` with `UnknownRoot` where each epoch of the chain was watched, else with the refusal of
+    /// `Client` with `UnknownRoot` if each epoch of the chain was watched, else with the refusal of
     /// `Client::look`. The monitor then stays as it was.
     pub fn step<'a>(&mut self, hash: &mut H, vuf: &V, bytes: &'a [u8]) -> Result<Step<'a>, Refusal>
         ensures { Steps H.digest_of V.accepted self.old bytes.entry.now result self.new }
@@ -204,7 +204,7 @@ impl<H: NodeHash, V: VufCheck, S: Verifier> Monitor<H, V, S> {
         }
     }
 
-    /// What is told of the statement at an epoch.
+    /// The step for the statement at an epoch.
     fn tell<'a>(&self, epoch: u64, found: Statement<'a>) -> Step<'a>
         ensures { Tells self.now.watch epoch (key_stated found.entry) result }
     {
@@ -243,7 +243,7 @@ fn are_before(changes: &[Change], epoch: u64) -> bool
     promised_before(changes, epoch) == changes.len()
 }
 
-/// Whether the statement is the key that is expected, or absence where no key is.
+/// Whether the statement is the expected key, or absence if no key is expected.
 fn is_expected(found: Statement<'_>, expected: Option<&KeyData>) -> bool
     ensures { IsTrue result ↔ (key_stated found.entry ≡ option_map (λ key. key.now) expected.entry) }
 {

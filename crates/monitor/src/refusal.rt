@@ -8,7 +8,7 @@ pub enum Refusal {
     /// The monitor's client refuses.
     #[error(transparent)]
     Client(#[from] client::Refusal),
-    /// The promise is of another name or key; or not later than that of a change that is expected; or an
+    /// The promise is of another name or key; or it is not later than that of some expected change; or an
     /// epoch above its own was watched.
     #[error("the promise is not one of this change, or comes too late")]
     OtherPromise,
@@ -25,5 +25,29 @@ impl Refusal {
             Refusal::Client(why) => why.number(),
             Refusal::OtherPromise => 24,
         }
+    }
+}
+
+#[cfg(test)]
+mod tests {
+    use super::*;
+    use std::test::Fail;
+
+    #[test]
+    fn messages(rt: HostRuntime) -> Result<(), Fail> {
+        for (refusal, message) in [
+            (
+                Refusal::Client(client::Refusal::NoPromise),
+                "no promise for the name is kept",
+            ),
+            (
+                Refusal::OtherPromise,
+                "the promise is not one of this change, or comes too late",
+            ),
+        ] {
+            let text = format!(in rt.alloc(); "{refusal}")?;
+            assert_eq!(rt; text.as_str(), message);
+        }
+        Ok(())
     }
 }

@@ -1,6 +1,6 @@
 use proofs::Statement;
 
-/// What a monitor tells of an epoch.
+/// What a monitor found at an epoch.
 #[derive(Clone, Copy, Debug, PartialEq, Eq)]
 pub enum Step<'a> {
     /// The reply states what is expected.

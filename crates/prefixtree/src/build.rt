@@ -1,5 +1,5 @@
 //! Putting many items into a node at once. A place with few changes below it is made level by level,
-//! with the digests of a level taken together. Else a place is parted into its two sides: with many
+//! with the digests of a level taken together. Else a place is split into its two sides: with many
 //! changes, so that rows stay short, and with one to three, since rows would only cost time.
 ghost use Rattle.std.specs.Prelude.{◌≡◌, ◌+◌, ◌-◌, ◌<◌, ◌≤◌, ◌++◌, IfOk, OnOk};
 ghost use Rattle.nodehash.specs.Digests.{after_digests};

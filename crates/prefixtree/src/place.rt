@@ -1,6 +1,6 @@
-//! What becomes of a place of a tree when changes come below it. The place keeps its node where no
-//! change comes. Where one item or none stands afterwards, a leaf or an empty node is made. Else the
-//! place is parted by the next bit: an interior node's children go to their sides, and the item of a
+//! What becomes of a place of a tree when there are changes below it. The place keeps its node if there
+//! is no change. If one item or none is there afterwards, a leaf or an empty node is made. Else the
+//! place is split by the next bit: an interior node's children go to their sides, and the item of a
 //! leaf goes down to the side of its bit.
 ghost use Rattle.std.specs.Prelude.{◌≡◌, ℕ, List, [], ◌∷◌, ◌-◌, ◌<◌, ◌≤◌, ◌==◌, if◌then◌else◌, IfOk};
 ghost use Rattle.std.specs.declared.rc.Rc.{Rc};

@@ -52,7 +52,7 @@ module _ (hash : List ℕ → List ℕ) where
       AreFirstToDiffer (texts_of first) (texts_of second) x y
       ⊎ ((texts_of first ≡ texts_of second) × (opened first.name first.reply.end ≡ Some x) × (opened second.name second.reply.end ≡ Some y))
 
--- Each answer comes exactly where this holds: no two of them hold together.
+-- Each answer comes exactly if this holds. No two of these hold together.
 abbrev pub Answers : (List ℕ → List ℕ) → (List ℕ → List ℕ → List ℕ → Type 0) → NamedReply → NamedReply → SameOr → Type 0
 Answers hash accepted first second NotComparable = ¬ AreComparable first second
 Answers hash accepted first second Same = AreComparable first second × StateTheSame first second
@@ -90,7 +90,7 @@ module _ (hash : List ℕ → List ℕ) (accepted : List ℕ → List ℕ → Li
   Compares first second (Ok answer) = (one : Reply) × (two : Reply) × IsAcceptedReply first one × IsAcceptedReply second two
       × Answers hash accepted (record { name = name; reply = one }) (record { name = name; reply = two }) answer
 
--- two statements are one binding, or two different byte strings with one digest are told
+-- two statements are one binding, or the answer has two different byte strings with one digest
 abbrev pub IsOneBindingOr : (List ℕ → List ℕ) → Option (List ℕ) → Option (List ℕ) → SameOr → Type 0
 IsOneBindingOr hash statement other NotComparable = ⊥
 IsOneBindingOr hash statement other Same = statement ≡ other

@@ -7,7 +7,7 @@ use Rattle.prefixtree.specs.declared.path.End.TheVariants as path
 use Rattle.proofs.specs.Replies.{End, Present, Empty, Other}
 
 module _ (hash : List ℕ → List ℕ) where
-  -- the end of a tree's path that an end tells: an opened leaf has the commitment to its salt, the name
+  -- the end of a tree's path that a reply's end stands for: an opened leaf has the commitment to its salt, the name
   -- and its key
   abbrev pub end_of_path : List ℕ → End → PathEnd
   end_of_path name (Present salt key) = path.Present (hash (commitment_bytes salt name key))

@@ -30,7 +30,7 @@ pub fn honest_replies_are_accepted<H: NodeHash, V: VufCheck>()
         → Accepts H.digest_of V.accepted reply.body name (reply_bytes reply) (stated reply.end) }
 {}
 
-/// Under a function that accepts one value for a key and a name, no two values are ever told.
+/// Under a function that accepts one value for a key and a name, a comparison never returns two values.
 pub fn unique_values_never_differ<H: NodeHash, V: UniqueVuf>()
     ensures { (first second : NamedReply) → ¬ Answers H.digest_of V.accepted first second TwoValues }
 {}

@@ -1,5 +1,5 @@
-//! Replies to look-ups: a provider makes them, a client reads one where it lies and checks it against
-//! a signed tree root, and anybody compares two. After CONIKS, sections 3 and 4.
+//! Replies to look-ups: a provider makes them, a client reads one in place and checks it against a
+//! signed tree root, and anybody can compare two. After CONIKS, sections 3 and 4.
 //!
 //! `read` accepts exactly the replies, and each has one spelling. `check` accepts exactly what the
 //! definitions accept, and a refusal is the first that applies. Two accepted replies state the same, or

@@ -103,5 +103,18 @@ fn messages(rt: HostRuntime) -> Result<(), Fail> {
         let text = format!(in rt.alloc(); "{refusal}")?;
         assert_eq!(rt; text.as_str(), message);
     }
+    for (refused, message) in [
+        (
+            RefusedReply::First(Refusal::Trailing),
+            "the first reply is refused: more bytes follow the reply",
+        ),
+        (
+            RefusedReply::Second(Refusal::Malformed),
+            "the second reply is refused: the bytes do not begin with a reply",
+        ),
+    ] {
+        let text = format!(in rt.alloc(); "{refused}")?;
+        assert_eq!(rt; text.as_str(), message);
+    }
     Ok(())
 }

@@ -14,7 +14,7 @@ use prefixtree::MAX_SIBLINGS;
 use rootchain::Body;
 use std::marker::Model;
 
-/// What stands at the end of a reply's way, where it lies in the reply's bytes.
+/// What stands at the end of a reply's way, in place in the reply's bytes.
 #[derive(Clone, Copy)]
 pub(crate) enum EndView<'a> {
     Present {

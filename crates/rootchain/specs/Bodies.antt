@@ -16,7 +16,7 @@ abbrev pub body_bytes : Body → List ℕ
 body_bytes body = body_head ++ (big_bytes 8 body.epoch ++ (big_bytes 8 body.previous_epoch
     ++ (body.root ++ (body.previous_hash ++ (body.nonce ++ body.vuf_key)))))
 
--- the epoch comes after the one before; where none came before, as 0 tells, its hash is zero
+-- the epoch is above the epoch before; if none came before (0), the hash of the body before is zero
 abbrev pub IsWellFormed : Body → Type 0
 IsWellFormed body = (body.previous_epoch < body.epoch) × (body.previous_epoch ≡ 0 → body.previous_hash ≡ replicate 32 0)
 

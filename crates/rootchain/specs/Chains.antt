@@ -36,7 +36,7 @@ Names hash earlier later = (later.body.previous_epoch ≡ earlier.body.epoch) ×
 abbrev pub Links : (List ℕ → List ℕ) → SignedRoot → SignedRoot → Type 0
 Links hash earlier later = Names hash earlier later × (earlier.body.epoch < later.body.epoch)
 
--- when a root that is to start a chain is refused so
+-- when a root that is to start a chain is refused in this way
 abbrev pub IsStartRefusal : (List ℕ → List ℕ → List ℕ → Type 0) → List ℕ → SignedRoot → Refusal → Type 0
 IsStartRefusal verified key root Malformed = ⊥
 IsStartRefusal verified key root BadSignature = ¬ Verifies verified key root
@@ -51,7 +51,7 @@ module _ (hash : List ℕ → List ℕ) (verified : List ℕ → List ℕ → Li
     pub signed : All (Verifies verified chain.key) chain.roots
     pub linked : AllAdjacentBelow (Links hash) chain.roots (length chain.roots)
 
-  -- when a root that is to follow a head is refused so: it passes the tests before
+  -- when a root that is to follow a head is refused in this way: it passes the tests before
   abbrev pub IsExtendRefusal : List ℕ → SignedRoot → SignedRoot → Refusal → Type 0
   IsExtendRefusal key head root Malformed = ⊥
   IsExtendRefusal key head root BadSignature = ¬ Verifies verified key root

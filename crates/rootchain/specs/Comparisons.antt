@@ -46,7 +46,7 @@ module _ (hash : List ℕ → List ℕ) where
   MayMeet lower upper = (head first : SignedRoot) → LiesBelow lower upper head first → ¬ IsSkip head first × ¬ IsLink hash head first
 
   -- both chains have the same epochs and bodies in the common range; and if there is no such range, the
-  -- two roots that meet are no evidence
+  -- lower one's head and the upper one's first root are no evidence
   pub record ChainsAgree (one other : KeyedRoots) : Type 0 where
     pub alike : (epoch : ℕ) → IsCommon one other epoch → AreAlikeAt one other epoch
     pub may-meet : MayMeet one other
@@ -54,7 +54,7 @@ module _ (hash : List ℕ → List ℕ) where
 
 -- ---- the answer
 
--- what the place of the upper chain's first root in the lower chain tells
+-- what the place of the upper chain's first root beside the lower chain says
 abbrev pub told_by_place : Place → Compare
 told_by_place (place.Evidence evidence) = Evidence evidence
 told_by_place place.Known = Equal
@@ -138,7 +138,7 @@ CollisionHolds hash one other (Collision x y) = IsCollision hash x y
 CollisionHolds hash one other Equal = Unit
 CollisionHolds hash one other (Evidence evidence) = Unit
 
--- if it is evidence, that is evidence under the key
+-- if it is evidence, it holds under the key
 abbrev pub ComparedHolds : (List ℕ → List ℕ) → (List ℕ → List ℕ → List ℕ → Type 0) → List ℕ → Compare → Type 0
 ComparedHolds hash verified key (Evidence evidence) = IsRootEvidence hash verified key evidence
 ComparedHolds hash verified key Equal = Unit

@@ -61,14 +61,14 @@ pub record IsPlace (hash : List ℕ → List ℕ) (chain : KeyedRoots) (root : S
   pub within : (first head : SignedRoot) → IsFirst chain first → IsHead chain head → first.body.epoch ≤ root.body.epoch → root.body.epoch ≤ head.body.epoch → IsPlaceWithin chain root place
   pub above : (head : SignedRoot) → IsHead chain head → head.body.epoch < root.body.epoch → IsPlaceAbove hash head root place
 
--- the place of the root takes a hash: of the root and the chain's end that it lies beyond, the upper one
--- names the epoch of the lower one
+-- the place of the root depends on a hash: the root is after the head and names its epoch, or it is before
+-- the first root, which names the root's
 abbrev pub IsHashed : KeyedRoots → SignedRoot → Type 0
 IsHashed chain root =
     ((head : SignedRoot) × IsHead chain head × (head.body.epoch < root.body.epoch) × (root.body.previous_epoch ≡ head.body.epoch))
     ⊎ ((first : SignedRoot) × IsFirst chain first × (root.body.epoch < first.body.epoch) × (first.body.previous_epoch ≡ root.body.epoch))
 
--- if the place is evidence, that is evidence under the key
+-- if the place is evidence, it holds under the key
 abbrev pub EvidenceHolds : (List ℕ → List ℕ) → (List ℕ → List ℕ → List ℕ → Type 0) → List ℕ → Place → Type 0
 EvidenceHolds hash verified key (Evidence evidence) = IsRootEvidence hash verified key evidence
 EvidenceHolds hash verified key Known = Unit
@@ -76,7 +76,7 @@ EvidenceHolds hash verified key Next = Unit
 EvidenceHolds hash verified key Ahead = Unit
 EvidenceHolds hash verified key BeforeStart = Unit
 
--- the place tells of evidence
+-- the place is evidence
 abbrev pub TellsEvidence : Place → Type 0
 TellsEvidence (Evidence evidence) = Unit
 TellsEvidence Known = ⊥

@@ -34,7 +34,7 @@ read_roots = read_list read_signed_root
 unfoldable pub read_root_list : List ℕ → Reading (List SignedRoot)
 read_root_list = read_then read_root_count read_roots
 
--- the roots that were read, none where reading was refused
+-- the roots that were read; none if reading was refused
 abbrev pub roots_of : Reading (List SignedRoot) → List SignedRoot
 roots_of (Ok read) = read.0
 roots_of (Err fault) = []

@@ -1,4 +1,4 @@
--- A root that a chain takes: it is added if it follows the head, and else tells where it stands.
+-- A root that a chain takes: it is added if it follows the head; else the answer is only its place.
 use Rattle.std.specs.Prelude.{ℕ, List, [], ◌∷◌, ◌++◌}
 use Rattle.rootchain.specs.declared.chain.placing.Place.{Place}
 use Rattle.rootchain.specs.declared.chain.placing.Place.TheVariants.{Known, Evidence, Next, Ahead, BeforeStart}
@@ -12,7 +12,7 @@ use Rattle.rootchain.specs.Places.{IsPlace}
 abbrev pub with_root : KeyedRoots → SignedRoot → KeyedRoots
 with_root chain root = record chain { roots = chain.roots ++ root ∷ [] }
 
--- the chain after it took a root that stands so to it
+-- the chain after it took a root of this place
 abbrev pub with_taken : KeyedRoots → SignedRoot → Place → KeyedRoots
 with_taken chain root Next = with_root chain root
 with_taken chain root Known = chain
@@ -20,7 +20,7 @@ with_taken chain root (Evidence evidence) = chain
 with_taken chain root Ahead = chain
 with_taken chain root BeforeStart = chain
 
--- when a root that is to be taken is refused so: memory is wanted for the next root alone
+-- when a root that is to be taken is refused in this way: only the next root needs memory
 abbrev pub IsTakeRefusal : (List ℕ → List ℕ) → (List ℕ → List ℕ → List ℕ → Type 0) → KeyedRoots → SignedRoot → Refusal → Type 0
 IsTakeRefusal hash verified chain root Malformed = ⊥
 IsTakeRefusal hash verified chain root BadSignature = ¬ Verifies verified chain.key root

@@ -25,7 +25,7 @@ module _ (hash : List ℕ → List ℕ) (verified : List ℕ → List ℕ → Li
   Takes chain [] after = after ≡ chain
   Takes chain (root ∷ roots) after = (middle : KeyedRoots) × Passes chain root middle × Takes middle roots after
 
-  -- when a root of a list is refused so; memory is wanted before the first root, so its refusal tells nothing of a root
+  -- when a root of a list is refused in this way; memory is reserved before the first root, so `Memory` says nothing about a root
   abbrev pub IsRefusedRoot : KeyedRoots → SignedRoot → ListRefusal → Type 0
   IsRefusedRoot chain root BadSignature = ¬ Verifies verified chain.key root
   IsRefusedRoot chain root BeforeStart = Verifies verified chain.key root × IsPlace hash chain root place.BeforeStart
@@ -33,12 +33,12 @@ module _ (hash : List ℕ → List ℕ) (verified : List ℕ → List ℕ → Li
   IsRefusedRoot chain root (Evidence evidence) = Verifies verified chain.key root × IsPlace hash chain root (place.Evidence evidence)
   IsRefusedRoot chain root Memory = Unit
 
-  -- a root of the list is refused so, by the chain as the roots before it left it
+  -- a root of the list is refused in this way, by the chain as the roots before it left it
   abbrev pub StopsAt : KeyedRoots → List SignedRoot → ListRefusal → KeyedRoots → Type 0
   StopsAt chain roots why after = (front : List SignedRoot) × (root : SignedRoot) × (rest : List SignedRoot)
       × (roots ≡ front ++ root ∷ rest) × Takes chain front after × IsRefusedRoot after root why
 
-  -- when a list is refused so
+  -- when a list is refused in this way
   abbrev pub IsListRefusal : KeyedRoots → List SignedRoot → ListRefusal → Type 0
   IsListRefusal chain roots why = (after : KeyedRoots) × StopsAt chain roots why after
 

@@ -1,4 +1,4 @@
--- How two lists of roots are gone through from their ends.
+-- How two lists of roots are walked through from their ends.
 use Rattle.std.specs.Prelude.{◌≡◌, ◌≢◌, ◌⊎◌, ℕ, ◌+◌, ◌<◌, ◌≤◌, List, length, slice_get, Some}
 use Rattle.rootchain.specs.declared.compare.Compare.{Compare}
 use Rattle.rootchain.specs.declared.compare.Compare.TheVariants.{Equal, Evidence, Collision}
@@ -33,7 +33,7 @@ pub record AreApartPlaces (ones others : List SignedRoot) (to to' i j : ℕ) : T
   pub differ : one.body ≢ other.body
   pub run : IsRun ones others (i + 1) (j + 1) to to'
 
--- what the roots at two places tell, when all before them is alike
+-- what the roots at two places show, if everything before them is alike
 abbrev pub IsDivergence : List SignedRoot → List SignedRoot → ℕ → ℕ → Compare → Type 0
 IsDivergence ones others i j Equal = (length ones ≤ i) ⊎ (length others ≤ j)
 IsDivergence ones others i j (Evidence (Fork root also)) = (slice_get ones i ≡ Some root) × (slice_get others j ≡ Some also) × (root.body.epoch ≡ also.body.epoch)

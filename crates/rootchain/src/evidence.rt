@@ -6,8 +6,8 @@ use encoding::Hash32;
 use nodehash::NodeHash;
 use sigiface::Verifier;
 
-/// Two roots that cannot both stand in one chain of well-formed roots. Where both verify under a provider's key, they show anyone that the
-/// provider told two histories (CONIKS, section 4).
+/// Two roots that cannot both stand in one chain of well-formed roots. If both verify under a provider's
+/// key, they show anyone that the provider told two histories (CONIKS, section 4).
 #[derive(Debug, Drop, PartialEq, Eq)]
 pub enum RootEvidence {
     /// Two bodies of one epoch.

@@ -13,7 +13,7 @@ use std::marker::Model;
 /// The most roots that a list has.
 pub const MAX_ROOTS: usize = 64;
 
-/// A list of signed roots where it lies in bytes. Each root is read when it is taken.
+/// A list of signed roots in place in bytes. Each root is read when it is taken.
 #[derive(Debug, Drop)]
 pub struct RootList<'a> {
     left: usize,
@@ -117,8 +117,8 @@ pub fn list_len(roots: &[SignedRoot]) -> usize
     len
 }
 
-/// Appends the list of these roots, which `RootList::read` accepts where they are of their form. An
-/// `Err` appends nothing, and is not returned where there is room.
+/// Appends the list of these roots, which `RootList::read` accepts if each root has its form. An
+/// `Err` appends nothing, and is not returned if there is room.
 pub fn write_list(roots: &[SignedRoot], output: &mut Vec<u8>) -> Result<(), AllocError>
     requires few { length roots.now ≤ 64 }
     ensures ok { OnOk result (output.new.items ≡ output.old.items ++ root_list_bytes roots.now) }

@@ -47,7 +47,7 @@ impl SignedRoot {
         text
     }
 
-    /// The same signed root once more.
+    /// A copy of the signed root.
     pub fn copied(&self) -> SignedRoot
         ensures { result ≡ self.now }
     {

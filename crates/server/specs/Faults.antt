@@ -10,7 +10,7 @@ abbrev pub of_stream : StreamFault → ServeFault
 of_stream stream.CannotRead = CannotRead
 of_stream stream.CannotWrite = CannotWrite
 
--- what a program says of a session that could not be served to its end
+-- the program's fault for a session that could not be served to its end
 abbrev pub of_serving : ServeFault → ProgramFault
 of_serving CannotRead = program.CannotRead
 of_serving CannotWrite = program.CannotWrite

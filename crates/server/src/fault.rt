@@ -1,7 +1,7 @@
 use textio::{ProgramFault, StreamFault};
 use thiserror::Error;
 
-/// Why a session is served no further.
+/// Why the serving of a session stopped.
 #[derive(Clone, Copy, Debug, PartialEq, Eq, Error)]
 pub enum ServeFault {
     #[error("cannot read")]
@@ -38,5 +38,24 @@ impl From<ServeFault> for ProgramFault {
             ServeFault::CannotWrite => ProgramFault::CannotWrite,
             ServeFault::OutOfMemory => ProgramFault::OutOfMemory,
         }
+    }
+}
+
+#[cfg(test)]
+mod tests {
+    use super::*;
+    use std::test::Fail;
+
+    #[test]
+    fn messages(rt: HostRuntime) -> Result<(), Fail> {
+        for (fault, message) in [
+            (ServeFault::CannotRead, "cannot read"),
+            (ServeFault::CannotWrite, "cannot write"),
+            (ServeFault::OutOfMemory, "out of memory"),
+        ] {
+            let text = format!(in rt.alloc(); "{fault}")?;
+            assert_eq!(rt; text.as_str(), message);
+        }
+        Ok(())
     }
 }

@@ -18,7 +18,7 @@ pub(crate) const SESSION: u32 = 1;
 ///
 /// # Errors
 ///
-/// `BadHex`, before anything is read, where a text of the order is not 64 hexadecimal digits;
+/// `BadHex`, before anything is read, if a text of the order is not 64 hexadecimal digits;
 /// `CannotRead`; `CannotWrite`; `OutOfMemory`. What was written is then a beginning of the session's
 /// output.
 pub fn serve_directory<R: Read, W: Write>(

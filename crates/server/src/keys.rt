@@ -53,7 +53,7 @@ impl Keys {
     ///
     /// # Errors
     ///
-    /// `BadHex` where one of the texts is not 64 hexadecimal digits.
+    /// `BadHex` if one of the texts is not 64 hexadecimal digits.
     pub(crate) fn read(order: &DirectoryOrder<'_>) -> Result<Self, ProgramFault>
         ensures { MatchResult result (λ keys. keys_of (values_of order.now) ≡ Some keys)
             (λ fault. (fault ≡ BadHex) × (keys_of (values_of order.now) ≡ None)) }

@@ -1,5 +1,5 @@
-// Connections over TCP, one after another. What a socket carries is known to the two systems alone, so
-// the clauses speak of the keys and of the line that tells the address; tests speak of the rest.
+// Connections over TCP, one after another. Contracts do not know what a socket carries, so the clauses
+// speak of the keys and of the line with the address; tests cover the rest.
 ghost use Rattle.std.specs.Prelude.{◌≡◌, ◌≢◌, ◌↔◌, [], Err, IfErr, None};
 ghost use Rattle.textio.specs.declared.program_fault.ProgramFault.TheVariants.{BadHex};
 ghost use Rattle.server.specs.Asked.{values_of};
@@ -21,7 +21,7 @@ fn answer(alloc: Global, hub: &mut Hub<ServedDesk>, stream: &TcpStream) -> Resul
     requires { hub.old.sessions ≡ [] }
     ensures { hub.new.sessions ≡ [] }
 {
-    // A reply is sent at once. Where this fails it only comes later.
+    // A reply is sent at once. If this fails, it only comes later.
     let _set = stream.set_nodelay(true);
     serve(alloc, hub, SESSION, &mut &*stream, &mut &*stream)
 }
@@ -44,7 +44,7 @@ pub(crate) fn answer_all(
     }
 }
 
-/// Writes the line that tells where a server listens.
+/// Writes the line that says where a server listens.
 fn tell_address<E: Write>(
     alloc: Global,
     address: SocketAddr,
@@ -63,13 +63,13 @@ fn tell_address<E: Write>(
 
 /// Begins a directory, listens on the address, and answers connections, one after another. Once it
 /// listens, it writes a line to the errors: `listening on` and the address, with the port that the
-/// system chose where port 0 was asked for.
+/// system chose if port 0 was asked for.
 ///
 /// # Errors
 ///
-/// `BadHex`, before all else, where a text of the order is not 64 hexadecimal digits; `OutOfMemory`;
-/// `CannotListen` where the address cannot be listened on; `CannotWrite` where the line cannot be
-/// written. A connection that fails is closed, and no fault of `listen`.
+/// `BadHex`, before all else, if a text of the order is not 64 hexadecimal digits; `OutOfMemory`;
+/// `CannotListen` if it cannot listen on the address; `CannotWrite` if the line cannot be written. A
+/// connection that fails is closed, and is not a fault of `listen`.
 pub fn listen<N, E>(
     alloc: Global,
     net: &N,

@@ -13,7 +13,7 @@ pub struct DirectoryOrder<'a> {
     pub token: &'a str,
     /// The epoch of the first page.
     pub epoch: NonZeroU64,
-    /// The nonce of the trees, 64 hexadecimal digits; zeros where none is given.
+    /// The nonce of the trees, 64 hexadecimal digits; zeros if none is given.
     pub nonce: Option<&'a str>,
 }
 

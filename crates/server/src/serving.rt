@@ -1,5 +1,5 @@
-// One session of a hub, from a reader to a writer: a piece is read, heard, and its replies are written,
-// and so on to the end of the input.
+// One session of a hub, from a reader to a writer: a piece is read and handed to the hub, its replies
+// are written, and so on to the end of the input.
 ghost use Rattle.std.specs.Prelude.{◌≡◌, [], Some, None};
 ghost use Rattle.std.specs.Ordering.{nat_cmp};
 ghost use Rattle.std.specs.BTreeMap.{is_at};
@@ -18,8 +18,8 @@ use textio::{read_some, write_text};
 /// The most bytes that are read at once.
 const PIECE_SIZE: usize = 4096;
 
-/// Has a piece heard in its session, and writes the replies. Where memory was wanting, those to the
-/// messages that were answered are written too.
+/// Hands a piece to its session, and writes the replies. If memory ran out, those to the messages
+/// that were answered are written too.
 fn answer_piece<S: Service + Drop, W: Write>(
     alloc: Global,
     hub: &mut Hub<S>,
@@ -70,7 +70,7 @@ fn converse<S: Service + Drop, R: Read, W: Write>(
 ///
 /// # Errors
 ///
-/// `CannotRead` and `CannotWrite` where a read or a write failed; `OutOfMemory`. What was written is
+/// `CannotRead` and `CannotWrite` if a read or a write failed; `OutOfMemory`. What was written is
 /// then a beginning of the session's output.
 pub fn serve<S: Service + Drop, R: Read, W: Write>(
     alloc: Global,

@@ -1,4 +1,4 @@
--- Frames: a kind and a body behind their number in four bytes (the form is the profile's).
+-- Frames: a kind and a body after their number of bytes, in four bytes (the form is this directory's own).
 use Rattle.std.specs.Prelude.{ℕ, ◌+◌, ◌-◌, ◌≤◌, ◌<◌, List, [], ◌∷◌, ◌++◌, length}
 use Rattle.encoding.specs.Bytes.{IsBytes}
 use Rattle.encoding.specs.Endian.{big_bytes}
@@ -33,10 +33,10 @@ frame_of parts = record { kind = parts.0; body = parts.1 }
 abbrev pub read_framed : ℕ → List ℕ → Reading Frame
 read_framed size = read_as frame_of (read_both read_byte (read_bytes (size - 1)))
 
--- the number of a frame's bytes: OutOfRange where it is not from 1 to 65,536
+-- the number of a frame's bytes: OutOfRange if it is not from 1 to 65,536
 abbrev pub read_size : List ℕ → Reading ℕ
 read_size = read_where (is_within 1 65536) (read_number 4)
 
--- a frame: Short where it is not whole yet, OutOfRange where its number of bytes is not allowed
+-- a frame: Short if it is not whole yet, OutOfRange if its number of bytes is not allowed
 unfoldable pub read_frame : List ℕ → Reading Frame
 read_frame = read_then read_size read_framed

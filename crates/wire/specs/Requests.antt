@@ -12,7 +12,7 @@ use Rattle.wire.specs.declared.request.Request.TheVariants as request
 use Rattle.wire.specs.declared.refusal.ReadRefusal.{ReadRefusal}
 use Rattle.wire.specs.declared.refusal.ReadRefusal.TheVariants.{BadKind, BadBody}
 
--- a request, without where its bytes lie
+-- a request, regardless of where its bytes lie
 pub data Asked : Type 0 where
   Register : List ℕ → List ℕ → Asked
   Change : List ℕ → List ℕ → Asked
@@ -50,7 +50,7 @@ request_body (History from count) = big_bytes 8 from ++ big_bytes 2 count
 request_body Head = []
 request_body (Close token epoch) = token ++ big_bytes 8 epoch
 
--- bytes of any length that two bytes tell
+-- bytes of any length that fits in two bytes
 abbrev pub IsCounted : List ℕ → Type 0
 IsCounted = IsWithin 0 65535
 

@@ -15,7 +15,7 @@ use Rattle.wire.specs.declared.refusal.ReadRefusal.TheVariants.{BadKind, BadBody
 use Rattle.wire.specs.declared.response.Response.{Response}
 use Rattle.wire.specs.declared.response.Response.TheVariants as response
 
--- a response, without where its bytes lie
+-- a response, regardless of where its bytes lie
 pub data Responded : Type 0 where
   Promise : SignedPromise → Responded
   Proof : Reply → Responded

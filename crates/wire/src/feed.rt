@@ -55,7 +55,7 @@ impl Feed {
         }
     }
 
-    /// Takes the next piece of the stream. An empty one takes no memory and moves no byte.
+    /// Takes the next piece of the stream. An empty one does not allocate and moves no byte.
     ///
     /// # Errors
     ///
@@ -111,7 +111,7 @@ impl Feed {
     }
 }
 
-/// The first `count` bytes go, and the others move to the front. Nothing moves where none go.
+/// Drops the first `count` bytes and moves the others to the front. Moves nothing if `count` is 0.
 fn drop_front(buffer: &mut Vec<u8>, count: usize)
     requires { count ≤ length buffer.old.items }
     ensures { buffer.new.items ≡ drop count buffer.old.items }

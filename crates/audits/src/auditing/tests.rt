@@ -143,14 +143,9 @@ fn one_read_fails(rt: HostRuntime) -> Result<(), Fail> {
     let alloc = rt.alloc();
     let root = digits(alloc, &first())?;
     let input = format!(in alloc; "{root}\n{root}\n")?;
-    let rows = [
-        (0, ""),
-        (3, ""),
-        (4, "started\n"),
-        (7, "started\n"),
-        (8, "started\nknown\n"),
-    ];
-    for (call, answers) in rows {
+    let written_before = ["", "started\n", "started\nknown\n"];
+    for call in 0..9 {
+        let answers = written_before[call / 4];
         let device = CutReader::new(input.as_bytes(), 100).fail_at(call, ErrorKind::BrokenPipe);
         let mut reader = BufReader::with_capacity(alloc, 100, device)?;
         let (answer, written) = told(alloc, ORDER, &mut reader)?;
@@ -167,6 +162,17 @@ fn one_read_fails(rt: HostRuntime) -> Result<(), Fail> {
             "at {call}"
         );
     }
+    Ok(())
+}
+
+#[test]
+fn hundreds_of_lines(rt: HostRuntime) -> Result<(), Fail> {
+    let alloc = rt.alloc();
+    let input = "x\n".repeat(alloc, 300)?;
+    let (answer, written) = told(alloc, ORDER, &mut input.as_bytes())?;
+    assert_eq!(rt; answer, Ok(()));
+    let answers = "refused 1\n".repeat(alloc, 300)?;
+    assert_eq!(rt; written.as_slice(), answers.as_bytes());
     Ok(())
 }
 

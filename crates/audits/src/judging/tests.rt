@@ -11,6 +11,7 @@ use sigiface::Signer;
 use std::alloc::AllocError;
 use std::io::ErrorKind;
 use std::test::Fail;
+use std::{env, fs};
 use textio::CutWriter;
 use vrfiface::{Vuf, index_of};
 
@@ -157,6 +158,51 @@ fn promise_that_was_kept_or_broken(rt: HostRuntime) -> Result<(), Fail> {
     let kept = promised(alloc, true)?;
     let (answer, _) = told(alloc, KEY, kept.as_bytes())?;
     assert_eq!(rt; answer, Ok(Verdict::NoEvidence));
+    Ok(())
+}
+
+/// What `judge_at` answers of a file of these bytes, and what it writes.
+fn told_at(rt: &HostRuntime, file: &str) -> Result<(Result<Verdict, ProgramFault>, Vec<u8>), Fail> {
+    let alloc = rt.alloc();
+    let path = env::temp_dir(rt)?.join(alloc, "dojaguemi-evidence.json")?;
+    let order = JudgeOrder {
+        key: KEY,
+        file: path.to_str().ok_or("no path")?,
+    };
+    fs::write(rt, order.file, file)?;
+    let mut written = Vec::with_capacity(alloc, 64)?;
+    let answer = unless_out_of_memory(judge_at(alloc, rt, order, &mut written))?;
+    fs::remove_file(rt, order.file)?;
+    Ok((answer, written))
+}
+
+/// Evidence with its keys in another order, white space between and upper-case hex; then one root twice,
+/// and a fourth key.
+#[test]
+fn files_of_the_system(rt: HostRuntime) -> Result<(), Fail> {
+    let alloc = rt.alloc();
+    let third = body(3, 0, Hash32::default());
+    let one = digits(alloc, &third)?;
+    let other = hex::encode_upper(alloc, signed(forked(&third)).write().bytes())?;
+    let files = [
+        format!(in alloc;
+            " {{ \"second\" : \"{other}\",\n\t\"kind\":\"fork\", \"first\":\"{one}\" }}\r\n"
+        )?,
+        file(alloc, &one, "fork", &one)?,
+        format!(in alloc;
+            "{{\"first\":\"{one}\",\"kind\":\"fork\",\"second\":\"{other}\",\"third\":\"\"}}"
+        )?,
+    ];
+    let answers = [
+        (Ok(Verdict::Evidence), "evidence\n"),
+        (Ok(Verdict::NoEvidence), "no evidence\n"),
+        (Err(ProgramFault::NotEvidence), ""),
+    ];
+    for (file, (wanted, line)) in files.iter().zip(answers) {
+        let (answer, written) = told_at(&rt, file)?;
+        assert_eq!(rt; answer, wanted, "at {file}");
+        assert_eq!(rt; written.as_slice(), line.as_bytes(), "at {file}");
+    }
     Ok(())
 }
 

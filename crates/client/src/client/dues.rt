@@ -10,8 +10,8 @@ use sigiface::Verifier;
 use vrfiface::VufCheck;
 
 impl<H: NodeHash, V: VufCheck, S: Verifier> Client<H, V, S> {
-    /// The epoch whose reply `due` will test for a name, if a promise for it is kept and the chain has a
-    /// root after that of the promise.
+    /// The epoch whose reply `due` will test for a name, if the client keeps a promise for it and the chain
+    /// has a root after that of the promise.
     pub fn due_epoch(&self, name: &Name) -> Option<u64>
         ensures { IsDueEpoch self.now name.now result }
     {
@@ -22,7 +22,7 @@ impl<H: NodeHash, V: VufCheck, S: Verifier> Client<H, V, S> {
 
     /// Tests whether the provider kept its promise for this name: of those that are kept for it, the one of
     /// the least epoch, and of equals the first kept. These bytes are a reply to a look-up of the name under
-    /// the chain's next root. A promise that the provider kept is dropped, and else it stays.
+    /// the chain's next root. A promise that the provider kept is dropped; any other stays.
     ///
     /// # Errors
     ///

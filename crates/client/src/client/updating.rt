@@ -15,9 +15,9 @@ impl<H: NodeHash, V: VufCheck, S: Verifier> Client<H, V, S> {
     ///
     /// # Errors
     ///
-    /// `Root` with `Malformed` where the bytes spell no list, `Memory` where there is no memory for its roots,
-    /// else the first root that is refused: `Root` with `BadSignature`, with `NotLater` where its epoch is
-    /// before the chain's first, with `BadLink` where it is ahead of the head, or `RootDiffers` with the
+    /// `Root` with `Malformed` if the bytes spell no list; `Memory` if there is no memory for its roots; else
+    /// that of the first root that is refused: `Root` with `BadSignature`, with `NotLater` if its epoch is
+    /// before the chain's first, with `BadLink` if it is ahead of the head, or `RootDiffers` with the
     /// evidence. The client then stays as it was.
     pub fn update(&mut self, hash: &mut H, verifier: &S, bytes: &[u8]) -> Result<(), Refusal>
         ensures updates { Updates H.digest_of S.verified self.old bytes.now result self.new }
@@ -35,7 +35,7 @@ impl<H: NodeHash, V: VufCheck, S: Verifier> Client<H, V, S> {
     }
 }
 
-/// How the client tells why its chain refuses a list.
+/// The client's refusal for its chain's refusal of a list.
 fn tell(why: ListRefusal) -> Refusal
     ensures { result ≡ told_as why }
 {

@@ -1,6 +1,6 @@
 //! Looks of two clients compared. Looks of one name and epoch stand beside each other, so for each look of
-//! the one client only those of the other are read that it is compared with: they are found from the look's
-//! own place, without a name in memory of its own.
+//! the one client only those of the other that it is compared with are read. They are found from the look's
+//! own place, without copying a name.
 ghost use Rattle.std.specs.Prelude.{◌≡◌, ◌↔◌, ◌<◌, IsTrue, IsSomeAnd, MatchOption};
 ghost use Rattle.client.specs.Agreements.{AllState, AllStateBelow, AreBeside, AreFirstUnlike, IsFirstOther, LooksAgree, SpellsOne};
 ghost use Rattle.client.specs.Clients.{Look};
@@ -53,8 +53,8 @@ impl LookPlace {
 impl Looks {
     /// The reply of the first look for the name and epoch of a place that does not state this.
     ///
-    /// The place may be one of other looks. Where it would stand here, those for its name and epoch lie
-    /// below and above it.
+    /// The place may be that of another client's look. The looks for its name and epoch lie just below and
+    /// above where it would stand here.
     fn first_other<'a>(&'a self, place: &LookPlace, told: &Statement<'_>) -> Option<&'a [u8]>
         requires { AllByRecursion (λ look. SpellsOne look.reply) self.now }
         ensures { MatchOption result
@@ -86,7 +86,7 @@ impl Looks {
         found
     }
 
-    /// The same, where those below the place state this.
+    /// The same, if those below the place state this.
     fn first_other_above<'a>(&'a self, place: &LookPlace, told: &Statement<'_>) -> Option<&'a [u8]>
         requires ones { AllByRecursion (λ look. SpellsOne look.reply) self.now }
         requires below { AllStateBelow self.now place.now.asked.name.items place.now.asked.epoch (key_stated told.now) place.now.number }

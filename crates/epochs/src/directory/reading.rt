@@ -48,8 +48,8 @@ impl<H: NodeHash, V: Vuf, S: Signer, R: Rng> Directory<H, V, S, R> {
     /// The bytes of a reply to a look-up: what the page of an epoch has at a name. Epoch 0 asks for
     /// the latest.
     ///
-    /// Where the page lacks the name and another of its names has the same index, the reply ends
-    /// with that name's leaf, and who checks it refuses it.
+    /// If the page lacks the name and another of its names has the same index, the reply ends with
+    /// that name's leaf, and a checker refuses it.
     ///
     /// # Errors
     ///
@@ -78,7 +78,7 @@ impl<H: NodeHash, V: Vuf, S: Signer, R: Rng> Directory<H, V, S, R> {
     ///
     /// # Errors
     ///
-    /// `BadRange` where `count` is 0 or above 64.
+    /// `BadRange` if `count` is 0 or above 64.
     pub fn history(&self, from: u64, count: u16) -> Result<&[SignedRoot], Refusal>
         ensures reads { MatchResult result
             (λ roots. (pages : List Page) × IsRead (provider H.digest_of V.value_of S.signature_of self.now) (book R.stream self.now) (History from count) (Told pages)

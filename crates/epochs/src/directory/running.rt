@@ -26,8 +26,8 @@ impl<H: NodeHash, V: Vuf, S: Signer, R: Rng> Directory<H, V, S, R> {
     ///
     /// # Errors
     ///
-    /// `AllocError` where memory for the replies runs out. The directory then stands after some
-    /// beginning of the list, and the replies to it are lost.
+    /// `AllocError` if memory for the replies runs out. Some beginning of the list was then carried
+    /// out, and the replies to it are lost.
     pub fn run<K: Keeper>(
         &mut self,
         keeper: &mut K,

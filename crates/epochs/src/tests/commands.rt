@@ -279,3 +279,40 @@ fn ranges_of_histories(rt: HostRuntime) -> Result<(), Fail> {
     )?;
     Ok(())
 }
+
+/// Whether a reply is one to a look-up, and states in epoch 2 that this name has its own bytes as its key.
+fn states_itself(directory: &Provided, name: &[u8], reply: &Reply) -> bool {
+    let Reply::Found(text) = reply else {
+        return false;
+    };
+    match stated(directory, name, text.bytes()) {
+        Some((2, Statement::Present(key))) => key == name,
+        _ => false,
+    }
+}
+
+/// A directory that gives up after some names meets every clause, and so does a run after some commands.
+#[test]
+fn hundreds_of_names(rt: HostRuntime) -> Result<(), Fail> {
+    let alloc = rt.alloc();
+    let mut names = Vec::new(alloc);
+    for number in 0..300 {
+        names.push(format!(in alloc; "name {number}")?)?;
+    }
+    let mut commands = Vec::new(alloc);
+    for name in &names {
+        commands.push(register(name.as_bytes(), name.as_bytes()))?;
+    }
+    commands.push(close(2))?;
+    for name in &names {
+        commands.push(lookup(name.as_bytes(), 2))?;
+    }
+    let mut directory = started(alloc)?;
+    let replies = directory.run(&mut NoKeeper, &commands)?;
+    assert_eq!(rt; replies.len(), 601);
+    for (name, reply) in names.iter().zip(replies.iter().skip(301)) {
+        let is_stated = states_itself(&directory, name.as_bytes(), reply);
+        assert!(rt; is_stated, "{name}");
+    }
+    Ok(())
+}

@@ -273,3 +273,26 @@ fn each_session_has_its_own_output(rt: HostRuntime) -> Result<(), Fail> {
     }
     Ok(())
 }
+
+/// A piece that gives up after some messages meets every clause, and so does a run after some sessions.
+#[test]
+fn hundreds_of_messages_and_sessions(rt: HostRuntime) -> Result<(), Fail> {
+    let alloc = rt.alloc();
+    let mut hub = started(alloc)?;
+    let mut output = Vec::new(alloc);
+    let piece = HEAD.repeat(alloc, 300)?;
+    hub.event(&Event::Open(1), &mut output)?;
+    hub.event(&Event::Bytes(1, &piece), &mut output)?;
+    assert_eq!(rt; output.len(), 300 * 185);
+    let mut events = Vec::new(alloc);
+    for session in 1..301 {
+        events.push(Event::Open(session))?;
+        events.push(Event::Bytes(session, &HEAD))?;
+    }
+    let outputs = started(alloc)?.run(&events)?;
+    assert_eq!(rt; outputs.len(), 300);
+    for (_, output) in &outputs {
+        assert_eq!(rt; output.len(), 185);
+    }
+    Ok(())
+}

@@ -1,6 +1,7 @@
 use super::*;
-use crate::for_tests::{SUM, cut_buffer, items_at, unless_out_of_memory};
+use crate::for_tests::{SUM, cut_buffer, items_at, listed_many, unless_out_of_memory};
 use crate::kinds::RootOrder;
+use crate::root;
 use std::io::ErrorKind;
 use std::test::Fail;
 use textio::CutWriter;
@@ -67,6 +68,25 @@ fn worked_paths(rt: HostRuntime) -> Result<(), Fail> {
         assert_eq!(rt; answer, Ok(()), "at {text}");
         assert_eq!(rt; written.as_slice(), text.as_bytes(), "at {index}");
     }
+    Ok(())
+}
+
+/// The last line is what `root` writes of the items.
+#[test]
+fn hundreds_of_items_by_single_bytes(rt: HostRuntime) -> Result<(), Fail> {
+    let alloc = rt.alloc();
+    let input = listed_many(alloc, 300)?;
+    let index = format!(in alloc; "0150{:0<60}", "")?;
+    let order = ProveOrder {
+        index: index.as_str(),
+        root: SUM,
+    };
+    let mut reader = cut_buffer(alloc, input.as_str(), 1, None)?;
+    let (answer, written) = told(alloc, order, &mut reader)?;
+    assert_eq!(rt; answer, Ok(()));
+    let mut line = Vec::with_capacity(alloc, 128)?;
+    unless_out_of_memory(root(alloc, SUM, &mut input.as_bytes(), &mut line))??;
+    assert!(rt; written.ends_with(&line));
     Ok(())
 }
 

@@ -23,8 +23,8 @@ impl<H: NodeHash, S: Verifier> Chain<H, S> {
     /// If one chain ends before the other starts, the place of the upper chain's first root in the lower
     /// chain decides. Else the chains are compared from the top down. If they differ below a body that both
     /// have, two of their bodies have one hash, since equal roots name both: that is a collision. If they
-    /// differ above the last such body only, they have two bodies at one epoch, a fork, or one of them
-    /// passes an epoch over, a skip.
+    /// differ only above the last such body, they have two bodies at one epoch (a fork), or one of them
+    /// passes over an epoch (a skip).
     ///
     /// This allocates nothing. It hashes at most one body, and goes over the roots of the common range once.
     pub fn compare(hash: &mut H, one: &Chain<H, S>, other: &Chain<H, S>) -> Compare
@@ -162,7 +162,7 @@ fn apart_below(
     None
 }
 
-/// What the roots at two places tell, when all before them is alike.
+/// What the roots at two places show, if everything before them is alike.
 fn diverge(ones: &[SignedRoot], others: &[SignedRoot], i: usize, j: usize) -> Compare
     ensures { IsDivergence ones.now others.now i j result }
 {

@@ -16,8 +16,8 @@ impl<H: NodeHash, S: Verifier> Chain<H, S> {
     ///
     /// # Errors
     ///
-    /// `Memory` if there is no memory for all roots of the list. Else the first root tells that does not
-    /// verify under the chain's key, is before the first root, ahead of the head, or evidence. The chain
+    /// `Memory` if there is no memory for all roots of the list. Else the refusal of the first root that does
+    /// not verify under the chain's key, is before the first root, ahead of the head, or evidence. The chain
     /// then stays as it was.
     pub fn take_list(
         &mut self,

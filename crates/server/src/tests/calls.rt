@@ -63,3 +63,18 @@ fn replies_before_the_next_read(rt: HostRuntime) -> Result<(), Fail> {
     assert_eq!(rt; reader.most, 4096);
     Ok(())
 }
+
+/// A byte at each read.
+#[test]
+fn hundreds_of_heads(rt: HostRuntime) -> Result<(), Fail> {
+    let frames = THREE_HEADS.repeat(rt.alloc(), 100)?;
+    let mut reader = CutReader::new(&frames, 1);
+    let mut replies = Vec::with_capacity(rt.alloc(), 300 * REPLY)?;
+    let mut hub = begun(rt.alloc())?;
+    let outcome = serve(rt.alloc(), &mut hub, SESSION, &mut reader, &mut replies);
+    assert_eq!(rt; outcome, Ok(()));
+    assert_eq!(rt; replies.len(), 300 * REPLY);
+    let roots = "r".repeat(rt.alloc(), 300)?;
+    assert_eq!(rt; told(rt.alloc(), &replies)?, roots);
+    Ok(())
+}
