@@ -5,7 +5,8 @@
 #
 #   scripts/statuses.sh
 #
-# Takes the built program where there is one, else `rt try`, which builds it unproved for each run.
+# Takes the program that was built last, whatever it was built of, or if there is none `rt try`, which
+# builds it unproved for each run.
 # The status is 0 where all is as the README says.
 set -euo pipefail
 cd "$(dirname "$0")/../crates/directoryd"
@@ -82,7 +83,7 @@ audits() {
     else
         failed=$((failed + 1))
         echo "audit of $1 ended with status $status, and these answers are others:"
-        diff "$2" "$folder/out" | cut -c 1-80
+        diff "$2" "$folder/out" | cut -c 1-80 || true
     fi
 }
 

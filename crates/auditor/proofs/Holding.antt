@@ -19,10 +19,10 @@ use Rattle.rootchain.specs.Evidence.{IsRootEvidence}
 use Rattle.rootchain.specs.Places.{EvidenceHolds, IsPlace}
 use Rattle.rootchain.specs.SignedRoots.{IsSignedRoot}
 use Rattle.rootchain.specs.Taking.{with_taken, IsTakeRefusal}
+use Rattle.rootchain.proofs.Spelled.{place-given}
 use Rattle.auditor.specs.Chains.{AreHeld, Chains, IsHeld, NowHas, chain_of, key_cmp}
 use Rattle.auditor.specs.Observing.{HoldsAfter, IsRefused, ObservedHolds, ObservesRoot, PlaceHolds, compared_as, observed_as}
 use Rattle.auditor.specs.Taking.{Takes, TakesAt}
-use Rattle.auditor.proofs.Spelled.{place-given}
 
 -- what is found is held
 pub found-held : (chains : Chains) (key : List ℕ) → AreHeld chains → IfSome (chain_of chains key) (IsHeld key)

@@ -1,4 +1,3 @@
 pub mod Contradicting
 pub mod Following
 pub mod Holding
-pub mod Spelled

@@ -37,6 +37,7 @@ module _ (hash : List ℕ → List ℕ) where
   IsObserved None root told = told ≡ Started
   IsObserved (Some chain) root told = (stands : Place) × IsPlace hash chain root stands × (told ≡ observed_as stands)
 
+  -- the answer on a root that is only compared with the chain of its provider, if there is one
   abbrev pub IsCompared : Option KeyedRoots → SignedRoot → Place → Type 0
   IsCompared None root told = told ≡ place.Ahead
   IsCompared (Some chain) root told = (stands : Place) × IsPlace hash chain root stands × (told ≡ compared_as stands)
@@ -79,6 +80,7 @@ module _ (hash : List ℕ → List ℕ) (verified : List ℕ → List ℕ → Li
   ComparesRoot chains key root (Err BadLink) = ⊥
   ComparesRoot chains key root (Err Memory) = ⊥
 
+  -- what comes of bytes that are compared: they spell a root, or else they are refused
   abbrev pub Compares : Chains → List ℕ → List ℕ → Result Place Refusal → Type 0
   Compares chains key bytes result =
       ((root : SignedRoot) × SpellsRoot bytes root × ComparesRoot chains key root result)
@@ -98,6 +100,7 @@ module _ (hash : List ℕ → List ℕ) (verified : List ℕ → List ℕ → Li
   ObservedHolds BeforeStart = Unit
   ObservedHolds (Evidence evidence) = Holds evidence
 
+  -- the same of a place
   abbrev pub PlaceHolds : Place → Type 0
   PlaceHolds place.Known = Unit
   PlaceHolds place.Next = Unit

@@ -1,11 +1,11 @@
 use proofs::BrokenPromise;
 use rootchain::RootEvidence;
 
-/// What shows anyone that a provider cheated (CONIKS, section 4).
+/// What shows anyone that a provider cheated, if it holds (CONIKS, section 4).
 #[derive(Debug, Drop)]
 pub enum Evidence {
-    /// Two roots that cannot both stand in one chain of well-formed roots.
+    /// Two roots that are said not to stand in one chain.
     Root(RootEvidence),
-    /// A promise that was not kept.
+    /// A promise that is said not to have been kept.
     Broken(BrokenPromise),
 }

@@ -219,7 +219,7 @@ fn bytes_that_spell_no_root(rt: HostRuntime) -> Result<(), Fail> {
 }
 
 #[test]
-fn comparing_changes_nothing(rt: HostRuntime) -> Result<(), Fail> {
+fn roots_that_are_compared(rt: HostRuntime) -> Result<(), Fail> {
     let (signer, zeros) = (provider(), Hash32::new(ZEROS));
     let chain = roots(&signer);
     let (third, ninth) = (&chain[0], &chain[2]);

@@ -54,7 +54,7 @@ escape-hex (byte ∷ bytes) small =
 
 -- ---- the text is read as an object of the parts
 
-text_is_compact : (parts : Parts) → IsBytes parts.first → IsBytes parts.second → escape parts.kind ≡ parts.kind → compact_text (value_of parts) ≡ parts_text parts
+pub text_is_compact : (parts : Parts) → IsBytes parts.first → IsBytes parts.second → escape parts.kind ≡ parts.kind → compact_text (value_of parts) ≡ parts_text parts
 unfolding parts_text escape_byte
 text_is_compact parts first second kind = simp (escape-hex parts.first first, escape-hex parts.second second, kind, append_assoc)
 

@@ -44,7 +44,7 @@ module _ (hash : List ℕ → List ℕ) (verified : List ℕ → List ℕ → Li
   abbrev pub ObservesLine : Chains → List ℕ → Result Observed Refusal → Chains → Type 0
   ObservesLine before line = ObservesDecoded before (decode_of line)
 
-  -- Evidence that is told holds. Want of memory is not an answer.
+  -- Evidence that is answered holds. That memory ran out is not an answer.
   abbrev pub IsAnswer : Result Observed Refusal → Type 0
   IsAnswer (Ok told) = ObservedHolds hash verified key told
   IsAnswer (Err Memory) = ⊥
@@ -67,7 +67,7 @@ module _ (hash : List ℕ → List ℕ) (verified : List ℕ → List ℕ → Li
       × IfSome input (λ bytes. lines_of bytes ≡ lines ++ later) × Audits [] lines answers after
 
   -- What comes of an input: a line is written for each of its lines; or for the first ones, if a read
-  -- failed or memory was wanting; or a beginning of that, where a write failed.
+  -- failed or memory ran out; or a beginning of that, if a write failed.
   abbrev pub AuditsInput : Option (List ℕ) → Option (List ℕ) → Result (Unit {0}) ProgramFault → Option (List ℕ) → Type 0
   AuditsInput input old (Ok done) new = (answers : List (Result Observed Refusal)) × AnswersAll input answers × Appends old new (answer_lines answers)
   AuditsInput input old (Err CannotRead) new = (answers : List (Result Observed Refusal)) × AnswersFirst input answers × Appends old new (answer_lines answers)

@@ -16,11 +16,14 @@ parts_text parts =
     codes "{\"first\":\"" ++ (encode_lower parts.first ++ (codes "\",\"kind\":\"" ++ (parts.kind
     ++ (codes "\",\"second\":\"" ++ (encode_lower parts.second ++ codes "\"}")))))
 
--- the same as a value of JSON
+-- an object of these three texts, as a value of JSON
+abbrev pub object_of : List ℕ → List ℕ → List ℕ → Data
+object_of first kind second =
+    object (member (codes "first") (string first) (member (codes "kind") (string kind) (member (codes "second") (string second) no_members)))
+
+-- the object of the parts
 abbrev pub value_of : Parts → Data
-value_of parts =
-    object (member (codes "first") (string (encode_lower parts.first)) (member (codes "kind") (string parts.kind)
-    (member (codes "second") (string (encode_lower parts.second)) no_members)))
+value_of parts = object_of (encode_lower parts.first) parts.kind (encode_lower parts.second)
 
 -- the text of evidence
 abbrev pub evidence_text : Evidence → List ℕ
@@ -57,8 +60,8 @@ IsJson bytes value = IsUtf8 bytes × (read bytes ≡ Some value)
 abbrev pub IsFileOf : List ℕ → Evidence → Type 0
 IsFileOf bytes evidence = (value : Data) × IsJson bytes value × IsEvidenceOf value evidence
 
--- What a call returns that looks for something: one that is so, or that there is none, or want of memory. The
--- first argument gives what was found from what was returned.
+-- What comes of looking for something with a property: it was found, or nothing has the property, or
+-- memory ran out. The first argument gives what was found from what was returned.
 abbrev pub Finds : {X A : Type 0} → (X → A) → (A → Type 0) → Result X ReadFault → Type 0
 Finds seen Is (Ok x) = Is (seen x)
 Finds {A = A} seen Is (Err NotEvidence) = (y : A) → ¬ Is y

@@ -33,14 +33,14 @@ IsBroken first second broken =
 
 -- ---- a line of `audit`
 
--- What comes of a line: its answer, or want of memory.
+-- What comes of a line: its answer, or memory ran out.
 module _ (hash : List ℕ → List ℕ) (verified : List ℕ → List ℕ → List ℕ → Type 0) (key : List ℕ) where
   abbrev pub AnswersLine : Chains → List ℕ → Result Observed Refusal → Chains → Type 0
   AnswersLine before line (Ok told) after = ObservesLine hash verified key before line (Ok told) after × IsAnswer hash verified key (Ok told)
   AnswersLine before line (Err Memory) after = ⊤
   AnswersLine before line (Err why) after = ObservesLine hash verified key before line (Err why) after
 
-  -- The answer to a line is told, or memory is wanting. The first argument gives the bytes of what was returned.
+  -- The answer to a line is given as text, or memory ran out. The first argument gives the bytes of what was returned.
   abbrev pub TellsLine : {X : Type 0} → (X → List ℕ) → Chains → List ℕ → Result X ProgramFault → Chains → Type 0
   TellsLine seen before line (Ok text) after = (answer : Result Observed Refusal)
       × ObservesLine hash verified key before line answer after × IsAnswer hash verified key answer × (seen text ≡ answer_line answer)

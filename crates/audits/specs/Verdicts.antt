@@ -32,8 +32,8 @@ module _ (hash : List ℕ → List ℕ) (accepted verified : List ℕ → List �
   abbrev pub IsVerdictOn : List ℕ → Verdict → Type 0
   IsVerdictOn file verdict = (evidence : Evidence) × IsFileOf file evidence × IsVerdict evidence verdict
 
-  -- What comes of a file: the line of its verdict is written, or less of it where a write failed; nothing is
-  -- written where the file is not one of evidence, or where memory is wanting.
+  -- What comes of a file: the line of its verdict is written, or less of it if a write failed; nothing is
+  -- written if the file is not one of evidence, or if memory ran out.
   abbrev pub Judges : List ℕ → Option (List ℕ) → Result Verdict ProgramFault → Option (List ℕ) → Type 0
   Judges file old (Ok verdict) new = IsVerdictOn file verdict × Appends old new (verdict_line verdict)
   Judges file old (Err NotEvidence) new = ((evidence : Evidence) → ¬ IsFileOf file evidence) × Keeps old new
@@ -49,8 +49,8 @@ JudgesUnder (Some key) file old result new = Judges sha256 KeyedAccepts KeyedVer
 abbrev pub JudgesFile : List ℕ → List ℕ → Option (List ℕ) → Result Verdict ProgramFault → Option (List ℕ) → Type 0
 JudgesFile key = JudgesUnder (hex32 key)
 
--- What comes of a key's text and a file that is opened: what comes of its bytes, whichever they are; or it
--- could not be read, or memory was wanting, and nothing is written. The key's text was then good.
+-- What comes of a key's text and a file that is opened: what comes of its bytes, which no clause knows; or
+-- it could not be read, or memory ran out, and nothing is written. The key's text was then good.
 abbrev pub JudgesAt : List ℕ → Option (List ℕ) → Result Verdict ProgramFault → Option (List ℕ) → Type 0
 JudgesAt key old (Err CannotRead) new = IsSome (hex32 key) × Keeps old new
 JudgesAt key old (Err OutOfMemory) new = IsSome (hex32 key) × Keeps old new

@@ -22,7 +22,7 @@ use textio::{ProgramFault, next_line, option_hex32, write_text};
 const LINE_KEPT: usize = 809;
 
 /// The line for an auditor's answer.
-fn told(alloc: Global, answer: Result<Observed, Refusal>) -> Result<String, AllocError>
+fn line_of(alloc: Global, answer: Result<Observed, Refusal>) -> Result<String, AllocError>
     ensures { IfOk result (λ text. string_bytes text ≡ answer_line answer) }
 {
     match answer {
@@ -75,7 +75,7 @@ fn answer<H: NodeHash + Drop, S: Verifier + Drop>(
 {
     match observe_line(alloc, auditor, hash, verifier, key, line) {
         Err(Refusal::Memory) => Err(ProgramFault::OutOfMemory),
-        answer => Ok(told(alloc, answer)?),
+        answer => Ok(line_of(alloc, answer)?),
     }
 }
 

@@ -56,6 +56,11 @@ pub fn digits(alloc: Global, body: &Body) -> Result<String, AllocError> {
     hex::encode(alloc, signed(*body).write().bytes())
 }
 
+/// A file of two parts in hex.
+pub fn file(alloc: Global, first: &str, kind: &str, second: &str) -> Result<String, AllocError> {
+    format!(in alloc; "{{\"first\":\"{first}\",\"kind\":\"{kind}\",\"second\":\"{second}\"}}")
+}
+
 /// Ends the test if memory ran out, else returns the answer.
 pub fn unless_out_of_memory<T: Drop>(
     answer: Result<T, ProgramFault>,

@@ -1,9 +1,10 @@
-//! Evidence against a provider as JSON: one file for each, which anybody can judge. After CONIKS,
-//! section 4; the form of the file is this directory's own.
+//! Evidence against a provider as JSON, which anybody can judge, and the programs `audit` and `judge`. After
+//! CONIKS, section 4; the form of a file and the lines of the programs are this directory's own.
 //!
 //! To the layers above: `evidence_json` writes exactly the definition's bytes, and `read_evidence` reads
 //! exactly the files of evidence, so what was written is read back. It also reads white space, the keys
-//! in another order and hexadecimal digits in upper case.
+//! in another order and hexadecimal digits in upper case. `audit` writes exactly an auditor's answers to
+//! the lines that it reads, and `judge_file` exactly the verdict on the bytes of a file.
 //!
 //! ```text
 //! let file = evidence_json(alloc, &evidence)?;

@@ -1,12 +1,12 @@
 //! The texts are those of scripts/known_answers.py.
 
 use super::*;
-use crate::for_tests::{body, forked, signed, signer};
+use crate::for_tests::{body, file, forked, signed, signer};
 use auditor::{Auditor, Evidence, Observed, judge};
 use encoding::{Hash32, Index, KeyData, Name, ProofText, Small};
 use nodehash::Sha256Hash;
 use proofs::BrokenPromise;
-use rootchain::{Body, Promise, RootEvidence, SignedPromise, SignedRoot};
+use rootchain::{Body, Promise, Refusal, RootEvidence, SignedPromise, SignedRoot};
 use sigiface::Signer;
 use std::alloc::{AllocError, Global};
 use std::test::Fail;
@@ -86,11 +86,6 @@ fn broken_promise() -> Result<Evidence, Fail> {
         root,
         proof,
     }))
-}
-
-/// A file of these texts.
-fn file(alloc: Global, first: &str, kind: &str, second: &str) -> Result<String, AllocError> {
-    format!(in alloc; "{{\"first\":\"{first}\",\"kind\":\"{kind}\",\"second\":\"{second}\"}}")
 }
 
 /// The evidence of a file, written again.
@@ -221,10 +216,11 @@ fn fork_goes_from_auditor_to_judge(rt: HostRuntime) -> Result<(), Fail> {
     let verifier = signer();
     let key = verifier.public();
     let mut auditor = Auditor::new(rt.alloc());
-    let started = auditor
-        .observe(hash, &verifier, &key, third().write().bytes())
-        .map_err(|_| AllocError)?;
-    assert_eq!(rt; started, Observed::Started);
+    let started = auditor.observe(hash, &verifier, &key, third().write().bytes());
+    if let Err(Refusal::Memory) = started {
+        return Err(AllocError.into());
+    }
+    assert_eq!(rt; started, Ok(Observed::Started));
     match auditor.observe(hash, &verifier, &key, other_third().write().bytes())? {
         Observed::Evidence(roots) => {
             let text = evidence_json(rt.alloc(), &Evidence::Root(roots))?;

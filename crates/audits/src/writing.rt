@@ -1,23 +1,33 @@
 ghost use Rattle.std.specs.Prelude.{◌≡◌, ◌++◌, string_bytes, IfOk};
+ghost use Rattle.json.specs.Print.{escape};
 ghost use Rattle.rootchain.specs.SignedRoots.{signed_root_bytes};
-ghost use Rattle.audits.specs.Files.{evidence_text, parts_text};
+ghost use Rattle.serde_json.specs.View.{view};
+ghost use Rattle.audits.specs.Files.{evidence_text, object_of, parts_text};
 
 use auditor::Evidence;
 use encoding::{FixedText, ProofText};
 use rootchain::{RootEvidence, SignedRoot};
+use serde_json::{Value, json};
 use std::alloc::{AllocError, Global};
 
 /// The room of a signed root, 404 bytes, and a proof.
 const ROOT_AND_PROOF: usize = 11_104;
 
-/// The object of a kind and two parts.
-#[tactic(auto, unfolding(crate::specs::Files::parts_text))]
-fn object(alloc: Global, first: &[u8], kind: &str, second: &[u8]) -> Result<String, AllocError>
+/// The object of these three texts.
+fn object(alloc: Global, first: &str, kind: &str, second: &str) -> Result<Value, AllocError>
+    ensures { IfOk result (λ value. view value ≡ object_of first.now kind.now second.now) }
+{
+    json!(in alloc; {"first": first, "kind": kind, "second": second})
+}
+
+/// The text of the object of a kind and two parts. JSON writes the kind's text without an escape.
+fn parts(alloc: Global, first: &[u8], kind: &str, second: &[u8]) -> Result<String, AllocError>
+    requires plain { escape kind.now ≡ kind.now }
     ensures { IfOk result (λ text. string_bytes text ≡ parts_text (record { first = first.now; kind = kind.now; second = second.now })) }
 {
     let first = hex::encode(alloc, first)?;
     let second = hex::encode(alloc, second)?;
-    format!(in alloc; "{{\"first\":\"{first}\",\"kind\":\"{kind}\",\"second\":\"{second}\"}}")
+    object(alloc, first.as_str(), kind, second.as_str())?.to_string(alloc)
 }
 
 fn roots(
@@ -26,10 +36,11 @@ fn roots(
     kind: &str,
     other: &SignedRoot,
 ) -> Result<String, AllocError>
+    requires plain { escape kind.now ≡ kind.now }
     ensures { IfOk result (λ text. string_bytes text
         ≡ parts_text (record { first = signed_root_bytes one.now; kind = kind.now; second = signed_root_bytes other.now })) }
 {
-    object(alloc, one.write().bytes(), kind, other.write().bytes())
+    parts(alloc, one.write().bytes(), kind, other.write().bytes())
 }
 
 fn root_and_proof(root: &SignedRoot, proof: &ProofText) -> FixedText<ROOT_AND_PROOF>
@@ -53,7 +64,7 @@ pub fn evidence_json(alloc: Global, evidence: &Evidence) -> Result<String, Alloc
         Evidence::Broken(broken) => {
             let second = root_and_proof(&broken.root, &broken.proof);
             let first = broken.promise.write();
-            object(alloc, first.bytes(), "broken-promise", second.bytes())
+            parts(alloc, first.bytes(), "broken-promise", second.bytes())
         }
     }
 }

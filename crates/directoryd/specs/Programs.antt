@@ -56,8 +56,8 @@ Obeys (the_session asked) input out out-new err err-new outcome = IsZero outcome
 Obeys (the_connections asked count address) input out out-new err err-new outcome = IsZero outcome × Keeps out out-new
     × ((outcome ≡ Err BadHex) ↔ (keys_of asked ≡ None)) × TellsAddress err (without_status outcome) err-new
 
--- a text is written whole, and this status returned; or less of it if a write failed, or nothing for
--- want of memory
+-- a text is written whole, and this status returned; or less of it if a write failed, or nothing if
+-- memory ran out
 abbrev pub Prints : ℕ → List ℕ → Option (List ℕ) → Option (List ℕ) → Result ℕ ProgramFault → Type 0
 Prints status text old new (Ok given) = (given ≡ status) × Appends old new text
 Prints status text old new (Err CannotWrite) = WritesBeginning old new text
@@ -92,8 +92,8 @@ Runs words input out out-new err err-new outcome =
 abbrev pub no_text : List ℕ
 no_text = codes "error: invalid UTF-8 was detected in one or more arguments\n"
 
--- what comes of what the process is given: the words, or why there are none; and the input, or none for
--- want of memory
+-- what comes of what the process is given: the words, or why there are none; and the input, or none if
+-- memory ran out
 abbrev pub Starts : {A B R : Type 0} → (R → Option (List ℕ)) → Result (Vec (String A) B) IoError → Result R IoError
     → Option (List ℕ) → Option (List ℕ) → Option (List ℕ) → Option (List ℕ) → Result ℕ ProgramFault → Type 0
 Starts remaining (Err error) reader out out-new err err-new outcome = Keeps out out-new

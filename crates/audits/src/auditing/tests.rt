@@ -73,6 +73,23 @@ fn chain_is_followed(rt: HostRuntime) -> Result<(), Fail> {
     Ok(())
 }
 
+/// The last line is a root, or the same without its last byte.
+#[test]
+fn last_line_is_a_root_or_cut_short(rt: HostRuntime) -> Result<(), Fail> {
+    let alloc = rt.alloc();
+    let (one, seven) = (digits(alloc, &first())?, digits(alloc, &seventh())?);
+    let nine = digits(alloc, &ninth())?;
+    let short = String::from_str(alloc, nine.get(..358).ok_or("no root")?)?;
+    for (last, answer) in &[(nine, "extended"), (short, "refused 1")] {
+        let input = format!(in alloc; "{one}\n{seven}\n{one}\n{last}\n")?;
+        let answers = format!(in alloc; "started\nextended\nknown\n{answer}\n")?;
+        let (outcome, written) = told(alloc, ORDER, &mut input.as_bytes())?;
+        assert_eq!(rt; outcome, Ok(()), "at {answer}");
+        assert_eq!(rt; written.as_slice(), answers.as_bytes(), "at {answer}");
+    }
+    Ok(())
+}
+
 #[test]
 fn fork_link_and_skip(rt: HostRuntime) -> Result<(), Fail> {
     let alloc = rt.alloc();
@@ -103,7 +120,7 @@ fn fork_link_and_skip(rt: HostRuntime) -> Result<(), Fail> {
     Ok(())
 }
 
-/// A root of another provider, then what is none, then one that is read all the same.
+/// A root of another provider; then lines that are not roots, each before a root that is still answered.
 #[test]
 fn refused_lines(rt: HostRuntime) -> Result<(), Fail> {
     let alloc = rt.alloc();

@@ -1,6 +1,7 @@
 use super::*;
 use crate::for_tests::{
-    KEY, OTHER_KEY, after, body, digits, forked, hash_of, signed, signer, unless_out_of_memory,
+    KEY, OTHER_KEY, after, body, digits, file, forked, hash_of, signed, signer,
+    unless_out_of_memory,
 };
 use crate::writing::evidence_json;
 use encoding::{KeyData, Name, ProofText};
@@ -11,7 +12,7 @@ use sigiface::Signer;
 use std::alloc::AllocError;
 use std::io::ErrorKind;
 use std::test::Fail;
-use std::{env, fs};
+use std::{env, fs, process};
 use textio::CutWriter;
 use vrfiface::{Vuf, index_of};
 
@@ -26,12 +27,7 @@ fn told(
     Ok((answer, written))
 }
 
-/// A file of two parts in hex.
-fn file(alloc: Global, first: &str, kind: &str, second: &str) -> Result<String, AllocError> {
-    format!(in alloc; "{{\"first\":\"{first}\",\"kind\":\"{kind}\",\"second\":\"{second}\"}}")
-}
-
-/// Two roots of one epoch, and a root that the later of two others skips.
+/// A file of two roots of one epoch.
 fn forked_file(alloc: Global) -> Result<String, AllocError> {
     let third = body(3, 0, Hash32::default());
     file(
@@ -42,6 +38,7 @@ fn forked_file(alloc: Global) -> Result<String, AllocError> {
     )
 }
 
+/// A file of a root that the later of two others skips.
 fn skipped_file(alloc: Global) -> Result<String, AllocError> {
     let third = body(3, 0, Hash32::default());
     let seventh = after(&third, 7);
@@ -67,7 +64,7 @@ fn evidence_of_roots(rt: HostRuntime) -> Result<(), Fail> {
     Ok(())
 }
 
-/// Another key, one root twice, another kind, and a signature with another last byte.
+/// One root twice, another kind, the signature of another message, and another key.
 #[test]
 fn no_evidence(rt: HostRuntime) -> Result<(), Fail> {
     let alloc = rt.alloc();
@@ -100,8 +97,8 @@ fn no_evidence(rt: HostRuntime) -> Result<(), Fail> {
     Ok(())
 }
 
-/// A promise of the key k for the name a, and the next root, whose tree has at the name what this end
-/// says: nothing, or a commitment to the key k.
+/// A promise of the key k for the name a, and the next root, whose tree has a commitment to that key at
+/// the name, or nothing.
 fn promised(alloc: Global, has_key: bool) -> Result<String, Fail> {
     let hash = &mut Sha256Hash::new();
     let vuf = KeyedVuf::new(Hash32::new([5; 32]));
@@ -164,16 +161,18 @@ fn promise_that_was_kept_or_broken(rt: HostRuntime) -> Result<(), Fail> {
 /// What `judge_at` answers of a file of these bytes, and what it writes.
 fn told_at(rt: &HostRuntime, file: &str) -> Result<(Result<Verdict, ProgramFault>, Vec<u8>), Fail> {
     let alloc = rt.alloc();
-    let path = env::temp_dir(rt)?.join(alloc, "dojaguemi-evidence.json")?;
+    // Another run of the tests may have such a file too.
+    let name = format!(in alloc; "dojaguemi-evidence-{}.json", process::id(rt.process()))?;
+    let path = env::temp_dir(rt)?.join(alloc, name.as_str())?;
     let order = JudgeOrder {
         key: KEY,
         file: path.to_str().ok_or("no path")?,
     };
-    fs::write(rt, order.file, file)?;
     let mut written = Vec::with_capacity(alloc, 64)?;
-    let answer = unless_out_of_memory(judge_at(alloc, rt, order, &mut written))?;
+    fs::write(rt, order.file, file)?;
+    let answer = judge_at(alloc, rt, order, &mut written);
     fs::remove_file(rt, order.file)?;
-    Ok((answer, written))
+    Ok((unless_out_of_memory(answer)?, written))
 }
 
 /// Evidence with its keys in another order, white space between and upper-case hex; then one root twice,

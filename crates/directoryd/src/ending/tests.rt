@@ -86,7 +86,7 @@ fn each_order_is_obeyed(rt: HostRuntime) -> Result<(), Fail> {
 
 /// A line that is no signed root, and files that are none of evidence or cannot be read.
 #[test]
-fn roots_are_audited_and_files_judged(rt: HostRuntime) -> Result<(), Fail> {
+fn audit_and_judge_end(rt: HostRuntime) -> Result<(), Fail> {
     let key = "0".repeat(rt.alloc(), 64)?;
     let run = told(&rt, &["directoryd", "audit", "--key", key.as_str()], "x\n")?;
     assert_eq!(rt; run.ending, ending(0));

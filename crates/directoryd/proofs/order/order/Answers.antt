@@ -52,7 +52,7 @@ returns-clause-ok g c =
           ∙ ap (λ o. Some o) (sym c.named_order.ensures),
     )
 
--- a refusal of clap's is one of the words, or want of memory
+-- clap's error is a refusal of the words, or says that memory ran out
 refused : (names : ValueParser) (app : App) (words : List Text) (fault : Error) → IsHashNames names → app ≡ directory_app names
     → (takes app words ≡ true → kind_of fault ≡ OutOfMemory)
     → (is_simple_and_free app ≡ true → HasKind (fault_of app words) fault)
