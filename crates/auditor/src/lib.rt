@@ -22,6 +22,3 @@ pub use auditor::{Auditor, Observed};
 pub use evidence::Evidence;
 pub use judging::judge;
 pub use laws::honest_roots_are_followed;
-
-#[cfg(test)]
-mod tests;

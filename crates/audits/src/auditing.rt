@@ -131,6 +131,3 @@ pub fn audit<R: BufRead, W: Write>(
         writer,
     )
 }
-
-#[cfg(test)]
-mod tests;

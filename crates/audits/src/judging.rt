@@ -130,6 +130,3 @@ pub fn judge_at<F: Files, W: Write>(
     let file = file_bytes(alloc, files, order.file)?;
     judge_keyed(alloc, key, &file, writer)
 }
-
-#[cfg(test)]
-mod tests;

@@ -14,8 +14,6 @@
 
 mod auditing;
 mod fault;
-#[cfg(test)]
-mod for_tests;
 mod judging;
 mod kinds;
 mod laws;
@@ -30,6 +28,3 @@ pub use kinds::{AuditOrder, JudgeOrder};
 pub use laws::{file_is_one_evidence, text_is_compact, text_is_file};
 pub use reading::read_evidence;
 pub use writing::evidence_json;
-
-#[cfg(test)]
-mod tests;

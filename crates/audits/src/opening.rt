@@ -46,28 +46,3 @@ pub(crate) fn file_bytes<F: Files>(
         Err(error) => Err(fault_of(&error)),
     }
 }
-
-#[cfg(test)]
-mod tests {
-    use super::*;
-    use crate::for_tests::unless_out_of_memory;
-    use std::test::Fail;
-    use textio::CutReader;
-
-    /// Six bytes take three reads of two, and the fourth finds the end.
-    #[test]
-    fn one_read_fails(rt: HostRuntime) -> Result<(), Fail> {
-        for call in 0..4 {
-            let mut reader = CutReader::new(b"abcdef", 2).fail_at(call, ErrorKind::BrokenPipe);
-            let answer = unless_out_of_memory(rest(rt.alloc(), &mut reader))?;
-            assert!(rt;
-                matches!(answer, Err(ProgramFault::CannotRead)),
-                "at {call}"
-            );
-            let mut reader = CutReader::new(b"abcdef", 2).fail_at(call, ErrorKind::Interrupted);
-            let bytes = unless_out_of_memory(rest(rt.alloc(), &mut reader))??;
-            assert_eq!(rt; bytes.as_slice(), b"abcdef".as_slice(), "at {call}");
-        }
-        Ok(())
-    }
-}

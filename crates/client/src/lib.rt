@@ -30,6 +30,3 @@ pub use laws::two_values_are_never_told;
 pub use outcome::Outcome;
 pub use reconciling::reconcile;
 pub use refusal::Refusal;
-
-#[cfg(test)]
-mod tests;

@@ -167,6 +167,3 @@ where
     let outcome = start(alloc, system, words, reader, writer, errors);
     ended(outcome, errors)
 }
-
-#[cfg(test)]
-mod tests;

@@ -397,6 +397,3 @@ pub fn order<'a, S: AsStr>(alloc: Global, words: &'a [S]) -> Result<Order<'a>, E
     };
     Ok(named_order(name, found))
 }
-
-#[cfg(test)]
-pub(crate) mod tests;

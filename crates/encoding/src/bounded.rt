@@ -65,39 +65,3 @@ impl<const MOST: usize> Bounded<MOST> {
         self.bytes.as_slice()
     }
 }
-
-#[cfg(test)]
-mod tests {
-    use super::*;
-    use crate::{KeyData, Name, Small};
-
-    #[test]
-    fn takes_the_longest(rt: HostRuntime) {
-        let bytes = [7; 2048];
-        let name = Name::new(&bytes[..255]).expect(&rt, "within the limits");
-        assert_eq!(rt; name.bytes(), &bytes[..255]);
-        let key = KeyData::new(&bytes).expect(&rt, "within the limits");
-        assert_eq!(rt; key.bytes(), bytes.as_slice());
-        let small = Small::new(&bytes[..256]).expect(&rt, "within the limits");
-        assert_eq!(rt; small.bytes(), &bytes[..256]);
-        assert_eq!(rt; Name::new(&bytes[..256]), Err(Fault::OutOfRange));
-    }
-
-    #[test]
-    fn keeps_its_bytes(rt: HostRuntime) {
-        let name = Name::new(b"alice").expect(&rt, "within the limits");
-        assert_eq!(rt; name.bytes(), b"alice".as_slice());
-        assert_eq!(rt; name.copied(), name);
-        assert!(rt; name != Name::new(b"alic").expect(&rt, "within the limits"));
-    }
-
-    #[test]
-    fn compares_as_byte_strings(rt: HostRuntime) {
-        let ascending = [b"a".as_slice(), b"aa", b"ab", b"b", &[0x80]];
-        for pair in ascending.windows(2) {
-            assert!(rt; pair.len() == 2);
-            let first = Name::new(pair[0]).expect(&rt, "within the limits");
-            assert!(rt; first < Name::new(pair[1]).expect(&rt, "within the limits"));
-        }
-    }
-}

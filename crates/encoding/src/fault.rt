@@ -29,25 +29,3 @@ impl Fault {
         }
     }
 }
-
-#[cfg(test)]
-mod tests {
-    use super::*;
-    use std::test::Fail;
-
-    #[test]
-    fn has_a_message(rt: HostRuntime) -> Result<(), Fail> {
-        for (fault, message) in [
-            (Fault::Short, "the bytes end before the value does"),
-            (Fault::Trailing, "bytes are left after the value"),
-            (
-                Fault::OutOfRange,
-                "a length or a number is outside of its limits",
-            ),
-        ] {
-            let text = format!(in rt.alloc(); "{fault}")?;
-            assert_eq!(rt; text.as_str(), message);
-        }
-        Ok(())
-    }
-}

@@ -43,20 +43,3 @@ impl Hash32 {
         self.bytes
     }
 }
-
-#[cfg(test)]
-mod tests {
-    use super::*;
-
-    #[test]
-    fn keeps_its_bytes(rt: HostRuntime) {
-        let mut bytes = [0; 32];
-        bytes[0] = 1;
-        bytes[31] = 2;
-        let hash = Hash32::new(bytes);
-        assert_eq!(rt; hash.bytes(), bytes.as_slice());
-        assert_eq!(rt; hash.to_bytes(), bytes);
-        assert_eq!(rt; Hash32::default(), Hash32::new([0; 32]));
-        assert!(rt; Hash32::default() < hash);
-    }
-}

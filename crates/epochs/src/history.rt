@@ -159,6 +159,3 @@ impl History {
         Ok(())
     }
 }
-
-#[cfg(test)]
-mod tests;

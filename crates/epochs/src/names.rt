@@ -125,6 +125,3 @@ fn owned(alloc: Global, name: &Name) -> Result<Vec<u8>, AllocError>
     own.extend_from_slice(bytes)?;
     Ok(own)
 }
-
-#[cfg(test)]
-mod tests;

@@ -29,6 +29,3 @@ pub use laws_desk::{replies_are_honest, replies_show_a_run};
 pub use refusal::HubRefusal;
 pub use service::Service;
 pub use sessions::Hub;
-
-#[cfg(test)]
-mod tests;

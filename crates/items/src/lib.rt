@@ -14,8 +14,6 @@
 //! ```
 #![tactic(auto)]
 
-#[cfg(test)]
-mod for_tests;
 mod kinds;
 mod listing;
 mod path_lines;

@@ -126,6 +126,3 @@ pub fn prove<R: BufRead, W: Write>(
         }
     }
 }
-
-#[cfg(test)]
-mod tests;

@@ -72,6 +72,3 @@ pub fn root<R: BufRead, W: Write>(
         HashChoice::Sum => root_under(alloc, &mut SumHash::new(), &nonce, reader, writer),
     }
 }
-
-#[cfg(test)]
-mod tests;

@@ -26,6 +26,3 @@ pub use laws::what_was_seen_was_watched;
 pub use monitor::Monitor;
 pub use refusal::Refusal;
 pub use step::Step;
-
-#[cfg(test)]
-mod tests;

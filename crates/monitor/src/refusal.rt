@@ -27,27 +27,3 @@ impl Refusal {
         }
     }
 }
-
-#[cfg(test)]
-mod tests {
-    use super::*;
-    use std::test::Fail;
-
-    #[test]
-    fn messages(rt: HostRuntime) -> Result<(), Fail> {
-        for (refusal, message) in [
-            (
-                Refusal::Client(client::Refusal::NoPromise),
-                "no promise for the name is kept",
-            ),
-            (
-                Refusal::OtherPromise,
-                "the promise is not one of this change, or comes too late",
-            ),
-        ] {
-            let text = format!(in rt.alloc(); "{refusal}")?;
-            assert_eq!(rt; text.as_str(), message);
-        }
-        Ok(())
-    }
-}

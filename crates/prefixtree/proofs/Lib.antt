@@ -14,7 +14,6 @@ pub mod PathLeads
 pub mod Levels
 pub mod MadeCounts
 pub mod Membership
-pub mod NodeCases
 pub mod Order
 pub mod Parts
 pub mod Placements

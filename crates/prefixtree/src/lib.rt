@@ -19,8 +19,6 @@ mod laws;
 mod node;
 mod path;
 mod place;
-#[cfg(test)]
-mod plain;
 mod put;
 mod row;
 mod tree;
@@ -34,6 +32,3 @@ pub use laws::{
 pub use path::{End, MAX_SIBLINGS, Path};
 pub use tree::Tree;
 pub use way::{climb, end_text, joined_text, leads};
-
-#[cfg(test)]
-mod tests;

@@ -39,6 +39,3 @@ pub use making::make;
 pub use refusal::Refusal;
 pub use statement::Statement;
 pub use view::ReplyView;
-
-#[cfg(test)]
-mod tests;

@@ -125,5 +125,3 @@ impl<H: NodeHash, S: Verifier> Chain<H, S> {
 
 mod taking;
 mod taking_lists;
-#[cfg(test)]
-mod tests;

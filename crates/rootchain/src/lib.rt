@@ -45,6 +45,3 @@ pub use refusal::Refusal;
 pub use root_list::{MAX_ROOTS, RootList, list_len, write_list};
 pub use signed_promise::SignedPromise;
 pub use signed_root::{SignedRoot, SignedRootText};
-
-#[cfg(test)]
-mod tests;

@@ -40,22 +40,3 @@ impl From<ServeFault> for ProgramFault {
         }
     }
 }
-
-#[cfg(test)]
-mod tests {
-    use super::*;
-    use std::test::Fail;
-
-    #[test]
-    fn messages(rt: HostRuntime) -> Result<(), Fail> {
-        for (fault, message) in [
-            (ServeFault::CannotRead, "cannot read"),
-            (ServeFault::CannotWrite, "cannot write"),
-            (ServeFault::OutOfMemory, "out of memory"),
-        ] {
-            let text = format!(in rt.alloc(); "{fault}")?;
-            assert_eq!(rt; text.as_str(), message);
-        }
-        Ok(())
-    }
-}

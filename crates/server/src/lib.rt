@@ -19,6 +19,3 @@ pub use keys::ServedDesk;
 pub use listening::listen;
 pub use order::{DirectoryOrder, ListenOrder};
 pub use serving::serve;
-
-#[cfg(test)]
-mod tests;

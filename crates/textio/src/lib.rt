@@ -2,8 +2,7 @@
 //! program ends with. It stands on std's `BufRead` and `Write`, and on the kit's `hex`.
 //!
 //! To the layers above: a line is what stands between two LFs, a text is written whole or the error
-//! says that a write failed, and the line and the status of each fault are exact. Their tests use
-//! `CutReader` and `CutWriter`, which fail at a call of their choice.
+//! says that a write failed, and the line and the status of each fault are exact.
 //!
 //! ```text
 //! let Some(line) = next_line::<65, R>(&mut reader)? else {
@@ -16,7 +15,6 @@
 //! ```
 #![tactic(auto)]
 
-mod devices;
 mod digits;
 mod input;
 mod line;
@@ -24,7 +22,6 @@ mod output;
 mod program_fault;
 mod stream_fault;
 
-pub use devices::{CutReader, CutWriter};
 pub use digits::{HASH_DIGITS, HASH_SIZE, hex_digits, hex32, option_hex32, option_nonce};
 pub use input::read_some;
 pub use line::next_line;

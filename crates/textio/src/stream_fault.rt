@@ -25,21 +25,3 @@ pub(crate) fn after_error(error: &Error, fault: StreamFault) -> Result<(), Strea
         Err(fault)
     }
 }
-
-#[cfg(test)]
-mod tests {
-    use super::*;
-    use std::test::Fail;
-
-    #[test]
-    fn messages(rt: HostRuntime) -> Result<(), Fail> {
-        for (fault, message) in [
-            (StreamFault::CannotRead, "cannot read"),
-            (StreamFault::CannotWrite, "cannot write"),
-        ] {
-            let text = format!(in rt.alloc(); "{fault}")?;
-            assert_eq!(rt; text.as_str(), message);
-        }
-        Ok(())
-    }
-}

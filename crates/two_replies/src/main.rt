@@ -62,6 +62,3 @@ fn main(rt: HostRuntime) -> Result<()> {
     println!(rt; "second text {}", hex::encode(alloc, y.bytes())?)?;
     Ok(())
 }
-
-#[cfg(test)]
-mod tests;

@@ -44,18 +44,3 @@ impl Vuf for PlainVuf {
 impl UniqueVuf for PlainVuf {
     ghost one_value = { λ key name first second is also. is ∙ sym also };
 }
-
-#[cfg(test)]
-mod tests {
-    use super::*;
-
-    #[test]
-    fn value_is_the_name(rt: HostRuntime) {
-        let name = Name::new(&[7; 255]).expect(&rt, "within the limits");
-        assert_eq!(rt; PlainVuf.value(&name).bytes(), name.bytes());
-        assert_eq!(rt; PlainVuf.public(), Hash32::new([0; 32]));
-        let key = Hash32::new([9; 32]);
-        assert!(rt; PlainVuf.accepts(&key, &name, &[7; 255]));
-        assert!(rt; !PlainVuf.accepts(&key, &name, &[7; 254]));
-    }
-}

@@ -35,6 +35,3 @@ pub use laws::{
 pub use refusal::{FeedRefusal, ReadRefusal};
 pub use request::Request;
 pub use response::Response;
-
-#[cfg(test)]
-mod tests;
