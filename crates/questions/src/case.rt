@@ -73,11 +73,12 @@ impl<'a> Case<'a> {
         self.trouble == Trouble::OutOfMemory
     }
 
-    pub(crate) fn is_spoiled(&self) -> bool {
+    /// Whether an argument was not there or not of its form.
+    pub fn is_spoiled(&self) -> bool {
         self.trouble == Trouble::BadQuestion
     }
 
-    /// The call lacked memory: the case is tried again.
+    /// A call lacked memory. The question is tried again.
     pub fn lack_memory(&mut self) {
         self.trouble = Trouble::OutOfMemory;
     }
@@ -110,7 +111,7 @@ impl<'a> Case<'a> {
         self.words.get(place)
     }
 
-    /// The next word's text.
+    /// The next word as it stands.
     pub fn word(&mut self) -> &'a [u8] {
         match self.take() {
             Some(word) => word.text,
@@ -131,6 +132,41 @@ impl<'a> Case<'a> {
                 self.spoil();
                 &[]
             }
+        }
+    }
+
+    /// The next word's bytes, or `None` if the word is `none`.
+    pub fn option(&mut self) -> Option<&'a [u8]> {
+        match self.words.get(self.next) {
+            Some(word) if word.text == b"none".as_slice() => {
+                self.next = self.next.saturating_add(1);
+                None
+            }
+            _ => Some(self.bytes()),
+        }
+    }
+
+    fn text_of(&mut self, bytes: &'a [u8]) -> &'a str {
+        match str::from_utf8(bytes) {
+            Ok(text) => text,
+            Err(_) => {
+                self.spoil();
+                ""
+            }
+        }
+    }
+
+    /// The next word's bytes, as a text.
+    pub fn text(&mut self) -> &'a str {
+        let bytes = self.bytes();
+        self.text_of(bytes)
+    }
+
+    /// The next word's bytes, as a text, or `None` if the word is `none`.
+    pub fn option_text(&mut self) -> Option<&'a str> {
+        match self.option() {
+            Some(bytes) => Some(self.text_of(bytes)),
+            None => None,
         }
     }
 
