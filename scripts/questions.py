@@ -963,9 +963,12 @@ class Tables:
     def reply(self, name, body=None):
         """The honest reply."""
         value = self.vuf.value(name)
-        path = self.tree.path(self.digest(value))
-        end = opened(path.end, *self.bindings.get(name, (b"", b"")))
-        return Reply(body or self.body(), value, end, tuple(path.siblings))
+        i = self.digest(value)
+        siblings, end = self.tree.path(i)
+        if isinstance(end, Present):
+            # Where another name has this index, its leaf is shown as that of another index, and refused.
+            end = Opening(*self.bindings[name]) if name in self.bindings else Other(i, end.commitment)
+        return Reply(body or self.body(), value, end, tuple(siblings))
 
 
 @subject("replies that can be followed by hand: hashes are sums, and the value of a name is the name")
@@ -1030,10 +1033,12 @@ def of_worked_replies(q, rng):
         (body, b"a", ab, body, b"a", ab[:187]), (other_body, b"a", ab, body, b"a", ab[:187]),
     ]:
         q.ask("replies same-any", *(word.write() if isinstance(word, Body) else word for word in words))
-    q.note("two names on one index: bc, a, whose value is that of the other, has the sum of two")
+    q.note("two names on one index: bc is bound, cb is not; beside it zz, and c, which is not bound either")
     pair = Tables(byte_sum, PlainVuf(), ZERO32, {b"bc": (ZERO32, b"k"), b"zz": (ZERO32, b"k")})
+    body = q.let("body", pair.body().write())
     for name in [b"bc", b"cb", b"zz", b"c"]:
-        q.ask("replies accept-sum", pair.body().write(), name, pair.reply(name).write())
+        text = q.let(name.decode(), pair.reply(name).write())
+        q.ask("replies accept-sum", body, name, text)
 
 
 @subject("as many siblings as an index has bits")
