@@ -1,6 +1,7 @@
 """The answers of the program `session_vectors` by the reference model.
 
-Words and answers are those of answers.py. A subject that ends in `-sum` has the same verbs by the sum of bytes,
+Words and answers are those of answers.py; directories and hubs of `run` and `hub new` have the keys of a script,
+and the token 04 32 times. A subject that ends in `-sum` has the same verbs by the sum of bytes,
 where the value of a name is the name. A verb on a value that is not there yet is `bad question`.
 """
 
@@ -8,29 +9,10 @@ from answers import BadQuestion, Lines, place_words, refused, statement_words, t
 from formats import *
 from sessions import *
 
-SIGN_KEY, VUF_KEY, SALT_KEY, HUB_TOKEN = (bytes([k]) * 32 for k in (1, 2, 0, 4))
+HUB_TOKEN = bytes([4]) * 32
 MAX_PROOF_TEXT = 10700
-U32, U16 = 2**32 - 1, 2**16 - 1
+MAX_SESSION = 2**32 - 1
 EVIDENCE_KINDS = (FORK, LINK, SKIP, BROKEN)
-
-
-def summed(verb):
-    """The same verb by the sum of bytes."""
-    return lambda self, w: verb(self, w, "sum")
-
-
-def text(w):
-    """A text as bytes."""
-    data = w.bytes()
-    try:
-        data.decode()
-    except UnicodeDecodeError:
-        raise BadQuestion from None
-    return data
-
-
-def text_or_none(w):
-    return None if w.peek("none") else text(w)
 
 
 def or_none(value):
@@ -48,74 +30,90 @@ def due_words(due):
     return [due]
 
 
-def outcome_words(outcome):
-    return place_words(outcome)
+def there(value):
+    """A value that was made by an earlier line."""
+    if value is None:
+        raise BadQuestion
+    return value
+
+
+class Values:
+    """A directory, a client and another one, under one digest and one verifiable function."""
+
+    def __init__(self, digest, vuf):
+        self.digest, self.vuf = digest, vuf
+        self.directory = self.client = self.other = None
 
 
 class SessionAnswers(Lines):
-    """What stays from line to line: two directories, a hub, two pairs of clients, a monitor, an auditor."""
+    """What stays from line to line: values of both kinds, a hub, a monitor and an auditor."""
 
     def __init__(self, scripts):
         super().__init__()
         self.scripts = scripts
-        self.directories, self.clients, self.others = {}, {}, {}
+        self.keyed, self.summed = Values(sha256, KeyedVuf), Values(byte_sum, PlainVuf)
+        self.values = self.keyed
         self.hub = self.monitor = None
         self.auditor = Auditor(sha256)
 
-    def held(self, values, which):
-        if which not in values:
-            raise BadQuestion
-        return values[which]
+    def verb(self, subject, words):
+        if subject == "script":
+            return self.script
+        self.values = self.keyed
+        if subject in ("directory-sum", "client-sum"):
+            subject, self.values = subject.removesuffix("-sum"), self.summed
+        return super().verb(subject, words)
 
     # directory
 
+    def new_directory(self, epoch, nonce, sign_key, vuf_key, salt_key):
+        if self.values is self.keyed:
+            return keyed_directory(epoch, nonce, sign_key, vuf_key, salt_key)
+        return summed_directory(epoch, nonce, sign_key, salt_key)
+
+    def directory(self):
+        return there(self.values.directory)
+
     def directory_new(self, w):
-        """`new EPOCH NONCE SIGN VUF SALT`: the head."""
-        epoch, nonce = w.number(), w.hash()
-        self.directories["keyed"] = keyed_directory(epoch, nonce, w.hash(), w.hash(), w.hash())
+        """`new EPOCH NONCE SIGN VUF SALT`, without VUF by the sum: the head."""
+        epoch, nonce, sign_key = w.number(), w.hash(), w.hash()
+        vuf_key = w.hash() if self.values is self.keyed else None
+        self.values.directory = self.new_directory(epoch, nonce, sign_key, vuf_key, w.hash())
         return self.directory_head(w)
 
-    def directory_sum_new(self, w):
-        """`new EPOCH NONCE SIGN SALT`."""
-        epoch, nonce = w.number(), w.hash()
-        self.directories["sum"] = summed_directory(epoch, nonce, w.hash(), w.hash())
-        return self.directory_head(w, "sum")
+    def directory_head(self, w):
+        return [told(self.directory().head().write())]
 
-    def directory(self, which):
-        return self.held(self.directories, which)
+    def directory_register(self, w):
+        """`register NAME KEY`"""
+        return [told(self.directory().register(w.bytes(), w.bytes()).write())]
 
-    def directory_head(self, w, which="keyed"):
-        return [told(self.directory(which).head().write())]
+    def directory_change(self, w):
+        """`change NAME KEY`"""
+        return [told(self.directory().change(w.bytes(), w.bytes()).write())]
 
-    def directory_register(self, w, which="keyed"):
-        return [told(self.directory(which).register(w.bytes(), w.bytes()).write())]
+    def directory_promise(self, w):
+        """`promise NAME`"""
+        return [told(self.directory().promise(w.bytes()).write())]
 
-    def directory_change(self, w, which="keyed"):
-        return [told(self.directory(which).change(w.bytes(), w.bytes()).write())]
+    def directory_close(self, w):
+        """`close EPOCH`"""
+        return [told(self.directory().close(w.number()).write())]
 
-    def directory_promise(self, w, which="keyed"):
-        return [told(self.directory(which).promise(w.bytes()).write())]
+    def directory_lookup(self, w):
+        """`lookup NAME EPOCH`"""
+        return [told(self.directory().lookup(w.bytes(), w.number()).write())]
 
-    def directory_close(self, w, which="keyed"):
-        return [told(self.directory(which).close(w.number()).write())]
-
-    def directory_lookup(self, w, which="keyed"):
-        return [told(self.directory(which).lookup(w.bytes(), w.number()).write())]
-
-    def directory_history(self, w, which="keyed"):
+    def directory_history(self, w):
         """`history FROM COUNT`: how many roots, and their bytes joined."""
-        roots = self.directory(which).history(w.number(), w.number(U16))
+        roots = self.directory().history(w.number(), w.number(2**16 - 1))
         return [str(len(roots)), told(b"".join(root.write() for root in roots))]
 
-    def directory_run(self, w, which="keyed"):
+    def directory_run(self, w):
         """`run EPOCH NONCE MESSAGE..`: a new directory; each message is the kind and the body of a request."""
         epoch, nonce = w.number(), w.hash()
         requests = [self.request(message) for message in w.all_bytes()]
-        if which == "keyed":
-            directory = keyed_directory(epoch, nonce, SIGN_KEY, VUF_KEY, SALT_KEY)
-        else:
-            directory = summed_directory(epoch, nonce, SIGN_KEY, SALT_KEY)
-        replies = directory.run(requests)
+        replies = self.new_directory(epoch, nonce, SIGN_KEY, VUF_KEY, SALT_KEY).run(requests)
         return [str(len(replies)), told(b"".join(response_frame(*reply) for reply in replies))]
 
     @staticmethod
@@ -124,15 +122,6 @@ class SessionAnswers(Lines):
             return read_request(message[0], message[1:])
         except (IndexError, Refusal):
             raise BadQuestion from None
-
-    directory_sum_head = summed(directory_head)
-    directory_sum_register = summed(directory_register)
-    directory_sum_change = summed(directory_change)
-    directory_sum_promise = summed(directory_promise)
-    directory_sum_close = summed(directory_close)
-    directory_sum_lookup = summed(directory_lookup)
-    directory_sum_history = summed(directory_history)
-    directory_sum_run = summed(directory_run)
 
     # hub
 
@@ -146,23 +135,17 @@ class SessionAnswers(Lines):
         self.hub = self.new_hub(w)
         return ["ok"]
 
-    def event(self, w, verb):
-        piece = [w.bytes()] if verb == "bytes" else []
-        return piece
-
     def hub_open(self, w):
-        return [told(self.begun_hub().open(w.number(U32)))]
+        """`open S`"""
+        return [told(there(self.hub).open(w.number(MAX_SESSION)))]
 
     def hub_bytes(self, w):
-        return [told(self.begun_hub().bytes(w.number(U32), w.bytes()))]
+        """`bytes S PIECE`"""
+        return [told(there(self.hub).bytes(w.number(MAX_SESSION), w.bytes()))]
 
     def hub_end(self, w):
-        return [told(self.begun_hub().end(w.number(U32)))]
-
-    def begun_hub(self):
-        if self.hub is None:
-            raise BadQuestion
-        return self.hub
+        """`end S`"""
+        return [told(there(self.hub).end(w.number(MAX_SESSION)))]
 
     def hub_run(self, w):
         """`run EPOCH NONCE (open S|bytes S PIECE|end S)..`: the output of each session of a new hub."""
@@ -172,7 +155,7 @@ class SessionAnswers(Lines):
             verb = w.word()
             if verb not in ("open", "bytes", "end"):
                 raise BadQuestion
-            session = w.number(U32)
+            session = w.number(MAX_SESSION)
             events.append((verb, session, w.bytes()) if verb == "bytes" else (verb, session))
         return [f"{session}:{told(output)}" for session, output in hub.run(events)] or ["-"]
 
@@ -187,7 +170,7 @@ class SessionAnswers(Lines):
 
     def serve_run(self, w):
         """`run EPOCH NONCE INPUT`, NONCE a text or `none`."""
-        epoch, nonce, stream = w.number(), text_or_none(w), w.bytes()
+        epoch, nonce, stream = w.number(), w.optional(w.text), w.bytes()
         if epoch == 0:
             raise BadQuestion
         keys = [key.hex().encode() for key in (SIGN_KEY, VUF_KEY, SALT_KEY, HUB_TOKEN)]
@@ -195,63 +178,63 @@ class SessionAnswers(Lines):
 
     def serve_keys(self, w):
         """`keys SIGN VUF SALT TOKEN INPUT`, texts and what is read."""
-        return self.served(*(text(w) for _ in range(4)), 1, None, w.bytes())
+        return self.served(*(w.text() for _ in range(4)), 1, None, w.bytes())
 
     # client
 
-    def client(self, which="keyed"):
-        return self.held(self.clients, which)
+    def client(self):
+        return there(self.values.client)
 
-    def client_start(self, w, which="keyed"):
+    def client_start(self, w):
         """`start KEY ROOT`"""
-        digest, vuf = (sha256, KeyedVuf) if which == "keyed" else (byte_sum, PlainVuf)
-        self.clients[which] = Client(w.hash(), w.bytes(), digest, vuf)
+        self.values.client = Client(w.hash(), w.bytes(), self.values.digest, self.values.vuf)
         return ["ok"]
 
+    def client_update(self, w):
+        """`update LIST`"""
+        return self.updated(self.client(), w.bytes())
+
     @staticmethod
-    def updated(taker, w):
+    def updated(taker, roots):
         try:
-            taker.update(w.bytes())
+            taker.update(roots)
         except ClientRefusal as refusal:
             return [f"{refused(refusal)}:", *place_words(refusal.evidence)]
         return ["ok"]
 
-    def client_update(self, w, which="keyed"):
-        return self.updated(self.client(which), w)
-
-    def client_look(self, w, which="keyed"):
+    def client_look(self, w):
         """`look NAME EPOCH REPLY`"""
-        return statement_words(self.client(which).look(w.name(), w.number(), w.bytes()))
+        return statement_words(self.client().look(w.name(), w.number(), w.bytes()))
 
-    def client_keep(self, w, which="keyed"):
+    def client_keep(self, w):
         """`keep PROMISE`"""
-        self.client(which).keep_promise(w.bytes())
+        self.client().keep_promise(w.bytes())
         return ["ok"]
 
-    def client_due(self, w, which="keyed"):
+    def client_due(self, w):
         """`due NAME REPLY`"""
-        return due_words(self.client(which).due(w.name(), w.bytes()))
+        return due_words(self.client().due(w.name(), w.bytes()))
 
-    def client_due_epoch(self, w, which="keyed"):
-        return [or_none(self.client(which).due_epoch(w.name()))]
+    def client_due_epoch(self, w):
+        """`due-epoch NAME`"""
+        return [or_none(self.client().due_epoch(w.name()))]
 
-    def client_key(self, w, which="keyed"):
-        return [told(self.client(which).key)]
+    def client_key(self, w):
+        return [told(self.client().key)]
 
-    def client_head(self, w, which="keyed"):
-        return [told(self.client(which).head().write())]
+    def client_head(self, w):
+        return [told(self.client().head().write())]
 
-    def client_put_aside(self, w, which="keyed"):
+    def client_put_aside(self, w):
         """The client becomes the other one."""
-        self.others[which] = self.client(which)
-        del self.clients[which]
+        self.values.client, self.values.other = None, self.client()
         return ["ok"]
 
-    def client_reconcile(self, w, which="keyed"):
-        return self.reconciled(self.client(which), self.held(self.others, which))
+    def client_reconcile(self, w):
+        return self.reconciled(self.client(), there(self.values.other))
 
-    def client_reconcile_self(self, w, which="keyed"):
-        return self.reconciled(self.client(which), self.client(which))
+    def client_reconcile_self(self, w):
+        return self.reconciled(self.client(), self.client())
 
     @staticmethod
     def reconciled(one, other):
@@ -259,62 +242,45 @@ class SessionAnswers(Lines):
             raise BadQuestion
         return place_words(reconcile(one, other))
 
-    client_sum_start = summed(client_start)
-    client_sum_update = summed(client_update)
-    client_sum_look = summed(client_look)
-    client_sum_keep = summed(client_keep)
-    client_sum_due = summed(client_due)
-    client_sum_due_epoch = summed(client_due_epoch)
-    client_sum_key = summed(client_key)
-    client_sum_head = summed(client_head)
-    client_sum_put_aside = summed(client_put_aside)
-    client_sum_reconcile = summed(client_reconcile)
-    client_sum_reconcile_self = summed(client_reconcile_self)
-
     # monitor
-
-    def begun_monitor(self):
-        if self.monitor is None:
-            raise BadQuestion
-        return self.monitor
 
     def monitor_new(self, w):
         """`new NAME KEY|none`: takes the client."""
-        name, key = w.name(), None if w.peek("none") else w.key()
-        self.monitor = Monitor(self.client(), name, key)
-        del self.clients["keyed"]
+        name, start = w.name(), w.optional(w.key)
+        self.monitor, self.values.client = Monitor(self.client(), name, start), None
         return ["ok"]
 
     def monitor_update(self, w):
-        return self.updated(self.begun_monitor(), w)
+        """`update LIST`"""
+        return self.updated(there(self.monitor), w.bytes())
 
     def monitor_expect(self, w):
         """`expect KEY PROMISE`"""
-        self.begun_monitor().expect_change(w.key(), w.bytes())
+        there(self.monitor).expect_change(w.key(), w.bytes())
         return ["ok"]
 
     def monitor_step(self, w):
         """`step REPLY`"""
-        step = self.begun_monitor().step(w.bytes())
+        step = there(self.monitor).step(w.bytes())
         return [step] if step == KEPT else ["alarm", str(step.epoch), *statement_words(step.found)]
 
     def monitor_next(self, w):
-        return [or_none(self.begun_monitor().next_epoch())]
+        return [or_none(there(self.monitor).next_epoch())]
 
     def monitor_expected(self, w):
         """`expected EPOCH`"""
-        return [or_none(self.begun_monitor().expected(w.number()))]
+        return [or_none(there(self.monitor).expected(w.number()))]
 
     def monitor_name(self, w):
-        return [told(self.begun_monitor().name)]
+        return [told(there(self.monitor).name)]
 
     def monitor_client(self, w):
         """The epoch of its client's head."""
-        return [str(self.begun_monitor().client.head().epoch)]
+        return [str(there(self.monitor).client.head().epoch)]
 
     def monitor_reconcile(self, w):
         """Its client with the other one."""
-        return self.reconciled(self.begun_monitor().client, self.held(self.others, "keyed"))
+        return self.reconciled(there(self.monitor).client, there(self.values.other))
 
     # auditor
 
@@ -372,7 +338,7 @@ class SessionAnswers(Lines):
     def evidence_judge(self, w):
         """`judge KEYTEXT BYTES`"""
         try:
-            status, written = judge_file(text(w), w.bytes())
+            status, written = judge_file(w.text(), w.bytes())
         except ProgramFault as fault:
             return fault_words(fault, "-")
         return ["ok", str(status), told_text(written)]
@@ -380,15 +346,17 @@ class SessionAnswers(Lines):
     def evidence_audit(self, w):
         """`audit KEYTEXT INPUT`"""
         try:
-            return ["ok", told_text(audit(text(w), w.bytes()))]
+            return ["ok", told_text(audit(w.text(), w.bytes()))]
         except ProgramFault as fault:
             return fault_words(fault, "-")
 
     # scripts
 
-    def script(self, name):
-        """The lines of a script, and one more where it stops at a line that is no command."""
+    def script(self, w):
+        """`script NAME`: its lines, and one more where it stops at a line that is no command."""
+        name = w.word()
         if name not in self.scripts:
             raise BadQuestion
         printed, stopped = played(self.scripts[name].encode())
-        return printed if stopped is None else [*printed, f"line {stopped}: not a command"]
+        told = printed if stopped is None else [*printed, f"line {stopped}: not a command"]
+        return ["\n".join(told)]
