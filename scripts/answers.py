@@ -122,6 +122,22 @@ class Words:
             raise BadQuestion
         return int(word)
 
+    def text(self):
+        """Bytes that are UTF-8."""
+        data = self.bytes()
+        try:
+            data.decode()
+        except UnicodeDecodeError:
+            raise BadQuestion from None
+        return data
+
+    def optional(self, read):
+        """What a reader takes, or `none`."""
+        if self.words[:1] == ["none"]:
+            self.word()
+            return None
+        return read()
+
     def of_size(self, size):
         data = self.bytes()
         if len(data) != size:
@@ -193,14 +209,18 @@ class Lines:
             subject = words.word()
             if subject == "let":
                 return self.names.let(words.word(), words.word())
-            verb = getattr(self, f"{subject}_{words.word()}".replace("-", "_"), None)
-            if verb is None:
-                raise BadQuestion
-            return " ".join(verb(words))
+            return " ".join(self.verb(subject, words)(words))
         except BadQuestion:
             return "bad question"
         except Refusal as refusal:
             return refused(refusal)
+
+    def verb(self, subject, words):
+        """The method of a subject and of the verb behind it."""
+        verb = getattr(self, f"{subject}_{words.word()}".replace("-", "_"), None)
+        if verb is None:
+            raise BadQuestion
+        return verb
 
     def answers(self, questions):
         """The answers to all lines that are questions."""
@@ -817,31 +837,17 @@ class Answers(Lines):
     def stopped(self, fault):
         return ["fault", str(fault.status), fault.text]
 
-    def option_text(self, w):
-        data = w.bytes()
-        try:
-            data.decode()
-        except UnicodeDecodeError:
-            raise BadQuestion from None
-        return data
-
-    def option_or_none(self, w):
-        if w.words[:1] == ["none"]:
-            w.word()
-            return None
-        return self.option_text(w)
-
     def text_option_hex(self, w):
         """`option-hex TEXT`"""
         try:
-            return [told(option_hex32(self.option_text(w)))]
+            return [told(option_hex32(w.text()))]
         except ProgramFault as fault:
             return self.stopped(fault)
 
     def text_option_nonce(self, w):
         """`option-nonce TEXT`, or `none`"""
         try:
-            return [told(option_nonce(self.option_or_none(w)))]
+            return [told(option_nonce(w.optional(w.text)))]
         except ProgramFault as fault:
             return self.stopped(fault)
 
@@ -871,11 +877,11 @@ class Answers(Lines):
 
     def items_root(self, w):
         """`root HASH NONCE INPUT`: HASH is `sha256` or `sum`, NONCE a text or `none`."""
-        digest, nonce, data = self.digest(w), self.option_or_none(w), w.bytes()
+        digest, nonce, data = self.digest(w), w.optional(w.text), w.bytes()
         return self.ran(lambda: root_text(digest, nonce, data))
 
     def items_prove(self, w):
         """`prove HASH NONCE INDEX INPUT`: INDEX is a text."""
-        digest, nonce = self.digest(w), self.option_or_none(w)
-        index, data = self.option_text(w), w.bytes()
+        digest, nonce = self.digest(w), w.optional(w.text)
+        index, data = w.text(), w.bytes()
         return self.ran(lambda: prove_text(digest, nonce, index, data))

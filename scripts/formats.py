@@ -457,13 +457,19 @@ class Tree:
     The node of a prefix with no item is an empty node, with one its leaf, with more an interior node.
     """
 
-    def __init__(self, digest, nonce, items=()):
+    def __init__(self, digest, nonce, items=(), nodes=()):
         self.digest, self.nonce, self.items = digest, nonce, dict(items)
         self.rows = sorted(self.items)
-        self.nodes = {}
+        self.nodes = dict(nodes)
 
     def changed(self, changes):
-        return Tree(self.digest, self.nonce, self.items | dict(changes))
+        """The tree with these items put in. Nodes with no change below them are as before."""
+        changes = dict(changes)
+        nodes = dict(self.nodes)
+        for index in changes:
+            for level in range(257):
+                nodes.pop((level, cut(index, level)), None)
+        return Tree(self.digest, self.nonce, self.items | changes, nodes)
 
     def split(self, low, high, level):
         """Where the rows of bit 1 begin, of rows that agree in so many bits."""
