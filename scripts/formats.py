@@ -8,8 +8,8 @@
     scripts/formats.py --requests        writes the bytes of all requests
     scripts/formats.py --replies         writes the bytes of their replies
     scripts/formats.py --in FILE         looks for what is printed in a document
-    scripts/formats.py --audited         prints lines for `audit`, and its answer to each
-    scripts/formats.py --evidence        prints evidence for `judge`, and whether it holds
+    scripts/formats.py --audited         prints lines for `audit`, each with its answer behind a space
+    scripts/formats.py --evidence        prints the status of `judge`, a kind and the file, a line each
     scripts/formats.py --vectors         writes the stored questions and answers of the test programs
     scripts/formats.py --vectors --check compares them instead
 
@@ -1252,4 +1252,7 @@ def prove_text(digest, nonce, index, data):
 if __name__ == "__main__":
     import worked  # here, so that the model stands alone where it is imported
 
-    sys.exit(worked.main(sys.argv[1:]))
+    try:
+        sys.exit(worked.main(sys.argv[1:], __doc__))
+    except OSError as error:
+        sys.exit(f"{sys.argv[-1]}: {error}")
