@@ -41,6 +41,10 @@ class Questions:
                 self.places.setdefault(value[at : at + self.window], (known, at))
         return data
 
+    def let_be(self, name, word):
+        """Names the bytes of a word that is written out here. Later words have to write `$NAME` themselves."""
+        self.lines.append(f"let {name} {word}")
+
     def ask(self, verb, *words):
         """A question: bytes as a word, numbers in decimal, texts as they are."""
         told = [self.word(word) if isinstance(word, bytes) else str(word) for word in words]
@@ -68,16 +72,26 @@ class Questions:
     def longest(self, data, at):
         """How the bytes at a place are written shorter than in digits, and how many they are."""
         run = len(data) - at - len(data[at:].lstrip(data[at : at + 1]))
-        name, size, start = None, 0, 0
-        if (place := self.places.get(data[at : at + self.window])) is not None:
-            name, start = place
-            value = self.named[name]
-            while at + size < len(data) and start + size < len(value) and data[at + size] == value[start + size]:
-                size += 1
+        name, start, size = self.named_at(data, at)
         if size > run and 2 * size > len(name) + 12:
             whole = size == len(self.named[name])
             return (f"${name}" if whole else f"${name}/{start}/{start + size}"), size
         return (f"{data[at]:02x}*{run}", run) if run >= 5 else (None, 0)
+
+    def named_at(self, data, at):
+        """The name whose bytes stand at a place, where they begin in it, and how many they are: a whole value
+        where there is one."""
+        whole = [name for name, value in self.named.items() if value and data.startswith(value, at)]
+        if whole:
+            name = max(whole, key=lambda name: len(self.named[name]))
+            return name, 0, len(self.named[name])
+        name, start = self.places.get(data[at : at + self.window], (None, 0))
+        size = 0
+        if name is not None:
+            value = self.named[name]
+            while at + size < len(data) and start + size < len(value) and data[at + size] == value[start + size]:
+                size += 1
+        return name, start, size
 
 
 def run(first, size=32):
