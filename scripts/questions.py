@@ -42,6 +42,10 @@ class Questions:
             self.find_places(known, value)
         return data
 
+    def let_be(self, name, word):
+        """Names the bytes of a word that is written out here. Later words have to write `$NAME` themselves."""
+        self.lines.append(f"let {name} {word}")
+
     def find_places(self, name, data):
         for at in range(len(data) - self.window + 1):
             places = self.places.setdefault(data[at : at + self.window], [])
@@ -75,7 +79,8 @@ class Questions:
     def longest(self, data, at):
         """How the bytes at a place are written shorter than in digits, and how many they are."""
         run, rows, name, size, start = repeats(data, at, 1), repeats(data, at, 32), None, 0, 0
-        for known, place in self.places.get(data[at : at + self.window], ()):
+        whole = [(known, 0) for known, value in self.named.items() if value and data.startswith(value, at)]
+        for known, place in [*whole, *self.places.get(data[at : at + self.window], ())]:
             same = equal_bytes(data, at, self.named[known], place)
             if same > size:
                 name, start, size = known, place, same
