@@ -318,6 +318,15 @@ def of_nodes(q, rng):
         q.ask("nodes leaf", ZERO32, index(0x80), level, ZERO32)
     q.ask("nodes interior", run(0x60), run(0x80))
     q.ask("nodes interior", ZERO32, ZERO32)
+    q.note("digests and sums of these texts")
+    for texts in [
+        [empty_text(nonce, ones, 11), leaf_text(nonce, run(0x20), 256, run(0x40)), interior_text(run(0x60), run(0x80))],
+        [empty_text(ZERO32, ZERO32, 0), empty_text(ZERO32, index(0x80), 1), leaf_text(ZERO32, ZERO32, 0, ZERO32),
+         leaf_text(ZERO32, index(0x80), 1, ZERO32), interior_text(ZERO32, ZERO32)],
+        [interior_text(sha256(b"a"), sha256(b"b"))],
+    ]:
+        for verb in ["sha256", "sum", "all", "all-sum"]:
+            q.ask(f"nodes {verb}", *texts)
     q.note("name a and key ab; alice and k1; the shortest and the longest name and key")
     q.ask("nodes commit", ZERO32, b"a", b"ab")
     q.ask("nodes commit", ZERO32, b"a", b"ba")
@@ -986,6 +995,10 @@ def of_worked_replies(q, rng):
     def reply(value, end, *siblings):
         return Reply(body, value, end, tuple(number32(sibling) for sibling in siblings)).write()
 
+    q.note("made by the provider: 188 bytes; and others that it would not make")
+    q.ask("replies make", body.write(), b"a", "present", ZERO32, b"ab", b"")
+    q.ask("replies make", body.write(), b"a", "empty", number32(0xD3))
+    q.ask("replies make", body.write(), b"b", *path_words(leaf_of_a), b"")
     ab = q.let("ab", good.write())
     ba = q.let("ba", reply(b"a", Opening(ZERO32, b"ba")))
     absent = q.let("absent", reply(b"a", Empty(), 0xD3))
@@ -1052,6 +1065,8 @@ def of_tall_replies(q, rng):
     body = q.let("body", table.body().write())
     for name in [b"b", b"c", b"a", b"A"]:
         text = q.let(name.decode(), table.reply(name).write())
+        made = Reply.read(text)
+        q.ask("replies make", body, made.value, *path_words_of(made.end), b"".join(made.siblings))
         q.ask("replies read", text)
         q.ask("replies accept-sum", body, name, text)
         q.ask("replies accept-sum", body, name, text[:-1])
@@ -1440,6 +1455,8 @@ def of_items(q, rng):
         for digest in ["sum", "sha256"]:
             q.ask("items root", digest, "none", data)
             q.ask("items root", digest, "none", data[:-1])
+    q.ask("items root", "sum", digits_of(run(0xA0)), b"")
+    q.ask("items root", "sum", digits_of(run(0xA0)), zero + middle + high)
     q.note("paths in them")
     for first, data in [(0x00, b""), (0x00, zero), (0xC0, zero + high), (0x00, zero + middle + high), (0x80, zero + middle)]:
         for digest in ["sum", "sha256"]:
