@@ -66,14 +66,14 @@ impl KeptHub {
         if self.hub.is_some() || self.first.epoch == 0 {
             return;
         }
-        match make(case.alloc(), self.first) {
+        match make(case.alloc(), &self.first) {
             Ok(hub) => self.hub = live_again(case, hub, &self.past),
             Err(_) => case.lack_memory(),
         }
     }
 }
 
-fn make(alloc: Global, first: First) -> Result<Hub<ServedDesk>, Refusal> {
+fn make(alloc: Global, first: &First) -> Result<Hub<ServedDesk>, Refusal> {
     match make_keyed(alloc, first, &common_secrets()) {
         Ok(directory) => Ok(Hub::new(
             alloc,
@@ -134,15 +134,21 @@ fn new(case: &mut Case<'_>, kept: &mut KeptHub) {
     if case.is_spoiled() {
         return;
     }
-    match make(case.alloc(), first) {
+    match make(case.alloc(), &first) {
         Ok(hub) => {
-            kept.first = first;
-            kept.past.clear();
-            kept.hub = Some(hub);
+            keep_hub(case.alloc(), kept, first, hub);
             case.say("ok");
         }
         Err(why) => refuse(case, why),
     }
+}
+
+fn keep_hub(alloc: Global, kept: &mut KeptHub, first: First, hub: Hub<ServedDesk>) {
+    *kept = KeptHub {
+        first,
+        past: Vec::new(alloc),
+        hub: Some(hub),
+    };
 }
 
 /// The event of this verb: `open S`, `bytes S PIECE`, `end S`.
@@ -199,7 +205,7 @@ fn run(case: &mut Case<'_>) {
     if case.is_spoiled() {
         return;
     }
-    match make(case.alloc(), first) {
+    match make(case.alloc(), &first) {
         Ok(hub) => run_on(case, hub, &events),
         Err(why) => refuse(case, why),
     }
