@@ -10,10 +10,10 @@ from dataclasses import replace
 
 import session_scripts
 from formats import *
-from questions import Questions, run, spoiled
+from questions import Questions, run
 from session_answers import HUB_TOKEN, SessionAnswers
-from session_scripts import HEAD, hexed, key_of, name_of, split
-from sessions import SALT_KEY, SIGN_KEY, VUF_KEY, keyed_directory, summed_directory
+from session_scripts import HEAD, key_of, name_of, split
+from sessions import SALT_KEY, SIGN_KEY, VUF_KEY, Client, keyed_directory
 
 OTHER_KEY = bytes([9]) * 32
 LETTERS = bytes([0xAB]) * 32  # a key whose digits are letters
@@ -154,8 +154,7 @@ def of_salts(q, rng):
 @subject("a directory: some hundreds of names in one page, by calls and by a run")
 def of_names(q, rng):
     names = [name_of(number) for number in range(300)]
-    commands = [message("register", name, key_of(place)) for place, name in enumerate(names)]
-    commands += [message("close", HUB_TOKEN, 2)]
+    commands = [message("register", name, name[-1:]) for name in names] + [message("close", ZERO32, 2)]
     commands += [message("lookup", 2, name) for name in names]
     q.ask("directory run", 1, ZERO32, *commands)
 
@@ -164,7 +163,7 @@ def of_names(q, rng):
 def of_pages(q, rng):
     commands = [message("register", b"a", b"k")]
     for epoch in range(2, 302):
-        commands += [message("close", HUB_TOKEN, epoch), message("change", b"a", key_of(epoch))]
+        commands += [message("close", ZERO32, epoch), message("change", b"a", key_of(epoch))]
     commands += [message("lookup", epoch, b"a") for epoch in [0, *range(1, 302, 5), 301, 302]]
     commands += [message("history", start, 64) for start in [0, 60, 100, 101, 237, 238, 239, 301, 302]]
     q.ask("directory run", 1, ZERO32, *commands)
@@ -173,14 +172,14 @@ def of_pages(q, rng):
     commands += [message("promise", name_of(place)) for place in range(0, 60, 4)] + [message("close", ZERO32, 6)]
     commands += [message("lookup", 5 + place % 2, name_of(place)) for place in range(60)]
     q.ask("directory run", 1, ZERO32, *commands)
-    q.note("A page from the 101st on, and histories over many pages, by calls.")
+    q.note("Histories over more than 64 pages, by calls.")
     new_directory(q)
     q.ask("directory register", b"a", b"k")
-    for epoch in range(2, 105):
+    for epoch in range(2, 69):
         q.ask("directory close", epoch)
-    for start in [0, 1, 5, 40, 41, 42, 100, 104, 105]:
+    for start in [0, 1, 3, 4, 5, 6, 60, 68, 69]:
         q.ask("directory history", start, 64)
-    for epoch in [1, 2, 50, 99, 100, 101, 104]:
+    for epoch in [1, 2, 50, 67, 68]:
         q.ask("directory lookup", b"a", epoch)
 
 
@@ -192,18 +191,27 @@ def of_runs(q, rng):
     q.ask("directory run", 1, ZERO32, message("head") + b"\0")
     q.ask("directory run", 1, ZERO32, b"\x09")
     q.ask("directory run", 5, run(0xA0), message("close", ZERO32, 9), message("close", run(0), 9), message("head"))
-    for count in [3, 20, 120]:
+    q.note("70 pages, of the epochs 10, 20 and so on, and parts of their history.")
+    pages = [message("close", ZERO32, 10 * page) for page in range(2, 71)]
+    for start, count in [
+        (0, 64), (10, 64), (11, 64), (70, 64), (71, 64), (345, 3), (691, 64), (700, 1), (701, 64), (TOP, 1), (0, 65),
+        (0, 65535), (0, 0),
+    ]:
+        pages.append(message("history", start, count))
+    q.ask("directory run", 10, ZERO32, *pages)
+    q.note("Commands of all kinds, of which many are refused.")
+    for count in [3, 20, 400]:
         q.ask("directory run", rng.choice([1, 4]), rng.choice([ZERO32, run(3)]), *commands(rng, count))
 
 
 def commands(rng, count):
     """Messages of all kinds, of which many are refused."""
     epoch, messages = 4, []
-    names = [bytes([7]) * size for size in [0, 1, 2, 3, 4, 255, 256]]
-    keys = [bytes([9]) * size for size in [0, 1, 2, 3, 2048, 2049]]
+    names = [bytes([7]) * size for size in [0, 1, 2, 3, 4, 5, 32, 33, 255, 256]]
+    keys = [bytes([9]) * size for size in [0, 1, 2, 3, 31, 34, 700, 2048, 2049]]
     for _ in range(count):
         name, key = rng.choice(names), rng.choice(keys)
-        near = max(epoch + rng.randrange(-5, 2), 0)
+        near = max(epoch + rng.choice([-90, -9, -4, -3, -2, -1, 0, 1]), 0)
         messages.append(message(*rng.choice([
             ("register", name, key), ("register", name, key), ("change", name, key), ("change", name, key),
             ("promise", name), ("lookup", near, name), ("lookup", 0, name),
@@ -378,7 +386,7 @@ def of_hub_runs(q, rng):
     ]
     q.ask("hub run", 1, ZERO32, *(word for event in events for word in event))
     q.note("300 sessions, each with a frame that is refused, and some with a head.")
-    unread = q.let("unread", frame(9, b""))
+    unread = q.let("u", frame(9, b""))
     events = [("open", session, "bytes", session, unread) for session in range(300)]
     events += [("bytes", session, HEAD) for session in range(0, 300, 30)]
     q.ask("hub run", 1, ZERO32, *(word for event in events for word in event))
@@ -401,6 +409,32 @@ def stream_of(rng, count):
             yield closing(int.from_bytes(command[-8:], "big"), rng.choice([HUB_TOKEN] * 5 + [ZERO32]))
         else:
             yield frame(command[0] if rng.randrange(20) else 9, command[1:])
+
+
+@subject("a run of sessions that are opened, cut, failed and ended at random")
+def of_random_events(q, rng):
+    sessions = [0, 3, 4, 1000000, 2**32 - 1]
+    streams, events = {session: b"" for session in sessions}, []
+    for _ in range(250):
+        session = rng.choice(sessions)
+        turn = rng.randrange(20)
+        if turn == 0:
+            events += ["end", session]
+            streams[session] = b""
+        elif turn in (1, 2):
+            events += ["open", session]
+        else:
+            if not streams[session]:
+                streams[session] = b"".join(stream_of(rng, rng.randrange(1, 4))) + rng.choice([b""] * 12 + [b"\0\1\0\1"])
+            size = rng.randrange(len(streams[session]) + 1)
+            events += ["bytes", session, streams[session][:size]]
+            streams[session] = streams[session][size:]
+    q.ask("hub run", 3, run(5), *events)
+    q.note("The same, event by event.")
+    q.ask("hub new", 3, run(5))
+    while events:
+        verb, session = events.pop(0), events.pop(0)
+        q.ask(f"hub {verb}", session, *([events.pop(0)] if verb == "bytes" else []))
 
 
 @subject("a session from its input to its output")
@@ -767,6 +801,59 @@ def of_promises(q, rng):
             q.ask("client due-epoch", b"a")
             q.ask("client due", b"b", replies[1])
         q.ask("client due", b"a", replies[0])
+
+
+@subject("clients of a directory")
+def of_users(q, rng):
+    q.note("A provider that runs two directories from one first root, and keeps its promise in one of them alone.")
+    keeping, other = started(), started()
+    first = keeping.head()
+    promise = keeping.register(b"a", b"k").write()
+    for directory in (other, keeping):
+        directory.close(2)
+        q.ask("client start", SIGN_KEY, first.write())
+        q.ask("client keep", promise)
+        q.ask("client update", write_list(directory.history(2, 1)))
+        q.ask("client due", b"a", directory.lookup(b"a", 2).write())
+        q.ask("client due-epoch", b"a")
+        if directory is other:
+            q.ask("client put-aside")
+    q.ask("client reconcile")
+    q.note("A client that keeps promises, takes roots and looks names up, some of them too early or too late.")
+    directory, names, epochs, promises = started(), [b"alice", b"bob"], [1], []
+    q.let("root1", first.write())
+    q.ask("client start", SIGN_KEY, first.write())
+    user = Client(SIGN_KEY, first.write(), sha256, directory.vuf)
+
+    def told(verb, call, *words):
+        q.ask(f"client {verb}", *words)
+        try:
+            call(*words)
+        except Refusal:
+            pass
+
+    for turn in range(18):
+        name = rng.choice(names)
+        if name not in directory.waiting:
+            call = directory.change if name in directory.last().bindings else directory.register
+            promises.append(call(name, key_of(turn)).write())
+        told("keep", user.keep_promise, promises[-1 - rng.randrange(4) // 3])
+        if turn % 3:
+            epochs.append(epochs[-1] + rng.choice([1, 1, 4]))
+            q.let(f"root{epochs[-1]}", directory.close(epochs[-1]).write())
+        start = user.head().epoch + rng.choice([0, 0, 1, 5])
+        told("update", user.update, write_list(directory.history(start, rng.choice([1, 3, 3]))))
+        known = [epoch for epoch in epochs[-3:] if epoch <= user.head().epoch] or epochs[-3:]
+        shown = rng.choice(known)
+        asked = rng.choice([shown, shown, shown, 0, epochs[-1]])
+        told("look", user.look, name, asked, directory.lookup(name, shown).write())
+        for name in names:
+            q.ask("client due-epoch", name)
+            epoch = user.due_epoch(name) or rng.choice([0, 0, shown])
+            if epoch:
+                told("due", user.due, name, directory.lookup(name, rng.choice([epoch] * 4 + [shown])).write())
+    q.ask("client head")
+    q.ask("client reconcile-self")
 
 
 @subject("clients that are reconciled: chains")
@@ -1191,22 +1278,31 @@ def of_json(q, rng):
     key = q.let("key", SIGN_KEY.hex().encode())
     for kind, parts in cheats():
         first, second = json_parts(kind, parts)
-        q.let("first", first)
-        q.let("second", second)
-        text = q.let("text", json_of(kind, first, second))
+        for name, data in [("first", first), ("second", second)]:
+            q.let(name, data)
+            q.let(f"{name}_digits", data.hex().encode())
+        text = json_of(kind, first, second)
         q.ask("evidence json", kind, first, second)
         q.ask("evidence read", text)
         q.ask("evidence judge", key, text)
         for part in [first[:-1], first + b"\0"]:
             q.ask("evidence json", kind, part, second)
         q.ask("evidence json", kind, first, second + b"\0")
-        for part in [spoilt_byte(first, -1), second]:
-            q.ask("evidence judge", key, json_of(kind, part, second))
+        q.ask("evidence judge", key, json_of(kind, spoilt_byte(first, -1), second))
     q.note("The parts of a proof are not looked at where evidence is written.")
     promise, root, reply = next(parts for kind, parts in cheats() if kind == BROKEN)
-    for proof in [b"", b"\0", reply[:-1]]:
+    for name, data in [("promise", promise), ("root", root), ("reply", reply)]:
+        q.let(name, data)
+        q.let(f"{name}_digits", data.hex().encode())
+    for proof in [b"", b"\0", reply[:-1], reply + b"\0"]:
         q.ask("evidence json", BROKEN, promise, root + proof)
         q.ask("evidence read", json_of(BROKEN, promise, root + proof))
+    for kind, first, second in [(FORK, promise, root), (FORK, root, root), (BROKEN, root, root + reply), (BROKEN, promise, promise)]:
+        q.ask("evidence json", kind, first, second)
+        q.ask("evidence read", json_of(kind, first, second))
+    short = replace(SignedRoot.read(root), signature=b"s").write()
+    q.ask("evidence json", LINK, short, root)
+    q.ask("evidence read", json_of(LINK, short, root))
     q.ask("evidence json", BROKEN, promise, root[:-1])
     q.note("Signatures of up to 256 bytes, and replies of up to 10,681.")
     b = KEYED.page(7)
