@@ -16,6 +16,7 @@ from session_scripts import HEAD, hexed, key_of, name_of, split
 from sessions import SALT_KEY, SIGN_KEY, VUF_KEY, keyed_directory, summed_directory
 
 OTHER_KEY = bytes([9]) * 32
+LETTERS = bytes([0xAB]) * 32  # a key whose digits are letters
 TOP = MAX_EPOCH
 SUBJECTS = []
 
@@ -1245,7 +1246,11 @@ def of_files(q, rng):
     for text in good:
         q.ask("evidence read", text.encode())
         q.ask("evidence judge", key, text.encode())
-    q.ask("evidence judge", key.upper(), good[0].encode())
+    letters = LETTERS.hex().encode()
+    fork = [written(page.provider.page(7, nonce=page.body.nonce, sign_key=LETTERS)) for page in (a, b)]
+    for text in [letters, letters.upper()]:
+        q.ask("evidence judge", text, json_of(FORK, *fork))
+        q.ask("evidence judge", text, good[0].encode())
     q.note("Not an evidence file.")
     fork = f'{{"first":"{one}","kind":"fork","second":"{other}"}}'
     none = [
@@ -1325,8 +1330,11 @@ def of_auditing(q, rng):
     q.ask("evidence audit", key, text)
     q.note("The key.")
     other = OTHER_KEY.hex().encode()
-    for text in [key.upper(), other, key[1:], key + b"0", b"g" + key[1:], b""]:
+    for text in [other, key[1:], key + b"0", b"g" + key[1:], b""]:
         q.ask("evidence audit", text, chain)
+    letters = LETTERS.hex().encode()
+    for text in [letters, letters.upper()]:
+        q.ask("evidence audit", text, line(KEYED.page(3, sign_key=LETTERS)) + chain)
     q.ask("evidence audit", b"\xff", chain)
 
 
