@@ -21,7 +21,6 @@ A comparison ends with status 0 where all is as it is computed here.
 """
 
 import hashlib
-import json
 import struct
 import sys
 from bisect import bisect_left

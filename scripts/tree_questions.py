@@ -20,7 +20,9 @@ def of_small_trees(q, rng):
     q.ask("trees more")
     q.ask("trees count")
     q.note("put in one by one: how many digests each takes")
-    for i, commitment in [(low, ZERO32), (middle, ZERO32), (high, ZERO32), (high, number32(1)), (index(0x20), ZERO32)]:
+    for i, commitment in [
+        (low, ZERO32), (middle, ZERO32), (high, ZERO32), (high, number32(1)), (index(0x20), ZERO32),
+    ]:
         q.ask("trees with", i, commitment)
         q.ask("trees count")
         q.ask("trees copy")
@@ -46,8 +48,10 @@ def of_small_trees(q, rng):
     q.ask("trees root")
     q.note("many at once: how many digests, by what was there")
     for old, changes in [
-        ([0x00, 0x40], []), ([], [0x00, 0x40, 0x80]), ([0x40], [0x00, 0x80]), ([0x00, 0x40, 0x80], [0x00, 0x40, 0x80]),
-        ([0x00, 0x40, 0x80], [0x00, 0x80]), ([0x00, 0x40, 0x80], [0x80]), ([0x00, 0x80], [0x40]), ([0x00, 0x40], [0x20]),
+        ([0x00, 0x40], []), ([], [0x00, 0x40, 0x80]), ([0x40], [0x00, 0x80]),
+        ([0x00, 0x40, 0x80], [0x00, 0x40, 0x80]),
+        ([0x00, 0x40, 0x80], [0x00, 0x80]), ([0x00, 0x40, 0x80], [0x80]), ([0x00, 0x80], [0x40]),
+        ([0x00, 0x40], [0x20]),
         ([0x00], [0x20]), ([0x00, 0x40], [0x80, 0xC0]),
     ]:
         q.ask("trees from", ZERO32, *joined((index(first), ZERO32) for first in old))
@@ -243,7 +247,9 @@ def of_items(q, rng):
     q.ask("items root", "sum", digits_of(run(0xA0)), b"")
     q.ask("items root", "sum", digits_of(run(0xA0)), zero + middle + high)
     q.note("paths in them")
-    for first, data in [(0x00, b""), (0x00, zero), (0xC0, zero + high), (0x00, zero + middle + high), (0x80, zero + middle)]:
+    for first, data in [
+        (0x00, b""), (0x00, zero), (0xC0, zero + high), (0x00, zero + middle + high), (0x80, zero + middle),
+    ]:
         for digest in ["sum", "sha256"]:
             q.ask("items prove", digest, "none", digits_of(index(first)), data)
     q.note("digits of both cases, and a nonce")
@@ -257,8 +263,10 @@ def of_items(q, rng):
     q.note("lines that are no items, as the first and as the second")
     for bad in [
         b"0" * 64 + b"\t" + b"0" * 64, b"0" * 64 + b"  " + b"0" * 64, b"0" * 64 + b" " + b"0" * 64 + b" ",
-        b"0" * 64 + b" " + b"0" * 64 + b"\r", b"0" * 64 + b" " + b"0" * 63 + b"g", b"0" * 129, b"0" * 64 + b" " + b"0" * 63,
-        b"0" * 64 + b" " + b"0" * 65, b"0" * 63 + b" " + b"0" * 65, b"0" * 63 + b" ", b"0" * 1000, b"", b"x", b" " * 129,
+        b"0" * 64 + b" " + b"0" * 64 + b"\r", b"0" * 64 + b" " + b"0" * 63 + b"g", b"0" * 129,
+        b"0" * 64 + b" " + b"0" * 63,
+        b"0" * 64 + b" " + b"0" * 65, b"0" * 63 + b" " + b"0" * 65, b"0" * 63 + b" ", b"0" * 1000, b"", b"x",
+        b" " * 129,
         b"g" + b"0" * 63 + b" " + b"0" * 64, b"\xff" * 129, b"0" * 100000,
     ]:
         q.ask("items root", "sum", "none", bad + b"\n" + zero)
@@ -267,7 +275,8 @@ def of_items(q, rng):
     q.note("the first faulty line is told: bad, or an index that stands before")
     fa = item_line(index(0xFA))
     for data in [
-        zero + zero, fa + zero + fa.upper(), zero + zero + b"x\n", zero + b"x\n" + zero, zero + middle + middle + zero,
+        zero + zero, fa + zero + fa.upper(), zero + zero + b"x\n", zero + b"x\n" + zero,
+        zero + middle + middle + zero,
         b"x\n" + zero + zero, zero + middle + high + zero + b"x\n", zero + item_line(ZERO32, KEY),
     ]:
         q.ask("items root", "sum", "none", data)
