@@ -73,7 +73,8 @@ impl<'a> Case<'a> {
         self.trouble == Trouble::OutOfMemory
     }
 
-    pub(crate) fn is_spoiled(&self) -> bool {
+    /// Whether an argument was not there or not of its form.
+    pub fn is_spoiled(&self) -> bool {
         self.trouble == Trouble::BadQuestion
     }
 
@@ -130,6 +131,22 @@ impl<'a> Case<'a> {
             _ => {
                 self.spoil();
                 &[]
+            }
+        }
+    }
+
+    /// The next word's bytes, or `None` for the word `none`.
+    pub fn option(&mut self) -> Option<&'a [u8]> {
+        match self.take() {
+            Some(Word { text: b"none", .. }) => None,
+            Some(
+                Word {
+                    bytes: Some(bytes), ..
+                },
+            ) => Some(bytes.as_slice()),
+            _ => {
+                self.spoil();
+                None
             }
         }
     }
