@@ -78,7 +78,7 @@ impl<'a> Case<'a> {
         self.trouble == Trouble::BadQuestion
     }
 
-    /// The call lacked memory: the case is tried again.
+    /// A call lacked memory. The question is tried again.
     pub fn lack_memory(&mut self) {
         self.trouble = Trouble::OutOfMemory;
     }
@@ -111,7 +111,7 @@ impl<'a> Case<'a> {
         self.words.get(place)
     }
 
-    /// The next word's text.
+    /// The next word as it stands.
     pub fn word(&mut self) -> &'a [u8] {
         match self.take() {
             Some(word) => word.text,
@@ -135,19 +135,38 @@ impl<'a> Case<'a> {
         }
     }
 
-    /// The next word's bytes, or `None` for the word `none`.
+    /// The next word's bytes, or `None` if the word is `none`.
     pub fn option(&mut self) -> Option<&'a [u8]> {
-        match self.take() {
-            Some(Word { text: b"none", .. }) => None,
-            Some(
-                Word {
-                    bytes: Some(bytes), ..
-                },
-            ) => Some(bytes.as_slice()),
-            _ => {
-                self.spoil();
+        match self.words.get(self.next) {
+            Some(word) if word.text == b"none".as_slice() => {
+                self.next = self.next.saturating_add(1);
                 None
             }
+            _ => Some(self.bytes()),
+        }
+    }
+
+    fn text_of(&mut self, bytes: &'a [u8]) -> &'a str {
+        match str::from_utf8(bytes) {
+            Ok(text) => text,
+            Err(_) => {
+                self.spoil();
+                ""
+            }
+        }
+    }
+
+    /// The next word's bytes, as a text.
+    pub fn text(&mut self) -> &'a str {
+        let bytes = self.bytes();
+        self.text_of(bytes)
+    }
+
+    /// The next word's bytes, as a text, or `None` if the word is `none`.
+    pub fn option_text(&mut self) -> Option<&'a str> {
+        match self.option() {
+            Some(bytes) => Some(self.text_of(bytes)),
+            None => None,
         }
     }
 
