@@ -6,46 +6,17 @@ use nodehash::Sha256Hash;
 use questions::Case;
 use rootchain::{RootEvidence, SignedRoot};
 
-pub(crate) fn answer(case: &mut Case<'_>, verb: &[u8]) {
-    match verb {
-        b"fork" => fork(case),
-        b"link" => link(case),
-        b"skip" => skip(case),
+/// `fork KEY ROOT ROOT`, `link KEY ROOT ROOT`, `skip KEY ROOT ROOT`: whether the roots are this evidence.
+pub(crate) fn holds(case: &mut Case<'_>, kind: &[u8]) {
+    let key = case.hash();
+    let (Ok(one), Ok(other)) = (signed_root(case), signed_root(case)) else {
+        return case.spoil();
+    };
+    match kind {
+        b"fork" => say_holds(case, &key, &RootEvidence::Fork(one, other)),
+        b"link" => say_holds(case, &key, &RootEvidence::Link(one, other)),
+        b"skip" => say_holds(case, &key, &RootEvidence::Skip(one, other)),
         _ => case.spoil(),
-    }
-}
-
-/// Two roots, if both are of the form.
-fn two_roots(case: &mut Case<'_>) -> Option<(SignedRoot, SignedRoot)> {
-    let one = signed_root(case).ok()?;
-    let other = signed_root(case).ok()?;
-    Some((one, other))
-}
-
-/// `fork KEY ROOT ROOT`
-fn fork(case: &mut Case<'_>) {
-    let key = case.hash();
-    match two_roots(case) {
-        Some((one, other)) => say_holds(case, &key, &RootEvidence::Fork(one, other)),
-        None => case.spoil(),
-    }
-}
-
-/// `link KEY ROOT ROOT`
-fn link(case: &mut Case<'_>) {
-    let key = case.hash();
-    match two_roots(case) {
-        Some((one, other)) => say_holds(case, &key, &RootEvidence::Link(one, other)),
-        None => case.spoil(),
-    }
-}
-
-/// `skip KEY ROOT ROOT`
-fn skip(case: &mut Case<'_>) {
-    let key = case.hash();
-    match two_roots(case) {
-        Some((one, other)) => say_holds(case, &key, &RootEvidence::Skip(one, other)),
-        None => case.spoil(),
     }
 }
 

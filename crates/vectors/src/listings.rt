@@ -1,6 +1,6 @@
 //! Of `items`: the programs on a list of items.
 
-use crate::texts::{option_text, say_fault, text};
+use crate::texts::say_fault;
 use items::{HashChoice, ProveOrder, RootOrder, prove, root};
 use questions::Case;
 use textio::ProgramFault;
@@ -25,7 +25,7 @@ fn order<'a>(case: &mut Case<'a>) -> RootOrder<'a> {
     };
     RootOrder {
         hash,
-        nonce: option_text(case),
+        nonce: case.option_text(),
     }
 }
 
@@ -41,7 +41,7 @@ fn root_of_items(case: &mut Case<'_>) {
 /// `prove HASH NONCE INDEX INPUT`
 fn path_in_items(case: &mut Case<'_>) {
     let root = order(case);
-    let index = text(case);
+    let index = case.text();
     let mut input = case.bytes();
     let mut output = Vec::new(case.alloc());
     let order = ProveOrder { index, root };

@@ -1,7 +1,7 @@
 //! Of `rootchain`: roots and promises, read and written. Lists of roots stand in `root_lists`, evidence in
 //! `evidence`, and forms in front of other bytes in `fronts`.
 
-use crate::evidence;
+use crate::evidence::holds;
 use crate::fronts::front;
 use crate::root_lists::{list, written_list};
 use encoding::Hash32;
@@ -18,7 +18,7 @@ pub(crate) fn answer(case: &mut Case<'_>) {
         b"front" => front(case),
         b"list" => list(case),
         b"write-list" => written_list(case),
-        verb => evidence::answer(case, verb),
+        kind => holds(case, kind),
     }
 }
 

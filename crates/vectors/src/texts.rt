@@ -14,28 +14,6 @@ pub(crate) fn answer(case: &mut Case<'_>) {
     }
 }
 
-/// The next word's bytes, which are text.
-pub(crate) fn text<'a>(case: &mut Case<'a>) -> &'a str {
-    match str::from_utf8(case.bytes()) {
-        Ok(text) => text,
-        Err(_) => {
-            case.spoil();
-            ""
-        }
-    }
-}
-
-/// The next word's bytes, which are text, or `none`.
-pub(crate) fn option_text<'a>(case: &mut Case<'a>) -> Option<&'a str> {
-    match str::from_utf8(case.option()?) {
-        Ok(text) => Some(text),
-        Err(_) => {
-            case.spoil();
-            None
-        }
-    }
-}
-
 /// `digits HEX32`
 fn digits(case: &mut Case<'_>) {
     let hash = case.hash();
@@ -52,7 +30,7 @@ fn bytes_of_digits(case: &mut Case<'_>) {
 
 /// `option-hex TEXT`
 fn option_hex(case: &mut Case<'_>) {
-    match option_hex32(text(case)) {
+    match option_hex32(case.text()) {
         Ok(bytes) => case.say_bytes(&bytes),
         Err(fault) => say_fault(case, fault),
     }
@@ -60,7 +38,7 @@ fn option_hex(case: &mut Case<'_>) {
 
 /// `option-nonce TEXT|none`
 fn nonce(case: &mut Case<'_>) {
-    match option_nonce(option_text(case)) {
+    match option_nonce(case.option_text()) {
         Ok(bytes) => case.say_bytes(&bytes),
         Err(fault) => say_fault(case, fault),
     }
@@ -74,35 +52,32 @@ pub(crate) fn say_fault(case: &mut Case<'_>, fault: ProgramFault) {
 
 /// `fault NAME [LINE]`: the status, and the line that tells it.
 fn fault(case: &mut Case<'_>) {
-    match case.word() {
-        b"bad-hex" => tell(case, ProgramFault::BadHex),
-        b"bad-item" => tell_item(case),
-        b"index-repeated" => tell_repeated(case),
-        b"not-evidence" => tell(case, ProgramFault::NotEvidence),
-        b"cannot-read" => tell(case, ProgramFault::CannotRead),
-        b"cannot-write" => tell(case, ProgramFault::CannotWrite),
-        b"cannot-listen" => tell(case, ProgramFault::CannotListen),
-        b"out-of-memory" => tell(case, ProgramFault::OutOfMemory),
-        _ => case.spoil(),
+    match named_fault(case) {
+        Some(fault) => tell(case, fault),
+        None => case.spoil(),
     }
 }
 
-fn tell_item(case: &mut Case<'_>) {
-    let line = case.number();
-    tell(case, ProgramFault::BadItem(line));
-}
-
-fn tell_repeated(case: &mut Case<'_>) {
-    let line = case.number();
-    tell(case, ProgramFault::IndexRepeated(line));
+fn named_fault(case: &mut Case<'_>) -> Option<ProgramFault> {
+    Some(match case.word() {
+        b"bad-hex" => ProgramFault::BadHex,
+        b"bad-item" => ProgramFault::BadItem(case.number()),
+        b"index-repeated" => ProgramFault::IndexRepeated(case.number()),
+        b"not-evidence" => ProgramFault::NotEvidence,
+        b"cannot-read" => ProgramFault::CannotRead,
+        b"cannot-write" => ProgramFault::CannotWrite,
+        b"cannot-listen" => ProgramFault::CannotListen,
+        b"out-of-memory" => ProgramFault::OutOfMemory,
+        _ => return None,
+    })
 }
 
 fn tell(case: &mut Case<'_>, fault: ProgramFault) {
-    case.say_shown(fault.status());
     let mut line = Vec::new(case.alloc());
+    case.say_shown(fault.status());
     match fault.tell(&mut line) {
         Ok(()) => case.say_text(&line),
-        // A writer of memory fails only where memory runs out.
+        // A writer to memory fails only if memory runs out.
         Err(_) => case.lack_memory(),
     }
 }
