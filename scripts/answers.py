@@ -122,6 +122,22 @@ class Words:
             raise BadQuestion
         return int(word)
 
+    def text(self):
+        """Bytes that are UTF-8."""
+        data = self.bytes()
+        try:
+            data.decode()
+        except UnicodeDecodeError:
+            raise BadQuestion from None
+        return data
+
+    def optional(self, read):
+        """What a reader takes, or `none`."""
+        if self.words[:1] == ["none"]:
+            self.word()
+            return None
+        return read()
+
     def of_size(self, size):
         data = self.bytes()
         if len(data) != size:
@@ -193,14 +209,18 @@ class Lines:
             subject = words.word()
             if subject == "let":
                 return self.names.let(words.word(), words.word())
-            verb = getattr(self, f"{subject}_{words.word()}".replace("-", "_"), None)
-            if verb is None:
-                raise BadQuestion
-            return " ".join(verb(words))
+            return " ".join(self.verb(subject, words)(words))
         except BadQuestion:
             return "bad question"
         except Refusal as refusal:
             return refused(refusal)
+
+    def verb(self, subject, words):
+        """The method of a subject and of the verb behind it."""
+        verb = getattr(self, f"{subject}_{words.word()}".replace("-", "_"), None)
+        if verb is None:
+            raise BadQuestion
+        return verb
 
     def answers(self, questions):
         """The answers to all lines that are questions."""
@@ -264,6 +284,22 @@ FAULTS = {
     "out-of-memory": "out of memory",
 }
 DIGESTS = {"sha256": sha256, "sum": byte_sum}
+
+
+class AnyVuf:
+    """Accepts each value of each name."""
+
+    @staticmethod
+    def accepts(_key, _name, _value):
+        return True
+
+
+class AnyChain(Chain):
+    """A chain under a verifier that accepts each signature."""
+
+    @staticmethod
+    def verified(_key, _root):
+        return True
 
 
 class Answers(Lines):
@@ -562,6 +598,13 @@ class Answers(Lines):
         """`key`"""
         return [told(self.held().key)]
 
+    def chains_any(self, w):
+        """`any ROOT..`: a fresh chain under a verifier that accepts each signature: `started`, and where each other
+        root stands, which is taken where it is the next one."""
+        first, *others = [w.form(SignedRoot.read) for _ in range(max(w.left(), 1))]
+        chain = AnyChain(sha256, KEY, [first])
+        return ["started", *(word for root in others for word in place_words(chain.take(root)))]
+
     def compared_chains(self, digest, w):
         key = w.hash()
         return place_words(compare_chains(*(self.chain_of(digest, key, w) for _ in range(2))))
@@ -638,9 +681,9 @@ class Answers(Lines):
         return ["none" if found is None else told(found)]
 
     def trees_path(self, w):
-        """`path INDEX`: the end, its level and the siblings from the root down."""
+        """`path INDEX`: the end, its level and the siblings from the root down, joined."""
         path = self.tree.path(w.index())
-        return [*end_words(path.end), str(len(path.siblings)), *map(told, path.siblings)]
+        return [*end_words(path.end), str(len(path.siblings)), told(b"".join(path.siblings))]
 
     def trees_end_text(self, w):
         """`end-text NONCE INDEX LEVEL END..`: END is `present COMMITMENT`, `empty` or `other INDEX COMMITMENT`."""
@@ -725,6 +768,11 @@ class Answers(Lines):
         accepted = [accept(sha256, KeyedVuf, w.form(Body.read), w.name(), w.bytes()) for _ in range(2)]
         return place_words(same_or_collision(sha256, *accepted))
 
+    def replies_same_any(self, w):
+        """`same-any BODY NAME REPLY BODY NAME REPLY`: under sums, where each value is accepted."""
+        accepted = [accept(byte_sum, AnyVuf, w.form(Body.read), w.name(), w.bytes()) for _ in range(2)]
+        return place_words(same_or_collision(byte_sum, *accepted))
+
     def replies_make(self, w):
         """`make BODY VALUE END.. SIBLINGS`: END is `present SALT KEY`, `empty` or `other INDEX COMMITMENT`."""
         body, value, end = w.form(Body.read), w.small(), w.reply_end()
@@ -789,31 +837,17 @@ class Answers(Lines):
     def stopped(self, fault):
         return ["fault", str(fault.status), fault.text]
 
-    def option_text(self, w):
-        data = w.bytes()
-        try:
-            data.decode()
-        except UnicodeDecodeError:
-            raise BadQuestion from None
-        return data
-
-    def option_or_none(self, w):
-        if w.words[:1] == ["none"]:
-            w.word()
-            return None
-        return self.option_text(w)
-
     def text_option_hex(self, w):
         """`option-hex TEXT`"""
         try:
-            return [told(option_hex32(self.option_text(w)))]
+            return [told(option_hex32(w.text()))]
         except ProgramFault as fault:
             return self.stopped(fault)
 
     def text_option_nonce(self, w):
         """`option-nonce TEXT`, or `none`"""
         try:
-            return [told(option_nonce(self.option_or_none(w)))]
+            return [told(option_nonce(w.optional(w.text)))]
         except ProgramFault as fault:
             return self.stopped(fault)
 
@@ -843,11 +877,11 @@ class Answers(Lines):
 
     def items_root(self, w):
         """`root HASH NONCE INPUT`: HASH is `sha256` or `sum`, NONCE a text or `none`."""
-        digest, nonce, data = self.digest(w), self.option_or_none(w), w.bytes()
+        digest, nonce, data = self.digest(w), w.optional(w.text), w.bytes()
         return self.ran(lambda: root_text(digest, nonce, data))
 
     def items_prove(self, w):
         """`prove HASH NONCE INDEX INPUT`: INDEX is a text."""
-        digest, nonce = self.digest(w), self.option_or_none(w)
-        index, data = self.option_text(w), w.bytes()
+        digest, nonce = self.digest(w), w.optional(w.text)
+        index, data = w.text(), w.bytes()
         return self.ran(lambda: prove_text(digest, nonce, index, data))

@@ -457,13 +457,19 @@ class Tree:
     The node of a prefix with no item is an empty node, with one its leaf, with more an interior node.
     """
 
-    def __init__(self, digest, nonce, items=()):
+    def __init__(self, digest, nonce, items=(), nodes=()):
         self.digest, self.nonce, self.items = digest, nonce, dict(items)
         self.rows = sorted(self.items)
-        self.nodes = {}
+        self.nodes = dict(nodes)
 
     def changed(self, changes):
-        return Tree(self.digest, self.nonce, self.items | dict(changes))
+        """The tree with these items put in. Nodes with no change below them are as before."""
+        changes = dict(changes)
+        nodes = dict(self.nodes)
+        for index in changes:
+            for level in range(257):
+                nodes.pop((level, cut(index, level)), None)
+        return Tree(self.digest, self.nonce, self.items | changes, nodes)
 
     def split(self, low, high, level):
         """Where the rows of bit 1 begin, of rows that agree in so many bits."""
@@ -702,13 +708,18 @@ class Chain:
         self.digest, self.key, self.roots = digest, key, list(roots)
 
     @staticmethod
-    def start(digest, key, root):
-        if not root.verifies(key):
+    def verified(key, root):
+        """Whether a root verifies, by the signatures that the chain is of."""
+        return root.verifies(key)
+
+    @classmethod
+    def start(cls, digest, key, root):
+        if not cls.verified(key, root):
             raise RootRefusal(BAD_SIGNATURE)
-        return Chain(digest, key, [root])
+        return cls(digest, key, [root])
 
     def copy(self):
-        return Chain(self.digest, self.key, self.roots)
+        return type(self)(self.digest, self.key, self.roots)
 
     def first(self):
         return self.roots[0]
@@ -726,7 +737,7 @@ class Chain:
 
     def extend(self, root):
         """Appends the next root. Refused 2, 3 or 4, the first that applies."""
-        if not root.verifies(self.key):
+        if not self.verified(self.key, root):
             raise RootRefusal(BAD_SIGNATURE)
         if root.epoch <= self.head().epoch:
             raise RootRefusal(NOT_LATER)
@@ -736,7 +747,7 @@ class Chain:
 
     def place(self, root):
         """Where a root stands: a word, or evidence. Refused 2 where it does not verify."""
-        if not root.verifies(self.key):
+        if not self.verified(self.key, root):
             raise RootRefusal(BAD_SIGNATURE)
         if root.epoch > self.head().epoch:
             return place_above(self.digest, self.head(), root)
@@ -914,8 +925,10 @@ class Accepted(NamedTuple):
 
     def texts(self, digest):
         """The node texts on its way, from the root down."""
-        end, siblings = self.end_text(digest), self.reply.siblings
-        return [climb(digest, self.index, k, siblings, end) for k in range(len(siblings) + 1)]
+        texts = [self.end_text(digest)]
+        for k, sibling in reversed(list(enumerate(self.reply.siblings))):
+            texts.append(joined_text(self.index, k, digest(texts[-1]), sibling))
+        return texts[::-1]
 
 
 def check(digest, vuf, body, name, reply):
