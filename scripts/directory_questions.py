@@ -358,11 +358,14 @@ def of_hub_runs(q, rng):
         ("open", 8), ("open", 7), ("bytes", 7, frame(9, b"")), ("end", 1), ("end", 9),
     ]
     q.ask("hub run", 1, ZERO32, *(word for event in events for word in event))
-    q.note("300 sessions, each with a frame that is refused, and some with a head.")
+    q.note("330 sessions, each with a frame that is refused, and some with a head.")
     unread = q.let("u", frame(9, b""))
-    events = [("open", session, "bytes", session, unread) for session in range(300)]
-    events += [("bytes", session, HEAD) for session in range(0, 300, 30)]
+    events = [("open", session, "bytes", session, unread) for session in range(330)]
+    events += [("bytes", session, HEAD) for session in range(0, 330, 30)]
     q.ask("hub run", 1, ZERO32, *(word for event in events for word in event))
+    q.note("Hundreds of pieces, a byte each.")
+    stream = request_frame("register", bytes([1, 2]) * 120, b"k" * 9) + HEAD
+    q.ask("hub run", 1, ZERO32, "open", 1, *(word for byte in stream for word in ("bytes", 1, bytes([byte]))))
     q.note("Streams of five sessions, cut anywhere.")
     for most in [3, 12]:
         streams = {session: split(rng, b"".join(stream_of(rng, 25)), most) for session in [1, 2, 3, 5, 4000000000]}
@@ -388,7 +391,7 @@ def stream_of(rng, count):
 def of_random_events(q, rng):
     sessions = [0, 3, 4, 1000000, 2**32 - 1]
     streams, events = {session: b"" for session in sessions}, []
-    for _ in range(250):
+    for _ in range(160):
         session = rng.choice(sessions)
         turn = rng.randrange(20)
         if turn == 0:

@@ -60,7 +60,7 @@ def of_observing(q, rng):
 
 @subject("an auditor of many providers")
 def of_providers(q, rng):
-    keys = [bytes([number]) * 32 for number in range(12)]
+    keys = [bytes([number]) * 32 for number in range(40)]
     q.ask("auditor new")
     chains = []
     for number, key in enumerate(keys):
@@ -71,9 +71,9 @@ def of_providers(q, rng):
         if number < 4:
             q.ask("auditor compare", key, written(pages[1]))
             q.ask("auditor observe", key, written(pages[1]))
-        if number:
+        if number in (1, 2):
             q.ask("auditor observe", key, written(chains[0][0]))
-    for number in [0, 1, 2, 3, 11]:
+    for number in [0, 1, 2, 3, 39]:
         for page in chains[number]:
             q.ask("auditor observe", keys[number], written(page))
         q.ask("auditor chain", keys[number])
@@ -249,7 +249,13 @@ def of_files(q, rng):
     for text in [letters, letters.upper()]:
         q.ask("evidence judge", text, json_of(FORK, *fork))
         q.ask("evidence judge", text, good[0].encode())
+    q.note("Files above 64 KiB.")
+    spaces = b" " * 40000
+    q.ask("evidence judge", key, spaces * 2 + good[0].encode())
+    q.ask("evidence judge", key, good[0].encode() + spaces * 2)
+    q.ask("evidence judge", key, good[0].replace(",", "," + " " * 70000).encode())
     q.note("Not an evidence file.")
+    q.ask("evidence judge", key, good[0].encode() + spaces * 2 + b"x")
     fork = f'{{"first":"{one}","kind":"fork","second":"{other}"}}'
     none = [
         "", " ", "null", "{}", "[]", '"fork"', "0", fork[:-1], fork[1:], fork + "x", fork + fork,
