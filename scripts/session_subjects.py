@@ -3,7 +3,7 @@
 from dataclasses import replace
 
 from formats import *
-from questions import run
+from asking import run
 from session_answers import HUB_TOKEN
 from sessions import SALT_KEY, SIGN_KEY, VUF_KEY, keyed_directory
 
