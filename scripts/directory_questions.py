@@ -1,7 +1,7 @@
 """Questions of `session_vectors` on directories, hubs and the server."""
 
-from formats import *
 from asking import run
+from formats import *
 from session_scripts import HEAD, key_of, name_of, split
 from session_subjects import HUB_TOKEN, OTHER_KEY, SALT_KEY, SIGN_KEY, TOP, VUF_KEY, closing, message, subjects
 
