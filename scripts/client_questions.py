@@ -105,6 +105,7 @@ def of_looks(q, rng):
             (10, b"a", c.reply(b"a")), (TOP, b"a", c.reply(b"a")), (1, b"", b.reply(b"a")),
         ]:
             q.ask(f"{client} look", name, epoch, reply.write())
+        q.ask(f"{client} look", b"a", 5, b"")
         q.note("Replies that are not accepted.")
         good = b.reply(b"a")
         value, index, far = good.value, provider.index_of(b"a"), bytes(b ^ 255 for b in provider.index_of(b"a"))
@@ -181,6 +182,7 @@ def of_promises(q, rng):
         replies = [q.let(f"reply{page.epoch}", page.reply(b"a").write()) for page in (a, b, c)]
         q.ask(f"{client} start", SIGN_KEY, written(a))
         q.ask(f"{client} due", b"a", replies[0])
+        q.ask(f"{client} due", b"a", b"")
         q.ask(f"{client} due-epoch", b"a")
         q.note("Promises that are refused.")
         for promise in [
@@ -198,6 +200,7 @@ def of_promises(q, rng):
         q.ask(f"{client} due-epoch", b"a")
         q.ask(f"{client} due-epoch", b"b")
         q.ask(f"{client} due", b"a", replies[0])
+        q.ask(f"{client} due", b"a", b"")
         q.ask(f"{client} due", b"b", replies[0])
         q.ask(f"{client} update", roots(b, c))
         q.ask(f"{client} due-epoch", b"a")
@@ -451,6 +454,7 @@ def of_watching(q, rng):
     q.ask("monitor step", ra)
     q.ask("monitor next")
     q.ask("monitor step", ra)
+    q.ask("monitor step", b"")
     q.note("Promises of another name or key, over a root that the chain lacks, and under another key.")
     for key, promise in [
         (b"k", b""), (b"k", first + b"\0"), (b"k", a.promise(b"a", b"k", OTHER_KEY)),

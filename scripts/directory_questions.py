@@ -38,7 +38,8 @@ def of_calls(q, rng):
         q.ask("directory lookup", b"alice", epoch)
         q.ask("directory lookup", b"bob", epoch)
     q.ask("directory promise", b"alice")
-    q.ask("directory register", b"alice", b"k3")
+    for key in [b"k3", b"", b"k" * 2049]:
+        q.ask("directory register", b"alice", key)
     q.ask("directory change", b"bob", b"k1")
     q.ask("directory change", b"alice", b"k3")
     q.ask("directory change", b"alice", b"k4")
