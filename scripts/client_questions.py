@@ -35,11 +35,10 @@ def of_updates(q, rng):
     for data in [
         b"", b"\0", roots(a)[:-1], roots(a) + b"\0", u16(65) + written(a) * 65, u16(2) + written(a),
         roots(a, c), roots(c), roots(ahead), roots(b, forged), roots(b, forged, ahead),
-        roots(b, ahead, forged),
-        roots(forged), roots(b, skip), roots(b, c, fork), roots(b, c, link), roots(b, c, skip),
-        roots(b, c, before), roots(KEYED.page(1)), u16(1) + long_signature(b, 33),
-        u16(1) + long_signature(b, 256),
-        u16(64) + written(b) * 63 + long_signature(b, 255), u16(64) + long_signature(b, 256) * 64,
+        roots(b, ahead, forged), roots(forged), roots(b, skip), roots(b, c, fork), roots(b, c, link),
+        roots(b, c, skip), roots(b, c, before), roots(KEYED.page(1)), u16(1) + long_signature(b, 33),
+        u16(1) + long_signature(b, 256), u16(64) + written(b) * 63 + long_signature(b, 255),
+        u16(64) + long_signature(b, 256) * 64,
     ]:
         q.ask("client update", data)
     q.ask("client head")
@@ -98,11 +97,10 @@ def of_looks(q, rng):
         q.ask(f"{client} update", roots(b, c))
         for epoch, name, reply in [
             (3, b"a", a.reply(b"a")), (7, b"a", b.reply(b"a")), (9, b"a", c.reply(b"a")),
-            (0, b"a", c.reply(b"a")),
-            (7, b"bob", b.reply(b"bob")), (7, b"dave", b.reply(b"dave")), (9, b"bob", c.reply(b"bob")),
-            (0, b"a", b.reply(b"a")), (7, b"a", a.reply(b"a")), (5, b"a", b.reply(b"a")),
-            (2, b"a", a.reply(b"a")),
-            (10, b"a", c.reply(b"a")), (TOP, b"a", c.reply(b"a")), (1, b"", b.reply(b"a")),
+            (0, b"a", c.reply(b"a")), (7, b"bob", b.reply(b"bob")), (7, b"dave", b.reply(b"dave")),
+            (9, b"bob", c.reply(b"bob")), (0, b"a", b.reply(b"a")), (7, b"a", a.reply(b"a")),
+            (5, b"a", b.reply(b"a")), (2, b"a", a.reply(b"a")), (10, b"a", c.reply(b"a")),
+            (TOP, b"a", c.reply(b"a")), (1, b"", b.reply(b"a")),
         ]:
             q.ask(f"{client} look", name, epoch, reply.write())
         q.ask(f"{client} look", b"a", 5, b"")
@@ -188,8 +186,7 @@ def of_promises(q, rng):
         for promise in [
             b"", b"P", first[:-1], first + b"\0", a.promise(b"a", b"k1", OTHER_KEY), second,
             a.promise(b"a", b"k1", root_hash=run(1)), a.promise(b"a", b"k1", epoch=4),
-            a.promise(b"a", b"k1", epoch=2),
-            SignedPromise.read(first).promise.write() + counted(bytes(33)),
+            a.promise(b"a", b"k1", epoch=2), SignedPromise.read(first).promise.write() + counted(bytes(33)),
             SignedPromise.read(first).promise.write() + counted(bytes(256)),
             SignedPromise.read(first).promise.write() + counted(bytes(257)),
         ]:
@@ -327,10 +324,8 @@ def of_reconciled_chains(q, rng):
     later, skip = KEYED.page(9, fork), KEYED.page(8, a)
     lets(q, a=a, b=b, c=c, d=d, fork=fork, later=later)
     for ones, others in [
-        ([a, b, c], [a, b, c]), ([a, b, c, d], [a, b]), ([a, b], [c, d]), ([a], [c]),
-        ([a, b, c], [a, fork]),
-        ([a, fork, later], [a, b, c]), ([a, b, c], [fork, later]), ([a, skip], [a, b]),
-        ([a, b, c], [skip]),
+        ([a, b, c], [a, b, c]), ([a, b, c, d], [a, b]), ([a, b], [c, d]), ([a], [c]), ([a, b, c], [a, fork]),
+        ([a, fork, later], [a, b, c]), ([a, b, c], [fork, later]), ([a, skip], [a, b]), ([a, b, c], [skip]),
         ([b, c, d], [a, b, c, d]), ([a, b], [KEYED.page(9, skip)]), ([a, b], [KEYED.page(9, a)]),
         ([a, b], [later]), ([a], [KEYED.page(12, c)]), ([KEYED.page(2)], [a]), ([c], [fork]),
     ]:
@@ -386,8 +381,8 @@ def of_reconciled_looks(q, rng):
     q.note("Two clients.")
     for others, ones in [
         ([], ["ab"]), (["ab"], []), (["ab"], ["ab"]), (["ba"], ["ab"]), (["ab"], ["ba"]), (["none"], ["ab"]),
-        (["ab"], ["none"]),
-        (["none", "ba"], ["ab"]), (["ba", "none"], ["ab"]), (["ab", "ba"], ["ab", "ab", "none"]),
+        (["ab"], ["none"]), (["none", "ba"], ["ab"]), (["ba", "none"], ["ab"]),
+        (["ab", "ba"], ["ab", "ab", "none"]),
     ]:
         begun(*others)
         q.ask("client-sum put-aside")
@@ -458,9 +453,8 @@ def of_watching(q, rng):
     q.note("Promises of another name or key, over a root that the chain lacks, and under another key.")
     for key, promise in [
         (b"k", b""), (b"k", first + b"\0"), (b"k", a.promise(b"a", b"k", OTHER_KEY)),
-        (b"k", b.promise(b"a", b"k")),
-        (b"k", a.promise(b"b", b"k")), (b"k", a.promise(b"a", b"l")), (b"l", first),
-        (b"k", a.promise(b"a", b"k", root_hash=run(1))),
+        (b"k", b.promise(b"a", b"k")), (b"k", a.promise(b"b", b"k")), (b"k", a.promise(b"a", b"l")),
+        (b"l", first), (b"k", a.promise(b"a", b"k", root_hash=run(1))),
         (b"k", a.promise(b"b", b"k", OTHER_KEY)), (b"k", b.promise(b"b", b"l")), (b"", first),
     ]:
         q.ask("monitor expect", key, promise)

@@ -164,8 +164,7 @@ def of_runs(q, rng):
     pages = [message("close", ZERO32, 10 * page) for page in range(2, 71)]
     for start, count in [
         (0, 64), (10, 64), (11, 64), (70, 64), (71, 64), (345, 3), (691, 64), (700, 1), (701, 64), (TOP, 1),
-        (0, 65),
-        (0, 65535), (0, 0),
+        (0, 65), (0, 65535), (0, 0),
     ]:
         pages.append(message("history", start, count))
     q.ask("directory run", 10, ZERO32, *pages)
@@ -283,24 +282,20 @@ def of_messages(q, rng):
     q.note("Kinds that are none, bodies of another form, and the tokens of others.")
     for piece in [
         HEAD * 3, frame(9, b""), frame(6, b"\0"), frame(0x81, b""), frame(0, b"\0" * 40),
-        frame(1, b"\0\1a\0\2k"),
-        frame(1, b""), frame(4, u64(1) + b"\0\1"), frame(5, u64(1) + b"\0"), frame(7, bytes(39)),
-        frame(7, bytes(41)),
-        closing(9, ZERO32), closing(9, HUB_TOKEN[:31] + b"\5"), closing(9, b"\5" + HUB_TOKEN[1:]),
-        closing(1, ZERO32),
-        closing(1), closing(5), closing(9), closing(9), frame(9, b"x") + HEAD + frame(6, b"x") + HEAD,
+        frame(1, b"\0\1a\0\2k"), frame(1, b""), frame(4, u64(1) + b"\0\1"), frame(5, u64(1) + b"\0"),
+        frame(7, bytes(39)), frame(7, bytes(41)), closing(9, ZERO32), closing(9, HUB_TOKEN[:31] + b"\5"),
+        closing(9, b"\5" + HUB_TOKEN[1:]), closing(1, ZERO32), closing(1), closing(5), closing(9), closing(9),
+        frame(9, b"x") + HEAD + frame(6, b"x") + HEAD,
     ]:
         q.ask("hub bytes", 2, piece)
     q.note("Each refusal of the directory, in a frame.")
     for request in [
         ("register", b"a", b"k"), ("register", b"b", b"k"), ("register", b"b", b"l"), ("change", b"b", b"l"),
         ("promise", b"b"), ("promise", b"c"), ("promise", b""), ("register", b"", b"k"),
-        ("register", b"c", b""),
-        ("register", b"c" * 256, b"k"), ("register", b"c", b"k" * 2049), ("lookup", 7, b"a"),
-        ("lookup", 1, b""),
-        ("history", 0, 0), ("history", 0, 65), ("change", b"a", b"l"), ("change", b"a", b"m"),
-        ("lookup", 0, b"a"),
-        ("lookup", 9, b"b"), ("history", 4, 64), ("history", 10, 1), ("head",),
+        ("register", b"c", b""), ("register", b"c" * 256, b"k"), ("register", b"c", b"k" * 2049),
+        ("lookup", 7, b"a"), ("lookup", 1, b""), ("history", 0, 0), ("history", 0, 65),
+        ("change", b"a", b"l"), ("change", b"a", b"m"), ("lookup", 0, b"a"), ("lookup", 9, b"b"),
+        ("history", 4, 64), ("history", 10, 1), ("head",),
     ]:
         q.ask("hub bytes", 3, request_frame(*request))
 
@@ -355,8 +350,7 @@ def of_hub_runs(q, rng):
     events = [
         ("bytes", 7, HEAD), ("open", 9), ("open", 7), ("open", 7), ("bytes", 7, HEAD[:4]),
         ("bytes", 9, HEAD + frame(9, b"") + bytes(5)), ("bytes", 7, b"\6\0\0"), ("bytes", 9, HEAD),
-        ("end", 7),
-        ("open", 8), ("open", 7), ("bytes", 7, frame(9, b"")), ("end", 1), ("end", 9),
+        ("end", 7), ("open", 8), ("open", 7), ("bytes", 7, frame(9, b"")), ("end", 1), ("end", 9),
     ]
     q.ask("hub run", 1, ZERO32, *(word for event in events for word in event))
     q.note("330 sessions, each with a frame that is refused, and some with a head.")
@@ -420,8 +414,7 @@ def of_serving(q, rng):
     register = request_frame("register", b"a", b"k") + closing(2) + request_frame("lookup", 2, b"a")
     for stream in [
         b"", HEAD * 3, HEAD[:4], HEAD + HEAD[:3], register, HEAD + bytes(4) + HEAD, b"\xff" * 100,
-        frame(9, b"") + HEAD,
-        closing(2, ZERO32) + HEAD,
+        frame(9, b"") + HEAD, closing(2, ZERO32) + HEAD,
     ]:
         q.ask("serve run", 1, "none", stream)
     digits = run(0xA0).hex().encode()
