@@ -176,13 +176,38 @@ fn happen(case: &mut Case<'_>, kept: &mut KeptHub, event: &Event<'_>) {
         return case.spoil();
     };
     let mut output = Vec::new(case.alloc());
-    let heard = hub.event(event, &mut output);
+    let heard = hear(hub, event, &mut output);
     let kept_past = keep(case.alloc(), &mut kept.past, event);
     if wanted_memory(heard, &output) || kept_past.is_err() {
         kept.hub = None;
         return case.lack_memory();
     }
     tell(case, heard, &output);
+}
+
+/// Lets the hub handle an event. If memory ran out before the event was taken, it comes once more; if
+/// after, an empty piece goes on with what waits.
+fn hear(
+    hub: &mut Hub<ServedDesk>,
+    event: &Event<'_>,
+    output: &mut Vec<u8>,
+) -> Result<(), HubRefusal> {
+    match hub.event(event, output) {
+        Err(HubRefusal::Memory { taken: false }) => hub.event(event, output),
+        Err(HubRefusal::Memory { taken: true }) => go_on(hub, event, output),
+        heard => heard,
+    }
+}
+
+fn go_on(
+    hub: &mut Hub<ServedDesk>,
+    event: &Event<'_>,
+    output: &mut Vec<u8>,
+) -> Result<(), HubRefusal> {
+    match event {
+        Event::Bytes(session, _) => hub.event(&Event::Bytes(*session, &[]), output),
+        Event::Open(_) | Event::End(_) => Ok(()),
+    }
 }
 
 /// Keeps the event, for a hub that is made once more.
