@@ -81,6 +81,36 @@ def of_long_lists(q, rng):
     q.ask("client reconcile-self")
 
 
+@subject("clients and monitors that begin at later epochs, up to the greatest")
+def of_late_starts(q, rng):
+    for first in [2, 13, 400, 2**32, TOP - 1]:
+        a = KEYED.page(first, KEYED.page(1))
+        b = KEYED.page(TOP, a, {b"a": b"k"})
+        promise = a.promise(b"a", b"k")
+        replies = [page.reply(b"a").write() for page in (a, b)]
+        lets(q, a=a, b=b)
+        q.ask("client start", SIGN_KEY, written(a))
+        q.ask("client keep", promise)
+        q.ask("client look", b"a", first, replies[0])
+        q.ask("client update", roots(a, b))
+        q.ask("client update", roots(KEYED.page(1)))
+        q.ask("client look", b"a", TOP, replies[1])
+        q.ask("client look", b"a", 0, replies[1])
+        q.ask("client due-epoch", b"a")
+        q.ask("client due", b"a", replies[1])
+        q.ask("client keep", b.promise(b"a", b"k"))
+        q.ask("client due-epoch", b"a")
+        q.ask("client due", b"a", replies[1])
+        q.ask("monitor new", b"a", "none")
+        q.ask("monitor expect", b"k", promise)
+        for reply in replies:
+            q.ask("monitor next")
+            q.ask("monitor step", reply)
+        q.ask("monitor next")
+        q.ask("monitor expect", b"k", b.promise(b"a", b"k"))
+        q.ask("monitor expected", TOP)
+
+
 @subject("clients: looks")
 def of_looks(q, rng):
     for provider in BOTH:

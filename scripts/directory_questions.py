@@ -358,6 +358,10 @@ def of_hub_runs(q, rng):
     events = [("open", session, "bytes", session, unread) for session in range(330)]
     events += [("bytes", session, HEAD) for session in range(0, 330, 30)]
     q.ask("hub run", 1, ZERO32, *(word for event in events for word in event))
+    q.note("A long output, made by one piece and by hundreds.")
+    q.ask("hub run", 1, ZERO32, "open", 1, "bytes", 1, f"{HEAD.hex()}*600")
+    q.let("h", HEAD)
+    q.ask("hub run", 1, ZERO32, "open", 1, *["bytes", 1, HEAD] * 400)
     q.note("Hundreds of pieces, a byte each.")
     stream = request_frame("register", bytes([1, 2]) * 120, b"k" * 9) + HEAD
     q.ask("hub run", 1, ZERO32, "open", 1, *(word for byte in stream for word in ("bytes", 1, bytes([byte]))))

@@ -81,6 +81,21 @@ def of_providers(q, rng):
     q.ask("auditor chain", keys[0])
 
 
+@subject("auditors whose first root is of a later epoch")
+def of_late_starts(q, rng):
+    key = SIGN_KEY.hex().encode()
+    for first, second in [(2, 3), (12, 13), (13, 400), (400, 2**32), (2**32, TOP), (TOP, TOP)]:
+        a = KEYED.page(first, KEYED.page(1))
+        b = KEYED.page(second, a) if first < second else a
+        q.ask("auditor new")
+        for verb in ["compare", "observe"]:
+            for page in (a, b, KEYED.page(1)):
+                q.ask(f"auditor {verb}", SIGN_KEY, written(page))
+        q.ask("auditor chain", SIGN_KEY)
+        if first in (13, 400):
+            q.ask("evidence audit", key, b"".join(written(page).hex().encode() + b"\n" for page in (a, b)))
+
+
 @subject("an auditor of a chain beyond epoch 12")
 def of_long_chains(q, rng):
     pages = KEYED.pages([*range(1, 31), 2**32, TOP - 1, TOP])

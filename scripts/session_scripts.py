@@ -305,8 +305,9 @@ def hundreds_of_names():
 
 @script
 def hundreds_of_epochs():
-    yield "# One name with a key of its own in each of 300 epochs, and another that has one from time to time."
-    yield register(b"a", b"k")
+    yield "# One name with a key of its own in each of 300 epochs, which its owner watches, and another that has"
+    yield "# one from time to time."
+    yield from [watch(b"a"), register(b"a", b"k")]
     for epoch in range(2, 302):
         yield f"close {epoch}"
         yield change(b"a", key_of(epoch))
