@@ -120,14 +120,6 @@ def of_salts(q, rng):
         q.ask("directory lookup", name, 3)
 
 
-@subject("a directory: some hundreds of names in one page, by calls and by a run")
-def of_names(q, rng):
-    names = [name_of(number) for number in range(300)]
-    commands = [message("register", name, name[-1:]) for name in names] + [message("close", ZERO32, 2)]
-    commands += [message("lookup", 2, name) for name in names]
-    q.ask("directory run", 1, ZERO32, *commands)
-
-
 @subject("a directory: some hundreds of pages, of versions of one name, and of changes that wait")
 def of_pages(q, rng):
     commands = [message("register", b"a", b"k")]
