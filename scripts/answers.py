@@ -286,6 +286,22 @@ FAULTS = {
 DIGESTS = {"sha256": sha256, "sum": byte_sum}
 
 
+class AnyVuf:
+    """Accepts each value of each name."""
+
+    @staticmethod
+    def accepts(_key, _name, _value):
+        return True
+
+
+class AnyChain(Chain):
+    """A chain under a verifier that accepts each signature."""
+
+    @staticmethod
+    def verified(_key, _root):
+        return True
+
+
 class Answers(Lines):
     """A tree, the digests that its last change took, a chain and a feed stay from line to line."""
 
@@ -582,6 +598,13 @@ class Answers(Lines):
         """`key`"""
         return [told(self.held().key)]
 
+    def chains_any(self, w):
+        """`any ROOT..`: a fresh chain under a verifier that accepts each signature: `started`, and where each other
+        root stands, which is taken where it is the next one."""
+        first, *others = [w.form(SignedRoot.read) for _ in range(max(w.left(), 1))]
+        chain = AnyChain(sha256, KEY, [first])
+        return ["started", *(word for root in others for word in place_words(chain.take(root)))]
+
     def compared_chains(self, digest, w):
         key = w.hash()
         return place_words(compare_chains(*(self.chain_of(digest, key, w) for _ in range(2))))
@@ -658,9 +681,9 @@ class Answers(Lines):
         return ["none" if found is None else told(found)]
 
     def trees_path(self, w):
-        """`path INDEX`: the end, its level and the siblings from the root down."""
+        """`path INDEX`: the end, its level and the siblings from the root down, joined."""
         path = self.tree.path(w.index())
-        return [*end_words(path.end), str(len(path.siblings)), *map(told, path.siblings)]
+        return [*end_words(path.end), str(len(path.siblings)), told(b"".join(path.siblings))]
 
     def trees_end_text(self, w):
         """`end-text NONCE INDEX LEVEL END..`: END is `present COMMITMENT`, `empty` or `other INDEX COMMITMENT`."""
@@ -744,6 +767,11 @@ class Answers(Lines):
         """`same BODY NAME REPLY BODY NAME REPLY`: two replies that were accepted, also for two names or bodies."""
         accepted = [accept(sha256, KeyedVuf, w.form(Body.read), w.name(), w.bytes()) for _ in range(2)]
         return place_words(same_or_collision(sha256, *accepted))
+
+    def replies_same_any(self, w):
+        """`same-any BODY NAME REPLY BODY NAME REPLY`: under sums, where each value is accepted."""
+        accepted = [accept(byte_sum, AnyVuf, w.form(Body.read), w.name(), w.bytes()) for _ in range(2)]
+        return place_words(same_or_collision(byte_sum, *accepted))
 
     def replies_make(self, w):
         """`make BODY VALUE END.. SIBLINGS`: END is `present SALT KEY`, `empty` or `other INDEX COMMITMENT`."""

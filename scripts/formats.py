@@ -8,8 +8,8 @@
     scripts/formats.py --requests        writes the bytes of all requests
     scripts/formats.py --replies         writes the bytes of their replies
     scripts/formats.py --in FILE         looks for what is printed in a document
-    scripts/formats.py --audited         prints lines for `audit`, and its answer to each
-    scripts/formats.py --evidence        prints evidence for `judge`, and whether it holds
+    scripts/formats.py --audited         prints lines for `audit`, each with its answer behind a space
+    scripts/formats.py --evidence        prints the status of `judge`, a kind and the file, a line each
     scripts/formats.py --vectors         writes the stored questions and answers of the test programs
     scripts/formats.py --vectors --check compares them instead
 
@@ -708,13 +708,18 @@ class Chain:
         self.digest, self.key, self.roots = digest, key, list(roots)
 
     @staticmethod
-    def start(digest, key, root):
-        if not root.verifies(key):
+    def verified(key, root):
+        """Whether a root verifies, by the signatures that the chain is of."""
+        return root.verifies(key)
+
+    @classmethod
+    def start(cls, digest, key, root):
+        if not cls.verified(key, root):
             raise RootRefusal(BAD_SIGNATURE)
-        return Chain(digest, key, [root])
+        return cls(digest, key, [root])
 
     def copy(self):
-        return Chain(self.digest, self.key, self.roots)
+        return type(self)(self.digest, self.key, self.roots)
 
     def first(self):
         return self.roots[0]
@@ -732,7 +737,7 @@ class Chain:
 
     def extend(self, root):
         """Appends the next root. Refused 2, 3 or 4, the first that applies."""
-        if not root.verifies(self.key):
+        if not self.verified(self.key, root):
             raise RootRefusal(BAD_SIGNATURE)
         if root.epoch <= self.head().epoch:
             raise RootRefusal(NOT_LATER)
@@ -742,7 +747,7 @@ class Chain:
 
     def place(self, root):
         """Where a root stands: a word, or evidence. Refused 2 where it does not verify."""
-        if not root.verifies(self.key):
+        if not self.verified(self.key, root):
             raise RootRefusal(BAD_SIGNATURE)
         if root.epoch > self.head().epoch:
             return place_above(self.digest, self.head(), root)
@@ -920,8 +925,10 @@ class Accepted(NamedTuple):
 
     def texts(self, digest):
         """The node texts on its way, from the root down."""
-        end, siblings = self.end_text(digest), self.reply.siblings
-        return [climb(digest, self.index, k, siblings, end) for k in range(len(siblings) + 1)]
+        texts = [self.end_text(digest)]
+        for k, sibling in reversed(list(enumerate(self.reply.siblings))):
+            texts.append(joined_text(self.index, k, digest(texts[-1]), sibling))
+        return texts[::-1]
 
 
 def check(digest, vuf, body, name, reply):
@@ -1245,4 +1252,7 @@ def prove_text(digest, nonce, index, data):
 if __name__ == "__main__":
     import worked  # here, so that the model stands alone where it is imported
 
-    sys.exit(worked.main(sys.argv[1:]))
+    try:
+        sys.exit(worked.main(sys.argv[1:], __doc__))
+    except OSError as error:
+        sys.exit(f"{sys.argv[-1]}: {error}")

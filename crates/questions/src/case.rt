@@ -29,6 +29,7 @@ pub struct Case<'a> {
     words: &'a [Word<'a>],
     next: usize,
     answer: Vec<u8>,
+    is_lines: bool,
     trouble: Trouble,
 }
 
@@ -40,6 +41,7 @@ impl<'a> Case<'a> {
             words,
             next: 0,
             answer: room,
+            is_lines: false,
             trouble: Trouble::Nothing,
         }
     }
@@ -57,6 +59,7 @@ impl<'a> Case<'a> {
     pub(crate) fn begin(&mut self) {
         self.next = 0;
         self.answer.clear();
+        self.is_lines = false;
         self.trouble = Trouble::Nothing;
     }
 
@@ -73,11 +76,12 @@ impl<'a> Case<'a> {
         self.trouble == Trouble::OutOfMemory
     }
 
-    pub(crate) fn is_spoiled(&self) -> bool {
+    /// Whether an argument was not there or not of its form.
+    pub fn is_spoiled(&self) -> bool {
         self.trouble == Trouble::BadQuestion
     }
 
-    /// The call lacked memory: the case is tried again.
+    /// A call lacked memory. The question is tried again.
     pub fn lack_memory(&mut self) {
         self.trouble = Trouble::OutOfMemory;
     }
@@ -93,9 +97,12 @@ impl<'a> Case<'a> {
     pub(crate) fn line(&mut self) -> &[u8] {
         if self.trouble == Trouble::BadQuestion {
             self.answer.clear();
+            self.is_lines = false;
             self.say("bad question");
         }
-        self.push(b"\n");
+        if !self.is_lines {
+            self.push(b"\n");
+        }
         self.answer.as_slice()
     }
 
@@ -110,7 +117,7 @@ impl<'a> Case<'a> {
         self.words.get(place)
     }
 
-    /// The next word's text.
+    /// The next word as it stands.
     pub fn word(&mut self) -> &'a [u8] {
         match self.take() {
             Some(word) => word.text,
@@ -131,6 +138,41 @@ impl<'a> Case<'a> {
                 self.spoil();
                 &[]
             }
+        }
+    }
+
+    /// The next word's bytes, or `None` if the word is `none`.
+    pub fn option(&mut self) -> Option<&'a [u8]> {
+        match self.words.get(self.next) {
+            Some(word) if word.text == b"none".as_slice() => {
+                self.next = self.next.saturating_add(1);
+                None
+            }
+            _ => Some(self.bytes()),
+        }
+    }
+
+    fn text_of(&mut self, bytes: &'a [u8]) -> &'a str {
+        match str::from_utf8(bytes) {
+            Ok(text) => text,
+            Err(_) => {
+                self.spoil();
+                ""
+            }
+        }
+    }
+
+    /// The next word's bytes, as a text.
+    pub fn text(&mut self) -> &'a str {
+        let bytes = self.bytes();
+        self.text_of(bytes)
+    }
+
+    /// The next word's bytes, as a text, or `None` if the word is `none`.
+    pub fn option_text(&mut self) -> Option<&'a str> {
+        match self.option() {
+            Some(bytes) => Some(self.text_of(bytes)),
+            None => None,
         }
     }
 
@@ -229,9 +271,24 @@ impl<'a> Case<'a> {
         self.push(word.as_bytes());
     }
 
+    /// Text that goes on with the last word of the answer.
+    pub fn join(&mut self, text: &str) {
+        self.push(text.as_bytes());
+    }
+
+    /// Whole lines, of which the answer then consists.
+    pub fn say_lines(&mut self, lines: &[u8]) {
+        self.push(lines);
+        self.is_lines = true;
+    }
+
     /// What prints as words of the answer, such as a number or a refusal.
     pub fn say_shown<T: Display + Drop>(&mut self, shown: T) {
         self.push_gap();
+        self.join_shown(shown);
+    }
+
+    fn join_shown<T: Display + Drop>(&mut self, shown: T) {
         if write!(&mut self.answer, "{shown}").is_err() {
             self.lack_memory();
         }
@@ -254,33 +311,38 @@ impl<'a> Case<'a> {
     }
 
     /// The length and the digest of bytes.
-    fn say_digest(&mut self, bytes: &[u8]) {
-        self.say_shown(bytes.len());
+    fn join_digest(&mut self, bytes: &[u8]) {
+        self.join_shown(bytes.len());
         self.push(b"/");
         self.push_digits(&Sha256::digest(bytes));
     }
 
-    /// Bytes in digits, or their length and digest.
-    pub fn say_bytes(&mut self, bytes: &[u8]) {
+    /// Bytes in digits, or their length and digest, in the same word.
+    pub fn join_bytes(&mut self, bytes: &[u8]) {
         if bytes.len() > SHORT_BYTES {
-            return self.say_digest(bytes);
+            return self.join_digest(bytes);
         }
         if bytes.is_empty() {
-            return self.say("-");
+            return self.push(b"-");
         }
-        self.push_gap();
         self.push_digits(bytes);
+    }
+
+    /// Bytes in digits, or their length and digest.
+    pub fn say_bytes(&mut self, bytes: &[u8]) {
+        self.push_gap();
+        self.join_bytes(bytes);
     }
 
     /// A text that a program printed, with `|` for each LF, or its length and digest.
     pub fn say_text(&mut self, text: &[u8]) {
+        self.push_gap();
         if text.len() > SHORT_TEXT {
-            return self.say_digest(text);
+            return self.join_digest(text);
         }
         if text.is_empty() {
-            return self.say("-");
+            return self.push(b"-");
         }
-        self.push_gap();
         for byte in text {
             self.push(&[if *byte == b'\n' { b'|' } else { *byte }]);
         }
