@@ -1,5 +1,5 @@
 -- A reply is accepted exactly where it passes each test.
-use Rattle.std.proofs.Common.{◌≡◌, ◌↔◌, ℕ, List, [], ◌++◌, length, Option, Result, Ok, Err, IsErr, IsOkAnd, refl, sym, ap, subst, ◌∙◌}
+use Rattle.std.proofs.Common.{◌≡◌, ◌↔◌, ℕ, List, [], ◌++◌, length, Option, Result, Ok, Err, IsErr, IsOkAnd, inl, inr, refl, sym, ap, subst, ◌∙◌}
 use Rattle.std.proofs.lemmas.List.{append-nil}
 use Rattle.encoding.proofs.Fields.{one_spelling}
 use Rattle.prefixtree.specs.Paths.{Way}
@@ -7,9 +7,10 @@ use Rattle.rootchain.specs.declared.body.Body.{Body}
 use Rattle.proofs.specs.declared.refusal.Refusal.{Refusal}
 use Rattle.proofs.specs.declared.refusal.Refusal.TheVariants.{Malformed, Trailing, OtherRoot, BadVuf, SameIndex, OtherPrefix, PathMismatch}
 use Rattle.proofs.specs.Accepts.{stated, Accepts, EndStates, IsAccepted, States}
+use Rattle.proofs.specs.Comparisons.{Refuses}
 use Rattle.proofs.specs.Reading.{read_reply}
 use Rattle.proofs.specs.PathEnds.{end_text}
-use Rattle.proofs.specs.Refusals.{IsFirst, AbsenceIsByAnother, AbsenceIsOnWay, Passes}
+use Rattle.proofs.specs.Refusals.{IsFirst, AbsenceIsByAnother, AbsenceIsOnWay, Passes, ReadsReply}
 use Rattle.proofs.specs.Replies.{End, Present, Empty, Other, Reply, reply_bytes, IsReply, Spells}
 use Rattle.proofs.proofs.Replies.{reply_field}
 
@@ -100,3 +101,21 @@ module _ (hash : List ℕ → List ℕ) (accepted : List ℕ → List ℕ → Li
   refused-exact reply (Ok x) P err refusal first bytes spelled statement = absurd cc
   refused-exact reply (Err other) P err refusal first bytes spelled statement =
       (λ ok. absurd ok, λ accepts. absurd (first.fails ((accepts-passed bytes reply spelled statement accepts).1 refusal)))
+
+  -- bytes that spell a reply are refused by no reading
+  spelled-read : (bytes : List ℕ) (reply : Reply) → Spells bytes reply → (refusal : Refusal) → ¬ ReadsReply bytes (Err refusal)
+  spelled-read bytes reply spelled Malformed reads = reads.0 reply spelled
+  spelled-read bytes reply spelled Trailing reads =
+      reads.4 (nothing_left reads.1 reads.2 reads.0 reply reads.5 (subst (λ (all : List ℕ). Spells all reply) reads.3 spelled))
+  spelled-read bytes reply spelled OtherRoot reads = reads
+  spelled-read bytes reply spelled BadVuf reads = reads
+  spelled-read bytes reply spelled SameIndex reads = reads
+  spelled-read bytes reply spelled OtherPrefix reads = reads
+  spelled-read bytes reply spelled PathMismatch reads = reads
+
+  -- what is refused is not accepted
+  pub refused-accepts : (bytes : List ℕ) (refusal : Refusal) (statement : Option (List ℕ)) → Refuses hash accepted body name bytes refusal
+      → ¬ Accepts hash accepted body name bytes statement
+  refused-accepts bytes refusal statement (inl reads) accepts = spelled-read bytes accepts.0 accepts.1 refusal reads
+  refused-accepts bytes refusal statement (inr checked) accepts =
+      checked.2.fails ((accepts-passed bytes checked.0 checked.1 statement accepts).1 refusal)

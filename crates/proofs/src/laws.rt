@@ -1,8 +1,10 @@
-ghost use Rattle.std.specs.Prelude.{◌≡◌, ℕ, List, [], ◌++◌};
+ghost use Rattle.std.specs.Prelude.{◌≡◌, ℕ, List, [], ◌++◌, Option};
 ghost use Rattle.prefixtree.specs.Placement.{Items};
+ghost use Rattle.rootchain.specs.declared.body.Body.{Body};
 ghost use Rattle.proofs.specs.Accepts.{stated, Accepts, NamedReply};
-ghost use Rattle.proofs.specs.Comparisons.{Answers};
+ghost use Rattle.proofs.specs.Comparisons.{Answers, Refuses};
 ghost use Rattle.proofs.specs.Honest.{IsHonest};
+ghost use Rattle.proofs.specs.declared.refusal.Refusal.{Refusal};
 ghost use Rattle.proofs.specs.declared.comparing.SameOr.TheVariants.{TwoValues};
 ghost use Rattle.proofs.specs.Replies.{reply_bytes, Reply, Spells};
 
@@ -28,6 +30,14 @@ pub fn no_spelling_begins_another()
 pub fn honest_replies_are_accepted<H: NodeHash, V: VufCheck>()
     ensures { (name : List ℕ) (items : Items) (reply : Reply) → IsHonest H.digest_of V.accepted name items reply
         → Accepts H.digest_of V.accepted reply.body name (reply_bytes reply) (stated reply.end) }
+{}
+
+/// A reply that is refused is not accepted, whatever it states; and one that is accepted is not refused.
+pub fn refused_is_not_accepted<H: NodeHash, V: VufCheck>()
+    ensures refused { (body : Body) (name bytes : List ℕ) (refusal : Refusal) → Refuses H.digest_of V.accepted body name bytes refusal
+        → (statement : Option (List ℕ)) → ¬ Accepts H.digest_of V.accepted body name bytes statement }
+    ensures accepted { (body : Body) (name bytes : List ℕ) (statement : Option (List ℕ)) → Accepts H.digest_of V.accepted body name bytes statement
+        → (refusal : Refusal) → ¬ Refuses H.digest_of V.accepted body name bytes refusal }
 {}
 
 /// Under a function that accepts one value for a key and a name, a comparison never returns two values.

@@ -33,7 +33,7 @@ pub use comparing::{RefusedReply, SameOr, compare_replies, same_or_collision};
 pub use end::End;
 pub use laws::{
     bytes_spell_one_reply, honest_replies_are_accepted, no_spelling_begins_another,
-    reply_has_one_spelling, unique_values_never_differ,
+    refused_is_not_accepted, reply_has_one_spelling, unique_values_never_differ,
 };
 pub use making::make;
 pub use refusal::Refusal;
