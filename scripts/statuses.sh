@@ -340,9 +340,9 @@ fi
 
 # `audit`, over lines whose answers Python computed, in lower case, in upper case, and with a last line
 # that has no end.
-answers=$(scripts/known_answers.py)
-sed -n 's/^line to audit: //p' <<<"$answers" >"$folder/roots"
-sed -n 's/^answer to it: //p' <<<"$answers" >"$folder/answers"
+scripts/formats.py --audited >"$folder/audited"
+cut -d ' ' -f 1 "$folder/audited" >"$folder/roots"
+cut -d ' ' -f 2- "$folder/audited" >"$folder/answers"
 tr a-f A-F <"$folder/roots" | head -c -1 >"$folder/upper"
 for lines in roots upper; do
     over "$folder/$lines" audit --key $ones
@@ -359,14 +359,15 @@ if [ $is_limited = yes ]; then
     ends 0 "refused 1" ""
 fi
 
-# `judge`, of the evidence that Python computed, of which the signatures verify or not.
+# `judge`, of the evidence that Python computed, which holds or not.
+scripts/formats.py --evidence >"$folder/evidence"
 for kind in fork link skip broken-promise; do
-    sed -n "s/^$kind that holds: //p" <<<"$answers" >"$folder/$kind.json"
+    sed -n "s/^0 $kind //p" "$folder/evidence" >"$folder/$kind.json"
     given "" judge --key $ones "$folder/$kind.json"
     ends 0 "evidence" ""
     given "" judge "$folder/$kind.json" --key=$zeros
     ends 3 "no evidence" ""
-    sed -n "s/^evidence: \(.*\"kind\":\"$kind\".*\)/\1/p" <<<"$answers" >"$folder/false.json"
+    sed -n "s/^3 $kind //p" "$folder/evidence" >"$folder/false.json"
     given "" judge --key $ones "$folder/false.json"
     ends 3 "no evidence" ""
 done

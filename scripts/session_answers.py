@@ -1,0 +1,362 @@
+"""The answers of the program `session_vectors` by the reference model.
+
+Words and answers are those of answers.py; directories and hubs of `run` and `hub new` have the keys of a script,
+and the token 04 32 times. A subject that ends in `-sum` has the same verbs by the sum of bytes,
+where the value of a name is the name. A verb on a value that is not there yet is `bad question`.
+"""
+
+from answers import BadQuestion, Lines, place_words, refused, statement_words, told, told_text, yes
+from formats import *
+from sessions import *
+
+HUB_TOKEN = bytes([4]) * 32
+MAX_PROOF_TEXT = 10700
+MAX_SESSION = 2**32 - 1
+EVIDENCE_KINDS = (FORK, LINK, SKIP, BROKEN)
+
+
+def or_none(value):
+    return "none" if value is None else told(value) if isinstance(value, bytes) else str(value)
+
+
+def fault_words(fault, written):
+    return ["fault", str(fault.status), fault.text, written]
+
+
+def due_words(due):
+    if isinstance(due, BrokenPromise):
+        parts = (due.promise.write(), due.root.write(), due.proof)
+        return ["broken", *map(told, parts)]
+    return [due]
+
+
+def there(value):
+    """A value that was made by an earlier line."""
+    if value is None:
+        raise BadQuestion
+    return value
+
+
+class Values:
+    """A directory, a client and another one, under one digest and one verifiable function."""
+
+    def __init__(self, digest, vuf):
+        self.digest, self.vuf = digest, vuf
+        self.directory = self.client = self.other = None
+
+
+class SessionAnswers(Lines):
+    """What stays from line to line: values of both kinds, a hub, a monitor and an auditor."""
+
+    def __init__(self, scripts):
+        super().__init__()
+        self.scripts = scripts
+        self.keyed, self.summed = Values(sha256, KeyedVuf), Values(byte_sum, PlainVuf)
+        self.values = self.keyed
+        self.hub = self.monitor = None
+        self.auditor = Auditor(sha256)
+
+    def verb(self, subject, words):
+        if subject == "script":
+            return self.script
+        self.values = self.keyed
+        if subject in ("directory-sum", "client-sum"):
+            subject, self.values = subject.removesuffix("-sum"), self.summed
+        return super().verb(subject, words)
+
+    # directory
+
+    def new_directory(self, epoch, nonce, sign_key, vuf_key, salt_key):
+        if self.values is self.keyed:
+            return keyed_directory(epoch, nonce, sign_key, vuf_key, salt_key)
+        return summed_directory(epoch, nonce, sign_key, salt_key)
+
+    def directory(self):
+        return there(self.values.directory)
+
+    def directory_new(self, w):
+        """`new EPOCH NONCE SIGN VUF SALT`, without VUF by the sum: the head."""
+        epoch, nonce, sign_key = w.number(), w.hash(), w.hash()
+        vuf_key = w.hash() if self.values is self.keyed else None
+        self.values.directory = self.new_directory(epoch, nonce, sign_key, vuf_key, w.hash())
+        return self.directory_head(w)
+
+    def directory_head(self, w):
+        return [told(self.directory().head().write())]
+
+    def directory_register(self, w):
+        """`register NAME KEY`"""
+        return [told(self.directory().register(w.bytes(), w.bytes()).write())]
+
+    def directory_change(self, w):
+        """`change NAME KEY`"""
+        return [told(self.directory().change(w.bytes(), w.bytes()).write())]
+
+    def directory_promise(self, w):
+        """`promise NAME`"""
+        return [told(self.directory().promise(w.bytes()).write())]
+
+    def directory_close(self, w):
+        """`close EPOCH`"""
+        return [told(self.directory().close(w.number()).write())]
+
+    def directory_lookup(self, w):
+        """`lookup NAME EPOCH`"""
+        return [told(self.directory().lookup(w.bytes(), w.number()).write())]
+
+    def directory_history(self, w):
+        """`history FROM COUNT`: how many roots, and their bytes joined."""
+        roots = self.directory().history(w.number(), w.number(2**16 - 1))
+        return [str(len(roots)), told(b"".join(root.write() for root in roots))]
+
+    def directory_run(self, w):
+        """`run EPOCH NONCE MESSAGE..`: a new directory; each message is the kind and the body of a request."""
+        epoch, nonce = w.number(), w.hash()
+        requests = [self.request(message) for message in w.all_bytes()]
+        replies = self.new_directory(epoch, nonce, SIGN_KEY, VUF_KEY, SALT_KEY).run(requests)
+        return [str(len(replies)), told(b"".join(response_frame(*reply) for reply in replies))]
+
+    @staticmethod
+    def request(message):
+        try:
+            return read_request(message[0], message[1:])
+        except (IndexError, Refusal):
+            raise BadQuestion from None
+
+    # hub
+
+    @staticmethod
+    def new_hub(w):
+        epoch, nonce = w.number(), w.hash()
+        return Hub(keyed_directory(epoch, nonce, SIGN_KEY, VUF_KEY, SALT_KEY), HUB_TOKEN)
+
+    def hub_new(self, w):
+        """`new EPOCH NONCE`, under the keys of this module."""
+        self.hub = self.new_hub(w)
+        return ["ok"]
+
+    def hub_open(self, w):
+        """`open S`"""
+        return [told(there(self.hub).open(w.number(MAX_SESSION)))]
+
+    def hub_bytes(self, w):
+        """`bytes S PIECE`"""
+        return [told(there(self.hub).bytes(w.number(MAX_SESSION), w.bytes()))]
+
+    def hub_end(self, w):
+        """`end S`"""
+        return [told(there(self.hub).end(w.number(MAX_SESSION)))]
+
+    def hub_run(self, w):
+        """`run EPOCH NONCE (open S|bytes S PIECE|end S)..`: the output of each session of a new hub."""
+        hub = self.new_hub(w)
+        events = []
+        while w.left():
+            verb = w.word()
+            if verb not in ("open", "bytes", "end"):
+                raise BadQuestion
+            session = w.number(MAX_SESSION)
+            events.append((verb, session, w.bytes()) if verb == "bytes" else (verb, session))
+        return [f"{session}:{told(output)}" for session, output in hub.run(events)] or ["-"]
+
+    # serve
+
+    @staticmethod
+    def served(*order):
+        try:
+            return ["ok", told(serve_directory(*order))]
+        except ProgramFault as fault:
+            return fault_words(fault, "-")
+
+    def serve_run(self, w):
+        """`run EPOCH NONCE INPUT`, NONCE a text or `none`."""
+        epoch, nonce, stream = w.number(), w.optional(w.text), w.bytes()
+        if epoch == 0:
+            raise BadQuestion
+        keys = [key.hex().encode() for key in (SIGN_KEY, VUF_KEY, SALT_KEY, HUB_TOKEN)]
+        return self.served(*keys, epoch, nonce, stream)
+
+    def serve_keys(self, w):
+        """`keys SIGN VUF SALT TOKEN INPUT`, texts and what is read."""
+        return self.served(*(w.text() for _ in range(4)), 1, None, w.bytes())
+
+    # client
+
+    def client(self):
+        return there(self.values.client)
+
+    def client_start(self, w):
+        """`start KEY ROOT`"""
+        self.values.client = Client(w.hash(), w.bytes(), self.values.digest, self.values.vuf)
+        return ["ok"]
+
+    def client_update(self, w):
+        """`update LIST`"""
+        return self.updated(self.client(), w.bytes())
+
+    @staticmethod
+    def updated(taker, roots):
+        try:
+            taker.update(roots)
+        except ClientRefusal as refusal:
+            return [f"{refused(refusal)}:", *place_words(refusal.evidence)]
+        return ["ok"]
+
+    def client_look(self, w):
+        """`look NAME EPOCH REPLY`"""
+        return statement_words(self.client().look(w.name(), w.number(), w.bytes()))
+
+    def client_keep(self, w):
+        """`keep PROMISE`"""
+        self.client().keep_promise(w.bytes())
+        return ["ok"]
+
+    def client_due(self, w):
+        """`due NAME REPLY`"""
+        return due_words(self.client().due(w.name(), w.bytes()))
+
+    def client_due_epoch(self, w):
+        """`due-epoch NAME`"""
+        return [or_none(self.client().due_epoch(w.name()))]
+
+    def client_key(self, w):
+        return [told(self.client().key)]
+
+    def client_head(self, w):
+        return [told(self.client().head().write())]
+
+    def client_put_aside(self, w):
+        """The client becomes the other one."""
+        self.values.client, self.values.other = None, self.client()
+        return ["ok"]
+
+    def client_reconcile(self, w):
+        return self.reconciled(self.client(), there(self.values.other))
+
+    def client_reconcile_self(self, w):
+        return self.reconciled(self.client(), self.client())
+
+    @staticmethod
+    def reconciled(one, other):
+        if one.key != other.key:
+            raise BadQuestion
+        return place_words(reconcile(one, other))
+
+    # monitor
+
+    def monitor_new(self, w):
+        """`new NAME KEY|none`: takes the client."""
+        name, start = w.name(), w.optional(w.key)
+        self.monitor, self.values.client = Monitor(self.client(), name, start), None
+        return ["ok"]
+
+    def monitor_update(self, w):
+        """`update LIST`"""
+        return self.updated(there(self.monitor), w.bytes())
+
+    def monitor_expect(self, w):
+        """`expect KEY PROMISE`"""
+        there(self.monitor).expect_change(w.key(), w.bytes())
+        return ["ok"]
+
+    def monitor_step(self, w):
+        """`step REPLY`"""
+        step = there(self.monitor).step(w.bytes())
+        return [step] if step == KEPT else ["alarm", str(step.epoch), *statement_words(step.found)]
+
+    def monitor_next(self, w):
+        return [or_none(there(self.monitor).next_epoch())]
+
+    def monitor_expected(self, w):
+        """`expected EPOCH`"""
+        return [or_none(there(self.monitor).expected(w.number()))]
+
+    def monitor_name(self, w):
+        return [told(there(self.monitor).name)]
+
+    def monitor_client(self, w):
+        """The epoch of its client's head."""
+        return [str(there(self.monitor).client.head().epoch)]
+
+    def monitor_reconcile(self, w):
+        """Its client with the other one."""
+        return self.reconciled(there(self.monitor).client, there(self.values.other))
+
+    # auditor
+
+    def auditor_new(self, w):
+        self.auditor = Auditor(sha256)
+        return ["ok"]
+
+    def auditor_observe(self, w):
+        """`observe KEY ROOT`"""
+        return place_words(self.auditor.observe(w.hash(), w.bytes()))
+
+    def auditor_compare(self, w):
+        """`compare KEY ROOT`"""
+        return place_words(self.auditor.compare(w.hash(), w.bytes()))
+
+    def auditor_chain(self, w):
+        """`chain KEY`: the epoch of its head."""
+        chain = self.auditor.chains.get(w.hash())
+        return [or_none(chain and chain.head().epoch)]
+
+    def auditor_judge(self, w):
+        """`judge KEY KIND FIRST SECOND [PROOF]`"""
+        key, kind, first, second = w.hash(), self.kind(w), w.bytes(), w.bytes()
+        if kind != BROKEN:
+            evidence = RootEvidence(kind, SignedRoot.read(first), SignedRoot.read(second))
+            return [yes(judge(sha256, KeyedVuf, key, evidence))]
+        proof = w.bytes()
+        if len(proof) > MAX_PROOF_TEXT:
+            raise BadQuestion
+        evidence = BrokenPromise(SignedPromise.read(first), SignedRoot.read(second), proof)
+        return [yes(judge(sha256, KeyedVuf, key, evidence))]
+
+    @staticmethod
+    def kind(w):
+        kind = w.word()
+        if kind not in EVIDENCE_KINDS:
+            raise BadQuestion
+        return kind
+
+    # evidence
+
+    def evidence_json(self, w):
+        """`json KIND FIRST SECOND`"""
+        kind = self.kind(w)
+        return [told_text(evidence_json(evidence_of(kind, w.bytes(), w.bytes())).encode())]
+
+    def evidence_read(self, w):
+        """`read BYTES`"""
+        try:
+            evidence = read_evidence(w.bytes())
+        except ProgramFault as fault:
+            return ["fault", str(fault.status), fault.text]
+        return [evidence.kind, *map(told, evidence_parts(evidence))]
+
+    def evidence_judge(self, w):
+        """`judge KEYTEXT BYTES`"""
+        try:
+            status, written = judge_file(w.text(), w.bytes())
+        except ProgramFault as fault:
+            return fault_words(fault, "-")
+        return ["ok", str(status), told_text(written)]
+
+    def evidence_audit(self, w):
+        """`audit KEYTEXT INPUT`"""
+        try:
+            return ["ok", told_text(audit(w.text(), w.bytes()))]
+        except ProgramFault as fault:
+            return fault_words(fault, "-")
+
+    # scripts
+
+    def script(self, w):
+        """`script NAME`: its lines, and one more where it stops at a line that is no command."""
+        name = w.word()
+        if name not in self.scripts:
+            raise BadQuestion
+        printed, stopped = played(self.scripts[name].encode())
+        told = printed if stopped is None else [*printed, f"line {stopped}: not a command"]
+        return ["\n".join(told)]
