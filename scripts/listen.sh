@@ -6,13 +6,13 @@
 #   scripts/listen.sh
 #
 # Takes the built program, or the one that DIRECTORYD names. The last line is `N passed, M failed`, and
-# the status is 0 where none failed. It takes some ten seconds, and ends after two minutes whatever
+# the status is 0 where none failed. It takes some ten seconds, and ends after five minutes whatever
 # happens.
 set -uo pipefail
 cd "$(dirname "$0")/.." || exit 1
 
 if [ -z "${LISTEN_LIMIT:-}" ]; then
-    LISTEN_LIMIT=110 exec timeout --kill-after=10 110 "scripts/listen.sh"
+    LISTEN_LIMIT=300 exec timeout --kill-after=10 300 "scripts/listen.sh"
 fi
 
 program=${DIRECTORYD:-crates/directoryd/out/directoryd}

@@ -6,13 +6,13 @@
 #   scripts/statuses.sh
 #
 # Takes the built program, or the one that DIRECTORYD names. The last line is `N passed, M failed`, and
-# the status is 0 where none failed. It takes some ten seconds, and ends after two minutes whatever
+# the status is 0 where none failed. It takes some ten seconds, and ends after five minutes whatever
 # happens.
 set -uo pipefail
 cd "$(dirname "$0")/.." || exit 1
 
 if [ -z "${STATUSES_LIMIT:-}" ]; then
-    STATUSES_LIMIT=110 exec timeout --kill-after=10 110 "scripts/statuses.sh"
+    STATUSES_LIMIT=300 exec timeout --kill-after=10 300 "scripts/statuses.sh"
 fi
 
 program=${DIRECTORYD:-crates/directoryd/out/directoryd}
@@ -52,7 +52,7 @@ over() {
     shift
     words="$*"
     status=0
-    timeout --foreground 60 "$folder/directoryd" "$@" <"$input" >"$folder/out" 2>"$folder/err" || status=$?
+    "$folder/directoryd" "$@" <"$input" >"$folder/out" 2>"$folder/err" || status=$?
 }
 
 # The same over this text: given TEXT WORD..
@@ -71,9 +71,9 @@ full() {
     : >"$folder/out"
     : >"$folder/err"
     if [ "$stream" = out ]; then
-        timeout --foreground 60 "$folder/directoryd" "$@" <"$folder/in" 2>"$folder/err" >/dev/full || status=$?
+        "$folder/directoryd" "$@" <"$folder/in" 2>"$folder/err" >/dev/full || status=$?
     else
-        timeout --foreground 60 "$folder/directoryd" "$@" <"$folder/in" 2>/dev/full >"$folder/out" || status=$?
+        "$folder/directoryd" "$@" <"$folder/in" 2>/dev/full >"$folder/out" || status=$?
     fi
 }
 
@@ -85,15 +85,15 @@ within() {
     status=0
     (
         ulimit -v "$most"
-        exec timeout --foreground 60 "$folder/directoryd" "$@" <"$input" >"$folder/out" 2>"$folder/err"
+        exec "$folder/directoryd" "$@" <"$input" >"$folder/out" 2>"$folder/err"
     ) || status=$?
 }
 
 # Compares the last run with a status and whole texts: ends STATUS OUTPUT ERRORS
 ends() {
     local out err
-    out=$(cat "$folder/out")
-    err=$(cat "$folder/err")
+    out=$(<"$folder/out")
+    err=$(<"$folder/err")
     if [ "$status" = "$1" ] && [ "$out" = "$2" ] && [ "$err" = "$3" ]; then
         passed=$((passed + 1))
     else
@@ -103,11 +103,13 @@ ends() {
 
 # The words are refused: status 2, no output, and errors of clap with this first line: refused LINE WORD..
 refused() {
-    local line=$1 first last
+    local line=$1 lines first last
     shift
     given "x\n" "$@"
-    first=$(head -n 1 "$folder/err")
-    last=$(tail -n 1 "$folder/err")
+    mapfile -t lines <"$folder/err"
+    first=${lines[0]-}
+    last=
+    [ ${#lines[@]} = 0 ] || last=${lines[-1]}
     if [ "$status" = 2 ] && [ "$first" = "error: $line" ] && [ ! -s "$folder/out" ] &&
         [ "$last" = "For more information, try '--help'." ]; then
         passed=$((passed + 1))
@@ -118,15 +120,16 @@ refused() {
 
 # The words ask for help: status 0, no errors, and an output with these parts: helps WORD.. -- PART..
 helps() {
-    local asked=() part
+    local asked=() part out
     while [ "$1" != -- ]; do
         asked+=("$1")
         shift
     done
     shift
     given "x\n" "${asked[@]}"
+    out=$(<"$folder/out")
     for part in "$@"; do
-        if [ "$status" = 0 ] && [ ! -s "$folder/err" ] && grep -qF -- "$part" "$folder/out"; then
+        if [ "$status" = 0 ] && [ ! -s "$folder/err" ] && [[ "$out" == *"$part"* ]]; then
             passed=$((passed + 1))
         else
             fails "${words:0:100}: status $status, without '$part'"
@@ -159,9 +162,9 @@ helps listen --help -- "--count <N>" "How many connections are answered; 0 for n
 given "" root --help
 cp "$folder/out" "$folder/help"
 given "" root -h
-ends 0 "$(cat "$folder/help")" ""
+ends 0 "$(<"$folder/help")" ""
 given "" help root
-ends 0 "$(cat "$folder/help")" ""
+ends 0 "$(<"$folder/help")" ""
 
 # Words that order nothing. Of one the whole text is compared.
 given "x\n" root --salt
@@ -236,7 +239,7 @@ ends 0 "root ${zeros:4}0045" ""
 given "" root
 cp "$folder/out" "$folder/sha256"
 given "" root --hash sha256 --nonce $zeros
-ends 0 "$(cat "$folder/sha256")" ""
+ends 0 "$(<"$folder/sha256")" ""
 given "" prove --hash sum --index $zeros
 ends 0 "level 0
 empty
@@ -346,7 +349,7 @@ cut -d ' ' -f 2- "$folder/audited" >"$folder/answers"
 tr a-f A-F <"$folder/roots" | head -c -1 >"$folder/upper"
 for lines in roots upper; do
     over "$folder/$lines" audit --key $ones
-    ends 0 "$(cat "$folder/answers")" ""
+    ends 0 "$(<"$folder/answers")" ""
 done
 given "" audit --key=$ones
 ends 0 "" ""
