@@ -16,6 +16,7 @@ from session_scripts import HEAD, hexed, key_of, name_of, split
 from sessions import SALT_KEY, SIGN_KEY, VUF_KEY, keyed_directory, summed_directory
 
 OTHER_KEY = bytes([9]) * 32
+LETTERS = bytes([0xAB]) * 32  # a key whose digits are letters
 TOP = MAX_EPOCH
 SUBJECTS = []
 
@@ -157,12 +158,6 @@ def of_names(q, rng):
     commands += [message("close", HUB_TOKEN, 2)]
     commands += [message("lookup", 2, name) for name in names]
     q.ask("directory run", 1, ZERO32, *commands)
-    new_directory(q)
-    for place, name in enumerate(names[:150]):
-        q.ask("directory register", name, key_of(place))
-    q.ask("directory close", 2)
-    for name in [*names[:150:9], *names[150::50]]:
-        q.ask("directory lookup", name, 2)
 
 
 @subject("a directory: some hundreds of pages, of versions of one name, and of changes that wait")
@@ -173,22 +168,20 @@ def of_pages(q, rng):
     commands += [message("lookup", epoch, b"a") for epoch in [0, *range(1, 302, 5), 301, 302]]
     commands += [message("history", start, 64) for start in [0, 60, 100, 101, 237, 238, 239, 301, 302]]
     q.ask("directory run", 1, ZERO32, *commands)
+    commands = [message("register", name_of(place), b"k") for place in range(60)] + [message("close", ZERO32, 5)]
+    commands += [message("change", name_of(place), key_of(place)) for place in range(60)]
+    commands += [message("promise", name_of(place)) for place in range(0, 60, 4)] + [message("close", ZERO32, 6)]
+    commands += [message("lookup", 5 + place % 2, name_of(place)) for place in range(60)]
+    q.ask("directory run", 1, ZERO32, *commands)
+    q.note("A page from the 101st on, and histories over many pages, by calls.")
     new_directory(q)
-    for place in range(60):
-        q.ask("directory register", name_of(place), b"k")
-    q.ask("directory close", 5)
-    for place in range(60):
-        q.ask("directory change", name_of(place), key_of(place))
-    q.ask("directory close", 6)
-    for place in range(0, 60, 7):
-        q.ask("directory lookup", name_of(place), 5)
-        q.ask("directory lookup", name_of(place), 6)
-    for epoch in range(7, 127):
+    q.ask("directory register", b"a", b"k")
+    for epoch in range(2, 105):
         q.ask("directory close", epoch)
-    for start in [0, 1, 5, 6, 63, 64, 100, 126, 127]:
+    for start in [0, 1, 5, 40, 41, 42, 100, 104, 105]:
         q.ask("directory history", start, 64)
-    q.ask("directory lookup", name_of(3), 99)
-    q.ask("directory lookup", name_of(3), 109)
+    for epoch in [1, 2, 50, 99, 100, 101, 104]:
+        q.ask("directory lookup", b"a", epoch)
 
 
 @subject("runs of a directory")
@@ -294,9 +287,6 @@ def of_most_sessions(q, rng):
     q.ask("hub open", 7)
     q.ask("hub open", 1025)
     q.ask("hub bytes", 7, HEAD)
-    q.note("Of 1,025 that a run opens, the last has no output.")
-    events = [word for session in range(1025) for word in ("open", session)]
-    q.ask("hub run", 1, ZERO32, *events, "bytes", 1023, HEAD, "bytes", 1024, HEAD)
 
 
 @subject("a hub: messages that are cut, and messages of many sessions")
@@ -590,21 +580,21 @@ def of_updates(q, rng):
 
 @subject("clients: lists of 64 roots, and chains of more")
 def of_long_lists(q, rng):
-    pages = KEYED.pages(range(5, 155, 2))
+    pages = KEYED.pages(range(5, 145, 2))
     data = b"".join(written(page) for page in pages)
     size = len(written(pages[0]))
     q.let("roots", data)
     q.ask("client start", SIGN_KEY, written(pages[0]))
     q.ask("client update", u16(64) + data[: 64 * size])
     q.ask("client head")
-    q.ask("client update", u16(11) + data[63 * size : 74 * size] )
-    q.ask("client update", u16(2) + data[73 * size : 75 * size])
+    q.ask("client update", u16(5) + data[63 * size : 68 * size])
+    q.ask("client update", u16(2) + data[68 * size :])
     q.ask("client head")
-    q.ask("client update", u16(64) + data[11 * size :])
+    q.ask("client update", u16(64) + data[6 * size :])
     q.ask("client put-aside")
     q.ask("client start", SIGN_KEY, written(pages[40]))
     q.ask("client reconcile")
-    q.ask("client update", u16(30) + data[41 * size : 71 * size])
+    q.ask("client update", u16(25) + data[41 * size : 66 * size])
     q.ask("client reconcile")
     q.ask("client reconcile-self")
 
@@ -884,6 +874,468 @@ def of_reconciled_looks(q, rng):
     q.ask("client-sum start", SIGN_KEY, written(other))
     q.ask("client-sum look", b"a", 3, other.reply(b"a").write())
     q.ask("client-sum reconcile")
+
+
+# Monitors ---------------------------------------------------------------------------------------------------
+
+
+@subject("a monitor: a change that its owner asked for, and one that nobody did")
+def of_watching(q, rng):
+    a = KEYED.page(1)
+    b = KEYED.page(2, a, {b"a": b"k"})
+    c = KEYED.page(5, b, {b"a": b"l"})
+    d = KEYED.page(6, c)
+    lets(q, a=a, b=b, c=c, d=d)
+    ra, rb, rc, rd = (q.let(f"r{page.epoch}", page.reply(b"a").write()) for page in (a, b, c, d))
+    first = q.let("first", a.promise(b"a", b"k"))
+    for verb in ["name", "next", "client", "reconcile"]:
+        q.ask(f"monitor {verb}")
+    q.ask("monitor new", b"a", "none")
+    q.ask("client start", SIGN_KEY, written(a))
+    q.ask("monitor new", b"", "none")
+    q.ask("monitor new", b"a" * 256, "none")
+    q.ask("monitor new", b"a", b"")
+    q.ask("monitor new", b"a", b"k" * 2049)
+    q.ask("monitor new", b"a", "none")
+    q.ask("client head")
+    q.ask("monitor name")
+    q.ask("monitor client")
+    q.ask("monitor next")
+    for epoch in [0, 1, 2, TOP]:
+        q.ask("monitor expected", epoch)
+    q.note("A refused step counts as not watched.")
+    for reply in [b"", ra[:-1], ra + b"\0", rb, KEYED.page(1, nonce=run(1)).reply(b"a").write(), a.reply(b"b").write()]:
+        q.ask("monitor step", reply)
+    q.ask("monitor next")
+    q.ask("monitor step", ra)
+    q.ask("monitor next")
+    q.ask("monitor step", ra)
+    q.note("Promises of another name or key, over a root that the chain lacks, and under another key.")
+    for key, promise in [
+        (b"k", b""), (b"k", first + b"\0"), (b"k", a.promise(b"a", b"k", OTHER_KEY)), (b"k", b.promise(b"a", b"k")),
+        (b"k", a.promise(b"b", b"k")), (b"k", a.promise(b"a", b"l")), (b"l", first), (b"k", a.promise(b"a", b"k", root_hash=run(1))),
+        (b"k", a.promise(b"b", b"k", OTHER_KEY)), (b"k", b.promise(b"b", b"l")), (b"", first),
+    ]:
+        q.ask("monitor expect", key, promise)
+    q.ask("monitor expected", 2)
+    q.ask("monitor expect", b"k", first)
+    q.ask("monitor expect", b"k", first)
+    for epoch in [0, 1, 2, 3, TOP]:
+        q.ask("monitor expected", epoch)
+    q.ask("monitor update", roots(b, c)[:-1])
+    q.ask("monitor update", roots(c))
+    q.ask("monitor update", roots(KEYED.page(1, nonce=run(1))))
+    q.ask("monitor update", roots(b))
+    for reply in [ra, rb, rb]:
+        q.ask("monitor step", reply)
+    q.ask("monitor expect", b"k", first)
+    q.ask("monitor update", roots(b, c, d))
+    q.ask("monitor client")
+    for reply in [rb, rc, rc, rd]:
+        q.ask("monitor step", reply)
+        q.ask("monitor next")
+    q.note("Of a promise over the root that was watched last, and of one over a root before it.")
+    q.ask("monitor expect", b"l", b.promise(b"a", b"l"))
+    q.ask("monitor expect", b"l", c.promise(b"a", b"l"))
+    q.ask("monitor expect", b"l", d.promise(b"a", b"l"))
+    e = KEYED.page(7, d, {b"a": b"l"})
+    q.ask("monitor update", roots(e))
+    q.ask("monitor step", e.reply(b"a").write())
+    for epoch in range(8):
+        q.ask("monitor expected", epoch)
+
+
+@subject("monitors: what is expected at first, and promises that come late")
+def of_expectations(q, rng):
+    a = KEYED.page(3, None, {b"a": b"k" * 101})
+    b = KEYED.page(7, a, {b"a": b"l" * 2048})
+    c = KEYED.page(9, b, {b"a": b"m"})
+    lets(q, a=a, b=b, c=c)
+    ra, rb, rc = (q.let(f"r{page.epoch}", page.reply(b"a").write()) for page in (a, b, c))
+    for start in ["none", b"k" * 101, b"k" * 100, b"m", b"l" * 2048]:
+        q.ask("client start", SIGN_KEY, written(a))
+        q.ask("client update", roots(b, c))
+        q.ask("monitor new", b"a", start)
+        q.ask("monitor expected", 3)
+        for reply in [ra, rb, rc]:
+            q.ask("monitor step", reply)
+    q.note("All promises before the first step, then in another order, then between the steps.")
+    promised = [(b"l" * 2048, a.promise(b"a", b"l" * 2048)), (b"m", b.promise(b"a", b"m")), (b"n", c.promise(b"a", b"n"))]
+    for order in [[0, 1, 2], [1, 0, 2], [2, 1, 0], [0, 2, 1], [0, "step", 0, "step", 0, 1, "step", 1, 2, 2]]:
+        q.ask("client start", SIGN_KEY, written(a))
+        q.ask("client update", roots(b, c))
+        q.ask("monitor new", b"a", b"k" * 101)
+        replies = [ra, rb, rc]
+        for turn in order:
+            if turn == "step":
+                q.ask("monitor step", replies.pop(0))
+            else:
+                q.ask("monitor expect", *promised[turn])
+        for epoch in [3, 4, 7, 8, 9, 10]:
+            q.ask("monitor expected", epoch)
+        for reply in replies:
+            q.ask("monitor step", reply)
+    q.note("The promises stay with the client, and so do the looks.")
+    d = KEYED.page(12, c, {b"a": b"n"})
+    q.ask("monitor update", roots(d))
+    q.ask("monitor step", d.reply(b"a").write())
+    for other in [[a, b, c], [a], [a, KEYED.page(7, a)], [KEYED.page(3)], [d]]:
+        q.ask("client start", SIGN_KEY, written(other[0]))
+        q.ask("client update", roots(*other[1:]))
+        q.ask("client look", b"a", other[0].epoch, other[0].reply(b"a").write())
+        q.ask("client put-aside")
+        q.ask("monitor reconcile")
+    q.ask("client start", OTHER_KEY, written(KEYED.page(3, sign_key=OTHER_KEY)))
+    q.ask("client put-aside")
+    q.ask("monitor reconcile")
+
+
+@subject("a monitor over a directory, whose owner changes the key from time to time, as somebody else does")
+def of_owners(q, rng):
+    directory = started()
+    name, epoch, promised = b"owner", 1, None
+    q.let("root0", directory.head().write())
+    q.ask("client start", SIGN_KEY, directory.head().write())
+    q.ask("monitor new", name, "none")
+    for turn in range(26):
+        if turn % 3 == 0:
+            key = key_of(turn)
+            call = directory.change if name in directory.last().bindings else directory.register
+            promised = call(name, key).write()
+            if rng.randrange(3):
+                q.ask("monitor expect", key, promised)
+        elif turn == 25:
+            q.ask("monitor expect", key_of(24), promised)
+        q.ask("monitor step", directory.lookup(name, 0).write())
+        if turn % 12 == 0:
+            directory.register(name_of(turn), b"k")
+        known = directory.head()
+        epoch += rng.choice([1, 1, 6])
+        q.let(f"root{1 - turn % 2}", directory.close(epoch).write())
+        q.ask("monitor update", write_list([known, directory.head()]))
+        if turn % 10 == 0:
+            q.ask("monitor next")
+            q.ask("monitor client")
+            q.ask("monitor expected", epoch)
+
+
+# Auditors ---------------------------------------------------------------------------------------------------
+
+
+@subject("an auditor: where a root stands")
+def of_observing(q, rng):
+    # The first root names an earlier one, so that a root before it may be none of evidence.
+    a = KEYED.page(3, KEYED.page(2))
+    b = KEYED.page(7, a)
+    c = KEYED.page(9, b)
+    lets(q, a=a, b=b, c=c)
+    fork, skip = KEYED.page(7, a, nonce=run(1)), KEYED.page(8, b)
+    others = [
+        a, b, c, fork, skip, KEYED.page(10, KEYED.page(9, b, nonce=run(1))), KEYED.page(12, KEYED.page(10, c)),
+        KEYED.page(1), KEYED.page(2), KEYED.page(2, nonce=run(1)), KEYED.page(4, a), KEYED.page(10, b), KEYED.page(TOP, b),
+        KEYED.page(3, KEYED.page(2), nonce=run(2)), KEYED.page(9, fork), KEYED.page(10, c), KEYED.page(11, c),
+    ]
+    spoilt = [
+        b"", b"R", written(b)[:-1], written(b) + b"\0", long_signature(b, 31), long_signature(b, 33), long_signature(b, 256),
+        KEYED.page(7, a, sign_key=OTHER_KEY).root.write(),
+    ]
+    q.note("Compared by an auditor that knows no provider.")
+    q.ask("auditor new")
+    q.ask("auditor chain", SIGN_KEY)
+    for page in others[:3]:
+        q.ask("auditor compare", SIGN_KEY, written(page))
+    for data in spoilt:
+        q.ask("auditor compare", SIGN_KEY, data)
+        q.ask("auditor observe", SIGN_KEY, data)
+    q.ask("auditor chain", SIGN_KEY)
+    q.note("A chain of three roots.")
+    for page in (a, b, c):
+        q.ask("auditor compare", SIGN_KEY, written(page))
+        q.ask("auditor observe", SIGN_KEY, written(page))
+        q.ask("auditor chain", SIGN_KEY)
+    for verb in ["compare", "observe"]:
+        for page in others:
+            q.ask(f"auditor {verb}", SIGN_KEY, written(page))
+        for data in spoilt:
+            q.ask(f"auditor {verb}", SIGN_KEY, data)
+        q.ask("auditor chain", SIGN_KEY)
+        q.ask("auditor chain", OTHER_KEY)
+    q.note("Only a root's bytes under a key of the provider verify.")
+    q.ask("auditor observe", OTHER_KEY, written(a))
+    q.ask("auditor compare", OTHER_KEY, written(a))
+
+
+@subject("an auditor of many providers")
+def of_providers(q, rng):
+    keys = [bytes([number]) * 32 for number in range(12)]
+    q.ask("auditor new")
+    chains = []
+    for number, key in enumerate(keys):
+        pages = KEYED.pages([1, 2 + number % 3], sign_key=key)
+        chains.append(pages)
+        q.ask("auditor observe", key, written(pages[0]))
+        q.ask("auditor chain", key)
+        if number < 4:
+            q.ask("auditor compare", key, written(pages[1]))
+            q.ask("auditor observe", key, written(pages[1]))
+        if number:
+            q.ask("auditor observe", key, written(chains[0][0]))
+    for number in [0, 1, 2, 3, 11]:
+        for page in chains[number]:
+            q.ask("auditor observe", keys[number], written(page))
+        q.ask("auditor chain", keys[number])
+        q.ask("auditor observe", keys[number], written(KEYED.page(2, nonce=run(1), sign_key=keys[number])))
+    q.ask("auditor chain", OTHER_KEY[:31] + b"\0")
+    q.ask("auditor new")
+    q.ask("auditor chain", keys[0])
+
+
+@subject("an auditor of a chain beyond epoch 12")
+def of_long_chains(q, rng):
+    pages = KEYED.pages([*range(1, 31), 2**32, TOP - 1, TOP])
+    q.let("roots", b"".join(written(page) for page in pages))
+    q.ask("auditor new")
+    for page in pages:
+        q.ask("auditor observe", SIGN_KEY, written(page))
+    q.ask("auditor chain", SIGN_KEY)
+    for page in [pages[0], pages[13], pages[-1], KEYED.page(20), KEYED.page(TOP, pages[-3]), KEYED.page(60, pages[29])]:
+        q.ask("auditor compare", SIGN_KEY, written(page))
+        q.ask("auditor observe", SIGN_KEY, written(page))
+
+
+# Evidence that is judged ------------------------------------------------------------------------------------
+
+
+def cheats(provider=KEYED):
+    """Evidence of each kind that holds: the kind, and the parts."""
+    a, b, c = provider.pages([3, 7, 9])
+    promised = b.promise(b"a", b"k9")
+    yield FORK, [written(b), written(provider.page(7, a, nonce=run(1)))]
+    yield LINK, [written(b), written(provider.page(9, provider.page(7, a, nonce=run(1))))]
+    yield SKIP, [written(b), written(provider.page(9, a))]
+    yield SKIP, [written(provider.page(8, b)), written(c)]
+    for bindings in [{}, {b"a": b"k1"}, {b"b": b"k9", b"c": b"k"}]:
+        page = provider.page(8, b, bindings)
+        yield BROKEN, [promised, written(page), page.reply(b"a").write()]
+
+
+def spoilt_byte(data, at):
+    """The bytes with one changed, from the front or the end."""
+    at %= len(data)
+    return data[:at] + bytes([data[at] ^ 1]) + data[at + 1 :]
+
+
+@subject("evidence that is judged: what holds, and what does not")
+def of_judging(q, rng):
+    a, b, c = KEYED.pages([3, 7, 9])
+    lets(q, a=a, b=b, c=c)
+    for kind, parts in cheats():
+        for place, part in enumerate(parts):
+            q.let("xyz"[place], part)
+        q.ask("auditor judge", SIGN_KEY, kind, *parts)
+        q.ask("auditor judge", OTHER_KEY, kind, *parts)
+        q.ask("auditor judge", SIGN_KEY, kind, *([parts[1], parts[0]] if kind != BROKEN else [parts[0], parts[1], parts[2] + b"\0"]))
+        for other in (FORK, LINK, SKIP):
+            if other != kind and kind != BROKEN:
+                q.ask("auditor judge", SIGN_KEY, other, *parts)
+        for place in (0, 1):
+            twice = [parts[place], parts[place]]
+            if kind != BROKEN:
+                q.ask("auditor judge", SIGN_KEY, kind, *twice)
+            for part in [spoilt_byte(parts[place], -1), spoilt_byte(parts[place], -32), parts[place][:-1], parts[place] + b"\0"]:
+                q.ask("auditor judge", SIGN_KEY, kind, *parts[:place], part, *parts[place + 1 :])
+        if kind == BROKEN:
+            for reply in [parts[2][:-1], spoilt_byte(parts[2], 150), spoilt_byte(parts[2], -1), b"", bytes(10700), bytes(10701)]:
+                q.ask("auditor judge", SIGN_KEY, kind, *parts[:2], reply)
+    q.note("Roots that stand well, promises that were kept, and promises that show nothing.")
+    for kind in (FORK, LINK, SKIP):
+        for one, other in [(a, b), (b, c), (a, c), (c, a), (a, a)]:
+            q.ask("auditor judge", SIGN_KEY, kind, written(one), written(other))
+    kept = KEYED.page(8, b, {b"a": b"k9"})
+    absent = KEYED.page(8, b)
+    late = KEYED.page(10, c)
+    for promise, page, reply in [
+        (b.promise(b"a", b"k9"), kept, kept.reply(b"a")), (b.promise(b"a", b"k8"), kept, kept.reply(b"a")),
+        (b.promise(b"a", b"k9", index=run(7)), absent, absent.reply(b"a")),
+        (b.promise(b"b", b"k9"), absent, absent.reply(b"a")), (b.promise(b"a", b"k9", OTHER_KEY), absent, absent.reply(b"a")),
+        (b.promise(b"a", b"k9", root_hash=run(7)), absent, absent.reply(b"a")),
+        (b.promise(b"a", b"k9", epoch=6), absent, absent.reply(b"a")),
+        (a.promise(b"a", b"k9"), absent, absent.reply(b"a")), (b.promise(b"a", b"k9"), late, late.reply(b"a")),
+        (b.promise(b"a", b"k9"), absent, kept.reply(b"a")), (b.promise(b"a", b"k9"), kept, absent.reply(b"a")),
+    ]:
+        q.ask("auditor judge", SIGN_KEY, BROKEN, promise, written(page), reply.write())
+    q.note("Parts of many bytes.")
+    name, key = b"a" * 255, b"k" * 2048
+    page, reply = folded(KEYED, name, Opening(run(1), b"l" * 2048), [ZERO32] * 256)
+    page = Page(KEYED, SignedRoot.signed(replace(page.body, epoch=8, previous_epoch=7, previous_hash=sha256(b.body.write())), SIGN_KEY), {}, page.tree)
+    reply = replace(reply, body=page.body)
+    q.ask("auditor judge", SIGN_KEY, BROKEN, b.promise(name, key), written(page), reply.write())
+    q.ask("auditor judge", SIGN_KEY, BROKEN, b.promise(name, b"l" * 2048), written(page), reply.write())
+    q.ask("auditor judge", SIGN_KEY, FORK, long_signature(b, 256), long_signature(b, 255))
+
+
+# Evidence as JSON, and the programs `judge` and `audit` --------------------------------------------------------
+
+
+def json_of(kind, first, second):
+    return f'{{"first":"{first.hex()}","kind":"{kind}","second":"{second.hex()}"}}'.encode()
+
+
+def json_parts(kind, parts):
+    """The two byte strings of evidence, from its parts."""
+    return parts[0], b"".join(parts[1:])
+
+
+@subject("evidence as JSON")
+def of_json(q, rng):
+    key = q.let("key", SIGN_KEY.hex().encode())
+    for kind, parts in cheats():
+        first, second = json_parts(kind, parts)
+        q.let("first", first)
+        q.let("second", second)
+        text = q.let("text", json_of(kind, first, second))
+        q.ask("evidence json", kind, first, second)
+        q.ask("evidence read", text)
+        q.ask("evidence judge", key, text)
+        for part in [first[:-1], first + b"\0"]:
+            q.ask("evidence json", kind, part, second)
+        q.ask("evidence json", kind, first, second + b"\0")
+        for part in [spoilt_byte(first, -1), second]:
+            q.ask("evidence judge", key, json_of(kind, part, second))
+    q.note("The parts of a proof are not looked at where evidence is written.")
+    promise, root, reply = next(parts for kind, parts in cheats() if kind == BROKEN)
+    for proof in [b"", b"\0", reply[:-1]]:
+        q.ask("evidence json", BROKEN, promise, root + proof)
+        q.ask("evidence read", json_of(BROKEN, promise, root + proof))
+    q.ask("evidence json", BROKEN, promise, root[:-1])
+    q.note("Signatures of up to 256 bytes, and replies of up to 10,681.")
+    b = KEYED.page(7)
+    long, longer = long_signature(b, 255), long_signature(b, 256)
+    q.ask("evidence json", FORK, long, longer)
+    q.ask("evidence read", json_of(FORK, long, longer))
+    q.ask("evidence judge", key, json_of(FORK, long, longer))
+    q.ask("evidence read", json_of(FORK, long, b.body.write() + counted(bytes(257))))
+    body = q.let("body", b.body.write())
+    longest = body + counted(bytes(256)) + write_end(Opening(ZERO32, bytes(2048))) + u16(256) + bytes(8192)
+    promise = SignedPromise(Promise(7, ZERO32, ZERO32, bytes(255), bytes(2048)), bytes(256)).write()
+    assert (len(longest), len(longer), len(promise)) == (10681, 404, 2381 + 258)
+    q.ask("evidence json", BROKEN, promise, longer + longest)
+    q.ask("evidence read", json_of(BROKEN, promise, longer + longest))
+    q.ask("evidence judge", key, json_of(BROKEN, promise, longer + longest))
+    q.ask("evidence read", json_of(BROKEN, promise, longer + longest + b"\0"))
+
+
+@subject("files of evidence: other layouts, and what is none")
+def of_files(q, rng):
+    a, b = KEYED.page(7), KEYED.page(7, nonce=run(1))
+    one, other = written(a).hex(), written(b).hex()
+    key = q.let("key", SIGN_KEY.hex().encode())
+    q.let("one", one.encode())
+    q.let("other", other.encode())
+    q.note("Read as evidence.")
+    good = [
+        f'{{"first":"{one}","kind":"fork","second":"{other}"}}',
+        f'{{"second":"{other}","kind":"fork","first":"{one}"}}',
+        f' {{ "kind" :"fork",\r\n\t"first": "{one}" , "second":"{other}" }}\n\n',
+        f'{{"first":"{one.upper()}","kind":"fork","second":"{other[:9] + other[9:].upper()}"}}',
+        f'{{"kind":"link","first":"{one}","kind":"fork","second":"{other}"}}',
+        f'{{"first":[],"\\u0066irst":"{one}","kind":"\\u0066ork","second":"{other}"}}',
+        f'{{"first":{{"first":null}},"first":"{one}","kind":-1.5e3,"kind":"fork","second":true,"second":"{other}"}}',
+        f'{{"first":"\\u003{one[0]}{one[1:]}","kind":"fork","second":"{other}"}}',
+    ]
+    for text in good:
+        q.ask("evidence read", text.encode())
+        q.ask("evidence judge", key, text.encode())
+    letters = LETTERS.hex().encode()
+    fork = [written(page.provider.page(7, nonce=page.body.nonce, sign_key=LETTERS)) for page in (a, b)]
+    for text in [letters, letters.upper()]:
+        q.ask("evidence judge", text, json_of(FORK, *fork))
+        q.ask("evidence judge", text, good[0].encode())
+    q.note("Not an evidence file.")
+    fork = f'{{"first":"{one}","kind":"fork","second":"{other}"}}'
+    none = [
+        "", " ", "null", "{}", "[]", '"fork"', "0", fork[:-1], fork[1:], fork + "x", fork + fork, fork + " {}", fork + ",",
+        f'["{one}","fork","{other}"]', f"[{fork}]",
+        f'{{"first":"{one}","kind":"fork"}}', f'{{"first":"{one}","second":"{other}"}}',
+        f'{{"first":"{one}","kind":"fork","second":"{other}","third":""}}', f'{{"first":"{one}","kind":"fork","Second":"{other}"}}',
+        f'{{"first":"{one}","kind":"fork","second":"{other}",}}', f"{{'first':'{one}','kind':'fork','second':'{other}'}}",
+        f'{{"first":"{one}","kind":"Fork","second":"{other}"}}', f'{{"first":"{one}","kind":"fork ","second":"{other}"}}',
+        f'{{"first":"{one}","kind":"","second":"{other}"}}', f'{{"first":"{one}","kind":null,"second":"{other}"}}',
+        f'{{"first":"{one}","kind":["fork"],"second":"{other}"}}', f'{{"first":7,"kind":"fork","second":"{other}"}}',
+        f'{{"first":"{one}","kind":"fork","second":""}}', f'{{"first":"{one}","kind":"fork","second":"zz"}}',
+        f'{{"first":"{one}","kind":"fork","second":"{other}0"}}', f'{{"first":"{one}","kind":"fork","second":"{other}00"}}',
+        f'{{"first":"{one}","kind":"fork","second":"{other[:-2]}"}}', f'{{"first":" {one}","kind":"fork","second":"{other}"}}',
+        f'{{"first":"{one[:10]} {one[10:]}","kind":"fork","second":"{other}"}}',
+        f'{{"first":"0x{one}","kind":"fork","second":"{other}"}}', f'{{"first":"{one}","kind":"broken-promise","second":"{other}"}}',
+        f'{{"first":"{one}","kind":"root","second":"{other}"}}', f'{{"first":"{one}\n","kind":"fork","second":"{other}"}}',
+        f'{{"first":"{one}","kind":"fork","second":"{other}"}}\0', f'{{"first":NaN,"first":"{one}","kind":"fork","second":"{other}"}}',
+        f'{{"first":01,"first":"{one}","kind":"fork","second":"{other}"}}', f'\ufeff{fork}',
+        f'{{"first":"{one}\\u00e9","kind":"fork","second":"{other}"}}', f'{{"first":"{one}","kind":"fork","first":"","second":"{other}"}}',
+    ]
+    for text in none:
+        q.ask("evidence read", text.encode())
+        q.ask("evidence judge", key, text.encode())
+    for data in [b"\xff", b'{"first":"\xff"}', fork.encode()[:20] + b"\xc3" + fork.encode()[20:]]:
+        q.ask("evidence read", data)
+        q.ask("evidence judge", key, data)
+    q.note("A key's text is tested before the file.")
+    for text in [key[1:], key + b"0", b"g" + key[1:], b"", b" " + key[1:]]:
+        q.ask("evidence judge", text, fork.encode())
+        q.ask("evidence judge", text, b"")
+    q.ask("evidence judge", b"\xff", fork.encode())
+
+
+@subject("audited lines")
+def of_auditing(q, rng):
+    key = q.let("key", SIGN_KEY.hex().encode())
+    a = KEYED.page(3, KEYED.page(2))
+    b = KEYED.page(7, a)
+    c = KEYED.page(9, b)
+    lines = {name: q.let(name, written(page).hex().encode() + b"\n") for name, page in [("a", a), ("b", b), ("c", c)]}
+    fork, skip = KEYED.page(7, a, nonce=run(1)), KEYED.page(8, b)
+    link, ahead, before = KEYED.page(10, KEYED.page(9, b, nonce=run(1))), KEYED.page(12, KEYED.page(10, c)), KEYED.page(1)
+
+    def line(page):
+        return written(page).hex().encode() + b"\n"
+
+    chain = lines["a"] + lines["b"] + lines["c"]
+    q.let("chain", chain)
+    for text in [
+        b"", b"\n", b"\n\n", lines["a"], lines["a"][:-1], chain, chain[:-1], chain.upper(), chain + chain,
+        lines["a"] + lines["b"] + lines["a"] + lines["c"], lines["a"] + lines["b"] + lines["a"] + lines["c"][:-3] + b"\n",
+        lines["a"] + line(ahead) + line(before) + lines["b"] + line(ahead) + lines["c"] + line(before) + lines["c"],
+        chain + line(fork), chain + line(skip), chain + line(link), chain + line(fork) + line(skip) + line(link) + lines["c"],
+        line(KEYED.page(3, sign_key=OTHER_KEY)) + chain, chain + b"\n" + lines["c"], chain + b"started\n" + lines["c"],
+        lines["a"][:-2] + b"\n" + lines["a"], b" " + lines["a"] + lines["a"], lines["a"][:-1] + b" \n" + lines["a"],
+        lines["a"][:-1] + b"\r\n" + lines["a"], lines["a"][:-1] + b"00\n" + lines["a"], lines["a"][:-3] + b"0g\n" + lines["a"],
+        b"\xff\xfe\n" + lines["a"], lines["a"] + b"\r", lines["a"] + b"\0\n" + lines["b"],
+    ]:
+        q.ask("evidence audit", key, text)
+    q.note("Roots with signatures of up to 256 bytes, whose lines have up to 808 digits, and longer lines.")
+    for size in [1, 33, 34, 255, 256, 257]:
+        text = b.body.write() + counted(bytes(size))
+        q.ask("evidence audit", key, chain + text.hex().encode() + b"\n" + lines["b"])
+    for size in [359, 360, 361, 362, 807, 808, 809, 810, 811, 1618, 5000, 70000]:
+        q.ask("evidence audit", key, lines["a"] + b"0" * size + b"\n" + lines["b"])
+        q.ask("evidence audit", key, lines["a"] + b"0" * size)
+    q.ask("evidence audit", key, lines["a"][:-1] + lines["a"] + lines["b"])
+    q.note("Hundreds of lines, and a thousand.")
+    q.ask("evidence audit", key, b"x\n" * 300)
+    q.ask("evidence audit", key, b"\n" * 1200)
+    q.let_be("six", "$chain+$chain")
+    q.let_be("lines", "+".join(["$six"] * 30))
+    q.ask("evidence audit", key, "+".join(["$lines"] * 7))
+    q.note("A chain of 16 roots, each after a line that is refused.")
+    text = b"".join(b"\n" + line(page) for page in KEYED.pages(range(1, 17)))
+    q.ask("evidence audit", key, text)
+    q.note("The key.")
+    other = OTHER_KEY.hex().encode()
+    for text in [other, key[1:], key + b"0", b"g" + key[1:], b""]:
+        q.ask("evidence audit", text, chain)
+    letters = LETTERS.hex().encode()
+    for text in [letters, letters.upper()]:
+        q.ask("evidence audit", text, line(KEYED.page(3, sign_key=LETTERS)) + chain)
+    q.ask("evidence audit", b"\xff", chain)
 
 
 # All of them ---------------------------------------------------------------------------------------------
