@@ -8,20 +8,19 @@
     scripts/formats.py --requests        writes the bytes of all requests
     scripts/formats.py --replies         writes the bytes of their replies
     scripts/formats.py --in FILE         looks for what is printed in a document
-    scripts/formats.py --audited         prints lines for `audit`, and its answer to each
-    scripts/formats.py --evidence        prints evidence for `judge`, and whether it holds
+    scripts/formats.py --audited         prints lines for `audit`, each with its answer behind a space
+    scripts/formats.py --evidence        prints the status of `judge`, a kind and the file, a line each
     scripts/formats.py --vectors         writes the stored questions and answers of the test programs
     scripts/formats.py --vectors --check compares them instead
 
-It shares no code with the directory, and follows the order of docs/FORMATS.md: numbers, limits, refusals,
-readers, digests, trees, roots, chains, replies, frames, evidence and items. A client in another language can
-be written beside it, function by function. All numbers are big-endian.
+It shares no code with the directory. docs/FORMATS.md describes the same forms: limits, refusals, readers, digests,
+stand-ins, trees, roots, chains, replies, frames, evidence and items. A client in another language can be written
+beside it, function by function. All numbers are big-endian.
 
 A comparison ends with status 0 where all is as it is computed here.
 """
 
 import hashlib
-import json
 import struct
 import sys
 from bisect import bisect_left
@@ -1252,4 +1251,7 @@ def prove_text(digest, nonce, index, data):
 if __name__ == "__main__":
     import worked  # here, so that the model stands alone where it is imported
 
-    sys.exit(worked.main(sys.argv[1:]))
+    try:
+        sys.exit(worked.main(sys.argv[1:], __doc__))
+    except OSError as error:
+        sys.exit(f"{sys.argv[-1]}: {error}")

@@ -1,6 +1,6 @@
 #!/usr/bin/env bash
 # Runs `directoryd serve` and `directoryd listen` as processes, asks them over loopback, and compares
-# what they answer with what scripts/worked_frames.py computes. What goes over a socket is in no clause,
+# what they answer with what scripts/formats.py computes. What goes over a socket is in no clause,
 # so it is shown here.
 #
 #   scripts/listen.sh
@@ -77,12 +77,12 @@ if [ ! -x "$program" ]; then
     fails "there is no program $program: build it with (cd crates/directoryd && rt run)"
     finish
 fi
-keys=$(scripts/worked_frames.py --keys)
-well "the document has the frames that are computed" scripts/worked_frames.py --in docs/OPERATING.md
+keys=$(scripts/formats.py --keys)
+well "the document has the frames that are computed" scripts/formats.py --in docs/OPERATING.md
 
 # Over the standard streams.
-scripts/worked_frames.py --requests >"$folder/requests"
-scripts/worked_frames.py --replies >"$folder/replies"
+scripts/formats.py --requests >"$folder/requests"
+scripts/formats.py --replies >"$folder/replies"
 head=$(head -c 185 "$folder/replies" | od -An -v -tx1 | tr -d ' \n')
 all=$(od -An -v -tx1 "$folder/replies" | tr -d ' \n')
 printf '\0\0\0\1\6\0\0\0\1\6\0\0\0\1\6' >"$folder/heads"
@@ -121,14 +121,14 @@ timeout --foreground 60 "$program" listen $keys --count 1 127.0.0.1:0 </dev/null
 same "a line that cannot be written" 1 "$status"
 
 # One connection after another, with one directory, whatever a client sends.
-well "all requests over a connection" scripts/worked_frames.py --ask "$address"
-well "the same directory over the next" scripts/worked_frames.py --again "$address"
+well "all requests over a connection" scripts/formats.py --ask "$address"
+well "the same directory over the next" scripts/formats.py --again "$address"
 told "half a frame" "00000029 07 04040404" ""
 told "a length that no frame has" "ffffffff ffffffff" 00000002ff01
 # This client sends 2,000 heads, and is gone before it reads a reply.
 well "a client that takes no reply" bash -c \
     'printf "\0\0\0\1\6%.0s" {1..2000} >"/dev/tcp/${0/://}"' "$address"
-well "the same directory after these" scripts/worked_frames.py --again "$address"
+well "the same directory after these" scripts/formats.py --again "$address"
 
 # Each asks for the head, and reads the reply.
 same "bytes for three hundred connections" $((300 * 185)) "$(timeout --foreground 60 bash -c \

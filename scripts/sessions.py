@@ -43,10 +43,12 @@ from formats import (
     SKIP,
     WAIT,
     ZERO32,
+    Accepted,
     Body,
     BrokenPromise,
     Chain,
     Cursor,
+    Fault,
     Feed,
     KeyedVuf,
     ListRefusal,
@@ -378,9 +380,11 @@ def serve_directory(sign_key, vuf_key, salt_key, token, epoch, nonce, stream):
 
 
 class Look(NamedTuple):
+    """What was asked, and the reply that was accepted."""
+
     name: bytes
     epoch: int
-    reply: bytes
+    accepted: Accepted
 
 
 class Client:
@@ -413,7 +417,7 @@ class Client:
         if root is None:
             raise ClientRefusal(20)
         accepted = accept(self.digest, self.vuf, root.body, name, reply)
-        self.looks.append(Look(name, root.epoch, reply))
+        self.looks.append(Look(name, root.epoch, accepted))
         return accepted.statement()
 
     def read_promise(self, promise):
@@ -468,16 +472,11 @@ def reconcile(one, other):
     if compared != EQUAL:
         return compared
     for look in one.looks:
-        body = one.chain.at(look.epoch).body
         for also in other.looks:
-            if (look.name, look.epoch) != (also.name, also.epoch):
-                continue
-            first, second = (
-                accept(one.digest, one.vuf, body, look.name, reply) for reply in (look.reply, also.reply)
-            )
-            answer = same_or_collision(one.digest, first, second)
-            if answer != SAME:
-                return answer
+            if (look.name, look.epoch) == (also.name, also.epoch):
+                answer = same_or_collision(one.digest, look.accepted, also.accepted)
+                if answer != SAME:
+                    return answer
     return AGREE
 
 
@@ -580,7 +579,10 @@ def evidence_of(kind, first, second):
         return RootEvidence(kind, SignedRoot.read(first), SignedRoot.read(second))
     promise = SignedPromise.read(first)
     cursor = Cursor(second)
-    root = SignedRoot.take(cursor)
+    try:
+        root = SignedRoot.take(cursor)
+    except Fault:
+        raise RootRefusal(MALFORMED) from None
     return BrokenPromise(promise, root, cursor.take(cursor.left()))
 
 

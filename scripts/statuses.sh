@@ -69,10 +69,10 @@ ends 1 "cannot write" "$folder/err"
 
 # `audit`, over lines whose answers Python computed, in lower case, in upper case, and with a last line
 # that has no end.
-answers=$(python3 ../../scripts/known_answers.py)
+../../scripts/formats.py --audited >"$folder/audited"
 key=$(printf '01%.0s' {1..32})
-sed -n 's/^line to audit: //p' <<<"$answers" >"$folder/roots"
-sed -n 's/^answer to it: //p' <<<"$answers" >"$folder/answers"
+cut -d ' ' -f 1 "$folder/audited" >"$folder/roots"
+cut -d ' ' -f 2- "$folder/audited" >"$folder/answers"
 
 # Audits a file, and compares all answers with those that are wanted: audits FILE ANSWERS
 audits() {
@@ -111,14 +111,15 @@ head -c 400000000 /dev/zero | tr '\0' 0 | (
 ) || status=$?
 ends 0 "refused 1" "$folder/out"
 
-# `judge`, of the evidence that Python computed, of which the signatures verify or not.
+# `judge`, of the evidence that Python computed, which holds or not.
+../../scripts/formats.py --evidence >"$folder/evidence"
 for kind in fork link skip broken-promise; do
-    sed -n "s/^$kind that holds: //p" <<<"$answers" >"$folder/$kind.json"
+    sed -n "s/^0 $kind //p" "$folder/evidence" >"$folder/$kind.json"
     over "" judge --key "$key" "$folder/$kind.json"
     ends 0 "evidence" "$folder/out"
     over "" judge --key "$zeros" "$folder/$kind.json"
     ends 3 "no evidence" "$folder/out"
-    sed -n "s/^evidence: \(.*\"kind\":\"$kind\".*\)/\1/p" <<<"$answers" >"$folder/false.json"
+    sed -n "s/^3 $kind //p" "$folder/evidence" >"$folder/false.json"
     over "" judge --key "$key" "$folder/false.json"
     ends 3 "no evidence" "$folder/out"
 done

@@ -6,7 +6,6 @@ Each module below has `files()`, which gives the text of each stored file by its
 import importlib
 import importlib.util
 import pathlib
-import sys
 
 ROOT = pathlib.Path(__file__).resolve().parent.parent
 MODULES = ("questions", "session_questions", "fault_questions")
@@ -39,12 +38,8 @@ def differences():
             yield f"{path}, line {number}: wanted {wanted[:200]!r}, got {got[:200]!r}"
 
 
-def main(words):
-    if words == ["--check"]:
-        found = list(differences())
-        print("\n".join(found) if found else "the stored files are as computed")
-        return 1 if found else 0
-    if words:
-        return 2
-    write()
-    return 0
+def check():
+    """The status of a comparison, which prints what differs."""
+    found = list(differences())
+    print("\n".join(found) if found else "the stored files are as computed")
+    return 1 if found else 0
