@@ -299,7 +299,7 @@ def of_taking(q, rng):
 
 @subject("a chain of hundreds of roots")
 def of_long_chains(q, rng):
-    roots = chain_of(*range(1, 261))
+    roots = chain_of(*range(1, 221))
     q.let("b", roots[0].body.write()[:9])
     q.let("z", ZERO32)
     q.let("y", 2 * ZERO32 + u16(32))
@@ -308,14 +308,14 @@ def of_long_chains(q, rng):
         q.ask("chains extend", root.write())
     for root in roots[70:140]:
         q.ask("chains take", root.write())
-    for at in range(140, 260, 60):
-        q.ask("chains take-list", write_list(roots[at : at + 60]))
+    for at in range(140, 220, 40):
+        q.ask("chains take-list", write_list(roots[at : at + 40]))
     q.ask("chains head")
-    for epoch in [0, 1, 2, 63, 64, 65, 128, 150, 200, 255, 256, 257, 259, 260, 261]:
+    for epoch in [0, 1, 2, 63, 64, 65, 128, 150, 200, 219, 220, 221]:
         q.ask("chains at", epoch)
         q.ask("chains after", epoch)
     for root in [
-        roots[0], roots[137], roots[259], epoch_root(138, 137), epoch_root(261, 259), epoch_root(261, 260),
+        roots[0], roots[137], roots[219], epoch_root(138, 137), epoch_root(221, 219), epoch_root(221, 220),
     ]:
         q.ask("chains place", root.write())
 

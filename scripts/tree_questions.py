@@ -65,15 +65,18 @@ def of_small_trees(q, rng):
     q.ask("trees count")
     for i in [low, last, index(last=2), high]:
         q.ask("trees get", i)
-    tree = Tree(sha256, ZERO32, {low: ZERO32, last: number32(7)})
-    for i in [low]:
-        path = tree.path(i)
-        siblings = q.let("siblings", b"".join(path.siblings))
-        q.ask("trees leads", tree.root(), ZERO32, i, *path_words(path.end), siblings)
-        q.ask("trees leads", tree.root(), ZERO32, i, *path_words(path.end), siblings[:8160])
-        q.ask("trees leads", tree.root(), ZERO32, i, "empty", siblings)
+    for i in [low, last]:
+        q.ask("trees path", i)
+    q.note("ways of 256 siblings: the text at some levels, and the root that they lead to")
+    ones = [number32(1)] * 256
+    siblings = q.let("ones", b"".join(ones))
+    for i, end in [(low, Present(ZERO32)), (last, Empty()), (last, Other(low, ZERO32)), (run(0x55), Present(KEY))]:
         for level in [0, 1, 254, 255, 256]:
-            q.ask("trees climb", ZERO32, i, level, *path_words(path.end), siblings)
+            q.ask("trees climb", ZERO32, i, level, *path_words(end), siblings)
+        root = sha256(climb(sha256, i, 0, ones, end_text(ZERO32, i, 256, end)))
+        q.ask("trees leads", root, ZERO32, i, *path_words(end), siblings)
+        q.ask("trees leads", root, ZERO32, i, *path_words(end), siblings[32:])
+        q.ask("trees leads", root, ZERO32, i, *path_words(end), changed_at(siblings, 8191, 2))
     q.ask("trees path", index(last=3))
     q.ask("trees path", index(0, 1))
 
@@ -114,13 +117,12 @@ def of_tall_trees(q, rng):
     q.ask("trees count")
     for place in range(0, 256, 15):
         q.ask("trees path", items[place + 1][0])
-    q.note("the same by changes of one leaf, and of every other")
-    for many in [[items[1:]], [items[2::2], items[1::2]]]:
-        q.ask("trees from", ZERO32, *items[0])
-        for changes in many:
-            q.ask("trees more", *joined(changes))
-            q.ask("trees count")
-        q.ask("trees get", ZERO32)
+    q.note("the same from one leaf, by changes of every other")
+    q.ask("trees from", ZERO32, *items[0])
+    for changes in [items[2::2], items[1::2]]:
+        q.ask("trees more", *joined(changes))
+        q.ask("trees count")
+    q.ask("trees get", ZERO32)
 
 
 def spread_item(number):
@@ -139,8 +141,6 @@ def of_wide_trees(q, rng):
         q.ask("trees with", *item)
     q.ask("trees count")
     q.ask("trees more", *joined(items[60:300]))
-    q.ask("trees count")
-    q.ask("trees from", ZERO32, *joined(items[:300]))
     q.ask("trees count")
     tree = Tree(sha256, ZERO32, items[:300])
     for i, _ in [*items[:300:60], (index(0x12, 0x34, 0x56), b""), (b"\xff" * 32, b"")]:
@@ -291,19 +291,18 @@ def of_items(q, rng):
     q.note("two indices that differ in bit 255 alone")
     pair = item_line(index(last=1)) + zero
     for i in [ZERO32, index(last=1), index(last=2), index(0x80)]:
-        for digest in ["sum", "sha256"]:
-            q.ask("items prove", digest, "none", digits_of(i), pair)
-            q.ask("items prove", digest, nonce, digits_of(i), pair)
+        q.ask("items prove", "sum", "none", digits_of(i), pair)
+        q.ask("items prove", "sha256", nonce, digits_of(i), pair)
     q.note("hundreds of items, and a thousand; one of them again at the end")
     many = [item_line(u16(number * 0x9E37 % 65536) + bytes(30)) for number in range(1000)]
-    q.let("tail", zero[4:])
+    q.let("t", zero[4:])
     data = q.let("many", b"".join(many))
-    for size in [100, 300, 1000]:
+    for size in [300, 1000]:
         part = data[: 130 * size]
         for digest in ["sum", "sha256"]:
             q.ask("items root", digest, "none", part)
-            q.ask("items root", digest, "none", part + many[size // 2])
-            for number in [0, 77, 999]:
-                q.ask("items prove", digest, "none", many[number][:64], part)
-            q.ask("items prove", digest, "none", digits_of(index(0x12, 0x34, 0x56)), part)
-            q.ask("items root", digest, "none", part + b"x")
+            q.ask("items prove", digest, "none", many[77][:64], part)
+        q.ask("items prove", "sha256", "none", many[999][:64], part)
+        q.ask("items prove", "sum", "none", digits_of(index(0x12, 0x34, 0x56)), part)
+        q.ask("items root", "sum", "none", part + many[size // 2])
+        q.ask("items root", "sum", "none", part + b"x")
