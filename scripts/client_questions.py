@@ -14,53 +14,50 @@ SUBJECTS, subject = subjects()
 
 @subject("clients: a start, and lists of roots")
 def of_updates(q, rng):
-    for provider in BOTH:
-        a, b, c = provider.pages([3, 7, 9])
-        before = provider.page(2)
-        fork, skip = provider.page(7, a, nonce=run(1)), provider.page(8, a)
-        link, ahead = provider.page(12, provider.page(9, b, nonce=run(2))), provider.page(12, provider.page(11, c))
-        forged = provider.page(7, a, sign_key=OTHER_KEY)
-        lets(q, a=a, b=b, c=c)
-        client = provider.client
-        q.ask(f"{client} head")
-        q.ask(f"{client} update", roots(a))
-        for root in [b"R", b"", written(a)[:-1], written(a) + b"\0", written(provider.page(3, sign_key=OTHER_KEY))]:
-            q.ask(f"{client} start", SIGN_KEY, root)
-        for size in [31, 33, 100, 256]:
-            q.ask(f"{client} start", SIGN_KEY, long_signature(a, size))
-        q.ask(f"{client} start", OTHER_KEY, written(a))
-        q.ask(f"{client} start", SIGN_KEY, written(a))
-        q.ask(f"{client} key")
-        q.ask(f"{client} head")
-        q.ask(f"{client} start", SIGN_KEY, b"R")
-        q.note("What is refused, and leaves the client as it was.")
-        for data in [
-            b"", b"\0", roots(a)[:-1], roots(a) + b"\0", u16(65) + written(a) * 65, u16(2) + written(a),
-            roots(a, c), roots(c), roots(ahead), roots(b, forged), roots(b, forged, ahead),
-            roots(b, ahead, forged),
-            roots(forged), roots(b, skip), roots(b, c, fork), roots(b, c, link), roots(b, c, skip),
-            roots(b, c, before), roots(provider.page(1)), u16(1) + long_signature(b, 33),
-            u16(1) + long_signature(b, 256),
-            u16(64) + written(b) * 63 + long_signature(b, 255),
-        ]:
-            q.ask(f"{client} update", data)
-        q.ask(f"{client} head")
-        q.note("What is taken.")
-        for data in [roots(), roots(a), roots(a, b), roots(b, a, b, c, a), roots(c), u16(64) + written(c) * 64]:
-            q.ask(f"{client} update", data)
-            q.ask(f"{client} head")
-        q.note("Evidence with a chain of three roots, and roots before the first one.")
-        early = provider.page(5, provider.page(2, nonce=run(4)))
-        q.ask(f"{client} update", roots(fork))
-        q.ask(f"{client} update", roots(skip))
-        q.ask(f"{client} update", roots(provider.page(8, b)))
-        q.ask(f"{client} update", roots(link))
-        q.ask(f"{client} update", roots(provider.page(12, b)))
-        q.ask(f"{client} update", roots(before))
-        q.ask(f"{client} start", SIGN_KEY, written(early))
-        for page in [provider.page(1), provider.page(2), provider.page(2, nonce=run(4)), provider.page(3)]:
-            q.ask(f"{client} update", roots(page))
-        q.ask(f"{client} head")
+    a, b, c = KEYED.pages([3, 7, 9])
+    before = KEYED.page(2)
+    fork, skip = KEYED.page(7, a, nonce=run(1)), KEYED.page(8, a)
+    link, ahead = KEYED.page(12, KEYED.page(9, b, nonce=run(2))), KEYED.page(12, KEYED.page(11, c))
+    forged = KEYED.page(7, a, sign_key=OTHER_KEY)
+    lets(q, a=a, b=b, c=c)
+    q.ask("client head")
+    q.ask("client update", roots(a))
+    for root in [b"R", b"", written(a)[:-1], written(a) + b"\0", written(KEYED.page(3, sign_key=OTHER_KEY))]:
+        q.ask("client start", SIGN_KEY, root)
+    for size in [31, 33, 100, 256]:
+        q.ask("client start", SIGN_KEY, long_signature(a, size))
+    q.ask("client start", OTHER_KEY, written(a))
+    q.ask("client start", SIGN_KEY, written(a))
+    q.ask("client key")
+    q.ask("client head")
+    q.ask("client start", SIGN_KEY, b"R")
+    q.note("What is refused, and leaves the client as it was.")
+    for data in [
+        b"", b"\0", roots(a)[:-1], roots(a) + b"\0", u16(65) + written(a) * 65, u16(2) + written(a),
+        roots(a, c), roots(c), roots(ahead), roots(b, forged), roots(b, forged, ahead),
+        roots(b, ahead, forged), roots(forged), roots(b, skip), roots(b, c, fork), roots(b, c, link),
+        roots(b, c, skip), roots(b, c, before), roots(KEYED.page(1)), u16(1) + long_signature(b, 33),
+        u16(1) + long_signature(b, 256), u16(64) + written(b) * 63 + long_signature(b, 255),
+        u16(64) + long_signature(b, 256) * 64,
+    ]:
+        q.ask("client update", data)
+    q.ask("client head")
+    q.note("What is taken.")
+    for data in [roots(), roots(a), roots(a, b), roots(b, a, b, c, a), roots(c), u16(64) + written(c) * 64]:
+        q.ask("client update", data)
+        q.ask("client head")
+    q.note("Evidence with a chain of three roots, and roots before the first one.")
+    early = KEYED.page(5, KEYED.page(2, nonce=run(4)))
+    q.ask("client update", roots(fork))
+    q.ask("client update", roots(skip))
+    q.ask("client update", roots(KEYED.page(8, b)))
+    q.ask("client update", roots(link))
+    q.ask("client update", roots(KEYED.page(12, b)))
+    q.ask("client update", roots(before))
+    q.ask("client start", SIGN_KEY, written(early))
+    for page in [KEYED.page(1), KEYED.page(2), KEYED.page(2, nonce=run(4)), KEYED.page(3)]:
+        q.ask("client update", roots(page))
+    q.ask("client head")
 
 
 @subject("clients: lists of 64 roots, and chains of more")
@@ -100,13 +97,13 @@ def of_looks(q, rng):
         q.ask(f"{client} update", roots(b, c))
         for epoch, name, reply in [
             (3, b"a", a.reply(b"a")), (7, b"a", b.reply(b"a")), (9, b"a", c.reply(b"a")),
-            (0, b"a", c.reply(b"a")),
-            (7, b"bob", b.reply(b"bob")), (7, b"dave", b.reply(b"dave")), (9, b"bob", c.reply(b"bob")),
-            (0, b"a", b.reply(b"a")), (7, b"a", a.reply(b"a")), (5, b"a", b.reply(b"a")),
-            (2, b"a", a.reply(b"a")),
-            (10, b"a", c.reply(b"a")), (TOP, b"a", c.reply(b"a")), (1, b"", b.reply(b"a")),
+            (0, b"a", c.reply(b"a")), (7, b"bob", b.reply(b"bob")), (7, b"dave", b.reply(b"dave")),
+            (9, b"bob", c.reply(b"bob")), (0, b"a", b.reply(b"a")), (7, b"a", a.reply(b"a")),
+            (5, b"a", b.reply(b"a")), (2, b"a", a.reply(b"a")), (10, b"a", c.reply(b"a")),
+            (TOP, b"a", c.reply(b"a")), (1, b"", b.reply(b"a")),
         ]:
             q.ask(f"{client} look", name, epoch, reply.write())
+        q.ask(f"{client} look", b"a", 5, b"")
         q.note("Replies that are not accepted.")
         good = b.reply(b"a")
         value, index, far = good.value, provider.index_of(b"a"), bytes(b ^ 255 for b in provider.index_of(b"a"))
@@ -142,17 +139,26 @@ def of_looks(q, rng):
         q.ask("client reconcile-self")
 
 
+    q.note("The longest reply of a name of 255 bytes that is its own value.")
+    page, reply = folded(SUMS, b"a" * 255, Opening(run(1), b"k" * 2048), [run(2)] * 256)
+    assert len(reply.write()) == 10680
+    q.ask("client-sum start", SIGN_KEY, written(page))
+    q.ask("client-sum look", b"a" * 255, 0, reply.write())
+    q.ask("client-sum look", b"a" * 254, 0, reply.write())
+    q.ask("client-sum reconcile-self")
+
+
 @subject("clients: hundreds of looks")
 def of_many_looks(q, rng):
     page = KEYED.page(3, None, {b"a": b"k", b"b": b"l"})
     lets(q, page=page)
     a = q.let("a", page.reply(b"a").write())
     b, c = q.let("b", page.reply(b"b").write()), q.let("c", page.reply(b"c").write())
-    for turn in range(2):
+    for turn, count in enumerate([300, 9]):
         q.ask("client start", SIGN_KEY, written(page))
-        for _ in range(110):
+        for _ in range(count):
             q.ask("client look", b"a", 0, a)
-        for _ in range(20):
+        for _ in range(9):
             q.ask("client look", b"b", 3, b)
             q.ask("client look", b"c", 3, c)
         q.ask("client reconcile-self")
@@ -174,13 +180,13 @@ def of_promises(q, rng):
         replies = [q.let(f"reply{page.epoch}", page.reply(b"a").write()) for page in (a, b, c)]
         q.ask(f"{client} start", SIGN_KEY, written(a))
         q.ask(f"{client} due", b"a", replies[0])
+        q.ask(f"{client} due", b"a", b"")
         q.ask(f"{client} due-epoch", b"a")
         q.note("Promises that are refused.")
         for promise in [
             b"", b"P", first[:-1], first + b"\0", a.promise(b"a", b"k1", OTHER_KEY), second,
             a.promise(b"a", b"k1", root_hash=run(1)), a.promise(b"a", b"k1", epoch=4),
-            a.promise(b"a", b"k1", epoch=2),
-            SignedPromise.read(first).promise.write() + counted(bytes(33)),
+            a.promise(b"a", b"k1", epoch=2), SignedPromise.read(first).promise.write() + counted(bytes(33)),
             SignedPromise.read(first).promise.write() + counted(bytes(256)),
             SignedPromise.read(first).promise.write() + counted(bytes(257)),
         ]:
@@ -191,6 +197,7 @@ def of_promises(q, rng):
         q.ask(f"{client} due-epoch", b"a")
         q.ask(f"{client} due-epoch", b"b")
         q.ask(f"{client} due", b"a", replies[0])
+        q.ask(f"{client} due", b"a", b"")
         q.ask(f"{client} due", b"b", replies[0])
         q.ask(f"{client} update", roots(b, c))
         q.ask(f"{client} due-epoch", b"a")
@@ -231,6 +238,7 @@ def of_promises(q, rng):
         q.ask("client update", roots(page))
         q.ask("client keep", a.promise(name, key))
         q.ask("client due", name, page.reply(name).write())
+    q.ask("client keep", a.promise(name, key)[:-34] + counted(bytes(256)))
     q.note("Hundreds of promises.")
     b = KEYED.page(2, a, {b"a": b"k", b"b": b"l"})
     lets(q, a=a, b=b)
@@ -238,10 +246,10 @@ def of_promises(q, rng):
     replies = q.let("ra", b.reply(b"a").write()), q.let("rb", b.reply(b"b").write())
     q.ask("client start", SIGN_KEY, written(a))
     q.ask("client update", roots(b))
-    for turn in range(160):
+    for turn in range(300):
         q.ask("client keep", other if turn == 20 else one)
-    for turn in range(161):
-        if turn in (0, 100, 159, 160):
+    for turn in range(301):
+        if turn in (0, 100, 299, 300):
             q.ask("client due-epoch", b"a")
             q.ask("client due", b"b", replies[1])
         q.ask("client due", b"a", replies[0])
@@ -276,7 +284,7 @@ def of_users(q, rng):
         except Refusal:
             pass
 
-    for turn in range(18):
+    for turn in range(16):
         name = rng.choice(names)
         if name not in directory.waiting:
             call = directory.change if name in directory.last().bindings else directory.register
@@ -311,25 +319,22 @@ def of_reconciled_chains(q, rng):
                 q.ask(f"{client} put-aside")
         q.ask(f"{client} reconcile")
 
-    for provider in BOTH:
-        a, b, c, d = provider.pages([3, 7, 9, 12])
-        fork = provider.page(7, a, nonce=run(1))
-        later, skip = provider.page(9, fork), provider.page(8, a)
-        lets(q, a=a, b=b, c=c, d=d, fork=fork, later=later)
-        for ones, others in [
-            ([a, b, c], [a, b, c]), ([a, b, c, d], [a, b]), ([a, b], [c, d]), ([a], [c]),
-            ([a, b, c], [a, fork]),
-            ([a, fork, later], [a, b, c]), ([a, b, c], [fork, later]), ([a, skip], [a, b]),
-            ([a, b, c], [skip]),
-            ([b, c, d], [a, b, c, d]), ([a, b], [provider.page(9, skip)]), ([a, b], [provider.page(9, a)]),
-            ([a, b], [later]), ([a], [provider.page(12, c)]), ([provider.page(2)], [a]), ([c], [fork]),
-        ]:
-            compared(provider, ones, others)
-            if ones != others:
-                compared(provider, others, ones)
-        q.ask(f"{provider.client} reconcile-self")
-        q.ask(f"{provider.client} start", OTHER_KEY, written(provider.page(3, sign_key=OTHER_KEY)))
-        q.ask(f"{provider.client} reconcile")
+    a, b, c, d = KEYED.pages([3, 7, 9, 12])
+    fork = KEYED.page(7, a, nonce=run(1))
+    later, skip = KEYED.page(9, fork), KEYED.page(8, a)
+    lets(q, a=a, b=b, c=c, d=d, fork=fork, later=later)
+    for ones, others in [
+        ([a, b, c], [a, b, c]), ([a, b, c, d], [a, b]), ([a, b], [c, d]), ([a], [c]), ([a, b, c], [a, fork]),
+        ([a, fork, later], [a, b, c]), ([a, b, c], [fork, later]), ([a, skip], [a, b]), ([a, b, c], [skip]),
+        ([b, c, d], [a, b, c, d]), ([a, b], [KEYED.page(9, skip)]), ([a, b], [KEYED.page(9, a)]),
+        ([a, b], [later]), ([a], [KEYED.page(12, c)]), ([KEYED.page(2)], [a]), ([c], [fork]),
+    ]:
+        compared(KEYED, ones, others)
+        if ones != others:
+            compared(KEYED, others, ones)
+    q.ask("client reconcile-self")
+    q.ask("client start", OTHER_KEY, written(KEYED.page(3, sign_key=OTHER_KEY)))
+    q.ask("client reconcile")
     q.note("Two bodies of one sum at epoch 7, under one root at epoch 9.")
     a = SUMS.page(3)
     one = SUMS.page(7, a, nonce=b"\1" + bytes(31))
@@ -340,7 +345,8 @@ def of_reconciled_chains(q, rng):
     compared(SUMS, [a, other, top], [a, one, top])
     compared(SUMS, [a, one], [a, other])
     compared(SUMS, [a, one, top, SUMS.page(11, top)], [other, top])
-    q.ask("client-sum reconcile-self")
+    for verb in ["reconcile-self", "key", "head"]:
+        q.ask(f"client-sum {verb}")
 
 
 @subject("clients that are reconciled: looks")
@@ -375,8 +381,8 @@ def of_reconciled_looks(q, rng):
     q.note("Two clients.")
     for others, ones in [
         ([], ["ab"]), (["ab"], []), (["ab"], ["ab"]), (["ba"], ["ab"]), (["ab"], ["ba"]), (["none"], ["ab"]),
-        (["ab"], ["none"]),
-        (["none", "ba"], ["ab"]), (["ba", "none"], ["ab"]), (["ab", "ba"], ["ab", "ab", "none"]),
+        (["ab"], ["none"]), (["none", "ba"], ["ab"]), (["ba", "none"], ["ab"]),
+        (["ab", "ba"], ["ab", "ab", "none"]),
     ]:
         begun(*others)
         q.ask("client-sum put-aside")
@@ -443,12 +449,12 @@ def of_watching(q, rng):
     q.ask("monitor step", ra)
     q.ask("monitor next")
     q.ask("monitor step", ra)
+    q.ask("monitor step", b"")
     q.note("Promises of another name or key, over a root that the chain lacks, and under another key.")
     for key, promise in [
         (b"k", b""), (b"k", first + b"\0"), (b"k", a.promise(b"a", b"k", OTHER_KEY)),
-        (b"k", b.promise(b"a", b"k")),
-        (b"k", a.promise(b"b", b"k")), (b"k", a.promise(b"a", b"l")), (b"l", first),
-        (b"k", a.promise(b"a", b"k", root_hash=run(1))),
+        (b"k", b.promise(b"a", b"k")), (b"k", a.promise(b"b", b"k")), (b"k", a.promise(b"a", b"l")),
+        (b"l", first), (b"k", a.promise(b"a", b"k", root_hash=run(1))),
         (b"k", a.promise(b"b", b"k", OTHER_KEY)), (b"k", b.promise(b"b", b"l")), (b"", first),
     ]:
         q.ask("monitor expect", key, promise)
@@ -524,6 +530,18 @@ def of_expectations(q, rng):
     q.ask("client start", OTHER_KEY, written(KEYED.page(3, sign_key=OTHER_KEY)))
     q.ask("client put-aside")
     q.ask("monitor reconcile")
+
+
+    q.note("A name of 255 bytes.")
+    name, key = b"a" * 255, b"k" * 2048
+    b = KEYED.page(7, a, {name: key})
+    q.ask("client start", SIGN_KEY, written(a))
+    q.ask("client update", roots(b))
+    q.ask("monitor new", name, "none")
+    q.ask("monitor name")
+    q.ask("monitor expect", key, a.promise(name, key))
+    for page in (a, b):
+        q.ask("monitor step", page.reply(name).write())
 
 
 @subject("a monitor over a directory, whose owner changes the key from time to time, as somebody else does")

@@ -1,7 +1,7 @@
 """Questions of `session_vectors` on directories, hubs and the server."""
 
+from asking import run
 from formats import *
-from questions import run
 from session_scripts import HEAD, key_of, name_of, split
 from session_subjects import HUB_TOKEN, OTHER_KEY, SALT_KEY, SIGN_KEY, TOP, VUF_KEY, closing, message, subjects
 
@@ -38,7 +38,8 @@ def of_calls(q, rng):
         q.ask("directory lookup", b"alice", epoch)
         q.ask("directory lookup", b"bob", epoch)
     q.ask("directory promise", b"alice")
-    q.ask("directory register", b"alice", b"k3")
+    for key in [b"k3", b"", b"k" * 2049]:
+        q.ask("directory register", b"alice", key)
     q.ask("directory change", b"bob", b"k1")
     q.ask("directory change", b"alice", b"k3")
     q.ask("directory change", b"alice", b"k4")
@@ -163,8 +164,7 @@ def of_runs(q, rng):
     pages = [message("close", ZERO32, 10 * page) for page in range(2, 71)]
     for start, count in [
         (0, 64), (10, 64), (11, 64), (70, 64), (71, 64), (345, 3), (691, 64), (700, 1), (701, 64), (TOP, 1),
-        (0, 65),
-        (0, 65535), (0, 0),
+        (0, 65), (0, 65535), (0, 0),
     ]:
         pages.append(message("history", start, count))
     q.ask("directory run", 10, ZERO32, *pages)
@@ -282,24 +282,20 @@ def of_messages(q, rng):
     q.note("Kinds that are none, bodies of another form, and the tokens of others.")
     for piece in [
         HEAD * 3, frame(9, b""), frame(6, b"\0"), frame(0x81, b""), frame(0, b"\0" * 40),
-        frame(1, b"\0\1a\0\2k"),
-        frame(1, b""), frame(4, u64(1) + b"\0\1"), frame(5, u64(1) + b"\0"), frame(7, bytes(39)),
-        frame(7, bytes(41)),
-        closing(9, ZERO32), closing(9, HUB_TOKEN[:31] + b"\5"), closing(9, b"\5" + HUB_TOKEN[1:]),
-        closing(1, ZERO32),
-        closing(1), closing(5), closing(9), closing(9), frame(9, b"x") + HEAD + frame(6, b"x") + HEAD,
+        frame(1, b"\0\1a\0\2k"), frame(1, b""), frame(4, u64(1) + b"\0\1"), frame(5, u64(1) + b"\0"),
+        frame(7, bytes(39)), frame(7, bytes(41)), closing(9, ZERO32), closing(9, HUB_TOKEN[:31] + b"\5"),
+        closing(9, b"\5" + HUB_TOKEN[1:]), closing(1, ZERO32), closing(1), closing(5), closing(9), closing(9),
+        frame(9, b"x") + HEAD + frame(6, b"x") + HEAD,
     ]:
         q.ask("hub bytes", 2, piece)
     q.note("Each refusal of the directory, in a frame.")
     for request in [
         ("register", b"a", b"k"), ("register", b"b", b"k"), ("register", b"b", b"l"), ("change", b"b", b"l"),
         ("promise", b"b"), ("promise", b"c"), ("promise", b""), ("register", b"", b"k"),
-        ("register", b"c", b""),
-        ("register", b"c" * 256, b"k"), ("register", b"c", b"k" * 2049), ("lookup", 7, b"a"),
-        ("lookup", 1, b""),
-        ("history", 0, 0), ("history", 0, 65), ("change", b"a", b"l"), ("change", b"a", b"m"),
-        ("lookup", 0, b"a"),
-        ("lookup", 9, b"b"), ("history", 4, 64), ("history", 10, 1), ("head",),
+        ("register", b"c", b""), ("register", b"c" * 256, b"k"), ("register", b"c", b"k" * 2049),
+        ("lookup", 7, b"a"), ("lookup", 1, b""), ("history", 0, 0), ("history", 0, 65),
+        ("change", b"a", b"l"), ("change", b"a", b"m"), ("lookup", 0, b"a"), ("lookup", 9, b"b"),
+        ("history", 4, 64), ("history", 10, 1), ("head",),
     ]:
         q.ask("hub bytes", 3, request_frame(*request))
 
@@ -354,15 +350,17 @@ def of_hub_runs(q, rng):
     events = [
         ("bytes", 7, HEAD), ("open", 9), ("open", 7), ("open", 7), ("bytes", 7, HEAD[:4]),
         ("bytes", 9, HEAD + frame(9, b"") + bytes(5)), ("bytes", 7, b"\6\0\0"), ("bytes", 9, HEAD),
-        ("end", 7),
-        ("open", 8), ("open", 7), ("bytes", 7, frame(9, b"")), ("end", 1), ("end", 9),
+        ("end", 7), ("open", 8), ("open", 7), ("bytes", 7, frame(9, b"")), ("end", 1), ("end", 9),
     ]
     q.ask("hub run", 1, ZERO32, *(word for event in events for word in event))
-    q.note("300 sessions, each with a frame that is refused, and some with a head.")
+    q.note("330 sessions, each with a frame that is refused, and some with a head.")
     unread = q.let("u", frame(9, b""))
-    events = [("open", session, "bytes", session, unread) for session in range(300)]
-    events += [("bytes", session, HEAD) for session in range(0, 300, 30)]
+    events = [("open", session, "bytes", session, unread) for session in range(330)]
+    events += [("bytes", session, HEAD) for session in range(0, 330, 30)]
     q.ask("hub run", 1, ZERO32, *(word for event in events for word in event))
+    q.note("Hundreds of pieces, a byte each.")
+    stream = request_frame("register", bytes([1, 2]) * 120, b"k" * 9) + HEAD
+    q.ask("hub run", 1, ZERO32, "open", 1, *(word for byte in stream for word in ("bytes", 1, bytes([byte]))))
     q.note("Streams of five sessions, cut anywhere.")
     for most in [3, 12]:
         streams = {session: split(rng, b"".join(stream_of(rng, 25)), most) for session in [1, 2, 3, 5, 4000000000]}
@@ -388,7 +386,7 @@ def stream_of(rng, count):
 def of_random_events(q, rng):
     sessions = [0, 3, 4, 1000000, 2**32 - 1]
     streams, events = {session: b"" for session in sessions}, []
-    for _ in range(250):
+    for _ in range(160):
         session = rng.choice(sessions)
         turn = rng.randrange(20)
         if turn == 0:
@@ -416,8 +414,7 @@ def of_serving(q, rng):
     register = request_frame("register", b"a", b"k") + closing(2) + request_frame("lookup", 2, b"a")
     for stream in [
         b"", HEAD * 3, HEAD[:4], HEAD + HEAD[:3], register, HEAD + bytes(4) + HEAD, b"\xff" * 100,
-        frame(9, b"") + HEAD,
-        closing(2, ZERO32) + HEAD,
+        frame(9, b"") + HEAD, closing(2, ZERO32) + HEAD,
     ]:
         q.ask("serve run", 1, "none", stream)
     digits = run(0xA0).hex().encode()

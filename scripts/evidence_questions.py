@@ -22,15 +22,13 @@ def of_observing(q, rng):
     fork, skip = KEYED.page(7, a, nonce=run(1)), KEYED.page(8, b)
     others = [
         a, b, c, fork, skip, KEYED.page(10, KEYED.page(9, b, nonce=run(1))),
-        KEYED.page(12, KEYED.page(10, c)),
-        KEYED.page(1), KEYED.page(2), KEYED.page(2, nonce=run(1)), KEYED.page(4, a), KEYED.page(10, b),
-        KEYED.page(TOP, b),
-        KEYED.page(3, KEYED.page(2), nonce=run(2)), KEYED.page(9, fork), KEYED.page(10, c), KEYED.page(11, c),
+        KEYED.page(12, KEYED.page(10, c)), KEYED.page(1), KEYED.page(2), KEYED.page(2, nonce=run(1)),
+        KEYED.page(4, a), KEYED.page(10, b), KEYED.page(TOP, b), KEYED.page(3, KEYED.page(2), nonce=run(2)),
+        KEYED.page(9, fork), KEYED.page(10, c), KEYED.page(11, c),
     ]
     spoilt = [
         b"", b"R", written(b)[:-1], written(b) + b"\0", long_signature(b, 31), long_signature(b, 33),
-        long_signature(b, 256),
-        KEYED.page(7, a, sign_key=OTHER_KEY).root.write(),
+        long_signature(b, 256), KEYED.page(7, a, sign_key=OTHER_KEY).root.write(),
     ]
     q.note("Compared by an auditor that knows no provider.")
     q.ask("auditor new")
@@ -60,7 +58,7 @@ def of_observing(q, rng):
 
 @subject("an auditor of many providers")
 def of_providers(q, rng):
-    keys = [bytes([number]) * 32 for number in range(12)]
+    keys = [bytes([number]) * 32 for number in range(40)]
     q.ask("auditor new")
     chains = []
     for number, key in enumerate(keys):
@@ -71,9 +69,9 @@ def of_providers(q, rng):
         if number < 4:
             q.ask("auditor compare", key, written(pages[1]))
             q.ask("auditor observe", key, written(pages[1]))
-        if number:
+        if number in (1, 2):
             q.ask("auditor observe", key, written(chains[0][0]))
-    for number in [0, 1, 2, 3, 11]:
+    for number in [0, 1, 2, 3, 39]:
         for page in chains[number]:
             q.ask("auditor observe", keys[number], written(page))
         q.ask("auditor chain", keys[number])
@@ -249,7 +247,13 @@ def of_files(q, rng):
     for text in [letters, letters.upper()]:
         q.ask("evidence judge", text, json_of(FORK, *fork))
         q.ask("evidence judge", text, good[0].encode())
+    q.note("Files above 64 KiB.")
+    spaces = b" " * 40000
+    q.ask("evidence judge", key, spaces * 2 + good[0].encode())
+    q.ask("evidence judge", key, good[0].encode() + spaces * 2)
+    q.ask("evidence judge", key, good[0].replace(",", "," + " " * 70000).encode())
     q.note("Not an evidence file.")
+    q.ask("evidence judge", key, good[0].encode() + spaces * 2 + b"x")
     fork = f'{{"first":"{one}","kind":"fork","second":"{other}"}}'
     none = [
         "", " ", "null", "{}", "[]", '"fork"', "0", fork[:-1], fork[1:], fork + "x", fork + fork,
@@ -318,12 +322,11 @@ def of_auditing(q, rng):
         chain + line(fork), chain + line(skip), chain + line(link),
         chain + line(fork) + line(skip) + line(link) + lines["c"],
         line(KEYED.page(3, sign_key=OTHER_KEY)) + chain, chain + b"\n" + lines["c"],
-        chain + b"started\n" + lines["c"],
-        lines["a"][:-2] + b"\n" + lines["a"], b" " + lines["a"] + lines["a"],
-        lines["a"][:-1] + b" \n" + lines["a"],
+        chain + b"started\n" + lines["c"], lines["a"][:-2] + b"\n" + lines["a"],
+        b" " + lines["a"] + lines["a"], lines["a"][:-1] + b" \n" + lines["a"],
         lines["a"][:-1] + b"\r\n" + lines["a"], lines["a"][:-1] + b"00\n" + lines["a"],
-        lines["a"][:-3] + b"0g\n" + lines["a"],
-        b"\xff\xfe\n" + lines["a"], lines["a"] + b"\r", lines["a"] + b"\0\n" + lines["b"],
+        lines["a"][:-3] + b"0g\n" + lines["a"], b"\xff\xfe\n" + lines["a"], lines["a"] + b"\r",
+        lines["a"] + b"\0\n" + lines["b"],
     ]:
         q.ask("evidence audit", key, text)
     q.note("Roots with signatures of up to 256 bytes, whose lines have up to 808 digits, and longer lines.")

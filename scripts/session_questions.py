@@ -11,7 +11,7 @@ import client_questions
 import directory_questions
 import evidence_questions
 import session_scripts
-from questions import Questions
+from asking import Questions
 from session_answers import SessionAnswers
 from session_subjects import subjects
 

@@ -2,8 +2,8 @@
 
 from dataclasses import replace
 
+from asking import run
 from formats import *
-from questions import run
 from session_answers import HUB_TOKEN
 from sessions import SALT_KEY, SIGN_KEY, VUF_KEY, keyed_directory
 
