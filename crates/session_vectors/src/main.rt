@@ -12,6 +12,7 @@ mod directories;
 mod evidences;
 mod hubs;
 mod monitors;
+mod refusals;
 mod script;
 mod serving;
 mod stand_ins;
@@ -76,6 +77,7 @@ impl<F: Files> Subjects for State<'_, F> {
             b"auditor" => auditors::answer(case, &mut self.auditor),
             b"evidence" => evidences::answer(case),
             b"script" => script::answer(case, self.files),
+            b"text" => refusals::answer(case),
             _ => case.spoil(),
         }
     }

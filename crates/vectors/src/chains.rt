@@ -129,7 +129,10 @@ fn take_list(case: &mut Case<'_>, chain: &mut Chain<Sha256Hash, KeyedSign>) {
     match chain.take_list(&mut Sha256Hash::new(), &verifier(), list) {
         Ok(()) => case.say("taken"),
         Err(ListRefusal::Memory) => case.lack_memory(),
-        Err(ListRefusal::Evidence(evidence)) => say_evidence(case, &evidence),
+        Err(ListRefusal::Evidence(evidence)) => {
+            say_evidence(case, &evidence);
+            case.say_shown(ListRefusal::Evidence(evidence));
+        }
         Err(refusal) => case.say_shown(refusal),
     }
 }

@@ -1,7 +1,9 @@
-//! Of `textio`: digits, and the faults that a program ends with.
+//! Of `textio`: digits, and the faults that a program ends with; and refusals that no question leads to.
 
 use questions::Case;
-use textio::{ProgramFault, hex_digits, hex32, option_hex32, option_nonce};
+use rootchain::{ListRefusal, Refusal};
+use textio::{ProgramFault, StreamFault, hex_digits, hex32, option_hex32, option_nonce};
+use wire::FeedRefusal;
 
 pub(crate) fn answer(case: &mut Case<'_>) {
     match case.word() {
@@ -10,6 +12,7 @@ pub(crate) fn answer(case: &mut Case<'_>) {
         b"option-hex" => option_hex(case),
         b"option-nonce" => nonce(case),
         b"fault" => fault(case),
+        b"refusal" => refusal(case),
         _ => case.spoil(),
     }
 }
@@ -80,5 +83,17 @@ fn tell(case: &mut Case<'_>, fault: ProgramFault) {
         Ok(()) => case.say_text(&line),
         // A writer to memory fails only if memory runs out.
         Err(_) => case.lack_memory(),
+    }
+}
+
+/// `refusal NAME`: the number and the text of a refusal, or the text alone where it has no number.
+fn refusal(case: &mut Case<'_>) {
+    match case.word() {
+        b"root-memory" => case.refuse(Refusal::Memory.number(), Refusal::Memory),
+        b"list-memory" => case.say_shown(ListRefusal::Memory),
+        b"feed-memory" => case.refuse(FeedRefusal::Memory.number(), FeedRefusal::Memory),
+        b"stream-read" => case.say_shown(StreamFault::CannotRead),
+        b"stream-write" => case.say_shown(StreamFault::CannotWrite),
+        _ => case.spoil(),
     }
 }
