@@ -1,7 +1,8 @@
 //! Answers questions on directories and their users, one a line: the tests of the upper crates as data.
 //!
 //! A question is a subject, a verb, and arguments; the crate `questions` says how words are read. The
-//! subjects are `directory`, `hub`, `serve`, `client`, `monitor`, `auditor`, `evidence` and `script`.
+//! subjects are `directory`, `hub`, `serve`, `client`, `monitor`, `auditor`, `evidence`, `script` and
+//! `text`.
 //! Those whose names end in `-sum` hash by sums of bytes, and a name is its own value. The stored
 //! answers come from `scripts/formats.py`, which computes them from the definitions alone.
 #![tactic(auto)]
