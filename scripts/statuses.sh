@@ -362,6 +362,19 @@ if [ $is_limited = yes ]; then
     ends 0 "refused 1" ""
 fi
 
+# 400 MB of frames of the greatest length and of no kind that there is, of which no more than one is kept.
+if [ $is_limited = yes ]; then
+    frames='import sys
+for number in range(6100): sys.stdout.buffer.write(b"\0\1\0\0\x63" + bytes(65535))'
+    within 100000 <(python3 -c "$frames") serve $keys
+    printf '\0\0\0\2\377\2%.0s' {1..6100} >"$folder/refusals"
+    if [ "$status" = 0 ] && [ ! -s "$folder/err" ] && cmp -s "$folder/refusals" "$folder/out"; then
+        passed=$((passed + 1))
+    else
+        fails "${words:0:100}: status $status, '$(<"$folder/err")', or other replies"
+    fi
+fi
+
 # `judge`, of the evidence that Python computed, which holds or not.
 scripts/formats.py --evidence >"$folder/evidence"
 for kind in fork link skip broken-promise; do
@@ -397,6 +410,14 @@ spelled 'parts["first"] += "00"'
 ends 1 "" "not an evidence file"
 spelled 'parts["kind"] = "FORK"'
 ends 1 "" "not an evidence file"
+
+# A file of more than 64 KiB.
+{
+    printf '%100000s' ""
+    cat "$folder/fork.json"
+} >"$folder/wide.json"
+given "" judge --key $ones "$folder/wide.json"
+ends 0 "evidence" ""
 
 for file in "$folder/none" "$folder"; do
     given "" judge --key $ones "$file"
