@@ -123,6 +123,24 @@ printf '\0\0\0\1\6\0\0\0\1\6\0\0\0\1\6' >"$folder/heads"
 ends "three heads" 0 "$head$head$head" "" "$folder/heads" serve $keys
 ends "all requests" 0 "$all" "" "$folder/requests" serve $keys
 
+# A reply comes while the client waits to ask again.
+mkfifo "$folder/asked" "$folder/told"
+"$program" serve $keys <"$folder/asked" >"$folder/told" 2>"$folder/err" &
+server=$!
+exec 8>"$folder/asked" 9<"$folder/told"
+for number in 1 2; do
+    printf '\0\0\0\1\6' >&8
+    same "reply $number to a client that waits" "$head" \
+        "$(timeout --foreground 10 head -c 185 <&9 | od -An -v -tx1 | tr -d ' \n')"
+done
+exec 8>&-
+status=0
+wait "$server" || status=$?
+exec 9<&-
+server=
+same "a client that waits, status" 0 "$status"
+same "a client that waits, errors" "" "$(cat "$folder/err")"
+
 # One connection after another, with one directory, whatever a client sends: all requests, and twice those
 # that change nothing; two bad streams; 3 connections that fail or follow; 2 that wait; and 300.
 starts --count 310
