@@ -621,6 +621,14 @@ class Answers(Lines):
         chain = AnyChain(sha256, KEY, [first])
         return ["started", *(word for root in others for word in place_words(chain.take(root)))]
 
+    def chains_any_extended(self, w):
+        """`any-extended ROOT..`: the same, where each other root extends the chain."""
+        first, *others = [w.form(SignedRoot.read) for _ in range(max(w.left(), 1))]
+        chain = AnyChain(sha256, KEY, [first])
+        for root in others:
+            chain.extend(root)
+        return ["started", *["extended"] * len(others)]
+
     def compared_chains(self, digest, w):
         key = w.hash()
         return place_words(compare_chains(*(self.chain_of(digest, key, w) for _ in range(2))))

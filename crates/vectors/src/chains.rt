@@ -17,7 +17,8 @@ pub(crate) fn answer(case: &mut Case<'_>, kept: &mut Kept) {
         b"start" => start(case, kept),
         b"compare" => compare(case, &mut Sha256Hash::new()),
         b"compare-sum" => compare(case, &mut SumHash::new()),
-        b"any" => any(case),
+        b"any" => any(case, Step::Take),
+        b"any-extended" => any(case, Step::Extend),
         verb => match kept {
             Some(chain) => answer_on(case, verb, chain),
             None => case.spoil(),
@@ -27,7 +28,7 @@ pub(crate) fn answer(case: &mut Case<'_>, kept: &mut Kept) {
 
 fn answer_on(case: &mut Case<'_>, verb: &[u8], chain: &mut Chain<Sha256Hash, KeyedSign>) {
     match verb {
-        b"extend" => extend(case, chain),
+        b"extend" => extend(case, chain, &verifier()),
         b"place" => place(case, chain),
         b"take" => take(case, chain, &verifier()),
         b"take-list" => take_list(case, chain),
@@ -63,11 +64,11 @@ fn start(case: &mut Case<'_>, kept: &mut Kept) {
 }
 
 /// `extend ROOT`
-fn extend(case: &mut Case<'_>, chain: &mut Chain<Sha256Hash, KeyedSign>) {
+fn extend<S: Verifier>(case: &mut Case<'_>, chain: &mut Chain<Sha256Hash, S>, verifier: &S) {
     let Ok(root) = signed_root(case) else {
         return case.spoil();
     };
-    match chain.extend(&mut Sha256Hash::new(), &verifier(), root) {
+    match chain.extend(&mut Sha256Hash::new(), verifier, root) {
         Ok(()) => case.say("extended"),
         Err(refusal) => refuse(case, refusal),
     }
@@ -84,8 +85,16 @@ fn place(case: &mut Case<'_>, chain: &mut Chain<Sha256Hash, KeyedSign>) {
     }
 }
 
+/// How a root comes to a chain.
+#[derive(Clone, Copy, Debug)]
+enum Step {
+    Take,
+    Extend,
+}
+
 /// `any ROOT..`: a chain under a verifier that accepts each signature, which takes the roots in turn.
-fn any(case: &mut Case<'_>) {
+/// `any-extended ROOT..`: the same, and each root extends the chain.
+fn any(case: &mut Case<'_>, step: Step) {
     let Ok(root) = signed_root(case) else {
         return case.spoil();
     };
@@ -93,7 +102,10 @@ fn any(case: &mut Case<'_>) {
         Ok(mut chain) => {
             case.say("started");
             for _ in 0..case.left() {
-                take(case, &mut chain, &AnySign);
+                match step {
+                    Step::Take => take(case, &mut chain, &AnySign),
+                    Step::Extend => extend(case, &mut chain, &AnySign),
+                }
             }
         }
         Err(refusal) => refuse(case, refusal),
