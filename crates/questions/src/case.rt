@@ -29,7 +29,6 @@ pub struct Case<'a> {
     words: &'a [Word<'a>],
     next: usize,
     answer: Vec<u8>,
-    is_lines: bool,
     trouble: Trouble,
 }
 
@@ -41,7 +40,6 @@ impl<'a> Case<'a> {
             words,
             next: 0,
             answer: room,
-            is_lines: false,
             trouble: Trouble::Nothing,
         }
     }
@@ -59,7 +57,6 @@ impl<'a> Case<'a> {
     pub(crate) fn begin(&mut self) {
         self.next = 0;
         self.answer.clear();
-        self.is_lines = false;
         self.trouble = Trouble::Nothing;
     }
 
@@ -97,12 +94,9 @@ impl<'a> Case<'a> {
     pub(crate) fn line(&mut self) -> &[u8] {
         if self.trouble == Trouble::BadQuestion {
             self.answer.clear();
-            self.is_lines = false;
             self.say("bad question");
         }
-        if !self.is_lines {
-            self.push(b"\n");
-        }
+        self.push(b"\n");
         self.answer.as_slice()
     }
 
@@ -276,10 +270,12 @@ impl<'a> Case<'a> {
         self.push(text.as_bytes());
     }
 
-    /// Whole lines, of which the answer then consists.
+    /// Lines, of which the answer then consists.
     pub fn say_lines(&mut self, lines: &[u8]) {
-        self.push(lines);
-        self.is_lines = true;
+        match lines {
+            [before @ .., b'\n'] => self.push(before),
+            _ => self.push(lines),
+        }
     }
 
     /// What prints as words of the answer, such as a number or a refusal.

@@ -146,18 +146,33 @@ fn tell_judged<H, V>(
 
 /// The evidence of this kind, of the roots in the next two words.
 pub(crate) fn of_roots(case: &mut Case<'_>, kind: &[u8]) -> Result<Evidence, Refusal> {
-    let one = SignedRoot::read(case.bytes())?;
-    let other = SignedRoot::read(case.bytes())?;
-    let roots = match kind {
-        b"fork" => RootEvidence::Fork(one, other),
-        b"link" => RootEvidence::Link(one, other),
-        b"skip" => RootEvidence::Skip(one, other),
+    let first = case.bytes();
+    let second = case.bytes();
+    match kind {
+        b"fork" => {
+            let (one, other) = roots(first, second)?;
+            Ok(Evidence::Root(RootEvidence::Fork(one, other)))
+        }
+        b"link" => {
+            let (one, other) = roots(first, second)?;
+            Ok(Evidence::Root(RootEvidence::Link(one, other)))
+        }
+        b"skip" => {
+            let (one, other) = roots(first, second)?;
+            Ok(Evidence::Root(RootEvidence::Skip(one, other)))
+        }
         _ => {
             case.spoil();
-            return Err(Refusal::Malformed);
+            Err(Refusal::Malformed)
         }
-    };
-    Ok(Evidence::Root(roots))
+    }
+}
+
+/// The two roots that these bytes spell.
+fn roots(first: &[u8], second: &[u8]) -> Result<(SignedRoot, SignedRoot), Refusal> {
+    let one = SignedRoot::read(first)?;
+    let other = SignedRoot::read(second)?;
+    Ok((one, other))
 }
 
 /// The evidence of this promise and this root, and the proof in the next word.

@@ -54,7 +54,7 @@ pub(crate) fn read_first(case: &mut Case<'_>) -> First {
 
 pub(crate) fn make_keyed(
     alloc: Global,
-    first: First,
+    first: &First,
     secrets: &Secrets,
 ) -> Result<KeyedDirectory, Refusal> {
     Directory::new(
@@ -70,7 +70,7 @@ pub(crate) fn make_keyed(
 
 fn make_summed(
     alloc: Global,
-    first: First,
+    first: &First,
     secrets: &Secrets,
 ) -> Result<SummedDirectory, Refusal> {
     Directory::new(
@@ -88,7 +88,7 @@ pub(crate) fn answer_keyed(case: &mut Case<'_>, kept: &mut Option<KeyedDirectory
     match case.word() {
         b"new" => new_keyed(case, kept),
         b"run" => {
-            let made = make_keyed(case.alloc(), read_first(case), &common_secrets());
+            let made = make_keyed(case.alloc(), &read_first(case), &common_secrets());
             run(case, made);
         }
         verb => answer(case, verb, kept),
@@ -99,7 +99,7 @@ pub(crate) fn answer_summed(case: &mut Case<'_>, kept: &mut Option<SummedDirecto
     match case.word() {
         b"new" => new_summed(case, kept),
         b"run" => {
-            let made = make_summed(case.alloc(), read_first(case), &common_secrets());
+            let made = make_summed(case.alloc(), &read_first(case), &common_secrets());
             run(case, made);
         }
         verb => answer(case, verb, kept),
@@ -169,7 +169,7 @@ fn new_keyed(case: &mut Case<'_>, kept: &mut Option<KeyedDirectory>) {
     let vuf = case.hash();
     let salt = case.hash();
     if !case.is_spoiled() {
-        let made = make_keyed(case.alloc(), first, &Secrets { sign, vuf, salt });
+        let made = make_keyed(case.alloc(), &first, &Secrets { sign, vuf, salt });
         keep(case, kept, made);
     }
 }
@@ -181,7 +181,7 @@ fn new_summed(case: &mut Case<'_>, kept: &mut Option<SummedDirectory>) {
     let vuf = Hash32::default();
     let salt = case.hash();
     if !case.is_spoiled() {
-        let made = make_summed(case.alloc(), first, &Secrets { sign, vuf, salt });
+        let made = make_summed(case.alloc(), &first, &Secrets { sign, vuf, salt });
         keep(case, kept, made);
     }
 }

@@ -66,14 +66,14 @@ impl KeptHub {
         if self.hub.is_some() || self.first.epoch == 0 {
             return;
         }
-        match make(case.alloc(), self.first) {
+        match make(case.alloc(), &self.first) {
             Ok(hub) => self.hub = live_again(case, hub, &self.past),
             Err(_) => case.lack_memory(),
         }
     }
 }
 
-fn make(alloc: Global, first: First) -> Result<Hub<ServedDesk>, Refusal> {
+fn make(alloc: Global, first: &First) -> Result<Hub<ServedDesk>, Refusal> {
     match make_keyed(alloc, first, &common_secrets()) {
         Ok(directory) => Ok(Hub::new(
             alloc,
@@ -134,15 +134,21 @@ fn new(case: &mut Case<'_>, kept: &mut KeptHub) {
     if case.is_spoiled() {
         return;
     }
-    match make(case.alloc(), first) {
+    match make(case.alloc(), &first) {
         Ok(hub) => {
-            kept.first = first;
-            kept.past.clear();
-            kept.hub = Some(hub);
+            keep_hub(case.alloc(), kept, first, hub);
             case.say("ok");
         }
         Err(why) => refuse(case, why),
     }
+}
+
+fn keep_hub(alloc: Global, kept: &mut KeptHub, first: First, hub: Hub<ServedDesk>) {
+    *kept = KeptHub {
+        first,
+        past: Vec::new(alloc),
+        hub: Some(hub),
+    };
 }
 
 /// The event of this verb: `open S`, `bytes S PIECE`, `end S`.
@@ -170,13 +176,38 @@ fn happen(case: &mut Case<'_>, kept: &mut KeptHub, event: &Event<'_>) {
         return case.spoil();
     };
     let mut output = Vec::new(case.alloc());
-    let heard = hub.event(event, &mut output);
+    let heard = hear(hub, event, &mut output);
     let kept_past = keep(case.alloc(), &mut kept.past, event);
     if wanted_memory(heard, &output) || kept_past.is_err() {
         kept.hub = None;
         return case.lack_memory();
     }
     tell(case, heard, &output);
+}
+
+/// Lets the hub handle an event. If memory ran out before the event was taken, it comes once more; if
+/// after, an empty piece goes on with what waits.
+fn hear(
+    hub: &mut Hub<ServedDesk>,
+    event: &Event<'_>,
+    output: &mut Vec<u8>,
+) -> Result<(), HubRefusal> {
+    match hub.event(event, output) {
+        Err(HubRefusal::Memory { taken: false }) => hub.event(event, output),
+        Err(HubRefusal::Memory { taken: true }) => go_on(hub, event, output),
+        heard => heard,
+    }
+}
+
+fn go_on(
+    hub: &mut Hub<ServedDesk>,
+    event: &Event<'_>,
+    output: &mut Vec<u8>,
+) -> Result<(), HubRefusal> {
+    match event {
+        Event::Bytes(session, _) => hub.event(&Event::Bytes(*session, &[]), output),
+        Event::Open(_) | Event::End(_) => Ok(()),
+    }
 }
 
 /// Keeps the event, for a hub that is made once more.
@@ -199,7 +230,7 @@ fn run(case: &mut Case<'_>) {
     if case.is_spoiled() {
         return;
     }
-    match make(case.alloc(), first) {
+    match make(case.alloc(), &first) {
         Ok(hub) => run_on(case, hub, &events),
         Err(why) => refuse(case, why),
     }

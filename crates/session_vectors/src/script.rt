@@ -75,7 +75,7 @@ fn opened(alloc: Global) -> Result<KeyedEngine, AllocError> {
         nonce: Hash32::default(),
     };
     let secrets = common_secrets();
-    let Ok(directory) = make_keyed(alloc, first, &secrets) else {
+    let Ok(directory) = make_keyed(alloc, &first, &secrets) else {
         return Err(AllocError);
     };
     let root = directory.head().write();

@@ -132,8 +132,11 @@ where
         }
     }
 
-    /// Asks what a line asks, and tells what comes of it.
+    /// Asks what a line asks, and tells what comes of it. Returns whether a frame has room for it.
     fn answer(&mut self, request: &Request<'_>, printed: &mut Printed) -> bool {
+        if !request.fits() {
+            return false;
+        }
         self.ask(request, printed);
         match request {
             Request::Lookup { name, epoch } => self.tell_look(name, *epoch, printed),

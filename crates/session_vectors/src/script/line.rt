@@ -9,7 +9,7 @@ use wire::Request;
 pub(crate) enum Line<'a> {
     /// The line is empty or a note.
     Pass,
-    /// What is asked of the directory, through session 0.
+    /// What is asked of the directory, through session 0. It may be too long for a frame.
     Ask(Request<'a>),
     /// A monitor of a name begins. It expects this key; no byte means no key.
     Watch { name: &'a [u8], key: &'a [u8] },
@@ -116,15 +116,6 @@ fn read_alone<'a>(verb: &[u8]) -> Line<'a> {
     }
 }
 
-/// The request, if a frame has room for it.
-fn asked(request: Request<'_>) -> Line<'_> {
-    if request.fits() {
-        Line::Ask(request)
-    } else {
-        Line::Unknown
-    }
-}
-
 fn read_one<'a>(
     verb: &[u8],
     one: &[u8],
@@ -143,7 +134,7 @@ fn read_promise<'a>(name: &[u8], room: &'a mut Room) -> Result<Line<'a>, AllocEr
     if !read_bytes(name, &mut room.first)? {
         return Ok(Line::Unknown);
     }
-    Ok(asked(Request::Promise { name: &room.first }))
+    Ok(Line::Ask(Request::Promise { name: &room.first }))
 }
 
 /// `close EPOCH`
@@ -191,7 +182,7 @@ fn read_lookup<'a>(
     if !read_bytes(name, &mut room.first)? {
         return Ok(Line::Unknown);
     }
-    Ok(asked(Request::Lookup {
+    Ok(Line::Ask(Request::Lookup {
         epoch,
         name: &room.first,
     }))
@@ -241,8 +232,8 @@ fn read_binding<'a>(
     let name = &room.first;
     let key = &room.second;
     Ok(match verb {
-        b"register" => asked(Request::Register { name, key }),
-        b"change" => asked(Request::Change { name, key }),
+        b"register" => Line::Ask(Request::Register { name, key }),
+        b"change" => Line::Ask(Request::Change { name, key }),
         b"watch" => Line::Watch { name, key },
         _ => Line::Unknown,
     })
