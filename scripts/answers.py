@@ -852,13 +852,13 @@ class Answers(Lines):
             return self.stopped(fault)
 
     def text_fault(self, w):
-        """`fault NAME [N]`: the status, and the line that is written."""
+        """`fault NAME [N]`: the status, the text, and the line that is written."""
         text = FAULTS.get(w.word())
         if text is None:
             raise BadQuestion
         if "{}" in text:
             text = text.format(w.number())
-        return ["1", told_text(f"{text}\n".encode())]
+        return ["1", text, told_text(f"{text}\n".encode())]
 
     # items: the programs `root` and `prove`
 

@@ -324,8 +324,10 @@ class SessionAnswers(Lines):
 
     def evidence_json(self, w):
         """`json KIND FIRST SECOND`"""
-        kind = self.kind(w)
-        return [told_text(evidence_json(evidence_of(kind, w.bytes(), w.bytes())).encode())]
+        evidence = evidence_of(self.kind(w), w.bytes(), w.bytes())
+        if evidence.kind == BROKEN and len(evidence.proof) > MAX_PROOF_TEXT:
+            raise BadQuestion
+        return [told_text(evidence_json(evidence).encode())]
 
     def evidence_read(self, w):
         """`read BYTES`"""

@@ -117,7 +117,7 @@ def limits_of_names_and_keys():
     yield from [register(b"a", key), register(b"b", b"k" * 2049), register(b"b", b""), register(b"", b"")]
     yield from [change(b"a" * 256, b""), change(b"b", b""), promise(b"a" * 256), promise(b""), lookup(b"", 9)]
     yield from [lookup(b"a" * 256, 1), promise(longest), promise(b"a"), watch(longest, b"k"), "close 2"]
-    yield from [lookup(longest, 0), lookup(b"a", 2), change(longest, key), "close 3", lookup(longest, 3)]
+    yield from [lookup(longest, 0), lookup(b"a", 2), change(longest, b"l"), "close 3", lookup(longest, 3)]
 
 
 @script
@@ -323,10 +323,10 @@ def hundreds_of_epochs():
 
 @script
 def hundreds_of_sessions():
-    yield "# 200 sessions whose messages come in pieces, interleaved with each other and with closings."
+    yield "# 130 sessions whose messages come in pieces, interleaved with each other and with closings."
     rng = random.Random(11)
     waiting = {}
-    for session in range(1, 201):
+    for session in range(1, 131):
         name = name_of(session % 60)
         frames = [
             request_frame("register", name, key_of(session)), HEAD, request_frame("lookup", 0, name),
@@ -411,9 +411,9 @@ def generated_commands():
     rng = random.Random(13)
     short, long = [0, 1, 2, 3, 4, 5, 6, 16], [255, 256]
     epoch = 1
-    for turn in range(380):
+    for turn in range(220):
         name = bytes([7]) * rng.choice(long if turn % 25 == 7 else short)
-        key = bytes([9]) * rng.choice([255, 700, 2048, 2049] if turn % 90 == 50 else short)
+        key = bytes([9]) * rng.choice([255, 700] if turn % 90 == 50 else short)
         near = max(epoch + rng.randrange(-6, 2), 0)
         yield rng.choice([
             register(name, key), register(name, key), change(name, key), change(name, key), promise(name),

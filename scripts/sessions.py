@@ -48,6 +48,7 @@ from formats import (
     BrokenPromise,
     Chain,
     Cursor,
+    Fault,
     Feed,
     KeyedVuf,
     ListRefusal,
@@ -578,7 +579,10 @@ def evidence_of(kind, first, second):
         return RootEvidence(kind, SignedRoot.read(first), SignedRoot.read(second))
     promise = SignedPromise.read(first)
     cursor = Cursor(second)
-    root = SignedRoot.take(cursor)
+    try:
+        root = SignedRoot.take(cursor)
+    except Fault:
+        raise RootRefusal(MALFORMED) from None
     return BrokenPromise(promise, root, cursor.take(cursor.left()))
 
 
