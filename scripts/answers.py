@@ -284,6 +284,21 @@ FAULTS = {
     "out-of-memory": "out of memory",
 }
 DIGESTS = {"sha256": sha256, "sum": byte_sum}
+# Refusals that no question leads to.
+OUT_OF_MEMORY = "out of memory"
+REFUSALS = {
+    "root-memory": f"refused 5 {OUT_OF_MEMORY}",
+    "list-memory": OUT_OF_MEMORY,
+    "feed-memory": f"refused 14 {OUT_OF_MEMORY}",
+    "stream-read": "cannot read",
+    "stream-write": "cannot write",
+}
+
+
+def named(texts, name):
+    if name not in texts:
+        raise BadQuestion
+    return [texts[name]]
 
 
 class AnyVuf:
@@ -575,11 +590,12 @@ class Answers(Lines):
         return place_words(self.held().take(w.form(SignedRoot.read)))
 
     def chains_take_list(self, w):
-        """`take-list LIST`: `taken`, evidence, or the text of the refusal."""
+        """`take-list LIST`: `taken`, or evidence, if it is refused by that, and the text of the refusal."""
         try:
             self.held().take_list(w.form(read_list))
         except ListRefusal as refusal:
-            return place_words(refusal.evidence) if refusal.evidence else [refusal.text]
+            shown = place_words(refusal.evidence) if refusal.evidence else []
+            return [*shown, refusal.text]
         return ["taken"]
 
     def chains_at(self, w):
@@ -604,6 +620,14 @@ class Answers(Lines):
         first, *others = [w.form(SignedRoot.read) for _ in range(max(w.left(), 1))]
         chain = AnyChain(sha256, KEY, [first])
         return ["started", *(word for root in others for word in place_words(chain.take(root)))]
+
+    def chains_any_extended(self, w):
+        """`any-extended ROOT..`: the same, where each other root extends the chain."""
+        first, *others = [w.form(SignedRoot.read) for _ in range(max(w.left(), 1))]
+        chain = AnyChain(sha256, KEY, [first])
+        for root in others:
+            chain.extend(root)
+        return ["started", *["extended"] * len(others)]
 
     def compared_chains(self, digest, w):
         key = w.hash()
@@ -859,6 +883,10 @@ class Answers(Lines):
         if "{}" in text:
             text = text.format(w.number())
         return ["1", text, told_text(f"{text}\n".encode())]
+
+    def text_refusal(self, w):
+        """`refusal NAME`: the refusal's number, if it has one, and its text."""
+        return named(REFUSALS, w.word())
 
     # items: the programs `root` and `prove`
 

@@ -108,6 +108,11 @@ def of_long_chains(q, rng):
     for page in [pages[0], pages[13], pages[-1], *others]:
         q.ask("auditor compare", SIGN_KEY, written(page))
         q.ask("auditor observe", SIGN_KEY, written(page))
+    q.note("First roots beyond epoch 12.")
+    for page in [pages[12], pages[-1]]:
+        q.ask("auditor new")
+        q.ask("auditor observe", SIGN_KEY, written(page))
+        q.ask("auditor chain", SIGN_KEY)
 
 
 # Evidence that is judged ------------------------------------------------------------------------------------

@@ -5,14 +5,14 @@
 #
 #   scripts/listen.sh
 #
-# Takes the built program, or the one that DIRECTORYD names: `rt try` takes minutes to begin. The last
-# line is `N passed, M failed`, and the status is 0 where none failed. It takes some three seconds, and
-# ends after three minutes whatever happens.
+# Takes the built program, or the one that DIRECTORYD names. The last line is `N passed, M failed`, and
+# the status is 0 where none failed. It takes some ten seconds, and ends after five minutes whatever
+# happens.
 set -uo pipefail
 cd "$(dirname "$0")/.." || exit 1
 
 if [ -z "${LISTEN_LIMIT:-}" ]; then
-    LISTEN_LIMIT=170 exec timeout --kill-after=10 170 "scripts/listen.sh"
+    LISTEN_LIMIT=300 exec timeout --kill-after=10 300 "scripts/listen.sh"
 fi
 
 program=${DIRECTORYD:-crates/directoryd/out/directoryd}
@@ -36,9 +36,9 @@ fails() {
 
 trap 'fails "out of time"; finish' TERM
 
-# Compares what was got with what is wanted, which may be a pattern: same WHAT WANTED GOT
+# Compares what was got with what is wanted: same WHAT WANTED GOT
 same() {
-    if [[ "$3" == $2 ]]; then
+    if [ "$3" = "$2" ]; then
         passed=$((passed + 1))
     else
         fails "$1: wanted '${2:0:80}', got '${3:0:80}'"
@@ -57,8 +57,8 @@ well() {
     fi
 }
 
-# Runs the program over an input to its end, and compares status, output and the first line of the errors:
-# ends WHAT STATUS OUTPUT LINE INPUT WORD..
+# Runs the program over an input to its end, and compares status, output in hex and the first line of the
+# errors: ends WHAT STATUS OUTPUT LINE INPUT WORD..
 ends() {
     local what=$1 status=$2 output=$3 line=$4 input=$5 got=0
     shift 5
@@ -71,6 +71,40 @@ ends() {
 # Sends bytes in hex over a connection, and compares the frames that come back: told WHAT HEX FRAMES
 told() {
     same "$1" "$3" "$(timeout --foreground 60 scripts/send_frames.py "$address" $2 2>&1)"
+}
+
+# Starts a server on a port that the system chooses, with these options: starts WORD..
+starts() {
+    : >"$folder/server_err"
+    "$program" listen $keys "$@" 127.0.0.1:0 >"$folder/server_out" 2>"$folder/server_err" &
+    server=$!
+    address=
+    for _ in {1..600}; do
+        address=$(sed -n 's/^listening on \(127\.0\.0\.1:[1-9][0-9]*\)$/\1/p' "$folder/server_err")
+        [ -z "$address" ] || return 0
+        sleep 0.05
+    done
+    fails "the server does not tell its address: $(cat "$folder/server_err")"
+    finish
+}
+
+# The server has to end by itself now, with this status and nothing but its line: stops WHAT STATUS
+stops() {
+    local status=0 ended=no
+    for _ in {1..100}; do
+        if ! kill -0 "$server" 2>/dev/null; then
+            ended=yes
+            break
+        fi
+        sleep 0.05
+    done
+    same "$1: the server ended" yes "$ended"
+    [ $ended = yes ] || kill "$server"
+    wait "$server" || status=$?
+    server=
+    [ $ended = no ] || same "$1: status" "$2" "$status"
+    same "$1: errors" "listening on $address" "$(cat "$folder/server_err")"
+    same "$1: output" "" "$(cat "$folder/server_out")"
 }
 
 if [ ! -x "$program" ]; then
@@ -87,62 +121,64 @@ head=$(head -c 185 "$folder/replies" | od -An -v -tx1 | tr -d ' \n')
 all=$(od -An -v -tx1 "$folder/replies" | tr -d ' \n')
 printf '\0\0\0\1\6\0\0\0\1\6\0\0\0\1\6' >"$folder/heads"
 ends "three heads" 0 "$head$head$head" "" "$folder/heads" serve $keys
-same "bytes of three heads" $((3 * 185)) "$(stat -c %s "$folder/out")"
 ends "all requests" 0 "$all" "" "$folder/requests" serve $keys
-ends "serve with a bad token" 1 "" "bad hex" "$folder/heads" serve ${keys% *} 00
-ends "serve at epoch 0" 2 "" "error: *" "$folder/heads" serve $keys --epoch 0
-ends "serve of a folder" 1 "" "cannot read" "$folder" serve $keys
-status=0
-timeout --foreground 60 "$program" serve $keys <"$folder/heads" 2>"$folder/err" >/dev/full || status=$?
-same "serve to a full device" "1 cannot write" "$status $(cat "$folder/err")"
 
-# A server on a port that the system chooses, which answers six connections and then three hundred.
-"$program" listen $keys --count 306 127.0.0.1:0 >"$folder/server_out" 2>"$folder/server_err" &
+# A reply comes while the client waits to ask again.
+mkfifo "$folder/asked" "$folder/told"
+"$program" serve $keys <"$folder/asked" >"$folder/told" 2>"$folder/err" &
 server=$!
-address=
-for _ in {1..600}; do
-    address=$(sed -n 's/^listening on \(127\.0\.0\.1:[1-9][0-9]*\)$/\1/p' "$folder/server_err")
-    [ -z "$address" ] || break
-    sleep 0.05
+exec 8>"$folder/asked" 9<"$folder/told"
+for number in 1 2; do
+    printf '\0\0\0\1\6' >&8
+    same "reply $number to a client that waits" "$head" \
+        "$(timeout --foreground 10 head -c 185 <&9 | od -An -v -tx1 | tr -d ' \n')"
 done
-if [ -z "$address" ]; then
-    fails "the server does not tell its address: $(cat "$folder/server_err")"
-    finish
-fi
+exec 8>&-
+status=0
+wait "$server" || status=$?
+exec 9<&-
+server=
+same "a client that waits, status" 0 "$status"
+same "a client that waits, errors" "" "$(cat "$folder/err")"
+
+# One connection after another, with one directory, whatever a client sends: all requests, and twice those
+# that change nothing; two bad streams; 3 connections that fail or follow; 2 that wait; and 300.
+starts --count 310
 
 # The keys come before the address, and the words before both.
 ends "an address in use" 1 "" "cannot listen" /dev/null listen $keys "$address"
 ends "no address" 1 "" "cannot listen" /dev/null listen $keys nowhere
 ends "a bad token and an address in use" 1 "" "bad hex" /dev/null listen ${keys% *} 00 "$address"
 ends "a bad nonce and an address in use" 1 "" "bad hex" /dev/null listen $keys --nonce 00 "$address"
-ends "listen at epoch 0" 2 "" "error: *" /dev/null listen ${keys% *} 00 --epoch 0 "$address"
+ends "a bad token and epoch 0" 2 "" \
+    "error: invalid value '0' for '--epoch <E>': 0 is not in 1..18446744073709551615" \
+    /dev/null listen ${keys% *} 00 --epoch 0 "$address"
 status=0
 timeout --foreground 60 "$program" listen $keys --count 1 127.0.0.1:0 </dev/null 2>/dev/full || status=$?
 same "a line that cannot be written" 1 "$status"
 
-# One connection after another, with one directory, whatever a client sends.
 well "all requests over a connection" scripts/formats.py --ask "$address"
 well "the same directory over the next" scripts/formats.py --again "$address"
 told "half a frame" "00000029 07 04040404" ""
 told "a length that no frame has" "ffffffff ffffffff" 00000002ff01
-# This client sends 2,000 heads, and is gone before it reads a reply.
-well "a client that takes no reply" bash -c \
-    'printf "\0\0\0\1\6%.0s" {1..2000} >"/dev/tcp/${0/://}"' "$address"
+well "connections that fail, and the next" scripts/connections.py "$address" fails
+well "one client after another" scripts/connections.py "$address" waits
 well "the same directory after these" scripts/formats.py --again "$address"
+well "three hundred clients" scripts/connections.py "$address" heads 300
+stops "after all connections" 0
 
-# Each asks for the head, and reads the reply.
-same "bytes for three hundred connections" $((300 * 185)) "$(timeout --foreground 60 bash -c \
-    'for _ in {1..300}; do
-        exec 3<>"/dev/tcp/${0/://}"
-        printf "\0\0\0\1\6" >&3
-        head -c 185 <&3
-        exec 3>&-
-    done' "$address" | wc -c)"
-
-status=0
-wait "$server" || status=$?
-server=
-same "the server after all connections" 0 "$status"
-same "the server's errors" "listening on $address" "$(cat "$folder/server_err")"
-same "the server's output" "" "$(cat "$folder/server_out")"
+# Exactly so many connections, of more that wait; and no end of them, until it is killed.
+for count in 1 2 3; do
+    starts --count $count
+    well "$count connections" scripts/connections.py "$address" exactly $count
+    stops "after $count connections" 0
+done
+for option in "" "--count 0" "--count 00"; do
+    starts $option
+    well "connections without an end" scripts/connections.py "$address" heads 5
+    same "a server without an end goes on" yes "$(sleep 0.2; kill -0 "$server" 2>/dev/null && echo yes)"
+    kill "$server" 2>/dev/null
+    wait "$server" 2>/dev/null
+    server=
+done
 finish

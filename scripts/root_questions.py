@@ -256,8 +256,10 @@ def of_placing(q, rng):
     for root, size in zip(roots, [256, 33, 1]):
         wide.append(SignedRoot(root.body, b"\7" * size).write())
     q.ask("chains any", *wide)
+    q.ask("chains any-extended", *wide)
     q.ask("chains any", *wide[:2], wide[1], third.write(), SignedRoot(epoch_body(8, 7), b"\7" * 255).write())
-    q.ask("chains any", *(SignedRoot(root.body, b"\xab" * 256).write() for root in chain_of(*range(1, 25))))
+    for verb in ["any", "any-extended"]:
+        q.ask(f"chains {verb}", *(SignedRoot(root.body, b"\xab" * 256).write() for root in chain_of(*range(1, 25))))
 
 
 @subject("lists that a chain takes whole, or not at all")

@@ -5,7 +5,18 @@ and the token 04 32 times. A subject that ends in `-sum` has the same verbs by t
 where the value of a name is the name. A verb on a value that is not there yet is `bad question`.
 """
 
-from answers import BadQuestion, Lines, place_words, refused, statement_words, told, told_text, yes
+from answers import (
+    OUT_OF_MEMORY,
+    BadQuestion,
+    Lines,
+    named,
+    place_words,
+    refused,
+    statement_words,
+    told,
+    told_text,
+    yes,
+)
 from formats import *
 from sessions import *
 
@@ -13,6 +24,19 @@ HUB_TOKEN = bytes([4]) * 32
 MAX_PROOF_TEXT = 10700
 MAX_SESSION = 2**32 - 1
 EVIDENCE_KINDS = (FORK, LINK, SKIP, BROKEN)
+# Refusals that no question leads to.
+REFUSALS = {
+    "directory-memory": f"refused 14 {OUT_OF_MEMORY}",
+    "directory-unkept": "refused 19 the record was not kept",
+    "keeper": "the record was not kept",
+    "hub-memory": f"refused 14 {OUT_OF_MEMORY}",
+    "client-memory": f"refused 22 {OUT_OF_MEMORY}",
+    "serve-read": "cannot read",
+    "serve-write": "cannot write",
+    "serve-memory": OUT_OF_MEMORY,
+    "evidence-none": "not an evidence file",
+    "evidence-memory": OUT_OF_MEMORY,
+}
 
 
 def or_none(value):
@@ -351,6 +375,12 @@ class SessionAnswers(Lines):
             return ["ok", told_text(audit(w.text(), w.bytes()))]
         except ProgramFault as fault:
             return fault_words(fault, "-")
+
+    # refusals
+
+    def text_refusal(self, w):
+        """`refusal NAME`: the refusal's number, if it has one, and its text."""
+        return named(REFUSALS, w.word())
 
     # scripts
 

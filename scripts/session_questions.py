@@ -12,12 +12,18 @@ import directory_questions
 import evidence_questions
 import session_scripts
 from asking import Questions
-from session_answers import SessionAnswers
+from session_answers import REFUSALS, SessionAnswers
 from session_subjects import subjects
 
 SUBJECTS, subject = subjects()
 for part in (directory_questions, client_questions, evidence_questions):
     SUBJECTS += part.SUBJECTS
+
+
+@subject("refusals that no question leads to")
+def of_refusals(q, rng):
+    for name in REFUSALS:
+        q.ask("text refusal", name)
 
 
 @subject("scripts")

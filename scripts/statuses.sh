@@ -1,127 +1,391 @@
 #!/usr/bin/env bash
 # Runs directoryd as a process, and compares its status and what it writes with the README's table of
-# statuses. No clause can speak of the process's own streams, so that `main` passes on what the
-# contracts promise is shown here.
+# statuses and with clap's words. No clause can speak of the process's own streams or of clap's texts, so
+# they are shown here.
 #
 #   scripts/statuses.sh
 #
-# Takes the program that was built last, whatever it was built of, or if there is none `rt try`, which
-# builds it unproved for each run.
-# The status is 0 where all is as the README says.
-set -euo pipefail
-cd "$(dirname "$0")/../crates/directoryd"
+# Takes the built program, or the one that DIRECTORYD names. The last line is `N passed, M failed`, and
+# the status is 0 where none failed. It takes some ten seconds, and ends after five minutes whatever
+# happens.
+set -uo pipefail
+cd "$(dirname "$0")/.." || exit 1
 
+if [ -z "${STATUSES_LIMIT:-}" ]; then
+    STATUSES_LIMIT=300 exec timeout --kill-after=10 300 "scripts/statuses.sh"
+fi
+
+program=${DIRECTORYD:-crates/directoryd/out/directoryd}
 folder=$(mktemp -d)
-trap 'rm -rf "$folder"' EXIT
 passed=0
 failed=0
 
-directoryd() {
-    if [ -x out/directoryd ]; then
-        out/directoryd "$@"
-    else
-        rt try -- "$@"
-    fi
+finish() {
+    rm -rf "$folder"
+    echo "$passed passed, $failed failed"
+    [ "$failed" = 0 ]
+    exit
 }
 
-# Compares the last run with the status and the first line that are wanted: ends STATUS LINE FILE
-ends() {
-    local line
-    line=$(head -n 1 "$3")
-    if [ "$status" = "$1" ] && [[ "$line" == $2 ]]; then
-        passed=$((passed + 1))
-    else
-        failed=$((failed + 1))
-        echo "wanted status $1 and the line '$2', got status $status and '$line'"
-    fi
+fails() {
+    failed=$((failed + 1))
+    echo "$1"
 }
 
-# Runs words over an input; what is written goes to the files out and err: over INPUT WORD..
+trap 'fails "out of time"; finish' TERM
+
+if [ ! -x "$program" ]; then
+    fails "there is no program $program: build it with (cd crates/directoryd && rt run)"
+    finish
+fi
+
+# clap's texts have the program's name as it is called.
+ln -s "$(realpath "$program")" "$folder/directoryd"
+
+# A program of `rt try` has an address sanitizer, which wants more memory than the limits here allow.
+is_limited=yes
+! grep -q __asan_init "$program" || is_limited=no
+
+# Runs the program over a file with what is written in the files out and err, and its status: over FILE WORD..
 over() {
     local input=$1
     shift
+    words="$*"
     status=0
-    printf '%b' "$input" | directoryd "$@" >"$folder/out" 2>"$folder/err" || status=$?
+    "$folder/directoryd" "$@" <"$input" >"$folder/out" 2>"$folder/err" || status=$?
 }
 
-zeros=$(printf '0%.0s' {1..64})
-item="$zeros $zeros"
+# The same over this text: given TEXT WORD..
+given() {
+    printf '%b' "$1" >"$folder/in"
+    shift
+    over "$folder/in" "$@"
+}
 
-over "$item\n" root --hash sum
-ends 0 "root ${zeros:4}004c" "$folder/out"
-over "" --help
-ends 0 "A CONIKS key directory" "$folder/out"
-over "$item\n" root --nonce 00
-ends 1 "bad hex" "$folder/err"
-over "x\n" root
-ends 1 "line 1: bad item" "$folder/err"
-over "$item\n$item\n" root
-ends 1 "line 2: index repeated" "$folder/err"
-over ""
-ends 2 "error: *" "$folder/err"
-
-status=0
-directoryd root <"$folder" >"$folder/out" 2>"$folder/err" || status=$?
-ends 1 "cannot read" "$folder/err"
-status=0
-directoryd root </dev/null 2>"$folder/err" >/dev/full || status=$?
-ends 1 "cannot write" "$folder/err"
-
-# `audit`, over lines whose answers Python computed, in lower case, in upper case, and with a last line
-# that has no end.
-../../scripts/formats.py --audited >"$folder/audited"
-key=$(printf '01%.0s' {1..32})
-cut -d ' ' -f 1 "$folder/audited" >"$folder/roots"
-cut -d ' ' -f 2- "$folder/audited" >"$folder/answers"
-
-# Audits a file, and compares all answers with those that are wanted: audits FILE ANSWERS
-audits() {
+# The same with one of the streams full: full out WORD.., full err WORD..
+full() {
+    local stream=$1
+    shift
+    words="$* ($stream full)"
     status=0
-    directoryd audit --key "$key" <"$1" >"$folder/out" 2>"$folder/err" || status=$?
-    if [ "$status" = 0 ] && [ ! -s "$folder/err" ] && cmp -s "$2" "$folder/out"; then
-        passed=$((passed + 1))
+    : >"$folder/out"
+    : >"$folder/err"
+    if [ "$stream" = out ]; then
+        "$folder/directoryd" "$@" <"$folder/in" 2>"$folder/err" >/dev/full || status=$?
     else
-        failed=$((failed + 1))
-        echo "audit of $1 ended with status $status, and these answers are others:"
-        diff "$2" "$folder/out" | cut -c 1-80 || true
+        "$folder/directoryd" "$@" <"$folder/in" 2>/dev/full >"$folder/out" || status=$?
     fi
 }
 
-audits "$folder/roots" "$folder/answers"
+# The same with little memory, in KiB: within KIB FILE WORD..
+within() {
+    local most=$1 input=$2
+    shift 2
+    words="$* (memory of $most KiB)"
+    status=0
+    (
+        ulimit -v "$most"
+        exec "$folder/directoryd" "$@" <"$input" >"$folder/out" 2>"$folder/err"
+    ) || status=$?
+}
+
+# Compares the last run with a status and whole texts: ends STATUS OUTPUT ERRORS
+ends() {
+    local out err
+    out=$(<"$folder/out")
+    err=$(<"$folder/err")
+    if [ "$status" = "$1" ] && [ "$out" = "$2" ] && [ "$err" = "$3" ]; then
+        passed=$((passed + 1))
+    else
+        fails "${words:0:100}: wanted status $1, '${2:0:200}' and '${3:0:200}', got $status, '${out:0:200}' and '${err:0:200}'"
+    fi
+}
+
+# The words are refused: status 2, no output, and errors of clap with this first line: refused LINE WORD..
+refused() {
+    local line=$1 lines first last
+    shift
+    given "x\n" "$@"
+    mapfile -t lines <"$folder/err"
+    first=${lines[0]-}
+    last=
+    [ ${#lines[@]} = 0 ] || last=${lines[-1]}
+    if [ "$status" = 2 ] && [ "$first" = "error: $line" ] && [ ! -s "$folder/out" ] &&
+        [ "$last" = "For more information, try '--help'." ]; then
+        passed=$((passed + 1))
+    else
+        fails "${words:0:100}: wanted status 2 and 'error: $line', got $status, '$first' and '$last'"
+    fi
+}
+
+# The words ask for help: status 0, no errors, and an output with these parts: helps WORD.. -- PART..
+helps() {
+    local asked=() part out
+    while [ "$1" != -- ]; do
+        asked+=("$1")
+        shift
+    done
+    shift
+    given "x\n" "${asked[@]}"
+    out=$(<"$folder/out")
+    for part in "$@"; do
+        if [ "$status" = 0 ] && [ ! -s "$folder/err" ] && [[ "$out" == *"$part"* ]]; then
+            passed=$((passed + 1))
+        else
+            fails "${words:0:100}: status $status, without '$part'"
+        fi
+    done
+}
+
+zeros=$(printf '0%.0s' {1..64})
+ones=$(printf '01%.0s' {1..32})
+item="$zeros $zeros"
+keys="--sign-key $zeros --vuf-key $zeros --salt-key $zeros --token $zeros"
+
+# What each subcommand's help has to show: its options with the names of their values, and an example.
+helps --help -- "A CONIKS key directory" "Usage: directoryd <COMMAND>" \
+    "  root " "  prove " "  audit " "  judge " "  serve " "  listen "
+helps root --help -- "Usage: directoryd root [OPTIONS]" "--hash <" "sha256, sum" "default: sha256" \
+    "--nonce <HEX>" "INDEX COMMITMENT, each 64 hexadecimal digits" "Example: directoryd root "
+helps prove --help -- "Usage: directoryd prove [OPTIONS] --index <HEX>" "--index <HEX>" "--hash <" \
+    "sha256, sum" "--nonce <HEX>" "INDEX COMMITMENT, each 64 hexadecimal digits" "Example: directoryd prove "
+helps audit --help -- "Usage: directoryd audit --key <HEX>" "--key <HEX>" "refused 1" "Example: directoryd audit "
+helps judge --help -- "Usage: directoryd judge --key <HEX> <FILE>" "--key <HEX>" "<FILE>" "The file of evidence" \
+    "Example: directoryd judge "
+for name in serve listen; do
+    helps $name --help -- "--sign-key <HEX>" "--vuf-key <HEX>" "--salt-key <HEX>" "--token <HEX>" "--epoch <E>" \
+        "The key that gives names their indices, 64 hexadecimal digits" \
+        "The first epoch, a number from 1 on [default: 1]" "--nonce <HEX>" "Example: directoryd $name "
+done
+helps listen --help -- "--count <N>" "How many connections are answered; 0 for no end [default: 0]" \
+    "<ADDR>" "The address to listen on"
+given "" root --help
+cp "$folder/out" "$folder/help"
+given "" root -h
+ends 0 "$(<"$folder/help")" ""
+given "" help root
+ends 0 "$(<"$folder/help")" ""
+
+# Words that order nothing. Of one the whole text is compared.
+given "x\n" root --salt
+ends 2 "" "error: unexpected argument '--salt' found
+
+Usage: directoryd root [OPTIONS]
+
+For more information, try '--help'."
+refused "'directoryd' requires a subcommand but one was not provided"
+refused "unrecognized subcommand 'roots'" roots
+refused "unrecognized subcommand 'ROOT'" ROOT
+refused "unexpected argument '--hash' found" --hash sum root
+refused "unexpected argument 'root' found" root root
+refused "unexpected argument '--has' found" root --has sum
+refused "unexpected argument '-n' found" root -n
+refused "unexpected argument '--index' found" root --index c0
+refused "a value is required for '--hash <hash>' but none was supplied" root --hash
+refused "a value is required for '--nonce <HEX>' but none was supplied" root --nonce
+refused "invalid value 'SUM' for '--hash <hash>'" root --hash SUM
+refused "a value is required for '--hash <hash>' but none was supplied" root --hash=
+refused "the argument '--hash <hash>' cannot be used multiple times" root --hash sum --hash sum
+refused "the argument '--nonce <HEX>' cannot be used multiple times" root --nonce a0 --nonce a0
+refused "the following required arguments were not provided:" prove
+refused "a value is required for '--index <HEX>' but none was supplied" prove --index
+refused "unexpected argument '--inde' found" prove --inde $zeros
+refused "the argument '--index <HEX>' cannot be used multiple times" prove --index $zeros --index=$zeros
+refused "the following required arguments were not provided:" audit
+refused "unexpected argument 'file' found" audit --key 5e file
+refused "the following required arguments were not provided:" judge --key 5e
+refused "the following required arguments were not provided:" judge file
+refused "unexpected argument 'another' found" judge --key 5e file another
+for name in serve listen; do
+    address=
+    [ $name = serve ] || address=here:1
+    for key in sign-key vuf-key salt-key token; do
+        some=${keys/--$key $zeros/}
+        refused "the following required arguments were not provided:" $name $some $address
+        refused "the argument '--$key <HEX>' cannot be used multiple times" $name $keys --$key $zeros $address
+        refused "unexpected argument '--${key%?}' found" $name $some --${key%?} $zeros $address
+    done
+    refused "invalid value '0' for '--epoch <E>': 0 is not in 1..18446744073709551615" $name $keys --epoch 0 $address
+    refused "invalid value '00' for '--epoch <E>': 0 is not in 1..18446744073709551615" $name $keys --epoch=00 $address
+    refused "invalid value '-1' for '--epoch <E>': invalid digit found in string" $name $keys --epoch=-1 $address
+    refused "unexpected argument '-1' found" $name $keys --epoch -1 $address
+    refused "invalid value 'two' for '--epoch <E>': invalid digit found in string" $name $keys --epoch two $address
+    refused "invalid value '18446744073709551616' for '--epoch <E>': number too large to fit in target type" \
+        $name $keys --epoch 18446744073709551616 $address
+    refused "a value is required for '--epoch <E>' but none was supplied" $name $keys $address --epoch
+    refused "the argument '--epoch <E>' cannot be used multiple times" $name $keys --epoch 1 --epoch 1 $address
+done
+refused "unexpected argument '--count' found" serve $keys --count 1
+refused "unexpected argument 'here:1' found" serve $keys here:1
+refused "the following required arguments were not provided:" listen $keys
+refused "unexpected argument 'here:2' found" listen $keys here:1 here:2
+refused "invalid value 'few' for '--count <N>': invalid digit found in string" listen $keys --count few here:1
+refused "invalid value '18446744073709551616' for '--count <N>': number too large to fit in target type" \
+    listen $keys --count 18446744073709551616 here:1
+given "x\n" $'\xff'
+ends 2 "" "error: invalid UTF-8 was detected in one or more arguments"
+given "x\n" root --nonce $'\xff'
+ends 2 "" "error: invalid UTF-8 was detected in one or more arguments"
+
+# The words' values, in any order. A first epoch is the epoch of the root that a directory answers with.
+given "$item\n" root --hash sum
+ends 0 "root ${zeros:4}004c" ""
+given "$item\n" root --nonce $ones --hash=sum
+ends 0 "root ${zeros:4}006c" ""
+given "$item" root --hash=sum --nonce=${ones^^}
+ends 0 "root ${zeros:4}006c" ""
+given "" root --hash sum
+ends 0 "root ${zeros:4}0045" ""
+given "" root
+cp "$folder/out" "$folder/sha256"
+given "" root --hash sha256 --nonce $zeros
+ends 0 "$(<"$folder/sha256")" ""
+given "" prove --hash sum --index $zeros
+ends 0 "level 0
+empty
+root ${zeros:4}0045" ""
+over examples/items.txt prove --index=$zeros --hash sum
+ends 0 "level 2
+present $zeros
+sibling ${zeros:4}00cd
+sibling ${zeros:4}008e
+root ${zeros:4}01a9" ""
+
+# The epoch of the first root, in hex, as the reply to a Head frame has it: begins EPOCH WORD..
+begins() {
+    local epoch=$1 found
+    shift
+    given '\0\0\0\1\6' serve $keys "$@"
+    found=$(od -An -v -tx1 "$folder/out" | tr -d ' \n')
+    if [ "$status" = 0 ] && [ ! -s "$folder/err" ] && [ ${#found} = 370 ] && [ "${found:14:16}" = "$epoch" ]; then
+        passed=$((passed + 1))
+    else
+        fails "${words:0:100}: wanted a root of epoch $epoch, got status $status and '${found:0:40}'"
+    fi
+}
+
+begins 0000000000000001
+begins 0000000000000005 --epoch 5
+begins 0000000000000005 --epoch +5
+begins 0000000000000005 --epoch 005 --nonce $ones
+begins 0000000000000005 --epoch=+05
+begins ffffffffffffffff --epoch 18446744073709551615
+
+# Faults of the words' values, before the input's.
+for input in "x\n" ""; do
+    given "$input" root --nonce 00
+    ends 1 "" "bad hex"
+    given "$input" root --nonce=
+    ends 1 "" "bad hex"
+    given "$input" root --nonce "${zeros}0"
+    ends 1 "" "bad hex"
+    given "$input" prove --index "${zeros%?}g"
+    ends 1 "" "bad hex"
+    given "$input" prove --index $zeros --nonce 00
+    ends 1 "" "bad hex"
+    given "$input" audit --key "${zeros:2}"
+    ends 1 "" "bad hex"
+    given "$input" judge --key= -- --key
+    ends 1 "" "bad hex"
+    given "$input" judge none "--key=${zeros}0"
+    ends 1 "" "bad hex"
+    for key in sign-key vuf-key salt-key token; do
+        given "$input" serve ${keys/--$key $zeros/--$key=${zeros:2}}
+        ends 1 "" "bad hex"
+    done
+    given "$input" serve $keys --nonce a0
+    ends 1 "" "bad hex"
+done
+
+# Faults of the items.
+given "x\n" root
+ends 1 "" "line 1: bad item"
+given "$item\n\n" prove --index $zeros
+ends 1 "" "line 2: bad item"
+given "$item\r\n" root
+ends 1 "" "line 1: bad item"
+given "$item\n$item\n" root
+ends 1 "" "line 2: index repeated"
+given "$item\n$item\nx\n" prove --index $zeros
+ends 1 "" "line 2: index repeated"
+
+# Streams that fail, and want of memory.
+for words in root "prove --index $zeros" "audit --key $ones" "serve $keys"; do
+    over "$folder" $words
+    ends 1 "" "cannot read"
+done
+given '\0\0\0\1\6' serve $keys
+for words in --help "serve $keys" "audit --key $ones"; do
+    full out $words
+    ends 1 "" "cannot write"
+done
+given "" root
+for words in root "prove --index $zeros"; do
+    full out $words
+    ends 1 "" "cannot write"
+done
+full err root --salt
+ends 1 "" ""
+given "x\n" root
+full err root
+ends 1 "" ""
+full err root --nonce 00
+ends 1 "" ""
+if [ $is_limited = yes ]; then
+    python3 -c 'for k in range(200000): print(f"{k:064x} {0:064x}")' >"$folder/items"
+    for words in root "prove --index $zeros"; do
+        within 40000 "$folder/items" $words
+        ends 1 "" "out of memory"
+    done
+    within 40000 /dev/null judge --key $ones /dev/zero
+    ends 1 "" "out of memory"
+fi
+
+# `audit`, over lines whose answers Python computed, in lower case, in upper case, and with a last line
+# that has no end.
+scripts/formats.py --audited >"$folder/audited"
+cut -d ' ' -f 1 "$folder/audited" >"$folder/roots"
+cut -d ' ' -f 2- "$folder/audited" >"$folder/answers"
 tr a-f A-F <"$folder/roots" | head -c -1 >"$folder/upper"
-audits "$folder/upper" "$folder/answers"
-over "" audit --key "$key"
-ends 0 "" "$folder/out"
-over "x\n" audit --key "${key:2}"
-ends 1 "bad hex" "$folder/err"
-over "" audit
-ends 2 "error: *" "$folder/err"
-status=0
-directoryd audit --key "$key" <"$folder" >"$folder/out" 2>"$folder/err" || status=$?
-ends 1 "cannot read" "$folder/err"
-status=0
-directoryd audit --key "$key" <"$folder/roots" 2>"$folder/err" >/dev/full || status=$?
-ends 1 "cannot write" "$folder/err"
+for lines in roots upper; do
+    over "$folder/$lines" audit --key $ones
+    ends 0 "$(<"$folder/answers")" ""
+done
+given "" audit --key=$ones
+ends 0 "" ""
+given "x\n" audit --key $ones
+ends 0 "refused 1" ""
 
 # A line of 400 MB without an end, of which little is kept.
-status=0
-head -c 400000000 /dev/zero | tr '\0' 0 | (
-    if [ -x out/directoryd ]; then ulimit -v 100000; fi
-    directoryd audit --key "$key" >"$folder/out" 2>"$folder/err"
-) || status=$?
-ends 0 "refused 1" "$folder/out"
+if [ $is_limited = yes ]; then
+    within 100000 <(head -c 400000000 /dev/zero | tr '\0' 0) audit --key $ones
+    ends 0 "refused 1" ""
+fi
+
+# 400 MB of frames of the greatest length and of no kind that there is, of which no more than one is kept.
+if [ $is_limited = yes ]; then
+    frames='import sys
+for number in range(6100): sys.stdout.buffer.write(b"\0\1\0\0\x63" + bytes(65535))'
+    within 100000 <(python3 -c "$frames") serve $keys
+    printf '\0\0\0\2\377\2%.0s' {1..6100} >"$folder/refusals"
+    if [ "$status" = 0 ] && [ ! -s "$folder/err" ] && cmp -s "$folder/refusals" "$folder/out"; then
+        passed=$((passed + 1))
+    else
+        fails "${words:0:100}: status $status, '$(<"$folder/err")', or other replies"
+    fi
+fi
 
 # `judge`, of the evidence that Python computed, which holds or not.
-../../scripts/formats.py --evidence >"$folder/evidence"
+scripts/formats.py --evidence >"$folder/evidence"
 for kind in fork link skip broken-promise; do
     sed -n "s/^0 $kind //p" "$folder/evidence" >"$folder/$kind.json"
-    over "" judge --key "$key" "$folder/$kind.json"
-    ends 0 "evidence" "$folder/out"
-    over "" judge --key "$zeros" "$folder/$kind.json"
-    ends 3 "no evidence" "$folder/out"
+    given "" judge --key $ones "$folder/$kind.json"
+    ends 0 "evidence" ""
+    given "" judge "$folder/$kind.json" --key=$zeros
+    ends 3 "no evidence" ""
     sed -n "s/^3 $kind //p" "$folder/evidence" >"$folder/false.json"
-    over "" judge --key "$key" "$folder/false.json"
-    ends 3 "no evidence" "$folder/out"
+    given "" judge --key $ones "$folder/false.json"
+    ends 3 "no evidence" ""
 done
 
 # Other spellings of one file: spelled SCRIPT, where SCRIPT changes the parts, a dict.
@@ -133,33 +397,34 @@ with open(sys.argv[1], encoding="ascii") as file:
 exec(sys.argv[2])
 print(json.dumps(parts, indent="\t"), end=" \r\n")
 END
-    over "" judge --key "$key" "$folder/spelled.json"
+    given "" judge --key $ones "$folder/spelled.json"
 }
 
 spelled 'parts = {key: parts[key] for key in ("second", "kind", "first")}'
-ends 0 "evidence" "$folder/out"
+ends 0 "evidence" ""
 spelled 'parts["first"] = parts["first"].upper()'
-ends 0 "evidence" "$folder/out"
+ends 0 "evidence" ""
 spelled 'parts["third"] = ""'
-ends 1 "not an evidence file" "$folder/err"
+ends 1 "" "not an evidence file"
 spelled 'parts["first"] += "00"'
-ends 1 "not an evidence file" "$folder/err"
+ends 1 "" "not an evidence file"
 spelled 'parts["kind"] = "FORK"'
-ends 1 "not an evidence file" "$folder/err"
+ends 1 "" "not an evidence file"
 
-over "" judge --key "$key" "$folder/none"
-ends 1 "cannot read" "$folder/err"
-over "" judge --key "$key" "$folder"
-ends 1 "cannot read" "$folder/err"
-over "" judge --key "${key}0" "$folder/none"
-ends 1 "bad hex" "$folder/err"
-over "" judge --key "$key" /dev/null
-ends 1 "not an evidence file" "$folder/err"
-over "" judge --key "$key"
-ends 2 "error: *" "$folder/err"
-status=0
-directoryd judge --key "$key" "$folder/fork.json" 2>"$folder/err" >/dev/full || status=$?
-ends 1 "cannot write" "$folder/err"
+# A file of more than 64 KiB.
+{
+    printf '%100000s' ""
+    cat "$folder/fork.json"
+} >"$folder/wide.json"
+given "" judge --key $ones "$folder/wide.json"
+ends 0 "evidence" ""
 
-echo "$passed passed, $failed failed"
-[ "$failed" = 0 ]
+for file in "$folder/none" "$folder"; do
+    given "" judge --key $ones "$file"
+    ends 1 "" "cannot read"
+done
+given "" judge --key $ones /dev/null
+ends 1 "" "not an evidence file"
+full out judge --key $ones "$folder/fork.json"
+ends 1 "" "cannot write"
+finish

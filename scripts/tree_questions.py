@@ -1,5 +1,6 @@
 """Questions on trees, their paths and the programs `root` and `prove`, which make trees of items."""
 
+from answers import REFUSALS
 from asking import *
 from formats import *
 
@@ -218,6 +219,8 @@ def of_texts(q, rng):
     for number in [1, 2, 9, 10, 99, 2**32, TOP]:
         q.ask("text fault", "bad-item", number)
         q.ask("text fault", "index-repeated", number)
+    for name in REFUSALS:
+        q.ask("text refusal", name)
 
 
 def item_line(i, commitment=ZERO32):

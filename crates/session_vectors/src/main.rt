@@ -1,7 +1,8 @@
 //! Answers questions on directories and their users, one a line: the tests of the upper crates as data.
 //!
 //! A question is a subject, a verb, and arguments; the crate `questions` says how words are read. The
-//! subjects are `directory`, `hub`, `serve`, `client`, `monitor`, `auditor`, `evidence` and `script`.
+//! subjects are `directory`, `hub`, `serve`, `client`, `monitor`, `auditor`, `evidence`, `script` and
+//! `text`.
 //! Those whose names end in `-sum` hash by sums of bytes, and a name is its own value. The stored
 //! answers come from `scripts/formats.py`, which computes them from the definitions alone.
 #![tactic(auto)]
@@ -12,6 +13,7 @@ mod directories;
 mod evidences;
 mod hubs;
 mod monitors;
+mod refusals;
 mod script;
 mod serving;
 mod stand_ins;
@@ -76,6 +78,7 @@ impl<F: Files> Subjects for State<'_, F> {
             b"auditor" => auditors::answer(case, &mut self.auditor),
             b"evidence" => evidences::answer(case),
             b"script" => script::answer(case, self.files),
+            b"text" => refusals::answer(case),
             _ => case.spoil(),
         }
     }

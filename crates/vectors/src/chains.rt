@@ -1,12 +1,14 @@
 //! Of `rootchain`: a chain, which stays for the next lines. Two chains are compared in `comparing`.
 
+use crate::any::AnySign;
 use crate::comparing::compare;
 use crate::evidence::say_evidence;
 use crate::roots::{say_body, signed_root, verifier};
+use encoding::Hash32;
 use nodehash::{Sha256Hash, SumHash};
 use questions::Case;
 use rootchain::{Chain, ListRefusal, Place, Refusal, RootList};
-use sigiface::KeyedSign;
+use sigiface::{KeyedSign, Verifier};
 
 type Kept = Option<Chain<Sha256Hash, KeyedSign>>;
 
@@ -15,6 +17,8 @@ pub(crate) fn answer(case: &mut Case<'_>, kept: &mut Kept) {
         b"start" => start(case, kept),
         b"compare" => compare(case, &mut Sha256Hash::new()),
         b"compare-sum" => compare(case, &mut SumHash::new()),
+        b"any" => any(case, Step::Take),
+        b"any-extended" => any(case, Step::Extend),
         verb => match kept {
             Some(chain) => answer_on(case, verb, chain),
             None => case.spoil(),
@@ -24,9 +28,9 @@ pub(crate) fn answer(case: &mut Case<'_>, kept: &mut Kept) {
 
 fn answer_on(case: &mut Case<'_>, verb: &[u8], chain: &mut Chain<Sha256Hash, KeyedSign>) {
     match verb {
-        b"extend" => extend(case, chain),
+        b"extend" => extend(case, chain, &verifier()),
         b"place" => place(case, chain),
-        b"take" => take(case, chain),
+        b"take" => take(case, chain, &verifier()),
         b"take-list" => take_list(case, chain),
         b"at" => at(case, chain),
         b"after" => after(case, chain),
@@ -60,11 +64,11 @@ fn start(case: &mut Case<'_>, kept: &mut Kept) {
 }
 
 /// `extend ROOT`
-fn extend(case: &mut Case<'_>, chain: &mut Chain<Sha256Hash, KeyedSign>) {
+fn extend<S: Verifier>(case: &mut Case<'_>, chain: &mut Chain<Sha256Hash, S>, verifier: &S) {
     let Ok(root) = signed_root(case) else {
         return case.spoil();
     };
-    match chain.extend(&mut Sha256Hash::new(), &verifier(), root) {
+    match chain.extend(&mut Sha256Hash::new(), verifier, root) {
         Ok(()) => case.say("extended"),
         Err(refusal) => refuse(case, refusal),
     }
@@ -81,12 +85,39 @@ fn place(case: &mut Case<'_>, chain: &mut Chain<Sha256Hash, KeyedSign>) {
     }
 }
 
-/// `take ROOT`
-fn take(case: &mut Case<'_>, chain: &mut Chain<Sha256Hash, KeyedSign>) {
+/// How a root comes to a chain.
+#[derive(Clone, Copy, Debug)]
+enum Step {
+    Take,
+    Extend,
+}
+
+/// `any ROOT..`: a chain under a verifier that accepts each signature, which takes the roots in turn.
+/// `any-extended ROOT..`: the same, and each root extends the chain.
+fn any(case: &mut Case<'_>, step: Step) {
     let Ok(root) = signed_root(case) else {
         return case.spoil();
     };
-    match chain.take(&mut Sha256Hash::new(), &verifier(), root) {
+    match Chain::start(case.alloc(), &AnySign, Hash32::default(), root) {
+        Ok(mut chain) => {
+            case.say("started");
+            for _ in 0..case.left() {
+                match step {
+                    Step::Take => take(case, &mut chain, &AnySign),
+                    Step::Extend => extend(case, &mut chain, &AnySign),
+                }
+            }
+        }
+        Err(refusal) => refuse(case, refusal),
+    }
+}
+
+/// `take ROOT`
+fn take<S: Verifier>(case: &mut Case<'_>, chain: &mut Chain<Sha256Hash, S>, verifier: &S) {
+    let Ok(root) = signed_root(case) else {
+        return case.spoil();
+    };
+    match chain.take(&mut Sha256Hash::new(), verifier, root) {
         Ok(place) => say_place(case, &place),
         Err(refusal) => refuse(case, refusal),
     }
@@ -110,7 +141,10 @@ fn take_list(case: &mut Case<'_>, chain: &mut Chain<Sha256Hash, KeyedSign>) {
     match chain.take_list(&mut Sha256Hash::new(), &verifier(), list) {
         Ok(()) => case.say("taken"),
         Err(ListRefusal::Memory) => case.lack_memory(),
-        Err(ListRefusal::Evidence(evidence)) => say_evidence(case, &evidence),
+        Err(ListRefusal::Evidence(evidence)) => {
+            say_evidence(case, &evidence);
+            case.say_shown(ListRefusal::Evidence(evidence));
+        }
         Err(refusal) => case.say_shown(refusal),
     }
 }

@@ -1,7 +1,9 @@
-//! Of `textio`: digits, and the faults that a program ends with.
+//! Of `textio`: digits, and the faults that a program ends with; and refusals that no question leads to.
 
 use questions::Case;
-use textio::{ProgramFault, hex_digits, hex32, option_hex32, option_nonce};
+use rootchain::{ListRefusal, Refusal};
+use textio::{ProgramFault, StreamFault, hex_digits, hex32, option_hex32, option_nonce};
+use wire::FeedRefusal;
 
 pub(crate) fn answer(case: &mut Case<'_>) {
     match case.word() {
@@ -10,6 +12,7 @@ pub(crate) fn answer(case: &mut Case<'_>) {
         b"option-hex" => option_hex(case),
         b"option-nonce" => nonce(case),
         b"fault" => fault(case),
+        b"refusal" => refusal(case),
         _ => case.spoil(),
     }
 }
@@ -50,7 +53,7 @@ pub(crate) fn say_fault(case: &mut Case<'_>, fault: ProgramFault) {
     case.say_shown(fault);
 }
 
-/// `fault NAME [LINE]`: the status, and the line that tells it.
+/// `fault NAME [LINE]`: the status, the text, and the line that tells it.
 fn fault(case: &mut Case<'_>) {
     match named_fault(case) {
         Some(fault) => tell(case, fault),
@@ -75,9 +78,22 @@ fn named_fault(case: &mut Case<'_>) -> Option<ProgramFault> {
 fn tell(case: &mut Case<'_>, fault: ProgramFault) {
     let mut line = Vec::new(case.alloc());
     case.say_shown(fault.status());
+    case.say_shown(fault);
     match fault.tell(&mut line) {
         Ok(()) => case.say_text(&line),
         // A writer to memory fails only if memory runs out.
         Err(_) => case.lack_memory(),
+    }
+}
+
+/// `refusal NAME`: the number and the text of a refusal, or the text alone where it has no number.
+fn refusal(case: &mut Case<'_>) {
+    match case.word() {
+        b"root-memory" => case.refuse(Refusal::Memory.number(), Refusal::Memory),
+        b"list-memory" => case.say_shown(ListRefusal::Memory),
+        b"feed-memory" => case.refuse(FeedRefusal::Memory.number(), FeedRefusal::Memory),
+        b"stream-read" => case.say_shown(StreamFault::CannotRead),
+        b"stream-write" => case.say_shown(StreamFault::CannotWrite),
+        _ => case.spoil(),
     }
 }
