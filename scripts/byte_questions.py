@@ -122,9 +122,9 @@ def message(first, size):
 
 @subject("digests")
 def of_digests(q, rng):
-    q.note("NIST's examples for SHA-256, of one block and of two; no bytes; a million bytes")
+    q.note("NIST's examples for SHA-256, of one block and of two; no bytes; a thousand bytes")
     two = b"abcdbcdecdefdefgefghfghighijhijkijkljklmklmnlmnomnopnopq"
-    for text in [b"abc", two, b"", b"a" * 1000000]:
+    for text in [b"abc", two, b"", b"a" * 1000]:
         q.ask("nodes sha256", text)
         q.ask("nodes sum", text)
     q.ask("nodes sha256", b"abc", two, b"", b"abc")
@@ -217,13 +217,13 @@ def of_stand_ins(q, rng):
             q.ask("stand-ins plain-accepts", OTHER_KEY, name, value)
     q.note("signatures")
     signature = q.let("signature", KeyedSign(low).sign(b"alice"))
-    for text in [b"alice", b"", b"\xff" * 1000, b"\7" * 65536]:
+    for text in [b"alice", b"", b"\xff" * 1000, b"\7" * 10681]:
         q.ask("stand-ins sign", low, text)
     for secret, key, text, given in [
         (low, low, b"alice", signature), (ZERO32, low, b"alice", signature), (low, ZERO32, b"alice", signature),
         (low, low, b"alic", signature), (low, low, b"alice", KeyedSign(low).sign(b"bob")),
         (low, low, b"alice", b""), (low, low, b"alice", signature[:31]), (low, low, b"alice", signature + b"\0"),
-        (low, low, b"", KeyedSign(low).sign(b"")), (low, low, b"\7" * 65536, KeyedSign(low).sign(b"\7" * 65536)),
+        (low, low, b"", KeyedSign(low).sign(b"")), (low, low, b"\7" * 10681, KeyedSign(low).sign(b"\7" * 10681)),
         (low, low, b"alice", signature[:31] + bytes([signature[31] ^ 128])),
     ]:
         q.ask("stand-ins verify", secret, key, text, given)

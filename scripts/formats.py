@@ -13,15 +13,14 @@
     scripts/formats.py --vectors         writes the stored questions and answers of the test programs
     scripts/formats.py --vectors --check compares them instead
 
-It shares no code with the directory, and follows the order of docs/FORMATS.md: numbers, limits, refusals,
-readers, digests, trees, roots, chains, replies, frames, evidence and items. A client in another language can
-be written beside it, function by function. All numbers are big-endian.
+It shares no code with the directory. docs/FORMATS.md describes the same forms: limits, refusals, readers, digests,
+stand-ins, trees, roots, chains, replies, frames, evidence and items. A client in another language can be written
+beside it, function by function. All numbers are big-endian.
 
 A comparison ends with status 0 where all is as it is computed here.
 """
 
 import hashlib
-import json
 import struct
 import sys
 from bisect import bisect_left

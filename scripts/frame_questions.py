@@ -6,7 +6,8 @@ from reply_questions import Tables
 
 # Frames ------------------------------------------------------------------------------------------------------
 
-ROOT_OF_FRAMES, PROMISE_OF_FRAMES = SignedRoot(BODY, b"s"), SignedPromise(Promise(7, run(0x20), run(0x40), b"a", b"k"), b"s")
+ROOT_OF_FRAMES = SignedRoot(BODY, b"s")
+PROMISE_OF_FRAMES = SignedPromise(Promise(7, run(0x20), run(0x40), b"a", b"k"), b"s")
 
 
 @subject("requests")
@@ -14,7 +15,8 @@ def of_requests(q, rng):
     requests = [
         ("register", b"a", b"k"), ("change", b"", b"key"), ("promise", b"a"), ("lookup", 9, b"ab"),
         ("history", TOP, 64), ("head",), ("close", run(0x20), 2), ("register", LONG_NAME, LONG_KEY),
-        ("change", LONG_NAME + b"\0", LONG_KEY + b"\0"), ("promise", b""), ("lookup", 0, b""), ("lookup", TOP, LONG_NAME),
+        ("change", LONG_NAME + b"\0", LONG_KEY + b"\0"), ("promise", b""), ("lookup", 0, b""),
+        ("lookup", TOP, LONG_NAME),
         ("history", 0, 0), ("history", 0, 65535), ("close", ZERO32, TOP),
     ]
     q.let("name", LONG_NAME)
@@ -32,7 +34,10 @@ def of_requests(q, rng):
         q.ask("frames request", kind, counted(b"a"))
     q.note("lengths at the front: of nothing, of more than there is")
     for kind in [1, 2, 3]:
-        for body in [b"", b"\0", u16(0), u16(1), u16(1) + b"a", u16(2) + b"a" + u16(0), u16(0) + u16(0), u16(65535) + b"a"]:
+        for body in [
+            b"", b"\0", u16(0), u16(1), u16(1) + b"a", u16(2) + b"a" + u16(0), u16(0) + u16(0),
+            u16(65535) + b"a",
+        ]:
             q.ask("frames request", kind, body)
     for kind in [4, 5, 7]:
         for size in [0, 1, 7, 8, 9, 10, 11, 12, 39, 40, 41]:
@@ -71,7 +76,8 @@ def of_responses(q, rng):
     responses = [
         (PROMISE, PROMISE_OF_FRAMES), (PROMISE, SignedPromise(LONGEST_PROMISE, b"\xab" * 256)), (PROOF, reply),
         (PROOF, honest), (PROOF, longest), (ROOTS, []), (ROOTS, [ROOT_OF_FRAMES] * 2), (ROOTS, [wide] * 64),
-        (ROOTS, [ROOT_OF_FRAMES] * 64), (ROOT, ROOT_OF_FRAMES), (ROOT, wide), (REFUSED, 0), (REFUSED, 14), (REFUSED, 255),
+        (ROOTS, [ROOT_OF_FRAMES] * 64), (ROOT, ROOT_OF_FRAMES), (ROOT, wide), (REFUSED, 0), (REFUSED, 14),
+        (REFUSED, 255),
     ]
     q.let("name", LONG_NAME)
     q.let("key", LONG_KEY)
@@ -93,7 +99,8 @@ def of_responses(q, rng):
     q.note("bodies that are not of their forms: 65 roots, an epoch of 0, a signature of none, an end of no kind")
     for kind, body in [
         (ROOTS, write_list([ROOT_OF_FRAMES] * 65)), (ROOT, SignedRoot(replace(FIRST_BODY, epoch=0), b"s").write()),
-        (PROMISE, SignedPromise(replace(PROMISE_OF_ALICE, epoch=0), b"s").write()), (ROOT, SignedRoot(BODY, b"").write()),
+        (PROMISE, SignedPromise(replace(PROMISE_OF_ALICE, epoch=0), b"s").write()),
+        (ROOT, SignedRoot(BODY, b"").write()),
         (PROOF, BODY.write() + counted(b"v") + b"\4" + u16(0)), (PROOF, Reply(BODY, b"", Empty(), ()).write()),
         (REFUSED, b""), (REFUSED, b"\1\2"), (ROOTS, b""), (ROOTS, b"\0"), (ROOTS, u16(1)),
     ]:
@@ -137,13 +144,15 @@ def of_feeds(q, rng):
         q.ask("frames feed", piece)
     q.ask("frames new")
     q.ask("frames feed", frame(9, b"\7" * 65535) + HEAD)
-    q.note("pieces of more than 100,000 bytes: three frames and a beginning; the rest of it and one more")
+    q.note("pieces of more than 100,000 bytes: a frame and a beginning; the rest of it and one more")
     big = q.let("big", frame(9, b"\7" * 65535))
-    q.ask("frames feed", big * 3 + big[:65539])
-    q.ask("frames feed", big[65539:] + HEAD + big * 4)
+    q.ask("frames feed", big + big[:65539])
+    q.ask("frames feed", big[65539:] + HEAD + big + big[:50000])
+    q.ask("frames feed", big[50000:])
     q.ask("frames feed", HEAD * 300)
     q.ask("frames new")
-    q.ask("frames feed", frame(5, b"\1" * 40) + big + big)
+    q.ask("frames feed", frame(5, b"\1" * 40) + big + big[:40000])
+    q.ask("frames feed", big[40000:])
     q.ask("frames feed", HEAD)
     q.note("frames that grow, each piece with the end of one and the beginning of the next")
     q.ask("frames new")

@@ -20,8 +20,10 @@ import frame_questions  # noqa: F401
 @subject("questions that are none")
 def of_bad_questions(q, rng):
     for line in [
-        "nothing here", "bits", "bits nothing", "bits bit 00 3", "bits bit 00*32 256", "bits bit 00*32 x", "bits bit 00*32",
-        "bits name 0", "bits name 0g", "bits name $none", "let two 0001", "bits name $two/0/3", "bits name $two/2/1",
+        "nothing here", "bits", "bits nothing", "bits bit 00 3", "bits bit 00*32 256", "bits bit 00*32 x",
+        "bits bit 00*32",
+        "bits name 0", "bits name 0g", "bits name $none", "let two 0001", "bits name $two/0/3",
+        "bits name $two/2/1",
         "bits name $two/1/2", "let a-b 00", "roots write-list 00", "trees joined 00*32 256 00*32 00*32",
         "stand-ins value 00*32 -", "frames request 256 -", "text fault nothing",
     ]:

@@ -38,7 +38,9 @@ def of_bodies(q, rng):
         q.ask("roots root", root[:-1])
         q.ask("roots root", root + b"\0")
         q.ask("roots front", "root", root + b"\0")
-    for data in [body, body + u16(0), body + u16(0) + b"s", body + counted(b"\xab" * 257), body + b"\0", body + u16(1)]:
+    for data in [
+        body, body + u16(0), body + u16(0) + b"s", body + counted(b"\xab" * 257), body + b"\0", body + u16(1),
+    ]:
         q.ask("roots root", data)
         q.ask("roots front", "root", data)
     q.ask("roots root", signed(BODY, OTHER_KEY).write())
@@ -77,9 +79,11 @@ def of_promises(q, rng):
         q.ask("roots front", "promise", data + b"\1\2")
     q.note("signed; the longest has 2,639 bytes")
     for made in [
-        SignedPromise(promise, b"signed"), SignedPromise.signed(promise, KEY), SignedPromise.signed(promise, OTHER_KEY),
+        SignedPromise(promise, b"signed"), SignedPromise.signed(promise, KEY),
+        SignedPromise.signed(promise, OTHER_KEY),
         SignedPromise(LONGEST_PROMISE, b"\xab" * 256), SignedPromise.signed(LONGEST_PROMISE, KEY),
-        SignedPromise(promise, b"\xab" * 257), SignedPromise(promise, b""), SignedPromise(replace(promise, epoch=0), b"s"),
+        SignedPromise(promise, b"\xab" * 257), SignedPromise(promise, b""),
+        SignedPromise(replace(promise, epoch=0), b"s"),
     ]:
         q.ask("roots signed-promise", made.write())
         q.ask("roots signed-promise", made.write()[:-1])
@@ -184,7 +188,8 @@ def of_extending(q, rng):
     q.note("refused for the first reason that applies: its signature, its epoch, its link")
     right = sha256(third.body.write())
     for root in [
-        epoch_root(2, 1, key=ZERO32), epoch_root(2, 1), epoch_root(3, 2, right), epoch_root(3), epoch_root(4, 2, right),
+        epoch_root(2, 1, key=ZERO32), epoch_root(2, 1), epoch_root(3, 2, right), epoch_root(3),
+        epoch_root(4, 2, right),
         epoch_root(4, 3), epoch_root(9, 7), SignedRoot(epoch_body(4, 3, right), b"\7" * 256),
         epoch_root(4, 0), epoch_root(TOP, TOP - 1),
     ]:
@@ -220,7 +225,8 @@ def of_placing(q, rng):
     q.note("within the chain: known, a fork, an epoch that it passes over")
     head = sha256(ninth.body.write())
     for root in [
-        third, seventh, ninth, epoch_root(9, 7), epoch_root(7, 3), epoch_root(3, 2), epoch_root(4, 3), epoch_root(8, 7),
+        third, seventh, ninth, epoch_root(9, 7), epoch_root(7, 3), epoch_root(3, 2), epoch_root(4, 3),
+        epoch_root(8, 7),
         epoch_root(4, 3, sha256(third.body.write())),
     ]:
         q.ask("chains place", root.write())
@@ -230,7 +236,9 @@ def of_placing(q, rng):
                  epoch_root(12, 10), epoch_root(12), epoch_root(TOP, TOP - 1)]:
         q.ask("chains place", root.write())
     q.note("a signature that does not verify, and another one of 256 bytes for a known body")
-    for root in [epoch_root(8, 7, key=ZERO32), epoch_root(12, 9, head, key=ZERO32), SignedRoot(third.body, b"\7" * 256)]:
+    for root in [
+        epoch_root(8, 7, key=ZERO32), epoch_root(12, 9, head, key=ZERO32), SignedRoot(third.body, b"\7" * 256),
+    ]:
         q.ask("chains place", root.write())
         q.ask("chains take", root.write())
     q.note("below a chain whose first root has one before")
@@ -263,7 +271,8 @@ def of_taking(q, rng):
     q.ask("chains take-list", write_list([]))
     q.note("after a good root one that is ahead, evidence of each kind, before the start, or not verified")
     for root in [
-        epoch_root(12, 10), epoch_root(9, 6), epoch_root(9, 7), epoch_root(7, 3), epoch_root(5, 3), epoch_root(2, 1),
+        epoch_root(12, 10), epoch_root(9, 6), epoch_root(9, 7), epoch_root(7, 3), epoch_root(5, 3),
+        epoch_root(2, 1),
         epoch_root(1), epoch_root(9, 7, sha256(seventh.body.write()), key=ZERO32),
         SignedRoot(ninth.body, b"\7" * 256),
     ]:
@@ -290,7 +299,7 @@ def of_taking(q, rng):
 
 @subject("a chain of hundreds of roots")
 def of_long_chains(q, rng):
-    roots = chain_of(*range(1, 261))
+    roots = chain_of(*range(1, 221))
     q.let("b", roots[0].body.write()[:9])
     q.let("z", ZERO32)
     q.let("y", 2 * ZERO32 + u16(32))
@@ -299,13 +308,15 @@ def of_long_chains(q, rng):
         q.ask("chains extend", root.write())
     for root in roots[70:140]:
         q.ask("chains take", root.write())
-    for at in range(140, 260, 60):
-        q.ask("chains take-list", write_list(roots[at : at + 60]))
+    for at in range(140, 220, 40):
+        q.ask("chains take-list", write_list(roots[at : at + 40]))
     q.ask("chains head")
-    for epoch in [0, 1, 2, 63, 64, 65, 128, 150, 200, 255, 256, 257, 259, 260, 261]:
+    for epoch in [0, 1, 2, 63, 64, 65, 128, 150, 200, 219, 220, 221]:
         q.ask("chains at", epoch)
         q.ask("chains after", epoch)
-    for root in [roots[0], roots[137], roots[259], epoch_root(138, 137), epoch_root(261, 259), epoch_root(261, 260)]:
+    for root in [
+        roots[0], roots[137], roots[219], epoch_root(138, 137), epoch_root(221, 219), epoch_root(221, 220),
+    ]:
         q.ask("chains place", root.write())
 
 
@@ -348,8 +359,10 @@ def of_comparing_keyed(q, rng):
         q.ask("chains compare", KEY, lower, upper)
         q.ask("chains compare", KEY, upper, lower)
     q.note("equal, a fork after the first roots, a skip within, and one that has more")
-    chains = [chain_of(3, 5, 7), chain_of(3, 5, 7, nonces=[ZERO32, ZERO32, KINDS[1]]), chain_of(3, 7), chain_of(3, 5, 6, 7),
-              chain_of(3, 5), chain_of(3, 4, 9), chain_of(5, 7), chain_of(5, 7)[:1]]
+    chains = [
+        chain_of(3, 5, 7), chain_of(3, 5, 7, nonces=[ZERO32, ZERO32, KINDS[1]]), chain_of(3, 7),
+        chain_of(3, 5, 6, 7), chain_of(3, 5), chain_of(3, 4, 9), chain_of(5, 7), chain_of(5, 7)[:1],
+    ]
     lists = [q.let(f"chain{n}", write_list(roots)) for n, roots in enumerate(chains)]
     for one in lists:
         for other in lists:

@@ -20,7 +20,9 @@ def of_small_trees(q, rng):
     q.ask("trees more")
     q.ask("trees count")
     q.note("put in one by one: how many digests each takes")
-    for i, commitment in [(low, ZERO32), (middle, ZERO32), (high, ZERO32), (high, number32(1)), (index(0x20), ZERO32)]:
+    for i, commitment in [
+        (low, ZERO32), (middle, ZERO32), (high, ZERO32), (high, number32(1)), (index(0x20), ZERO32),
+    ]:
         q.ask("trees with", i, commitment)
         q.ask("trees count")
         q.ask("trees copy")
@@ -46,8 +48,10 @@ def of_small_trees(q, rng):
     q.ask("trees root")
     q.note("many at once: how many digests, by what was there")
     for old, changes in [
-        ([0x00, 0x40], []), ([], [0x00, 0x40, 0x80]), ([0x40], [0x00, 0x80]), ([0x00, 0x40, 0x80], [0x00, 0x40, 0x80]),
-        ([0x00, 0x40, 0x80], [0x00, 0x80]), ([0x00, 0x40, 0x80], [0x80]), ([0x00, 0x80], [0x40]), ([0x00, 0x40], [0x20]),
+        ([0x00, 0x40], []), ([], [0x00, 0x40, 0x80]), ([0x40], [0x00, 0x80]),
+        ([0x00, 0x40, 0x80], [0x00, 0x40, 0x80]),
+        ([0x00, 0x40, 0x80], [0x00, 0x80]), ([0x00, 0x40, 0x80], [0x80]), ([0x00, 0x80], [0x40]),
+        ([0x00, 0x40], [0x20]),
         ([0x00], [0x20]), ([0x00, 0x40], [0x80, 0xC0]),
     ]:
         q.ask("trees from", ZERO32, *joined((index(first), ZERO32) for first in old))
@@ -61,15 +65,18 @@ def of_small_trees(q, rng):
     q.ask("trees count")
     for i in [low, last, index(last=2), high]:
         q.ask("trees get", i)
-    tree = Tree(sha256, ZERO32, {low: ZERO32, last: number32(7)})
-    for i in [low]:
-        path = tree.path(i)
-        siblings = q.let("siblings", b"".join(path.siblings))
-        q.ask("trees leads", tree.root(), ZERO32, i, *path_words(path.end), siblings)
-        q.ask("trees leads", tree.root(), ZERO32, i, *path_words(path.end), siblings[:8160])
-        q.ask("trees leads", tree.root(), ZERO32, i, "empty", siblings)
+    for i in [low, last]:
+        q.ask("trees path", i)
+    q.note("ways of 256 siblings: the text at some levels, and the root that they lead to")
+    ones = [number32(1)] * 256
+    siblings = q.let("ones", b"".join(ones))
+    for i, end in [(low, Present(ZERO32)), (last, Empty()), (last, Other(low, ZERO32)), (run(0x55), Present(KEY))]:
         for level in [0, 1, 254, 255, 256]:
-            q.ask("trees climb", ZERO32, i, level, *path_words(path.end), siblings)
+            q.ask("trees climb", ZERO32, i, level, *path_words(end), siblings)
+        root = sha256(climb(sha256, i, 0, ones, end_text(ZERO32, i, 256, end)))
+        q.ask("trees leads", root, ZERO32, i, *path_words(end), siblings)
+        q.ask("trees leads", root, ZERO32, i, *path_words(end), siblings[32:])
+        q.ask("trees leads", root, ZERO32, i, *path_words(end), changed_at(siblings, 8191, 2))
     q.ask("trees path", index(last=3))
     q.ask("trees path", index(0, 1))
 
@@ -110,13 +117,12 @@ def of_tall_trees(q, rng):
     q.ask("trees count")
     for place in range(0, 256, 15):
         q.ask("trees path", items[place + 1][0])
-    q.note("the same by changes of one leaf, and of every other")
-    for many in [[items[1:]], [items[2::2], items[1::2]]]:
-        q.ask("trees from", ZERO32, *items[0])
-        for changes in many:
-            q.ask("trees more", *joined(changes))
-            q.ask("trees count")
-        q.ask("trees get", ZERO32)
+    q.note("the same from one leaf, by changes of every other")
+    q.ask("trees from", ZERO32, *items[0])
+    for changes in [items[2::2], items[1::2]]:
+        q.ask("trees more", *joined(changes))
+        q.ask("trees count")
+    q.ask("trees get", ZERO32)
 
 
 def spread_item(number):
@@ -135,8 +141,6 @@ def of_wide_trees(q, rng):
         q.ask("trees with", *item)
     q.ask("trees count")
     q.ask("trees more", *joined(items[60:300]))
-    q.ask("trees count")
-    q.ask("trees from", ZERO32, *joined(items[:300]))
     q.ask("trees count")
     tree = Tree(sha256, ZERO32, items[:300])
     for i, _ in [*items[:300:60], (index(0x12, 0x34, 0x56), b""), (b"\xff" * 32, b"")]:
@@ -243,7 +247,9 @@ def of_items(q, rng):
     q.ask("items root", "sum", digits_of(run(0xA0)), b"")
     q.ask("items root", "sum", digits_of(run(0xA0)), zero + middle + high)
     q.note("paths in them")
-    for first, data in [(0x00, b""), (0x00, zero), (0xC0, zero + high), (0x00, zero + middle + high), (0x80, zero + middle)]:
+    for first, data in [
+        (0x00, b""), (0x00, zero), (0xC0, zero + high), (0x00, zero + middle + high), (0x80, zero + middle),
+    ]:
         for digest in ["sum", "sha256"]:
             q.ask("items prove", digest, "none", digits_of(index(first)), data)
     q.note("digits of both cases, and a nonce")
@@ -257,8 +263,10 @@ def of_items(q, rng):
     q.note("lines that are no items, as the first and as the second")
     for bad in [
         b"0" * 64 + b"\t" + b"0" * 64, b"0" * 64 + b"  " + b"0" * 64, b"0" * 64 + b" " + b"0" * 64 + b" ",
-        b"0" * 64 + b" " + b"0" * 64 + b"\r", b"0" * 64 + b" " + b"0" * 63 + b"g", b"0" * 129, b"0" * 64 + b" " + b"0" * 63,
-        b"0" * 64 + b" " + b"0" * 65, b"0" * 63 + b" " + b"0" * 65, b"0" * 63 + b" ", b"0" * 1000, b"", b"x", b" " * 129,
+        b"0" * 64 + b" " + b"0" * 64 + b"\r", b"0" * 64 + b" " + b"0" * 63 + b"g", b"0" * 129,
+        b"0" * 64 + b" " + b"0" * 63,
+        b"0" * 64 + b" " + b"0" * 65, b"0" * 63 + b" " + b"0" * 65, b"0" * 63 + b" ", b"0" * 1000, b"", b"x",
+        b" " * 129,
         b"g" + b"0" * 63 + b" " + b"0" * 64, b"\xff" * 129, b"0" * 100000,
     ]:
         q.ask("items root", "sum", "none", bad + b"\n" + zero)
@@ -267,7 +275,8 @@ def of_items(q, rng):
     q.note("the first faulty line is told: bad, or an index that stands before")
     fa = item_line(index(0xFA))
     for data in [
-        zero + zero, fa + zero + fa.upper(), zero + zero + b"x\n", zero + b"x\n" + zero, zero + middle + middle + zero,
+        zero + zero, fa + zero + fa.upper(), zero + zero + b"x\n", zero + b"x\n" + zero,
+        zero + middle + middle + zero,
         b"x\n" + zero + zero, zero + middle + high + zero + b"x\n", zero + item_line(ZERO32, KEY),
     ]:
         q.ask("items root", "sum", "none", data)
@@ -282,19 +291,18 @@ def of_items(q, rng):
     q.note("two indices that differ in bit 255 alone")
     pair = item_line(index(last=1)) + zero
     for i in [ZERO32, index(last=1), index(last=2), index(0x80)]:
-        for digest in ["sum", "sha256"]:
-            q.ask("items prove", digest, "none", digits_of(i), pair)
-            q.ask("items prove", digest, nonce, digits_of(i), pair)
+        q.ask("items prove", "sum", "none", digits_of(i), pair)
+        q.ask("items prove", "sha256", nonce, digits_of(i), pair)
     q.note("hundreds of items, and a thousand; one of them again at the end")
     many = [item_line(u16(number * 0x9E37 % 65536) + bytes(30)) for number in range(1000)]
-    q.let("tail", zero[4:])
+    q.let("t", zero[4:])
     data = q.let("many", b"".join(many))
-    for size in [100, 300, 1000]:
+    for size in [300, 1000]:
         part = data[: 130 * size]
         for digest in ["sum", "sha256"]:
             q.ask("items root", digest, "none", part)
-            q.ask("items root", digest, "none", part + many[size // 2])
-            for number in [0, 77, 999]:
-                q.ask("items prove", digest, "none", many[number][:64], part)
-            q.ask("items prove", digest, "none", digits_of(index(0x12, 0x34, 0x56)), part)
-            q.ask("items root", digest, "none", part + b"x")
+            q.ask("items prove", digest, "none", many[77][:64], part)
+        q.ask("items prove", "sha256", "none", many[999][:64], part)
+        q.ask("items prove", "sum", "none", digits_of(index(0x12, 0x34, 0x56)), part)
+        q.ask("items root", "sum", "none", part + many[size // 2])
+        q.ask("items root", "sum", "none", part + b"x")

@@ -1,0 +1,132 @@
+//! Of `rootchain`: a chain, which stays for the next lines. Two chains are compared in `comparing`.
+
+use crate::comparing::compare;
+use crate::evidence::say_evidence;
+use crate::roots::{say_body, signed_root, verifier};
+use nodehash::{Sha256Hash, SumHash};
+use questions::Case;
+use rootchain::{Chain, ListRefusal, Place, Refusal, RootList};
+use sigiface::KeyedSign;
+
+type Kept = Option<Chain<Sha256Hash, KeyedSign>>;
+
+pub(crate) fn answer(case: &mut Case<'_>, kept: &mut Kept) {
+    match case.word() {
+        b"start" => start(case, kept),
+        b"compare" => compare(case, &mut Sha256Hash::new()),
+        b"compare-sum" => compare(case, &mut SumHash::new()),
+        verb => match kept {
+            Some(chain) => answer_on(case, verb, chain),
+            None => case.spoil(),
+        },
+    }
+}
+
+fn answer_on(case: &mut Case<'_>, verb: &[u8], chain: &mut Chain<Sha256Hash, KeyedSign>) {
+    match verb {
+        b"extend" => extend(case, chain),
+        b"place" => place(case, chain),
+        b"take" => take(case, chain),
+        b"take-list" => take_list(case, chain),
+        b"at" => at(case, chain),
+        b"after" => after(case, chain),
+        b"head" => say_body(case, &chain.head().body),
+        b"key" => case.say_bytes(chain.key().bytes()),
+        _ => case.spoil(),
+    }
+}
+
+/// Refuses a call of a chain.
+fn refuse(case: &mut Case<'_>, refusal: Refusal) {
+    if refusal == Refusal::Memory {
+        case.lack_memory();
+    }
+    case.refuse(refusal.number(), refusal);
+}
+
+/// `start KEY ROOT`
+fn start(case: &mut Case<'_>, kept: &mut Kept) {
+    let key = case.hash();
+    let Ok(root) = signed_root(case) else {
+        return case.spoil();
+    };
+    match Chain::start(case.alloc(), &verifier(), key, root) {
+        Ok(chain) => {
+            *kept = Some(chain);
+            case.say("started");
+        }
+        Err(refusal) => refuse(case, refusal),
+    }
+}
+
+/// `extend ROOT`
+fn extend(case: &mut Case<'_>, chain: &mut Chain<Sha256Hash, KeyedSign>) {
+    let Ok(root) = signed_root(case) else {
+        return case.spoil();
+    };
+    match chain.extend(&mut Sha256Hash::new(), &verifier(), root) {
+        Ok(()) => case.say("extended"),
+        Err(refusal) => refuse(case, refusal),
+    }
+}
+
+/// `place ROOT`
+fn place(case: &mut Case<'_>, chain: &mut Chain<Sha256Hash, KeyedSign>) {
+    let Ok(root) = signed_root(case) else {
+        return case.spoil();
+    };
+    match chain.place(&mut Sha256Hash::new(), &verifier(), &root) {
+        Ok(place) => say_place(case, &place),
+        Err(refusal) => refuse(case, refusal),
+    }
+}
+
+/// `take ROOT`
+fn take(case: &mut Case<'_>, chain: &mut Chain<Sha256Hash, KeyedSign>) {
+    let Ok(root) = signed_root(case) else {
+        return case.spoil();
+    };
+    match chain.take(&mut Sha256Hash::new(), &verifier(), root) {
+        Ok(place) => say_place(case, &place),
+        Err(refusal) => refuse(case, refusal),
+    }
+}
+
+fn say_place(case: &mut Case<'_>, place: &Place) {
+    match place {
+        Place::Known => case.say("known"),
+        Place::Evidence(evidence) => say_evidence(case, evidence),
+        Place::Next => case.say("next"),
+        Place::Ahead => case.say("ahead"),
+        Place::BeforeStart => case.say("before start"),
+    }
+}
+
+/// `take-list LIST`
+fn take_list(case: &mut Case<'_>, chain: &mut Chain<Sha256Hash, KeyedSign>) {
+    let Ok(list) = RootList::read(case.bytes()) else {
+        return case.spoil();
+    };
+    match chain.take_list(&mut Sha256Hash::new(), &verifier(), list) {
+        Ok(()) => case.say("taken"),
+        Err(ListRefusal::Memory) => case.lack_memory(),
+        Err(ListRefusal::Evidence(evidence)) => say_evidence(case, &evidence),
+        Err(refusal) => case.say_shown(refusal),
+    }
+}
+
+/// `at EPOCH`
+fn at(case: &mut Case<'_>, chain: &Chain<Sha256Hash, KeyedSign>) {
+    match chain.at(case.number()) {
+        Some(root) => case.say_bytes(root.write().bytes()),
+        None => case.say("none"),
+    }
+}
+
+/// `after EPOCH`
+fn after(case: &mut Case<'_>, chain: &Chain<Sha256Hash, KeyedSign>) {
+    match chain.after(case.number()) {
+        Some(root) => case.say_bytes(root.write().bytes()),
+        None => case.say("none"),
+    }
+}

@@ -1,0 +1,120 @@
+//! Of `wire`: requests, responses, and a feed, which stays for the next lines. Responses are written in
+//! `answers`.
+
+use crate::answers::written;
+use crate::root_lists::say_list;
+use crate::roots::{say_body, say_promise};
+use questions::Case;
+use wire::{Feed, FeedRefusal, Next, Request, Response};
+
+pub(crate) fn answer(case: &mut Case<'_>, feed: &mut Feed) {
+    match case.word() {
+        b"request" => request(case),
+        b"response" => response(case),
+        b"answer" => written(case),
+        b"new" => *feed = Feed::new(case.alloc()),
+        b"feed" => fed(case, feed),
+        _ => case.spoil(),
+    }
+}
+
+/// `request KIND BODY`: its parts, and `yes` and its frame where one has so much room.
+fn request(case: &mut Case<'_>) {
+    let kind = case.number_to(255) as u8;
+    match Request::read(kind, case.bytes()) {
+        Ok(request) => {
+            say_request(case, &request);
+            write_request(case, &request);
+        }
+        Err(refusal) => case.refuse(refusal.number(), refusal),
+    }
+}
+
+fn say_request(case: &mut Case<'_>, request: &Request<'_>) {
+    match request {
+        Request::Register { name, key } => say_binding(case, "register", name, key),
+        Request::Change { name, key } => say_binding(case, "change", name, key),
+        Request::Promise { name } => {
+            case.say("promise");
+            case.say_bytes(name);
+        }
+        Request::Lookup { epoch, name } => {
+            case.say("lookup");
+            case.say_shown(*epoch);
+            case.say_bytes(name);
+        }
+        Request::History { from, count } => {
+            case.say("history");
+            case.say_shown(*from);
+            case.say_shown(*count);
+        }
+        Request::Head => case.say("head"),
+        Request::Close { token, epoch } => {
+            case.say("close");
+            case.say_bytes(token.bytes());
+            case.say_shown(*epoch);
+        }
+    }
+}
+
+fn say_binding(case: &mut Case<'_>, verb: &str, name: &[u8], key: &[u8]) {
+    case.say(verb);
+    case.say_bytes(name);
+    case.say_bytes(key);
+}
+
+fn write_request(case: &mut Case<'_>, request: &Request<'_>) {
+    if !request.fits() {
+        return case.say("no");
+    }
+    case.say("yes");
+    let mut frame = Vec::new(case.alloc());
+    match request.write(&mut frame) {
+        Ok(()) => case.say_bytes(&frame),
+        Err(_) => case.lack_memory(),
+    }
+}
+
+/// `response KIND BODY`
+fn response(case: &mut Case<'_>) {
+    let kind = case.number_to(255) as u8;
+    match Response::read(kind, case.bytes()) {
+        Ok(response) => say_response(case, response),
+        Err(refusal) => case.refuse(refusal.number(), refusal),
+    }
+}
+
+fn say_response(case: &mut Case<'_>, response: Response<'_>) {
+    match response {
+        Response::Promise(signed) => say_promise(case, &signed.promise),
+        Response::Proof(view) => case.say_bytes(view.siblings()),
+        Response::Roots(list) => say_list(case, list),
+        Response::Root(root) => say_body(case, &root.body),
+        Response::Refused(code) => case.say_shown(code),
+    }
+}
+
+/// `feed PIECE`: each frame that the piece completes, after whether it is ready, and whether the feed then
+/// waits or has failed. Each piece has its own line, since a line may be tried again.
+fn fed(case: &mut Case<'_>, feed: &mut Feed) {
+    match feed.feed(case.bytes()) {
+        Ok(()) => say_frames(case, feed),
+        Err(FeedRefusal::Memory) => case.lack_memory(),
+        Err(refusal) => case.refuse(refusal.number(), refusal),
+    }
+}
+
+fn say_frames(case: &mut Case<'_>, feed: &mut Feed) {
+    // No piece completes so many messages.
+    for _ in 0..u64::MAX {
+        case.say_truth(feed.ready());
+        match feed.next() {
+            Next::Frame(kind, body) => {
+                case.say_shown(kind);
+                case.say_bytes(body);
+            }
+            Next::Wait => return case.say("waits"),
+            Next::Failed => return case.say("failed"),
+        }
+    }
+}

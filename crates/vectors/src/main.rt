@@ -1,0 +1,115 @@
+//! Answers questions on the libraries, one a line: test vectors for any implementation.
+//!
+//! A question begins with a subject and a verb; `questions` says what words a line may have. The stored
+//! questions and answers come from `scripts/formats.py`, which computes them from the definitions alone.
+//!
+//! The public calls of the libraries, and the verbs that ask them:
+//!
+//! | Subject | Calls | Verbs |
+//! |---|---|---|
+//! | `bits` | `bit`, `cut`, `agree`, `with_one` | `bit`, `cut`, `agree`, `with-one` |
+//! | | `Index`, `Hash32` | `index`, `hash`, `order` |
+//! | | `Name`, `KeyData`, `Small`: `new`, `copied` | `name`, `key`, `small` |
+//! | | `Cursor`; `FixedText` | `read`; `text` |
+//! | `nodes` | `NodeHash::digest`, `count`, `digest_all` | `sha256`, `sum`; `all`, `all-sum` |
+//! | | `keyed_digest`, `sha256_four` | `keyed`, `four` |
+//! | | `empty_text`, `leaf_text`, `interior_text` | `empty`, `leaf`, `interior` |
+//! | | `commit`, `commit_text` | `commit` |
+//! | `stand-ins` | `Vuf::public`, `value`; `VufCheck::accepts` | `value`, `accepts`, `plain-value`, `plain-accepts` |
+//! | | `index_of` | `index` |
+//! | | `Signer::public`, `sign`; `Verifier::verify` | `sign`, `verify` |
+//! | `roots` | `read`, `write`, `copied`, `verifies` of each form | `body`, `root`, `promise`, `signed-promise` |
+//! | | `Form::read_whole`, `read_from` | the same; `front` |
+//! | | `RootList`; `write_list`, `list_len` | `list`; `write-list` |
+//! | | `RootEvidence::holds` | `fork`, `link`, `skip` |
+//! | `chains` | `Chain::start`, `extend`, `place`, `take` | `start`, `extend`, `place`, `take` |
+//! | | `take_list`, `at`, `after`, `head`, `key` | `take-list`, `at`, `after`, `head`, `key` |
+//! | | `compare` | `compare`, `compare-sum` |
+//! | `trees` | `Tree::new`, `with`, `copy` | `new`, `with`, `copy` |
+//! | | `placed`, `from_items`, `with_all` | `from`, `more` |
+//! | | `root`, `get`, `path`, `Path::level` | `root`, `get`, `path` |
+//! | | `end_text`, `joined_text`, `climb`, `leads`, `Path::leads` | `end-text`, `joined`, `climb`, `leads` |
+//! | `replies` | `ReplyView::read`, `statement`, `siblings` | `read` |
+//! | | `accept`, `check`; `Accepted`; `Statement::binds` | `accept`, `accept-sum`; `accepted`; `binds` |
+//! | | `compare_replies`, `same_or_collision` | `compare`, `compare-sum`, `same` |
+//! | | `make` | `make` |
+//! | `frames` | `Request::read`, `fits`, `write` | `request` |
+//! | | `Response::read`, `Answer::write` | `response`, `answer` |
+//! | | `Feed::new`, `feed`, `ready`, `next` | `new`, `feed` |
+//! | `text` | `hex_digits`, `hex32`, `option_hex32`, `option_nonce` | `digits`, `hex32`, `option-hex`, `option-nonce` |
+//! | | `ProgramFault::status`, `tell` | `fault` |
+//! | `items` | `root`, `prove` | `root`, `prove` |
+//!
+//! `number` of each refusal is told with the refusal. `next_line` and `write_text` read and write each line.
+//! `trees count` tells how many digests a change of the tree took. No verb asks the laws, which have no
+//! code, `BrokenPromise`, which is evidence, and `read_some`, which shows more where a reader fails.
+#![tactic(auto)]
+
+mod accepted;
+mod answers;
+mod bits;
+mod chains;
+mod comparing;
+mod digests;
+mod evidence;
+mod fixed_texts;
+mod frames;
+mod fronts;
+mod listings;
+mod made_replies;
+mod nodes;
+mod reading;
+mod replies;
+mod root_lists;
+mod roots;
+mod stand_ins;
+mod texts;
+mod trees;
+mod values;
+mod ways;
+
+use anyhow::Result;
+use nodehash::Sha256Hash;
+use questions::{Case, Subjects, answer_all};
+use rootchain::Chain;
+use sigiface::KeyedSign;
+use std::io::{self, BufReader};
+use trees::Grown;
+use wire::Feed;
+
+/// What a line leaves for the lines after it.
+#[derive(Drop)]
+struct State {
+    grown: Grown,
+    chain: Option<Chain<Sha256Hash, KeyedSign>>,
+    feed: Feed,
+}
+
+impl Subjects for State {
+    fn answer(&mut self, case: &mut Case<'_>) {
+        match case.word() {
+            b"bits" => bits::answer(case),
+            b"nodes" => nodes::answer(case),
+            b"stand-ins" => stand_ins::answer(case),
+            b"roots" => roots::answer(case),
+            b"chains" => chains::answer(case, &mut self.chain),
+            b"trees" => trees::answer(case, &mut self.grown),
+            b"replies" => replies::answer(case),
+            b"frames" => frames::answer(case, &mut self.feed),
+            b"text" => texts::answer(case),
+            b"items" => listings::answer(case),
+            _ => case.spoil(),
+        }
+    }
+}
+
+fn main(rt: HostRuntime) -> Result<()> {
+    let alloc = rt.alloc();
+    let mut state = State {
+        grown: Grown::new(alloc)?,
+        chain: None,
+        feed: Feed::new(alloc),
+    };
+    let mut reader = BufReader::new(alloc, rt.reader())?;
+    answer_all(alloc, &mut state, &mut reader, &mut io::writer(&rt))
+}

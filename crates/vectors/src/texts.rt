@@ -1,0 +1,83 @@
+//! Of `textio`: digits, and the faults that a program ends with.
+
+use questions::Case;
+use textio::{ProgramFault, hex_digits, hex32, option_hex32, option_nonce};
+
+pub(crate) fn answer(case: &mut Case<'_>) {
+    match case.word() {
+        b"digits" => digits(case),
+        b"hex32" => bytes_of_digits(case),
+        b"option-hex" => option_hex(case),
+        b"option-nonce" => nonce(case),
+        b"fault" => fault(case),
+        _ => case.spoil(),
+    }
+}
+
+/// `digits HEX32`
+fn digits(case: &mut Case<'_>) {
+    let hash = case.hash();
+    case.say_text(&hex_digits(hash.bytes()));
+}
+
+/// `hex32 TEXT`
+fn bytes_of_digits(case: &mut Case<'_>) {
+    match hex32(case.bytes()) {
+        Some(bytes) => case.say_bytes(&bytes),
+        None => case.say("none"),
+    }
+}
+
+/// `option-hex TEXT`
+fn option_hex(case: &mut Case<'_>) {
+    match option_hex32(case.text()) {
+        Ok(bytes) => case.say_bytes(&bytes),
+        Err(fault) => say_fault(case, fault),
+    }
+}
+
+/// `option-nonce TEXT|none`
+fn nonce(case: &mut Case<'_>) {
+    match option_nonce(case.option_text()) {
+        Ok(bytes) => case.say_bytes(&bytes),
+        Err(fault) => say_fault(case, fault),
+    }
+}
+
+pub(crate) fn say_fault(case: &mut Case<'_>, fault: ProgramFault) {
+    case.say("fault");
+    case.say_shown(fault.status());
+    case.say_shown(fault);
+}
+
+/// `fault NAME [LINE]`: the status, and the line that tells it.
+fn fault(case: &mut Case<'_>) {
+    match named_fault(case) {
+        Some(fault) => tell(case, fault),
+        None => case.spoil(),
+    }
+}
+
+fn named_fault(case: &mut Case<'_>) -> Option<ProgramFault> {
+    Some(match case.word() {
+        b"bad-hex" => ProgramFault::BadHex,
+        b"bad-item" => ProgramFault::BadItem(case.number()),
+        b"index-repeated" => ProgramFault::IndexRepeated(case.number()),
+        b"not-evidence" => ProgramFault::NotEvidence,
+        b"cannot-read" => ProgramFault::CannotRead,
+        b"cannot-write" => ProgramFault::CannotWrite,
+        b"cannot-listen" => ProgramFault::CannotListen,
+        b"out-of-memory" => ProgramFault::OutOfMemory,
+        _ => return None,
+    })
+}
+
+fn tell(case: &mut Case<'_>, fault: ProgramFault) {
+    let mut line = Vec::new(case.alloc());
+    case.say_shown(fault.status());
+    match fault.tell(&mut line) {
+        Ok(()) => case.say_text(&line),
+        // A writer to memory fails only if memory runs out.
+        Err(_) => case.lack_memory(),
+    }
+}
