@@ -323,10 +323,10 @@ def hundreds_of_epochs():
 
 @script
 def hundreds_of_sessions():
-    yield "# 200 sessions whose messages come in pieces, interleaved with each other and with closings."
+    yield "# 130 sessions whose messages come in pieces, interleaved with each other and with closings."
     rng = random.Random(11)
     waiting = {}
-    for session in range(1, 201):
+    for session in range(1, 131):
         name = name_of(session % 60)
         frames = [
             request_frame("register", name, key_of(session)), HEAD, request_frame("lookup", 0, name),
@@ -411,7 +411,7 @@ def generated_commands():
     rng = random.Random(13)
     short, long = [0, 1, 2, 3, 4, 5, 6, 16], [255, 256]
     epoch = 1
-    for turn in range(300):
+    for turn in range(220):
         name = bytes([7]) * rng.choice(long if turn % 25 == 7 else short)
         key = bytes([9]) * rng.choice([255, 700] if turn % 90 == 50 else short)
         near = max(epoch + rng.randrange(-6, 2), 0)

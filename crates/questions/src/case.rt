@@ -29,6 +29,7 @@ pub struct Case<'a> {
     words: &'a [Word<'a>],
     next: usize,
     answer: Vec<u8>,
+    is_lines: bool,
     trouble: Trouble,
 }
 
@@ -40,6 +41,7 @@ impl<'a> Case<'a> {
             words,
             next: 0,
             answer: room,
+            is_lines: false,
             trouble: Trouble::Nothing,
         }
     }
@@ -57,6 +59,7 @@ impl<'a> Case<'a> {
     pub(crate) fn begin(&mut self) {
         self.next = 0;
         self.answer.clear();
+        self.is_lines = false;
         self.trouble = Trouble::Nothing;
     }
 
@@ -94,9 +97,12 @@ impl<'a> Case<'a> {
     pub(crate) fn line(&mut self) -> &[u8] {
         if self.trouble == Trouble::BadQuestion {
             self.answer.clear();
+            self.is_lines = false;
             self.say("bad question");
         }
-        self.push(b"\n");
+        if !self.is_lines {
+            self.push(b"\n");
+        }
         self.answer.as_slice()
     }
 
@@ -265,9 +271,24 @@ impl<'a> Case<'a> {
         self.push(word.as_bytes());
     }
 
+    /// Text that goes on with the last word of the answer.
+    pub fn join(&mut self, text: &str) {
+        self.push(text.as_bytes());
+    }
+
+    /// Whole lines, of which the answer then consists.
+    pub fn say_lines(&mut self, lines: &[u8]) {
+        self.push(lines);
+        self.is_lines = true;
+    }
+
     /// What prints as words of the answer, such as a number or a refusal.
     pub fn say_shown<T: Display + Drop>(&mut self, shown: T) {
         self.push_gap();
+        self.join_shown(shown);
+    }
+
+    fn join_shown<T: Display + Drop>(&mut self, shown: T) {
         if write!(&mut self.answer, "{shown}").is_err() {
             self.lack_memory();
         }
@@ -290,33 +311,38 @@ impl<'a> Case<'a> {
     }
 
     /// The length and the digest of bytes.
-    fn say_digest(&mut self, bytes: &[u8]) {
-        self.say_shown(bytes.len());
+    fn join_digest(&mut self, bytes: &[u8]) {
+        self.join_shown(bytes.len());
         self.push(b"/");
         self.push_digits(&Sha256::digest(bytes));
     }
 
-    /// Bytes in digits, or their length and digest.
-    pub fn say_bytes(&mut self, bytes: &[u8]) {
+    /// Bytes in digits, or their length and digest, in the same word.
+    pub fn join_bytes(&mut self, bytes: &[u8]) {
         if bytes.len() > SHORT_BYTES {
-            return self.say_digest(bytes);
+            return self.join_digest(bytes);
         }
         if bytes.is_empty() {
-            return self.say("-");
+            return self.push(b"-");
         }
-        self.push_gap();
         self.push_digits(bytes);
+    }
+
+    /// Bytes in digits, or their length and digest.
+    pub fn say_bytes(&mut self, bytes: &[u8]) {
+        self.push_gap();
+        self.join_bytes(bytes);
     }
 
     /// A text that a program printed, with `|` for each LF, or its length and digest.
     pub fn say_text(&mut self, text: &[u8]) {
+        self.push_gap();
         if text.len() > SHORT_TEXT {
-            return self.say_digest(text);
+            return self.join_digest(text);
         }
         if text.is_empty() {
-            return self.say("-");
+            return self.push(b"-");
         }
-        self.push_gap();
         for byte in text {
             self.push(&[if *byte == b'\n' { b'|' } else { *byte }]);
         }

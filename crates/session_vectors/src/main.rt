@@ -1,20 +1,81 @@
-//! x
+//! Answers questions on directories and their users, one a line: the tests of the upper crates as data.
+//!
+//! A question is a subject, a verb, and arguments; the crate `questions` says how words are read. The
+//! subjects are `directory`, `hub`, `serve`, `client`, `monitor`, `auditor`, `evidence` and `script`.
+//! Those whose names end in `-sum` hash by sums of bytes, and a name is its own value. The stored
+//! answers come from `scripts/formats.py`, which computes them from the definitions alone.
 #![tactic(auto)]
 
+mod auditors;
+mod clients;
+mod directories;
+mod evidences;
+mod hubs;
+mod monitors;
+mod script;
+mod serving;
+mod stand_ins;
+mod telling;
+
 use anyhow::Result;
+use auditor::Auditor;
+use auditors::KeyedAuditor;
+use clients::{Clients, KeyedClients, SummedClients};
+use directories::{KeyedDirectory, SummedDirectory};
+use hubs::KeptHub;
+use monitors::KeyedMonitor;
 use questions::{Case, Subjects, answer_all};
+use std::alloc::Global;
+use std::fs::Files;
 use std::io::{self, BufReader};
 
+/// What a line leaves for the lines after it.
 #[derive(Drop)]
-struct State;
+struct State<'a, F: Files> {
+    files: &'a F,
+    directory: Option<KeyedDirectory>,
+    summed_directory: Option<SummedDirectory>,
+    hub: KeptHub,
+    clients: KeyedClients,
+    summed_clients: SummedClients,
+    monitor: Option<KeyedMonitor>,
+    auditor: KeyedAuditor,
+}
 
-impl Subjects for State {
+impl<'a, F: Files> State<'a, F> {
+    fn new(alloc: Global, files: &'a F) -> Self {
+        State {
+            files,
+            directory: None,
+            summed_directory: None,
+            hub: KeptHub::new(alloc),
+            clients: Clients {
+                client: None,
+                other: None,
+            },
+            summed_clients: Clients {
+                client: None,
+                other: None,
+            },
+            monitor: None,
+            auditor: Auditor::new(alloc),
+        }
+    }
+}
+
+impl<F: Files> Subjects for State<'_, F> {
     fn answer(&mut self, case: &mut Case<'_>) {
         match case.word() {
-            b"bytes" => {
-                let bytes = case.bytes();
-                case.say_bytes(bytes);
-            }
+            b"directory" => directories::answer_keyed(case, &mut self.directory),
+            b"directory-sum" => directories::answer_summed(case, &mut self.summed_directory),
+            b"hub" => hubs::answer(case, &mut self.hub),
+            b"serve" => serving::answer(case),
+            b"client" => clients::answer_keyed(case, &mut self.clients),
+            b"client-sum" => clients::answer_summed(case, &mut self.summed_clients),
+            b"monitor" => monitors::answer(case, &mut self.clients, &mut self.monitor),
+            b"auditor" => auditors::answer(case, &mut self.auditor),
+            b"evidence" => evidences::answer(case),
+            b"script" => script::answer(case, self.files),
             _ => case.spoil(),
         }
     }
@@ -22,7 +83,7 @@ impl Subjects for State {
 
 fn main(rt: HostRuntime) -> Result<()> {
     let alloc = rt.alloc();
-    let mut state = State;
     let mut reader = BufReader::new(alloc, rt.reader())?;
+    let mut state = State::new(alloc, &rt);
     answer_all(alloc, &mut state, &mut reader, &mut io::writer(&rt))
 }

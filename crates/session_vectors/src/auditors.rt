@@ -1,0 +1,185 @@
+//! Of `auditor`: an auditor, which stays for the next lines, and judging.
+
+use crate::stand_ins::{Functions, keyed};
+use crate::telling::{refuse_root, say_evidence};
+use auditor::{Auditor, Evidence, Observed, judge};
+use encoding::{Hash32, ProofText};
+use nodehash::{NodeHash, Sha256Hash};
+use proofs::BrokenPromise;
+use questions::Case;
+use rootchain::{Place, Refusal, RootEvidence, SignedPromise, SignedRoot};
+use sigiface::KeyedSign;
+use vrfiface::VufCheck;
+
+type Kept<H> = Auditor<H, KeyedSign>;
+
+pub(crate) type KeyedAuditor = Kept<Sha256Hash>;
+
+/// The most bytes of a proof.
+const MAX_PROOF: usize = 10_700;
+
+pub(crate) fn answer(case: &mut Case<'_>, kept: &mut KeyedAuditor) {
+    match case.word() {
+        b"new" => {
+            *kept = Auditor::new(case.alloc());
+            case.say("ok");
+        }
+        verb => answer_on(case, &mut keyed(), verb, kept),
+    }
+}
+
+fn answer_on<H, V>(
+    case: &mut Case<'_>,
+    by: &mut Functions<H, V>,
+    verb: &[u8],
+    auditor: &mut Kept<H>,
+) where
+    H: NodeHash + Drop,
+    V: VufCheck + Drop,
+{
+    match verb {
+        b"observe" => observe(case, by, auditor),
+        b"compare" => compare(case, by, auditor),
+        b"chain" => chain(case, auditor),
+        b"judge" => judged(case, by),
+        _ => case.spoil(),
+    }
+}
+
+/// `observe KEY ROOT`
+fn observe<H, V>(case: &mut Case<'_>, by: &mut Functions<H, V>, auditor: &mut Kept<H>)
+where
+    H: NodeHash + Drop,
+    V: VufCheck + Drop,
+{
+    let key = case.hash();
+    let root = case.bytes();
+    if case.is_spoiled() {
+        return;
+    }
+    match auditor.observe(&mut by.hash, &by.verifier, &key, root) {
+        Ok(observed) => say_observed(case, &observed),
+        Err(why) => refuse_root(case, why),
+    }
+}
+
+fn say_observed(case: &mut Case<'_>, observed: &Observed) {
+    match observed {
+        Observed::Started => case.say("started"),
+        Observed::Extended => case.say("extended"),
+        Observed::Known => case.say("known"),
+        Observed::Ahead => case.say("ahead"),
+        Observed::BeforeStart => case.say("before start"),
+        Observed::Evidence(evidence) => say_evidence(case, evidence),
+    }
+}
+
+/// `compare KEY ROOT`
+fn compare<H, V>(case: &mut Case<'_>, by: &mut Functions<H, V>, auditor: &Kept<H>)
+where
+    H: NodeHash + Drop,
+    V: VufCheck + Drop,
+{
+    let key = case.hash();
+    let root = case.bytes();
+    match auditor.compare(&mut by.hash, &by.verifier, &key, root) {
+        Ok(place) => say_place(case, &place),
+        Err(why) => refuse_root(case, why),
+    }
+}
+
+fn say_place(case: &mut Case<'_>, place: &Place) {
+    match place {
+        Place::Known => case.say("known"),
+        Place::Evidence(evidence) => say_evidence(case, evidence),
+        Place::Next => case.say("next"),
+        Place::Ahead => case.say("ahead"),
+        Place::BeforeStart => case.say("before start"),
+    }
+}
+
+/// `chain KEY`
+fn chain<H: NodeHash + Drop>(case: &mut Case<'_>, auditor: &Kept<H>) {
+    match auditor.chain(&case.hash()) {
+        Some(chain) => case.say_shown(chain.head().body.epoch),
+        None => case.say("none"),
+    }
+}
+
+/// `judge KEY KIND FIRST SECOND [PROOF]`
+fn judged<H, V>(case: &mut Case<'_>, by: &mut Functions<H, V>)
+where
+    H: NodeHash + Drop,
+    V: VufCheck + Drop,
+{
+    let key = case.hash();
+    match case.word() {
+        b"broken-promise" => {
+            let promise = case.bytes();
+            let root = case.bytes();
+            let evidence = broken(case, promise, root);
+            tell_judged(case, by, &key, evidence);
+        }
+        kind => {
+            let evidence = of_roots(case, kind);
+            tell_judged(case, by, &key, evidence);
+        }
+    }
+}
+
+fn tell_judged<H, V>(
+    case: &mut Case<'_>,
+    by: &mut Functions<H, V>,
+    key: &Hash32,
+    evidence: Result<Evidence, Refusal>,
+) where
+    H: NodeHash + Drop,
+    V: VufCheck + Drop,
+{
+    match evidence {
+        Ok(evidence) => {
+            case.say_truth(judge(&mut by.hash, &by.vuf, &by.verifier, key, &evidence));
+        }
+        Err(why) => refuse_root(case, why),
+    }
+}
+
+/// The evidence of this kind, of the roots in the next two words.
+pub(crate) fn of_roots(case: &mut Case<'_>, kind: &[u8]) -> Result<Evidence, Refusal> {
+    let one = SignedRoot::read(case.bytes())?;
+    let other = SignedRoot::read(case.bytes())?;
+    let roots = match kind {
+        b"fork" => RootEvidence::Fork(one, other),
+        b"link" => RootEvidence::Link(one, other),
+        b"skip" => RootEvidence::Skip(one, other),
+        _ => {
+            case.spoil();
+            return Err(Refusal::Malformed);
+        }
+    };
+    Ok(Evidence::Root(roots))
+}
+
+/// The evidence of this promise and this root, and the proof in the next word.
+fn broken(case: &mut Case<'_>, promise: &[u8], root: &[u8]) -> Result<Evidence, Refusal> {
+    let promise = SignedPromise::read(promise)?;
+    let root = SignedRoot::read(root)?;
+    let bytes = case.bytes();
+    let proof = proof_text(case, bytes);
+    Ok(Evidence::Broken(BrokenPromise {
+        promise,
+        root,
+        proof,
+    }))
+}
+
+/// The bytes as those of a proof.
+pub(crate) fn proof_text(case: &mut Case<'_>, bytes: &[u8]) -> ProofText {
+    let mut proof = ProofText::new();
+    if bytes.len() <= MAX_PROOF {
+        proof.push_slice(bytes);
+    } else {
+        case.spoil();
+    }
+    proof
+}

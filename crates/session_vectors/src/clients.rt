@@ -1,0 +1,247 @@
+//! Of `client`: a client, and another one, which stay for the next lines.
+
+use crate::stand_ins::{Functions, keyed, summed};
+use crate::telling::{say_evidence, say_option};
+use client::{Client, Due, Outcome, Refusal, reconcile};
+use nodehash::{NodeHash, Sha256Hash, SumHash};
+use proofs::Statement;
+use questions::Case;
+use sigiface::KeyedSign;
+use vrfiface::{KeyedVuf, PlainVuf, VufCheck};
+
+type Kept<H, V> = Client<H, V, KeyedSign>;
+
+/// A client, and the one that was put aside.
+#[derive(Drop)]
+pub(crate) struct Clients<H: NodeHash + Drop, V: VufCheck + Drop> {
+    pub(crate) client: Option<Kept<H, V>>,
+    pub(crate) other: Option<Kept<H, V>>,
+}
+
+pub(crate) type KeyedClients = Clients<Sha256Hash, KeyedVuf>;
+
+pub(crate) type SummedClients = Clients<SumHash, PlainVuf>;
+
+pub(crate) fn answer_keyed(case: &mut Case<'_>, clients: &mut KeyedClients) {
+    answer(case, &mut keyed(), clients);
+}
+
+pub(crate) fn answer_summed(case: &mut Case<'_>, clients: &mut SummedClients) {
+    answer(case, &mut summed(), clients);
+}
+
+fn answer<H, V>(case: &mut Case<'_>, by: &mut Functions<H, V>, clients: &mut Clients<H, V>)
+where
+    H: NodeHash + Drop,
+    V: VufCheck + Drop,
+{
+    match case.word() {
+        b"start" => start(case, by, &mut clients.client),
+        b"put-aside" => put_aside(case, clients),
+        b"reconcile" => {
+            reconcile_both(case, by, clients.client.as_ref(), clients.other.as_ref());
+        }
+        b"reconcile-self" => {
+            reconcile_both(case, by, clients.client.as_ref(), clients.client.as_ref());
+        }
+        verb => match &mut clients.client {
+            Some(client) => answer_on(case, by, verb, client),
+            None => case.spoil(),
+        },
+    }
+}
+
+fn answer_on<H, V>(
+    case: &mut Case<'_>,
+    by: &mut Functions<H, V>,
+    verb: &[u8],
+    client: &mut Kept<H, V>,
+) where
+    H: NodeHash + Drop,
+    V: VufCheck + Drop,
+{
+    match verb {
+        b"update" => {
+            let updated = client.update(&mut by.hash, &by.verifier, case.bytes());
+            tell_done(case, updated);
+        }
+        b"look" => look(case, by, client),
+        b"keep" => {
+            let kept = client.keep_promise(&mut by.hash, &by.verifier, case.bytes());
+            tell_done(case, kept);
+        }
+        b"due" => due(case, by, client),
+        b"due-epoch" => due_epoch(case, client),
+        b"key" => case.say_bytes(client.key().bytes()),
+        b"head" => case.say_bytes(client.chain().head().write().bytes()),
+        _ => case.spoil(),
+    }
+}
+
+/// Refuses a call of a client.
+pub(crate) fn refuse(case: &mut Case<'_>, why: Refusal) {
+    let number = why.number();
+    match why {
+        Refusal::Memory | Refusal::Root(rootchain::Refusal::Memory) => case.lack_memory(),
+        Refusal::RootDiffers(evidence) => {
+            case.say("refused 21 the root contradicts the chain:");
+            say_evidence(case, &evidence);
+        }
+        why => case.refuse(number, why),
+    }
+}
+
+pub(crate) fn tell_done(case: &mut Case<'_>, done: Result<(), Refusal>) {
+    match done {
+        Ok(()) => case.say("ok"),
+        Err(why) => refuse(case, why),
+    }
+}
+
+/// `start KEY ROOT`
+fn start<H, V>(case: &mut Case<'_>, by: &Functions<H, V>, kept: &mut Option<Kept<H, V>>)
+where
+    H: NodeHash + Drop,
+    V: VufCheck + Drop,
+{
+    let key = case.hash();
+    let root = case.bytes();
+    if case.is_spoiled() {
+        return;
+    }
+    match Client::start(case.alloc(), &by.verifier, key, root) {
+        Ok(client) => {
+            *kept = Some(client);
+            case.say("ok");
+        }
+        Err(why) => refuse(case, why),
+    }
+}
+
+pub(crate) fn say_statement(case: &mut Case<'_>, statement: Statement<'_>) {
+    match statement {
+        Statement::Present(key) => {
+            case.say("present");
+            case.say_bytes(key);
+        }
+        Statement::Absent => case.say("absent"),
+    }
+}
+
+/// `look NAME EPOCH REPLY`
+fn look<H, V>(case: &mut Case<'_>, by: &mut Functions<H, V>, client: &mut Kept<H, V>)
+where
+    H: NodeHash + Drop,
+    V: VufCheck + Drop,
+{
+    let name = case.name();
+    let epoch = case.number();
+    let reply = case.bytes();
+    if case.is_spoiled() {
+        return;
+    }
+    match client.look(&mut by.hash, &by.vuf, &name, epoch, reply) {
+        Ok(statement) => say_statement(case, statement),
+        Err(why) => refuse(case, why),
+    }
+}
+
+/// `due NAME REPLY`
+fn due<H, V>(case: &mut Case<'_>, by: &mut Functions<H, V>, client: &mut Kept<H, V>)
+where
+    H: NodeHash + Drop,
+    V: VufCheck + Drop,
+{
+    let name = case.name();
+    let reply = case.bytes();
+    if case.is_spoiled() {
+        return;
+    }
+    match client.due(&mut by.hash, &by.vuf, &name, reply) {
+        Ok(due) => say_due(case, &due),
+        Err(why) => refuse(case, why),
+    }
+}
+
+fn say_due(case: &mut Case<'_>, due: &Due) {
+    match due {
+        Due::Kept => case.say("kept"),
+        Due::OtherIndex => case.say("other index"),
+        Due::Broken(broken) => {
+            case.say("broken");
+            case.say_bytes(broken.promise.write().bytes());
+            case.say_bytes(broken.root.write().bytes());
+            case.say_bytes(broken.proof.bytes());
+        }
+    }
+}
+
+/// `due-epoch NAME`
+fn due_epoch<H, V>(case: &mut Case<'_>, client: &Kept<H, V>)
+where
+    H: NodeHash + Drop,
+    V: VufCheck + Drop,
+{
+    let name = case.name();
+    say_option(case, client.due_epoch(&name));
+}
+
+/// `put-aside`
+fn put_aside<H, V>(case: &mut Case<'_>, clients: &mut Clients<H, V>)
+where
+    H: NodeHash + Drop,
+    V: VufCheck + Drop,
+{
+    match clients.client.take() {
+        Some(client) => {
+            clients.other = Some(client);
+            case.say("ok");
+        }
+        None => case.spoil(),
+    }
+}
+
+/// Reconciles two clients, if both are there.
+pub(crate) fn reconcile_both<H, V>(
+    case: &mut Case<'_>,
+    by: &mut Functions<H, V>,
+    one: Option<&Kept<H, V>>,
+    other: Option<&Kept<H, V>>,
+) where
+    H: NodeHash + Drop,
+    V: VufCheck + Drop,
+{
+    match (one, other) {
+        (Some(one), Some(other)) => reconcile_two(case, &mut by.hash, one, other),
+        _ => case.spoil(),
+    }
+}
+
+fn reconcile_two<H, V>(
+    case: &mut Case<'_>,
+    hash: &mut H,
+    one: &Kept<H, V>,
+    other: &Kept<H, V>,
+) where
+    H: NodeHash + Drop,
+    V: VufCheck + Drop,
+{
+    if *one.key() != *other.key() {
+        return case.spoil();
+    }
+    let outcome = reconcile(hash, one, other);
+    say_outcome(case, &outcome);
+}
+
+fn say_outcome(case: &mut Case<'_>, outcome: &Outcome) {
+    match outcome {
+        Outcome::Agree => case.say("agree"),
+        Outcome::Evidence(evidence) => say_evidence(case, evidence),
+        Outcome::Collision(one, other) => {
+            case.say("collision");
+            case.say_bytes(one.bytes());
+            case.say_bytes(other.bytes());
+        }
+        Outcome::TwoValues => case.say("two values"),
+    }
+}

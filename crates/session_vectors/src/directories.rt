@@ -1,0 +1,364 @@
+//! Of `epochs`: a directory, which stays for the next lines, and runs of fresh ones.
+
+use book::{Command, NoKeeper, Refusal, Reply};
+use encoding::Hash32;
+use epochs::Directory;
+use nodehash::{NodeHash, Sha256Hash, SumHash};
+use questions::Case;
+use rand_chacha::ChaCha20Rng;
+use rand_core::SeedableRng;
+use rootchain::{MAX_ROOTS, SignedPromise, SignedRoot};
+use sigiface::KeyedSign;
+use std::alloc::{AllocError, Global};
+use vrfiface::{KeyedVuf, PlainVuf, Vuf};
+use wire::{Answer, Request};
+
+pub(crate) type Made<H, V> = Directory<H, V, KeyedSign, ChaCha20Rng>;
+
+/// A directory under SHA-256 and keyed values.
+pub(crate) type KeyedDirectory = Made<Sha256Hash, KeyedVuf>;
+
+/// A directory under sums of bytes, in which a name is its own value.
+pub(crate) type SummedDirectory = Made<SumHash, PlainVuf>;
+
+/// The epoch and the nonce that a directory begins with.
+#[derive(Clone, Copy)]
+pub(crate) struct First {
+    pub(crate) epoch: u64,
+    pub(crate) nonce: Hash32,
+}
+
+/// The secrets of a directory.
+#[derive(Clone, Copy)]
+pub(crate) struct Secrets {
+    pub(crate) sign: Hash32,
+    pub(crate) vuf: Hash32,
+    pub(crate) salt: Hash32,
+}
+
+/// The secrets of each directory that is not given its own.
+pub(crate) fn common_secrets() -> Secrets {
+    Secrets {
+        sign: Hash32::new([1; 32]),
+        vuf: Hash32::new([2; 32]),
+        salt: Hash32::new([0; 32]),
+    }
+}
+
+/// The next two words, as what a directory begins with.
+pub(crate) fn read_first(case: &mut Case<'_>) -> First {
+    let epoch = case.number();
+    let nonce = case.hash();
+    First { epoch, nonce }
+}
+
+pub(crate) fn make_keyed(
+    alloc: Global,
+    first: First,
+    secrets: &Secrets,
+) -> Result<KeyedDirectory, Refusal> {
+    Directory::new(
+        alloc,
+        first.epoch,
+        first.nonce,
+        Sha256Hash::new(),
+        KeyedVuf::new(secrets.vuf),
+        KeyedSign::new(secrets.sign),
+        ChaCha20Rng::from_seed(secrets.salt.to_bytes()),
+    )
+}
+
+fn make_summed(
+    alloc: Global,
+    first: First,
+    secrets: &Secrets,
+) -> Result<SummedDirectory, Refusal> {
+    Directory::new(
+        alloc,
+        first.epoch,
+        first.nonce,
+        SumHash::new(),
+        PlainVuf,
+        KeyedSign::new(secrets.sign),
+        ChaCha20Rng::from_seed(secrets.salt.to_bytes()),
+    )
+}
+
+pub(crate) fn answer_keyed(case: &mut Case<'_>, kept: &mut Option<KeyedDirectory>) {
+    match case.word() {
+        b"new" => new_keyed(case, kept),
+        b"run" => {
+            let made = make_keyed(case.alloc(), read_first(case), &common_secrets());
+            run(case, made);
+        }
+        verb => answer(case, verb, kept),
+    }
+}
+
+pub(crate) fn answer_summed(case: &mut Case<'_>, kept: &mut Option<SummedDirectory>) {
+    match case.word() {
+        b"new" => new_summed(case, kept),
+        b"run" => {
+            let made = make_summed(case.alloc(), read_first(case), &common_secrets());
+            run(case, made);
+        }
+        verb => answer(case, verb, kept),
+    }
+}
+
+fn answer<H, V>(case: &mut Case<'_>, verb: &[u8], kept: &mut Option<Made<H, V>>)
+where
+    H: NodeHash + Drop,
+    V: Vuf + Drop,
+{
+    match kept {
+        Some(directory) => answer_on(case, verb, directory),
+        None => case.spoil(),
+    }
+}
+
+fn answer_on<H, V>(case: &mut Case<'_>, verb: &[u8], directory: &mut Made<H, V>)
+where
+    H: NodeHash + Drop,
+    V: Vuf + Drop,
+{
+    match verb {
+        b"register" => register(case, directory),
+        b"change" => change(case, directory),
+        b"promise" => {
+            let promised = directory.promise(case.bytes());
+            tell_promise(case, promised);
+        }
+        b"close" => close(case, directory),
+        b"head" => case.say_bytes(directory.head().write().bytes()),
+        b"lookup" => look_up(case, directory),
+        b"history" => history(case, directory),
+        _ => case.spoil(),
+    }
+}
+
+fn refuse(case: &mut Case<'_>, why: Refusal) {
+    if why == Refusal::Memory {
+        case.lack_memory();
+    }
+    case.refuse(why.number(), why);
+}
+
+/// Keeps the directory that was made, and tells its root.
+fn keep<H, V>(
+    case: &mut Case<'_>,
+    kept: &mut Option<Made<H, V>>,
+    made: Result<Made<H, V>, Refusal>,
+) where
+    H: NodeHash + Drop,
+    V: Vuf + Drop,
+{
+    match made {
+        Ok(made) => {
+            case.say_bytes(made.head().write().bytes());
+            *kept = Some(made);
+        }
+        Err(why) => refuse(case, why),
+    }
+}
+
+/// `new EPOCH NONCE SIGN VUF SALT`
+fn new_keyed(case: &mut Case<'_>, kept: &mut Option<KeyedDirectory>) {
+    let first = read_first(case);
+    let sign = case.hash();
+    let vuf = case.hash();
+    let salt = case.hash();
+    if !case.is_spoiled() {
+        let made = make_keyed(case.alloc(), first, &Secrets { sign, vuf, salt });
+        keep(case, kept, made);
+    }
+}
+
+/// `new EPOCH NONCE SIGN SALT`
+fn new_summed(case: &mut Case<'_>, kept: &mut Option<SummedDirectory>) {
+    let first = read_first(case);
+    let sign = case.hash();
+    let vuf = Hash32::default();
+    let salt = case.hash();
+    if !case.is_spoiled() {
+        let made = make_summed(case.alloc(), first, &Secrets { sign, vuf, salt });
+        keep(case, kept, made);
+    }
+}
+
+fn tell_promise(case: &mut Case<'_>, promised: Result<SignedPromise, Refusal>) {
+    match promised {
+        Ok(signed) => case.say_bytes(signed.write().bytes()),
+        Err(why) => refuse(case, why),
+    }
+}
+
+/// `register NAME KEY`
+fn register<H, V>(case: &mut Case<'_>, directory: &mut Made<H, V>)
+where
+    H: NodeHash + Drop,
+    V: Vuf + Drop,
+{
+    let name = case.bytes();
+    let key = case.bytes();
+    if !case.is_spoiled() {
+        tell_promise(case, directory.register(&mut NoKeeper, name, key));
+    }
+}
+
+/// `change NAME KEY`
+fn change<H, V>(case: &mut Case<'_>, directory: &mut Made<H, V>)
+where
+    H: NodeHash + Drop,
+    V: Vuf + Drop,
+{
+    let name = case.bytes();
+    let key = case.bytes();
+    if !case.is_spoiled() {
+        tell_promise(case, directory.change(&mut NoKeeper, name, key));
+    }
+}
+
+fn tell_root(case: &mut Case<'_>, closed: Result<SignedRoot, Refusal>) {
+    match closed {
+        Ok(root) => case.say_bytes(root.write().bytes()),
+        Err(why) => refuse(case, why),
+    }
+}
+
+/// `close EPOCH`
+fn close<H, V>(case: &mut Case<'_>, directory: &mut Made<H, V>)
+where
+    H: NodeHash + Drop,
+    V: Vuf + Drop,
+{
+    let epoch = case.number();
+    if !case.is_spoiled() {
+        tell_root(case, directory.close(&mut NoKeeper, epoch));
+    }
+}
+
+/// `lookup NAME EPOCH`
+fn look_up<H, V>(case: &mut Case<'_>, directory: &mut Made<H, V>)
+where
+    H: NodeHash + Drop,
+    V: Vuf + Drop,
+{
+    let name = case.bytes();
+    let epoch = case.number();
+    match directory.lookup(name, epoch) {
+        Ok(proof) => case.say_bytes(proof.bytes()),
+        Err(why) => refuse(case, why),
+    }
+}
+
+/// `history FROM COUNT`
+fn history<H, V>(case: &mut Case<'_>, directory: &Made<H, V>)
+where
+    H: NodeHash + Drop,
+    V: Vuf + Drop,
+{
+    let from = case.number();
+    let count = case.number_to(65_535) as u16;
+    match directory.history(from, count) {
+        Ok(roots) => tell_roots(case, roots),
+        Err(why) => refuse(case, why),
+    }
+}
+
+fn tell_roots(case: &mut Case<'_>, roots: &[SignedRoot]) {
+    let mut bytes = Vec::new(case.alloc());
+    for root in roots {
+        if bytes.extend_from_slice(root.write().bytes()).is_err() {
+            case.lack_memory();
+        }
+    }
+    case.say_shown(roots.len());
+    case.say_bytes(&bytes);
+}
+
+/// `run EPOCH NONCE MESSAGE..`, of a directory that was made for it.
+fn run<H, V>(case: &mut Case<'_>, made: Result<Made<H, V>, Refusal>)
+where
+    H: NodeHash + Drop,
+    V: Vuf + Drop,
+{
+    match made {
+        Ok(directory) => run_on(case, directory),
+        Err(why) => refuse(case, why),
+    }
+}
+
+fn run_on<H, V>(case: &mut Case<'_>, made: Made<H, V>)
+where
+    H: NodeHash + Drop,
+    V: Vuf + Drop,
+{
+    let mut directory = made;
+    let commands = commands(case);
+    match directory.run(&mut NoKeeper, &commands) {
+        Ok(replies) => tell_replies(case, &replies),
+        Err(_) => case.lack_memory(),
+    }
+}
+
+/// The commands of the words that are left.
+fn commands<'a>(case: &mut Case<'a>) -> Vec<Command<'a>> {
+    let mut commands = Vec::new(case.alloc());
+    for _ in 0..case.left() {
+        let Some(command) = command(case.bytes()) else {
+            case.spoil();
+            return commands;
+        };
+        if commands.push(command).is_err() {
+            case.lack_memory();
+        }
+    }
+    commands
+}
+
+/// The command of a message: the kind and the body of a request.
+fn command(message: &[u8]) -> Option<Command<'_>> {
+    let (kind, body) = message.split_first()?;
+    match Request::read(*kind, body) {
+        Ok(Request::Register { name, key }) => Some(Command::Register { name, key }),
+        Ok(Request::Change { name, key }) => Some(Command::Change { name, key }),
+        Ok(Request::Promise { name }) => Some(Command::Promise { name }),
+        Ok(Request::Lookup { epoch, name }) => Some(Command::Lookup { name, epoch }),
+        Ok(Request::History { from, count }) => Some(Command::History { from, count }),
+        Ok(Request::Head) => Some(Command::Head),
+        Ok(Request::Close { epoch, .. }) => Some(Command::Close { epoch }),
+        Err(_) => None,
+    }
+}
+
+fn tell_replies(case: &mut Case<'_>, replies: &[Reply]) {
+    let mut frames = Vec::new(case.alloc());
+    for reply in replies {
+        if write_reply(reply, &mut frames).is_err() {
+            case.lack_memory();
+        }
+    }
+    case.say_shown(replies.len());
+    case.say_bytes(&frames);
+}
+
+/// Appends the frame of a reply. An `Err` also where the reply is that memory ran out.
+fn write_reply(reply: &Reply, frames: &mut Vec<u8>) -> Result<(), AllocError> {
+    match reply {
+        Reply::Promised(signed) => Answer::Promise(signed).write(frames),
+        Reply::Found(text) => Answer::Proof(text).write(frames),
+        Reply::Told(roots) => write_roots(roots, frames),
+        Reply::Last(root) => Answer::Root(root).write(frames),
+        Reply::Refused(Refusal::Memory) => Err(AllocError),
+        Reply::Refused(why) => Answer::Refused(why.number()).write(frames),
+    }
+}
+
+/// Appends the frame of a list of roots, of which a directory tells no more than a frame has.
+fn write_roots(roots: &[SignedRoot], frames: &mut Vec<u8>) -> Result<(), AllocError> {
+    if roots.len() > MAX_ROOTS {
+        return Ok(());
+    }
+    Answer::Roots(roots).write(frames)
+}

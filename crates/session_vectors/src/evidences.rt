@@ -1,0 +1,133 @@
+//! Of `audits`: evidence as JSON, and the programs that judge and audit.
+
+use crate::auditors::{of_roots, proof_text};
+use crate::telling::{refuse_root, say_fault};
+use audits::{
+    AuditOrder, ReadFault, Verdict, audit, evidence_json, judge_file, read_evidence,
+};
+use auditor::Evidence;
+use encoding::{Cursor, Form};
+use proofs::BrokenPromise;
+use questions::Case;
+use rootchain::{Refusal, RootEvidence, SignedPromise, SignedRoot};
+use textio::ProgramFault;
+
+pub(crate) fn answer(case: &mut Case<'_>) {
+    match case.word() {
+        b"json" => json(case),
+        b"read" => read(case),
+        b"judge" => judge_bytes(case),
+        b"audit" => audit_bytes(case),
+        _ => case.spoil(),
+    }
+}
+
+/// `json KIND FIRST SECOND`
+fn json(case: &mut Case<'_>) {
+    let evidence = match case.word() {
+        b"broken-promise" => broken(case),
+        kind => of_roots(case, kind),
+    };
+    match evidence {
+        Ok(evidence) => tell_json(case, &evidence),
+        Err(why) => refuse_root(case, why),
+    }
+}
+
+fn tell_json(case: &mut Case<'_>, evidence: &Evidence) {
+    match evidence_json(case.alloc(), evidence) {
+        Ok(text) => case.say_text(text.as_bytes()),
+        Err(_) => case.lack_memory(),
+    }
+}
+
+/// The evidence of a promise, and a root followed by a proof, in the next two words.
+fn broken(case: &mut Case<'_>) -> Result<Evidence, Refusal> {
+    let promise = SignedPromise::read(case.bytes())?;
+    let second = case.bytes();
+    let mut cursor = Cursor::new(second);
+    let Ok(root) = SignedRoot::read_from(&mut cursor) else {
+        return Err(Refusal::Malformed);
+    };
+    let proof = second.get(root.write().bytes().len()..).unwrap_or(&[]);
+    let proof = proof_text(case, proof);
+    Ok(Evidence::Broken(BrokenPromise {
+        promise,
+        root,
+        proof,
+    }))
+}
+
+/// `read BYTES`
+fn read(case: &mut Case<'_>) {
+    match read_evidence(case.alloc(), case.bytes()) {
+        Ok(evidence) => say_evidence(case, &evidence),
+        Err(ReadFault::OutOfMemory) => case.lack_memory(),
+        Err(ReadFault::NotEvidence) => say_fault(case, ProgramFault::NotEvidence),
+    }
+}
+
+fn say_evidence(case: &mut Case<'_>, evidence: &Evidence) {
+    match evidence {
+        Evidence::Root(RootEvidence::Fork(one, other)) => say_roots(case, "fork", one, other),
+        Evidence::Root(RootEvidence::Link(one, other)) => say_roots(case, "link", one, other),
+        Evidence::Root(RootEvidence::Skip(one, other)) => say_roots(case, "skip", one, other),
+        Evidence::Broken(broken) => say_broken(case, broken),
+    }
+}
+
+fn say_roots(case: &mut Case<'_>, kind: &str, one: &SignedRoot, other: &SignedRoot) {
+    case.say(kind);
+    case.say_bytes(one.write().bytes());
+    case.say_bytes(other.write().bytes());
+}
+
+/// The promise, and the root and the proof as one.
+fn say_broken(case: &mut Case<'_>, broken: &BrokenPromise) {
+    let mut second = Vec::new(case.alloc());
+    if second.extend_from_slice(broken.root.write().bytes()).is_err()
+        || second.extend_from_slice(broken.proof.bytes()).is_err()
+    {
+        return case.lack_memory();
+    }
+    case.say("broken-promise");
+    case.say_bytes(broken.promise.write().bytes());
+    case.say_bytes(&second);
+}
+
+/// `judge KEYTEXT BYTES`
+fn judge_bytes(case: &mut Case<'_>) {
+    let key = case.text();
+    let file = case.bytes();
+    let mut written = Vec::new(case.alloc());
+    let judged = judge_file(case.alloc(), key, file, &mut written);
+    tell_judged(case, judged);
+    case.say_text(&written);
+}
+
+fn tell_judged(case: &mut Case<'_>, judged: Result<Verdict, ProgramFault>) {
+    match judged {
+        Ok(verdict) => {
+            case.say("ok");
+            case.say_shown(verdict.status());
+        }
+        Err(fault) => say_fault(case, fault),
+    }
+}
+
+/// `audit KEYTEXT INPUT`
+fn audit_bytes(case: &mut Case<'_>) {
+    let order = AuditOrder { key: case.text() };
+    let mut reader = case.bytes();
+    let mut written = Vec::new(case.alloc());
+    let audited = audit(case.alloc(), order, &mut reader, &mut written);
+    tell_audited(case, audited);
+    case.say_text(&written);
+}
+
+fn tell_audited(case: &mut Case<'_>, audited: Result<(), ProgramFault>) {
+    match audited {
+        Ok(()) => case.say("ok"),
+        Err(fault) => say_fault(case, fault),
+    }
+}

@@ -1,0 +1,150 @@
+//! Of `monitor`: a monitor, which stays for the next lines. It takes the client.
+
+use crate::clients::{
+    KeyedClients, reconcile_both, refuse as refuse_client, say_statement, tell_done,
+};
+use crate::stand_ins::{Functions, keyed};
+use crate::telling::say_option;
+use client::Client;
+use encoding::KeyData;
+use monitor::{Monitor, Refusal, Step};
+use nodehash::{NodeHash, Sha256Hash};
+use questions::Case;
+use sigiface::KeyedSign;
+use vrfiface::{KeyedVuf, VufCheck};
+
+type Kept<H, V> = Monitor<H, V, KeyedSign>;
+
+pub(crate) type KeyedMonitor = Kept<Sha256Hash, KeyedVuf>;
+
+pub(crate) fn answer(
+    case: &mut Case<'_>,
+    clients: &mut KeyedClients,
+    kept: &mut Option<KeyedMonitor>,
+) {
+    match case.word() {
+        b"new" => new(case, &mut clients.client, kept),
+        b"reconcile" => {
+            let client = kept.as_ref().map(|monitor| monitor.client());
+            reconcile_both(case, &mut keyed(), client, clients.other.as_ref());
+        }
+        verb => match kept {
+            Some(monitor) => answer_on(case, &mut keyed(), verb, monitor),
+            None => case.spoil(),
+        },
+    }
+}
+
+fn answer_on<H, V>(
+    case: &mut Case<'_>,
+    by: &mut Functions<H, V>,
+    verb: &[u8],
+    monitor: &mut Kept<H, V>,
+) where
+    H: NodeHash + Drop,
+    V: VufCheck + Drop,
+{
+    match verb {
+        b"update" => {
+            let updated = monitor.update(&mut by.hash, &by.verifier, case.bytes());
+            tell_done(case, updated);
+        }
+        b"expect" => expect(case, by, monitor),
+        b"step" => step(case, by, monitor),
+        b"next" => say_option(case, monitor.next_epoch()),
+        b"expected" => expected(case, monitor),
+        b"name" => case.say_bytes(monitor.name().bytes()),
+        b"client" => case.say_shown(monitor.client().chain().head().body.epoch),
+        _ => case.spoil(),
+    }
+}
+
+/// The next word as a key, or `none`.
+fn some_key(case: &mut Case<'_>) -> Option<KeyData> {
+    let bytes = case.option()?;
+    match KeyData::new(bytes) {
+        Ok(key) => Some(key),
+        Err(_) => {
+            case.spoil();
+            None
+        }
+    }
+}
+
+/// `new NAME KEY|none`
+fn new<H, V>(
+    case: &mut Case<'_>,
+    client: &mut Option<Client<H, V, KeyedSign>>,
+    kept: &mut Option<Kept<H, V>>,
+) where
+    H: NodeHash + Drop,
+    V: VufCheck + Drop,
+{
+    let name = case.name();
+    let key = some_key(case);
+    if case.is_spoiled() {
+        return;
+    }
+    let Some(client) = client.take() else {
+        return case.spoil();
+    };
+    *kept = Some(Monitor::new(case.alloc(), client, name, key));
+    case.say("ok");
+}
+
+fn refuse(case: &mut Case<'_>, why: Refusal) {
+    match why {
+        Refusal::Client(why) => refuse_client(case, why),
+        Refusal::OtherPromise => case.refuse(Refusal::OtherPromise.number(), Refusal::OtherPromise),
+    }
+}
+
+/// `expect KEY PROMISE`
+fn expect<H, V>(case: &mut Case<'_>, by: &mut Functions<H, V>, monitor: &mut Kept<H, V>)
+where
+    H: NodeHash + Drop,
+    V: VufCheck + Drop,
+{
+    let key = case.key();
+    let promise = case.bytes();
+    if case.is_spoiled() {
+        return;
+    }
+    match monitor.expect_change(&mut by.hash, &by.verifier, &key, promise) {
+        Ok(()) => case.say("ok"),
+        Err(why) => refuse(case, why),
+    }
+}
+
+/// `step REPLY`
+fn step<H, V>(case: &mut Case<'_>, by: &mut Functions<H, V>, monitor: &mut Kept<H, V>)
+where
+    H: NodeHash + Drop,
+    V: VufCheck + Drop,
+{
+    let reply = case.bytes();
+    if case.is_spoiled() {
+        return;
+    }
+    match monitor.step(&mut by.hash, &by.vuf, reply) {
+        Ok(Step::Kept) => case.say("kept"),
+        Ok(Step::Alarm { epoch, found }) => {
+            case.say("alarm");
+            case.say_shown(epoch);
+            say_statement(case, found);
+        }
+        Err(why) => refuse(case, why),
+    }
+}
+
+/// `expected EPOCH`
+fn expected<H, V>(case: &mut Case<'_>, monitor: &Kept<H, V>)
+where
+    H: NodeHash + Drop,
+    V: VufCheck + Drop,
+{
+    match monitor.expected(case.number()) {
+        Some(key) => case.say_bytes(key.bytes()),
+        None => case.say("none"),
+    }
+}
