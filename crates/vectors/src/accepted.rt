@@ -1,12 +1,11 @@
-//! Of `proofs`: what accepted replies tell, under SHA-256 and keyed values.
+//! Of `proofs`: what accepted replies tell, and whether two state the same.
 
 use crate::replies::{keyed, say_compared, say_statement};
-use encoding::Name;
-use nodehash::Sha256Hash;
-use proofs::{Accepted, Refusal, ReplyView, accept, same_or_collision};
+use nodehash::{NodeHash, Sha256Hash};
+use proofs::{Accepted, ReplyView, accept, same_or_collision};
 use questions::Case;
 use rootchain::Body;
-use vrfiface::KeyedVuf;
+use vrfiface::{KeyedVuf, VufCheck};
 
 type Told<'a> = Accepted<'a, Sha256Hash, KeyedVuf>;
 
@@ -37,31 +36,31 @@ pub(crate) fn accepted(case: &mut Case<'_>) {
     }
 }
 
-/// The reply of the next three words, if it is accepted: BODY NAME REPLY.
-fn next_accepted<'a>(case: &mut Case<'a>, body: &Body, name: &Name) -> Result<Told<'a>, Refusal> {
-    accept(&mut Sha256Hash::new(), &keyed(), body, name, case.bytes())
-}
-
-/// `same BODY NAME REPLY BODY NAME REPLY`
-pub(crate) fn same(case: &mut Case<'_>) {
+/// `same BODY NAME REPLY BODY NAME REPLY`; `same-any`, under sums, where each value is accepted.
+pub(crate) fn same<H: NodeHash, V: VufCheck>(case: &mut Case<'_>, hash: &mut H, vuf: &V) {
     let Ok(body) = Body::read(case.bytes()) else {
         return case.spoil();
     };
     let name = case.name();
-    match next_accepted(case, &body, &name) {
-        Ok(first) => same_as(case, &first),
+    match accept(hash, vuf, &body, &name, case.bytes()) {
+        Ok(first) => same_as(case, hash, vuf, &first),
         Err(refusal) => case.refuse(refusal.number(), refusal),
     }
 }
 
-fn same_as(case: &mut Case<'_>, first: &Told<'_>) {
+fn same_as<H: NodeHash, V: VufCheck>(
+    case: &mut Case<'_>,
+    hash: &mut H,
+    vuf: &V,
+    first: &Accepted<'_, H, V>,
+) {
     let Ok(body) = Body::read(case.bytes()) else {
         return case.spoil();
     };
     let name = case.name();
-    match next_accepted(case, &body, &name) {
+    match accept(hash, vuf, &body, &name, case.bytes()) {
         Ok(second) => {
-            let compared = same_or_collision(&mut Sha256Hash::new(), first, &second);
+            let compared = same_or_collision(hash, first, &second);
             say_compared(case, &compared);
         }
         Err(refusal) => case.refuse(refusal.number(), refusal),

@@ -1,12 +1,14 @@
 //! Of `rootchain`: a chain, which stays for the next lines. Two chains are compared in `comparing`.
 
+use crate::any::AnySign;
 use crate::comparing::compare;
 use crate::evidence::say_evidence;
 use crate::roots::{say_body, signed_root, verifier};
+use encoding::Hash32;
 use nodehash::{Sha256Hash, SumHash};
 use questions::Case;
 use rootchain::{Chain, ListRefusal, Place, Refusal, RootList};
-use sigiface::KeyedSign;
+use sigiface::{KeyedSign, Verifier};
 
 type Kept = Option<Chain<Sha256Hash, KeyedSign>>;
 
@@ -15,6 +17,7 @@ pub(crate) fn answer(case: &mut Case<'_>, kept: &mut Kept) {
         b"start" => start(case, kept),
         b"compare" => compare(case, &mut Sha256Hash::new()),
         b"compare-sum" => compare(case, &mut SumHash::new()),
+        b"any" => any(case),
         verb => match kept {
             Some(chain) => answer_on(case, verb, chain),
             None => case.spoil(),
@@ -26,7 +29,7 @@ fn answer_on(case: &mut Case<'_>, verb: &[u8], chain: &mut Chain<Sha256Hash, Key
     match verb {
         b"extend" => extend(case, chain),
         b"place" => place(case, chain),
-        b"take" => take(case, chain),
+        b"take" => take(case, chain, &verifier()),
         b"take-list" => take_list(case, chain),
         b"at" => at(case, chain),
         b"after" => after(case, chain),
@@ -81,12 +84,28 @@ fn place(case: &mut Case<'_>, chain: &mut Chain<Sha256Hash, KeyedSign>) {
     }
 }
 
-/// `take ROOT`
-fn take(case: &mut Case<'_>, chain: &mut Chain<Sha256Hash, KeyedSign>) {
+/// `any ROOT..`: a chain under a verifier that accepts each signature, which takes the roots in turn.
+fn any(case: &mut Case<'_>) {
     let Ok(root) = signed_root(case) else {
         return case.spoil();
     };
-    match chain.take(&mut Sha256Hash::new(), &verifier(), root) {
+    match Chain::start(case.alloc(), &AnySign, Hash32::default(), root) {
+        Ok(mut chain) => {
+            case.say("started");
+            for _ in 0..case.left() {
+                take(case, &mut chain, &AnySign);
+            }
+        }
+        Err(refusal) => refuse(case, refusal),
+    }
+}
+
+/// `take ROOT`
+fn take<S: Verifier>(case: &mut Case<'_>, chain: &mut Chain<Sha256Hash, S>, verifier: &S) {
+    let Ok(root) = signed_root(case) else {
+        return case.spoil();
+    };
+    match chain.take(&mut Sha256Hash::new(), verifier, root) {
         Ok(place) => say_place(case, &place),
         Err(refusal) => refuse(case, refusal),
     }

@@ -60,7 +60,8 @@ fn node_text(case: &mut Case<'_>) -> NodeText {
     text
 }
 
-fn say_joined(case: &mut Case<'_>, hashes: &[Hash32]) {
+/// The bytes of hashes, as one word.
+pub(crate) fn say_joined(case: &mut Case<'_>, hashes: &[Hash32]) {
     let mut joined = Vec::new(case.alloc());
     for hash in hashes {
         if joined.extend_from_slice(hash.bytes()).is_err() {

@@ -25,13 +25,14 @@
 //! | `chains` | `Chain::start`, `extend`, `place`, `take` | `start`, `extend`, `place`, `take` |
 //! | | `take_list`, `at`, `after`, `head`, `key` | `take-list`, `at`, `after`, `head`, `key` |
 //! | | `compare` | `compare`, `compare-sum` |
+//! | | the same under a verifier that accepts all | `any` |
 //! | `trees` | `Tree::new`, `with`, `copy` | `new`, `with`, `copy` |
 //! | | `placed`, `from_items`, `with_all` | `from`, `more` |
 //! | | `root`, `get`, `path`, `Path::level` | `root`, `get`, `path` |
 //! | | `end_text`, `joined_text`, `climb`, `leads`, `Path::leads` | `end-text`, `joined`, `climb`, `leads` |
 //! | `replies` | `ReplyView::read`, `statement`, `siblings` | `read` |
 //! | | `accept`, `check`; `Accepted`; `Statement::binds` | `accept`, `accept-sum`; `accepted`; `binds` |
-//! | | `compare_replies`, `same_or_collision` | `compare`, `compare-sum`, `same` |
+//! | | `compare_replies`, `same_or_collision` | `compare`, `compare-sum`, `same`, `same-any` |
 //! | | `make` | `make` |
 //! | `frames` | `Request::read`, `fits`, `write` | `request` |
 //! | | `Response::read`, `Answer::write` | `response`, `answer` |
@@ -47,6 +48,7 @@
 
 mod accepted;
 mod answers;
+mod any;
 mod bits;
 mod chains;
 mod comparing;

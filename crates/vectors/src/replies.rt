@@ -2,6 +2,7 @@
 //! `accepted`, and replies are made in `made_replies`.
 
 use crate::accepted::{accepted, binds, same};
+use crate::any::AnyVuf;
 use crate::made_replies::make_reply;
 use encoding::Hash32;
 use nodehash::{NodeHash, Sha256Hash, SumHash};
@@ -18,7 +19,8 @@ pub(crate) fn answer(case: &mut Case<'_>) {
         b"compare" => compared(case, &mut Sha256Hash::new(), &keyed()),
         b"compare-sum" => compared(case, &mut SumHash::new(), &PlainVuf),
         b"accepted" => accepted(case),
-        b"same" => same(case),
+        b"same" => same(case, &mut Sha256Hash::new(), &keyed()),
+        b"same-any" => same(case, &mut SumHash::new(), &AnyVuf),
         b"binds" => binds(case),
         b"make" => make_reply(case),
         _ => case.spoil(),

@@ -50,7 +50,7 @@ pub(crate) fn say_fault(case: &mut Case<'_>, fault: ProgramFault) {
     case.say_shown(fault);
 }
 
-/// `fault NAME [LINE]`: the status, and the line that tells it.
+/// `fault NAME [LINE]`: the status, the text, and the line that tells it.
 fn fault(case: &mut Case<'_>) {
     match named_fault(case) {
         Some(fault) => tell(case, fault),
@@ -75,6 +75,7 @@ fn named_fault(case: &mut Case<'_>) -> Option<ProgramFault> {
 fn tell(case: &mut Case<'_>, fault: ProgramFault) {
     let mut line = Vec::new(case.alloc());
     case.say_shown(fault.status());
+    case.say_shown(fault);
     match fault.tell(&mut line) {
         Ok(()) => case.say_text(&line),
         // A writer to memory fails only if memory runs out.

@@ -1,5 +1,6 @@
 //! Of `prefixtree`: a tree, which stays for the next lines. Single steps of a way stand in `ways`.
 
+use crate::digests::say_joined;
 use crate::ways;
 use encoding::{Hash32, Index};
 use nodehash::{NodeHash, Sha256Hash};
@@ -138,9 +139,7 @@ fn path(case: &mut Case<'_>, tree: &Tree<Sha256Hash>) {
 fn say_path(case: &mut Case<'_>, path: &Path) {
     say_end(case, path.end);
     case.say_shown(path.level());
-    for sibling in path.siblings.as_slice() {
-        case.say_bytes(sibling.bytes());
-    }
+    say_joined(case, path.siblings.as_slice());
 }
 
 fn say_end(case: &mut Case<'_>, end: End) {

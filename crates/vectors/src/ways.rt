@@ -96,8 +96,8 @@ fn led(case: &mut Case<'_>) {
     let index = case.index();
     let end = end(case);
     let siblings = siblings(case);
-    let text = end_text(&nonce, &index, siblings.len(), end);
-    case.say_truth(leads(&mut Sha256Hash::new(), &root, &index, siblings, text));
     let path = path_of(case, siblings, end);
+    let text = end_text(&nonce, &index, siblings.len(), path.end);
+    case.say_truth(leads(&mut Sha256Hash::new(), &root, &index, siblings, text));
     case.say_truth(path.leads(&mut Sha256Hash::new(), &nonce, &index, &root));
 }
