@@ -1,0 +1,172 @@
+// Each record fails to be kept, in turn.
+use crate::devices::LossyKeeper;
+use crate::provider;
+use book::{Command, Refusal, Reply};
+use hub::{Event, HubRefusal};
+use provider::ProvidedHub;
+use questions::Case;
+use std::alloc::{AllocError, Global};
+use wire::Request;
+
+/// What a directory is asked.
+#[derive(Drop)]
+enum Asked<'a> {
+    /// By calls.
+    Commands(Vec<Command<'a>>),
+    /// In a session of a hub, by a stream of frames in pieces of so many bytes.
+    Stream { piece: usize, frames: &'a [u8] },
+}
+
+/// The command of a kind byte and a body.
+fn command(message: &[u8]) -> Option<Command<'_>> {
+    let (kind, body) = message.split_first()?;
+    match Request::read(*kind, body).ok()? {
+        Request::Register { name, key } => Some(Command::Register { name, key }),
+        Request::Change { name, key } => Some(Command::Change { name, key }),
+        Request::Promise { name } => Some(Command::Promise { name }),
+        Request::Lookup { epoch, name } => Some(Command::Lookup { epoch, name }),
+        Request::History { from, count } => Some(Command::History { from, count }),
+        Request::Head => Some(Command::Head),
+        Request::Close { epoch, .. } => Some(Command::Close { epoch }),
+    }
+}
+
+/// The commands of the words that are left.
+fn commands<'a>(case: &mut Case<'a>) -> Vec<Command<'a>> {
+    let mut commands = Vec::new(case.alloc());
+    for _ in 0..case.left() {
+        match command(case.bytes()) {
+            Some(command) => {
+                if commands.push(command).is_err() {
+                    case.lack_memory();
+                }
+            }
+            None => case.spoil(),
+        }
+    }
+    commands
+}
+
+/// Appends what a reply has: its bytes, or the number of its refusal.
+fn push_reply(output: &mut Vec<u8>, reply: &Reply) -> Result<(), AllocError> {
+    match reply {
+        Reply::Promised(promise) => output.extend_from_slice(promise.write().bytes()),
+        Reply::Found(text) => output.extend_from_slice(text.bytes()),
+        Reply::Told(roots) => {
+            for root in roots {
+                output.extend_from_slice(root.write().bytes())?;
+            }
+            Ok(())
+        }
+        Reply::Last(root) => output.extend_from_slice(root.write().bytes()),
+        Reply::Refused(Refusal::Memory) => Err(AllocError),
+        Reply::Refused(why) => output.extend_from_slice(&[why.number()]),
+    }
+}
+
+/// Appends the replies of a new directory.
+fn ask_directory(
+    alloc: Global,
+    keeper: &mut LossyKeeper,
+    commands: &[Command<'_>],
+    output: &mut Vec<u8>,
+) -> Result<(), AllocError> {
+    let mut directory = provider::directory(alloc)?;
+    let replies = directory.run(keeper, commands)?;
+    for reply in &replies {
+        push_reply(output, reply)?;
+    }
+    Ok(())
+}
+
+/// The number of the session.
+const SESSION: u32 = 1;
+
+/// Hands a piece to the session. Where memory runs out, the piece comes once more, or an empty one where it
+/// was taken: no message is lost, and none is answered twice.
+fn hear(
+    hub: &mut ProvidedHub<LossyKeeper>,
+    piece: &[u8],
+    output: &mut Vec<u8>,
+) -> Result<(), AllocError> {
+    let heard = match hub.event(&Event::Bytes(SESSION, piece), output) {
+        Err(HubRefusal::Memory { taken: false }) => {
+            hub.event(&Event::Bytes(SESSION, piece), output)
+        }
+        Err(HubRefusal::Memory { taken: true }) => hub.event(&Event::Bytes(SESSION, &[]), output),
+        heard => heard,
+    };
+    heard.map_err(|_| AllocError)
+}
+
+/// Appends the replies of a new hub.
+fn ask_hub(
+    alloc: Global,
+    keeper: LossyKeeper,
+    piece: usize,
+    frames: &[u8],
+    output: &mut Vec<u8>,
+) -> Result<(), AllocError> {
+    let mut hub = provider::hub(alloc, keeper)?;
+    if hub.event(&Event::Open(SESSION), output).is_err() {
+        return Err(AllocError);
+    }
+    for piece in frames.chunks(piece.max(1)) {
+        hear(&mut hub, piece, output)?;
+    }
+    if provider::lack_memory(output) {
+        return Err(AllocError);
+    }
+    Ok(())
+}
+
+/// Writes the replies, where the keeper fails at this call.
+fn ask(
+    alloc: Global,
+    asked: &Asked<'_>,
+    failing: Option<u64>,
+    output: &mut Vec<u8>,
+) -> Result<(), AllocError> {
+    output.clear();
+    let mut keeper = LossyKeeper::new(failing);
+    match asked {
+        Asked::Commands(commands) => ask_directory(alloc, &mut keeper, commands, output),
+        Asked::Stream { piece, frames } => ask_hub(alloc, keeper, *piece, frames, output),
+    }
+}
+
+/// Tells the replies where no record fails, and then where the first one fails, the second one, and so on,
+/// until none fails.
+fn sweep(case: &mut Case<'_>, asked: &Asked<'_>) -> Result<(), AllocError> {
+    let mut whole = Vec::new(case.alloc());
+    let mut output = Vec::new(case.alloc());
+    ask(case.alloc(), asked, None, &mut whole)?;
+    case.say_bytes(&whole);
+    for failing in 0..u64::MAX {
+        ask(case.alloc(), asked, Some(failing), &mut output)?;
+        if output == whole {
+            break;
+        }
+        case.say_bytes(&output);
+    }
+    Ok(())
+}
+
+fn answer(case: &mut Case<'_>, asked: &Asked<'_>) {
+    if sweep(case, asked).is_err() {
+        case.lack_memory();
+    }
+}
+
+/// `directory MESSAGE..`
+pub(crate) fn directory(case: &mut Case<'_>) {
+    let commands = commands(case);
+    answer(case, &Asked::Commands(commands));
+}
+
+/// `hub PIECE FRAMES`
+pub(crate) fn hub(case: &mut Case<'_>) {
+    let piece = case.number_to(4096);
+    let frames = case.bytes();
+    answer(case, &Asked::Stream { piece, frames });
+}
