@@ -14,7 +14,11 @@ pub(crate) fn compare<H: NodeHash>(case: &mut Case<'_>, hash: &mut H) {
     let key = case.hash();
     let one = chain_of_list(case, hash, key);
     let other = chain_of_list(case, hash, key);
-    if let (Some(one), Some(other)) = (&one, &other) {
+    let (Some(one), Some(other)) = (&one, &other) else {
+        return;
+    };
+    // Both have the key of the question. The test shows it to the prover.
+    if one.key() == other.key() {
         let compared = Chain::compare(hash, one, other);
         say_compared(case, &compared);
     }
