@@ -1,89 +1,110 @@
 #!/usr/bin/env bash
-# Makes each allocation of the tests fail in turn, and looks for a wrong answer in place of the error.
+# Makes the allocations of the test programs fail, one a run, and compares what is written.
 #
-#   [FROM=N] [STEP=N] [MOST=N] scripts/fail_alloc.sh [CRATE..]
+#   scripts/fail_alloc.sh [--seconds N] [PROGRAM..]
 #
-# Without a name it takes each crate whose tests allocate. FROM is the first allocation that fails, and
-# STEP the distance to the next; both are 1 unless given. With MOST it goes on up to that allocation,
-# whatever passes.
+# The programs are vectors, session_vectors and faults, as they were built last; one that is not built counts as
+# failed. Each answers a question once more where a call lacked memory. So a run passes if it writes the stored
+# answers, or if it ends with status 1 before its first answer. Any other end is a wrong answer in place of a
+# refusal, or a state that a refused call has changed.
 #
-# Each test is a process of its own, so the Nth run makes the Nth allocation of each test fail. The
-# test then has to pass, or to end with an `Err` that speaks of memory (AllocError, AllocFailed or
-# OutOfMemory). Any other end (a failed assertion, another error, a signal, no end at all) is bad: the
-# test got a wrong answer in place of the error. A crate is done once every test has passed in two runs
-# on end: then no test allocates that often. Only tests that try again after a failed allocation can
-# pass earlier. They allocate hundreds of times, and MOST goes on through them.
+# It goes through every 4,096th allocation first, then halves the distance until it has tried all, or until the
+# seconds are over (300 unless given), on as many processors as there are. The last line is `N passed, N failed`,
+# and the status is 0 where none failed.
 #
-# The status is 0 if nothing was bad. A run takes about 15 seconds, since it builds the tests.
+# `rt try --fail-alloc` makes one allocation fail too, but takes a minute to build for each, and what it builds is
+# hundreds of times slower. So a library in front of the C library's counts them in the built program.
 set -uo pipefail
-cd "$(dirname "$0")/.."
+cd "$(dirname "$0")/.." || exit 1
+root=$PWD
 
-most=${MOST:-500}
-seconds_a_run=300
-
-# Prints for each test that failed how it ended: TEST memory, or TEST bad and what it printed.
-ends() {
-    awk '
-        function tell() {
-            if (test != "") print test, (memory && ended && !killed ? "memory" : "bad" said)
-            test = ""
-        }
-        /^test .* \.\.\. / || /^test result:/ {
-            tell()
-            if (/ \.\.\. FAILED$/) { test = $2; said = ""; memory = ended = killed = 0 }
-            next
-        }
-        /^    / {
-            said = said " |" $0
-            if (/^    error: .*(AllocError|AllocFailed|OutOfMemory)/) memory = 1
-            if (/^    the test failed: its result gives status 1$/) ended = 1
-            if (/killed by signal/) killed = 1
-        }
-        END { tell() }'
-}
-
-# Makes each allocation of the tests of the crate in the current folder fail in turn.
-sweep() {
-    local crate=$1 number passed=0 bad=0 output status failed
-    for ((number = ${FROM:-1}; number <= most; number += ${STEP:-1})); do
-        output=$(timeout "$seconds_a_run" rt try --test --fail-alloc "$number" </dev/null 2>&1)
-        status=$?
-        # 101 is the status of tests of which some failed.
-        if { [ $status != 0 ] && [ $status != 101 ]; } || ! grep -q "^test result:" <<<"$output"; then
-            printf '%s\n' "$output"
-            echo "$crate: allocation $number: no answer (status $status)"
-            return 1
-        fi
-        failed=$(ends <<<"$output")
-        echo "$crate: allocation $number: $(grep -c " \.\.\. ok$" <<<"$output") passed," \
-            "$(grep -c " memory$" <<<"$failed") ended as memory ran out"
-        if grep " bad" <<<"$failed"; then
-            bad=1
-        fi
-        if [ $status = 0 ]; then
-            passed=$((passed + 1))
-            [ $passed = 2 ] && [ -z "${MOST:-}" ] && return $bad
-        else
-            passed=0
-        fi
-    done
-    [ -n "${MOST:-}" ] && return $bad
-    echo "$crate: not past the last allocation at $most"
-    return 1
-}
-
-crates=("$@")
-if [ $# = 0 ]; then
-    for folder in crates/*/; do
-        grep -rq '#\[test\]' "$folder/src" && grep -rq 'rt\.alloc()' "$folder/src" && crates+=("$(basename "$folder")")
-    done
+seconds=300
+if [ "${1:-}" = --seconds ]; then
+    seconds=${2:?--seconds takes a number}
+    shift 2
 fi
+programs=("$@")
+[ $# -gt 0 ] || programs=(vectors session_vectors faults)
+workers=$(nproc)
 
-wrong=0
-for crate in "${crates[@]}"; do
-    (cd "crates/$crate" && sweep "$crate") || wrong=1
+folder=$(mktemp -d)
+trap 'rm -rf "$folder"' EXIT
+
+# The kit's compiler, or another one.
+kit=$(dirname "$(dirname "$(readlink -f "$(command -v rt)")")")
+compiler=$kit/toolchain/bin/clang
+[ -x "$compiler" ] || compiler=cc
+library=$folder/fail_nth.so
+"$compiler" -O1 -fPIC -shared -nostdlib -o "$library" scripts/fail_nth.c || exit 1
+
+# Runs a program whose allocation of this number fails: run PROGRAM NUMBER OUTPUT COUNT
+run() {
+    timeout 120 env FAIL_NTH="$2" LD_PRELOAD="$library" "$root/crates/$1/out/$1" \
+        <"$root/crates/$1/stdin" >"$3" 2>/dev/null 3>"$4"
+}
+
+# The first line that is not as stored: differs PROGRAM OUTPUT
+differs() {
+    diff "$2" "$root/crates/$1/stdout" | head -n 2 | cut -c 1-200 | tr '\n' ' '
+}
+
+# Tries a part of the allocations of a program until a time: try_part PROGRAM WORKER ALL UNTIL. Writes how many
+# runs passed and failed, and how many of those that passed ended before the first answer.
+try_part() {
+    local program=$1 worker=$2 all=$3 until=$4
+    local output=$folder/output.$worker place=0 passed=0 failed=0 early=0 step number status
+    for ((step = 4096; step > 0; step /= 2)); do
+        for ((number = 1; number <= all; number += step)); do
+            # These were tried with the step before.
+            [ $step = 4096 ] || [ $(((number - 1) / step % 2)) = 1 ] || continue
+            place=$((place + 1))
+            [ $((place % workers)) = "$worker" ] || continue
+            [ $SECONDS -lt "$until" ] || break 2
+            run "$program" $number "$output" /dev/null
+            status=$?
+            if [ $status = 0 ] && cmp -s "$output" "$root/crates/$program/stdout"; then
+                passed=$((passed + 1))
+            elif [ $status = 1 ] && [ ! -s "$output" ]; then
+                passed=$((passed + 1))
+                early=$((early + 1))
+            else
+                failed=$((failed + 1))
+                echo "$program: allocation $number fails: status $status, $(differs "$program" "$output")"
+            fi
+        done
+    done
+    echo "$passed $failed $early" >"$folder/done.$worker"
+}
+
+passed=0
+failed=0
+left=${#programs[@]}
+for program in "${programs[@]}"; do
+    until=$((SECONDS + (seconds - SECONDS) / left))
+    left=$((left - 1))
+    # A program's files lie in the folder that it is run in.
+    cd "$root/crates/$program/data" 2>/dev/null || cd "$folder" || exit 1
+    if ! run "$program" 0 "$folder/whole" "$folder/count" ||
+        ! cmp "$folder/whole" "$root/crates/$program/stdout"; then
+        echo "$program: not built, or it does not write the stored answers"
+        failed=$((failed + 1))
+        continue
+    fi
+    all=$(cat "$folder/count")
+    for ((worker = 0; worker < workers; worker++)); do
+        try_part "$program" $worker "$all" $until &
+    done
+    wait
+    tried=0
+    early=0
+    for ((worker = 0; worker < workers; worker++)); do
+        read -r its_passed its_failed its_early <"$folder/done.$worker"
+        passed=$((passed + its_passed))
+        failed=$((failed + its_failed))
+        early=$((early + its_early))
+        tried=$((tried + its_passed + its_failed))
+    done
+    echo "$program: $tried of $all allocations failed in turn, $early of them before the first answer"
 done
-if [ $wrong = 0 ]; then
-    echo "no wrong answer in place of an error: ${crates[*]}"
-fi
-exit $wrong
+echo "$passed passed, $failed failed"
+[ $failed = 0 ]

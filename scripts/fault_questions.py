@@ -236,7 +236,7 @@ class Sweeps(Lines):
         return lambda data, piece: read_first(data, piece, prove_text(*order, index, data).encode())
 
     def root_order(self, words):
-        return {"sum": byte_sum, "sha256": sha256}[words.word()], words.text() or None
+        return {"sum": byte_sum, "sha256": sha256}[words.word()], words.optional(words.text)
 
     def of_audit(self, words):
         key = words.text()
@@ -339,28 +339,28 @@ def of_items(q):
     index = q.let("index", b"c0".ljust(64, b"0"))
     nonce = q.let("nonce", digits(run(0xA0)))
     for devices in READS + WRITES:
-        q.ask("root sum -", devices, 50, two)
+        q.ask("root sum none", devices, 50, two)
         q.ask("root sha256", nonce, devices, 12, two)
-        q.ask("prove", index, "sum -", devices, 50, two)
+        q.ask("prove", index, "sum none", devices, 50, two)
         q.ask("prove", index, "sha256", nonce, devices, 80, two[:-1])
-    q.ask("root sum - read-fails 50", b"")
-    q.ask("prove", index, "sum - write-fails 6", b"")
+    q.ask("root sum none read-fails 50", b"")
+    q.ask("prove", index, "sum none write-fails 6", b"")
     q.note("A nonce or an index that is malformed is refused before anything is read.")
     for bad in (nonce[1:], nonce + b"0", b"g" + nonce[1:]):
         q.ask("root sum", bad, "read-fails 50", b"x\n")
-        q.ask("prove", bad, "sum - read-fails 50", b"x\n")
+        q.ask("prove", bad, "sum none read-fails 50", b"x\n")
         q.ask("prove", index, "sum", bad, "read-fails 50", b"x\n")
     q.note("An input of thousands of reads, and the longest path, of two indices that differ in their last bit.")
     hundred = item_lines(*(b"%04d" % number for number in range(100)))
     q.let("hundred", hundred)
-    q.ask("root sum - never 1", hundred)
-    q.ask("prove", b"0050".ljust(64, b"0"), "sha256 - never 1", hundred)
-    q.ask("root sha256 - read-fails 4096", hundred)
+    q.ask("root sum none never 1", hundred)
+    q.ask("prove", b"0050".ljust(64, b"0"), "sha256 none never 1", hundred)
+    q.ask("root sha256 none read-fails 4096", hundred)
     zeros, one = b"0" * 64, b"1".rjust(64, b"0")
     neighbours = q.let("neighbours", b"%s %s\n%s %s\n" % (one, zeros, zeros, zeros))
     for index in (zeros, one):
-        q.ask("prove", index, "sum - never 1", neighbours)
-        q.ask("prove", index, "sum - write-fails 4096", neighbours)
+        q.ask("prove", index, "sum none never 1", neighbours)
+        q.ask("prove", index, "sum none write-fails 4096", neighbours)
 
 
 def signed_root(epoch, previous=None, nonce=b"\4" * 32):

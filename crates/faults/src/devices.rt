@@ -1,6 +1,6 @@
 // The devices that fail. Their calls are counted from 0. Contracts know nothing of what they give or take,
 // as of a device.
-ghost use Rattle.std.specs.Prelude.{⊤};
+ghost use Rattle.std.specs.Prelude.{◌≡◌, IfOk, IfSome, ⊤};
 
 use book::{KeepFailed, Keeper, Record};
 use std::alloc::{AllocError, Global};
@@ -28,7 +28,9 @@ impl Calls {
     }
 
     /// How the next call fails, if it does.
-    fn next(&mut self) -> Option<io::Result<usize>> {
+    fn next(&mut self) -> Option<io::Result<usize>>
+        ensures { IfSome result (λ failed. IfOk failed (λ count. count ≡ 0)) }
+    {
         let call = self.made;
         self.made = call.saturating_add(1);
         let after_first = call.checked_sub(self.failing.first)?;

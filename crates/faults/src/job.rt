@@ -7,6 +7,7 @@ use items::{HashChoice, ProveOrder, RootOrder, prove, root};
 use questions::Case;
 use server::{DirectoryOrder, ServeFault, serve, serve_directory};
 use std::alloc::Global;
+use std::fmt;
 use std::io::BufReader;
 use std::num::NonZeroU64;
 use textio::{ProgramFault, StreamFault, next_line, read_some, write_text};
@@ -35,24 +36,39 @@ pub(crate) enum Job<'a> {
     Sessions,
 }
 
+/// Why a run stopped.
+#[derive(Clone, Copy, Debug, PartialEq, Eq)]
+pub(crate) enum Fault {
+    Stream(StreamFault),
+    Session(ServeFault),
+    Program(ProgramFault),
+}
+
+impl fmt::Display for Fault {
+    fn fmt<W: fmt::Write>(&self, f: &mut fmt::Formatter<W>) -> fmt::Result {
+        match self {
+            Fault::Stream(fault) => write!(f, "{fault}"),
+            Fault::Session(fault) => write!(f, "{fault}"),
+            Fault::Program(fault) => write!(f, "{fault}"),
+        }
+    }
+}
+
 /// How a run ended.
 #[derive(Clone, Copy, Debug, PartialEq, Eq)]
 pub(crate) struct Outcome {
-    pub(crate) fault: Option<ProgramFault>,
+    pub(crate) fault: Option<Fault>,
     /// The epoch that the next session was told, 0 for none.
     pub(crate) next: Option<u64>,
     /// Whether memory ran out where the run could go on, so that it tells nothing of the devices.
     pub(crate) is_spoiled: bool,
 }
 
-/// The text of the next word, `-` for none.
-fn text<'a>(case: &mut Case<'a>) -> &'a str {
-    match str::from_utf8(case.bytes()) {
-        Ok(text) => text,
-        Err(_) => {
-            case.spoil();
-            ""
-        }
+impl Outcome {
+    /// Whether memory ran out.
+    pub(crate) fn is_of_memory(self) -> bool {
+        self.fault == Some(Fault::Program(ProgramFault::OutOfMemory))
+            || self.fault == Some(Fault::Session(ServeFault::OutOfMemory))
     }
 }
 
@@ -62,10 +78,9 @@ fn root_order<'a>(case: &mut Case<'a>) -> RootOrder<'a> {
         b"sum" => HashChoice::Sum,
         _ => HashChoice::Sha256,
     };
-    let nonce = text(case);
     RootOrder {
         hash,
-        nonce: if nonce.is_empty() { None } else { Some(nonce) },
+        nonce: case.option_text(),
     }
 }
 
@@ -79,12 +94,12 @@ impl<'a> Job<'a> {
             b"lines" => Some(Job::Lines),
             b"root" => Some(Job::Root(root_order(case))),
             b"prove" => Some(Job::Prove(ProveOrder {
-                index: text(case),
+                index: case.text(),
                 root: root_order(case),
             })),
-            b"audit" => Some(Job::Audit(AuditOrder { key: text(case) })),
+            b"audit" => Some(Job::Audit(AuditOrder { key: case.text() })),
             b"judge" => Some(Job::Judge {
-                key: text(case),
+                key: case.text(),
                 file: case.bytes(),
             }),
             b"serve" => Some(Job::Serve),
@@ -106,14 +121,17 @@ impl<'a> Job<'a> {
         writer: &mut CutWriter,
     ) -> Outcome {
         match self {
-            Job::Write(text) => ended(write_text(writer, text)),
+            Job::Write(text) => streamed(write_text(writer, text)),
             Job::Tell(line) => ended(ProgramFault::IndexRepeated(*line).tell(writer)),
-            Job::Read(most) => ended(copy_bytes(*most, reader, writer)),
-            Job::Lines => ended(copy_lines(reader, writer)),
+            Job::Read(most) => streamed(copy_bytes(*most, reader, writer)),
+            Job::Lines => streamed(copy_lines(reader, writer)),
             Job::Root(order) => ended(root(alloc, *order, reader, writer)),
             Job::Prove(order) => ended(prove(alloc, *order, reader, writer)),
             Job::Audit(order) => ended(audit(alloc, *order, reader, writer)),
-            Job::Judge { key, file } => { ended(judge_file(alloc, key, file, writer).map(|_| ())) }
+            Job::Judge { key, file } => match judge_file(alloc, key, file, writer) {
+                Ok(_) => ended(Ok(())),
+                Err(fault) => ended(Err(fault)),
+            },
             Job::Serve => serve_one(alloc, reader, writer),
             Job::Sessions => serve_two(alloc, reader, writer),
         }
@@ -126,15 +144,33 @@ const ROOM: usize = 4096;
 /// The first bytes of a line that are written.
 const LINE: usize = 130;
 
-/// The fault of a run, if it has one.
-fn ended<F: Into<ProgramFault> + Drop>(done: Result<(), F>) -> Outcome {
+/// The outcome of a run with this fault, if it has one.
+fn stopped(fault: Option<Fault>) -> Outcome {
     Outcome {
-        fault: match done {
-            Ok(()) => None,
-            Err(fault) => Some(fault.into()),
-        },
+        fault,
         next: None,
         is_spoiled: false,
+    }
+}
+
+fn ended(done: Result<(), ProgramFault>) -> Outcome {
+    match done {
+        Ok(()) => stopped(None),
+        Err(fault) => stopped(Some(Fault::Program(fault))),
+    }
+}
+
+fn streamed(done: Result<(), StreamFault>) -> Outcome {
+    match done {
+        Ok(()) => stopped(None),
+        Err(fault) => stopped(Some(Fault::Stream(fault))),
+    }
+}
+
+fn served(done: Result<(), ServeFault>) -> Outcome {
+    match done {
+        Ok(()) => stopped(None),
+        Err(fault) => stopped(Some(Fault::Session(fault))),
     }
 }
 
@@ -228,7 +264,7 @@ fn serve_two(alloc: Global, reader: &mut Input<'_>, writer: &mut CutWriter) -> O
     let first = serve(alloc, &mut hub, SESSION, reader, writer);
     let mut head = HEAD;
     let second = serve(alloc, &mut hub, SESSION, &mut head, &mut reply);
-    let mut outcome = ended(first);
+    let mut outcome = served(first);
     outcome.next = Some(told_epoch(&reply));
     if second == Err(ServeFault::OutOfMemory) && first != second {
         outcome.is_spoiled = true;

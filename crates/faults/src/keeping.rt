@@ -17,17 +17,37 @@ enum Asked<'a> {
     Stream { piece: usize, frames: &'a [u8] },
 }
 
-/// The command of a kind byte and a body.
-fn command(message: &[u8]) -> Option<Command<'_>> {
-    let (kind, body) = message.split_first()?;
-    match Request::read(*kind, body).ok()? {
-        Request::Register { name, key } => Some(Command::Register { name, key }),
-        Request::Change { name, key } => Some(Command::Change { name, key }),
-        Request::Promise { name } => Some(Command::Promise { name }),
-        Request::Lookup { epoch, name } => Some(Command::Lookup { epoch, name }),
-        Request::History { from, count } => Some(Command::History { from, count }),
-        Request::Head => Some(Command::Head),
-        Request::Close { epoch, .. } => Some(Command::Close { epoch }),
+/// The command that a request is.
+fn command<'a>(request: &Request<'a>) -> Command<'a> {
+    match request {
+        Request::Register { name, key } => Command::Register { name, key },
+        Request::Change { name, key } => Command::Change { name, key },
+        Request::Promise { name } => Command::Promise { name },
+        Request::Lookup { epoch, name } => Command::Lookup {
+            epoch: *epoch,
+            name,
+        },
+        Request::History { from, count } => Command::History {
+            from: *from,
+            count: *count,
+        },
+        Request::Head => Command::Head,
+        Request::Close { epoch, .. } => Command::Close { epoch: *epoch },
+    }
+}
+
+/// Adds the command of a message: a kind byte and a body.
+fn push_command<'a>(case: &mut Case<'a>, commands: &mut Vec<Command<'a>>) {
+    let Some((kind, body)) = case.bytes().split_first() else {
+        return case.spoil();
+    };
+    match Request::read(*kind, body) {
+        Ok(request) => {
+            if commands.push(command(&request)).is_err() {
+                case.lack_memory();
+            }
+        }
+        Err(_) => case.spoil(),
     }
 }
 
@@ -35,14 +55,7 @@ fn command(message: &[u8]) -> Option<Command<'_>> {
 fn commands<'a>(case: &mut Case<'a>) -> Vec<Command<'a>> {
     let mut commands = Vec::new(case.alloc());
     for _ in 0..case.left() {
-        match command(case.bytes()) {
-            Some(command) => {
-                if commands.push(command).is_err() {
-                    case.lack_memory();
-                }
-            }
-            None => case.spoil(),
-        }
+        push_command(case, &mut commands);
     }
     commands
 }

@@ -5,7 +5,6 @@ use questions::Case;
 use std::alloc::{AllocError, Global};
 use std::fmt;
 use std::io::{BufReader, ErrorKind};
-use textio::ProgramFault;
 
 /// How the devices of a sweep fail.
 #[derive(Clone, Copy, Debug)]
@@ -113,9 +112,7 @@ fn run(
 /// the next session was served.
 fn is_lacking(ending: &Ending) -> bool {
     let outcome = ending.outcome;
-    let is_told = outcome.fault == Some(ProgramFault::OutOfMemory)
-        && ending.written.is_some()
-        && outcome.next != Some(0);
+    let is_told = outcome.is_of_memory() && ending.written.is_some() && outcome.next != Some(0);
     is_told || outcome.is_spoiled
 }
 
@@ -156,7 +153,7 @@ fn whole_output(
     writer: &mut CutWriter,
 ) -> Result<Vec<u8>, AllocError> {
     let (outcome, _) = run(case.alloc(), job, devices, u64::MAX, writer)?;
-    if outcome.fault == Some(ProgramFault::OutOfMemory) || outcome.is_spoiled {
+    if outcome.is_of_memory() || outcome.is_spoiled {
         return Err(AllocError);
     }
     if job.writes_text() {
