@@ -3,7 +3,7 @@
 from dataclasses import replace
 
 from formats import *
-from session_scripts import key_of, name_of
+from session_scripts import key_of
 from session_subjects import *
 from sessions import SIGN_KEY, Client
 
@@ -60,25 +60,53 @@ def of_updates(q, rng):
     q.ask("client head")
 
 
-@subject("clients: lists of 64 roots, and chains of more")
+@subject("clients: longer lists, and chains of which each client has a part")
 def of_long_lists(q, rng):
-    pages = KEYED.pages(range(5, 145, 2))
-    data = b"".join(written(page) for page in pages)
-    size = len(written(pages[0]))
-    q.let("roots", data)
-    q.ask("client start", SIGN_KEY, written(pages[0]))
-    q.ask("client update", u16(64) + data[: 64 * size])
-    q.ask("client head")
-    q.ask("client update", u16(5) + data[63 * size : 68 * size])
-    q.ask("client update", u16(2) + data[68 * size :])
-    q.ask("client head")
-    q.ask("client update", u16(64) + data[6 * size :])
-    q.ask("client put-aside")
-    q.ask("client start", SIGN_KEY, written(pages[40]))
-    q.ask("client reconcile")
-    q.ask("client update", u16(25) + data[41 * size : 66 * size])
-    q.ask("client reconcile")
+    pages = KEYED.pages(range(5, 45, 2))
+    lets(q, a=pages[0], b=pages[1])
+    q.let("roots", b"".join(written(page) for page in pages))
+    for others, ones in [(pages, pages[:9]), (pages[:9], pages[8:]), (pages[:9], pages[9:]), (pages[:9], pages[10:])]:
+        for part in (others, ones):
+            q.ask("client start", SIGN_KEY, written(part[0]))
+            q.ask("client update", roots(*part))
+            q.ask("client update", roots(*part[-3:]))
+            q.ask("client head")
+            if part is others:
+                q.ask("client put-aside")
+        q.ask("client reconcile")
+    q.ask("client update", u16(64) + written(pages[19]) * 64)
+    q.ask("client update", u16(65) + written(pages[19]) * 65)
     q.ask("client reconcile-self")
+
+
+@subject("clients and monitors that begin at later epochs, up to the greatest")
+def of_late_starts(q, rng):
+    for first in [2, 13, 400, 2**32, TOP - 1]:
+        a = KEYED.page(first, KEYED.page(1))
+        b = KEYED.page(TOP, a, {b"a": b"k"})
+        promise = a.promise(b"a", b"k")
+        replies = [page.reply(b"a").write() for page in (a, b)]
+        lets(q, a=a, b=b)
+        q.ask("client start", SIGN_KEY, written(a))
+        q.ask("client keep", promise)
+        q.ask("client look", b"a", first, replies[0])
+        q.ask("client update", roots(a, b))
+        q.ask("client update", roots(KEYED.page(1)))
+        q.ask("client look", b"a", TOP, replies[1])
+        q.ask("client look", b"a", 0, replies[1])
+        q.ask("client due-epoch", b"a")
+        q.ask("client due", b"a", replies[1])
+        q.ask("client keep", b.promise(b"a", b"k"))
+        q.ask("client due-epoch", b"a")
+        q.ask("client due", b"a", replies[1])
+        q.ask("monitor new", b"a", "none")
+        q.ask("monitor expect", b"k", promise)
+        for reply in replies:
+            q.ask("monitor next")
+            q.ask("monitor step", reply)
+        q.ask("monitor next")
+        q.ask("monitor expect", b"k", b.promise(b"a", b"k"))
+        q.ask("monitor expected", TOP)
 
 
 @subject("clients: looks")
@@ -284,7 +312,7 @@ def of_users(q, rng):
         except Refusal:
             pass
 
-    for turn in range(16):
+    for turn in range(11):
         name = rng.choice(names)
         if name not in directory.waiting:
             call = directory.change if name in directory.last().bindings else directory.register
@@ -542,32 +570,3 @@ def of_expectations(q, rng):
     q.ask("monitor expect", key, a.promise(name, key))
     for page in (a, b):
         q.ask("monitor step", page.reply(name).write())
-
-
-@subject("a monitor over a directory, whose owner changes the key from time to time, as somebody else does")
-def of_owners(q, rng):
-    directory = started()
-    name, epoch, promised = b"owner", 1, None
-    q.let("root0", directory.head().write())
-    q.ask("client start", SIGN_KEY, directory.head().write())
-    q.ask("monitor new", name, "none")
-    for turn in range(26):
-        if turn % 3 == 0:
-            key = key_of(turn)
-            call = directory.change if name in directory.last().bindings else directory.register
-            promised = call(name, key).write()
-            if rng.randrange(3):
-                q.ask("monitor expect", key, promised)
-        elif turn == 25:
-            q.ask("monitor expect", key_of(24), promised)
-        q.ask("monitor step", directory.lookup(name, 0).write())
-        if turn % 12 == 0:
-            directory.register(name_of(turn), b"k")
-        known = directory.head()
-        epoch += rng.choice([1, 1, 6])
-        q.let(f"root{1 - turn % 2}", directory.close(epoch).write())
-        q.ask("monitor update", write_list([known, directory.head()]))
-        if turn % 10 == 0:
-            q.ask("monitor next")
-            q.ask("monitor client")
-            q.ask("monitor expected", epoch)

@@ -120,14 +120,6 @@ def of_salts(q, rng):
         q.ask("directory lookup", name, 3)
 
 
-@subject("a directory: some hundreds of names in one page, by calls and by a run")
-def of_names(q, rng):
-    names = [name_of(number) for number in range(300)]
-    commands = [message("register", name, name[-1:]) for name in names] + [message("close", ZERO32, 2)]
-    commands += [message("lookup", 2, name) for name in names]
-    q.ask("directory run", 1, ZERO32, *commands)
-
-
 @subject("a directory: some hundreds of pages, of versions of one name, and of changes that wait")
 def of_pages(q, rng):
     commands = [message("register", b"a", b"k")]
@@ -358,6 +350,10 @@ def of_hub_runs(q, rng):
     events = [("open", session, "bytes", session, unread) for session in range(330)]
     events += [("bytes", session, HEAD) for session in range(0, 330, 30)]
     q.ask("hub run", 1, ZERO32, *(word for event in events for word in event))
+    q.note("A long output, made by one piece and by hundreds.")
+    q.ask("hub run", 1, ZERO32, "open", 1, "bytes", 1, f"{HEAD.hex()}*600")
+    q.let("h", HEAD)
+    q.ask("hub run", 1, ZERO32, "open", 1, *["bytes", 1, HEAD] * 400)
     q.note("Hundreds of pieces, a byte each.")
     stream = request_frame("register", bytes([1, 2]) * 120, b"k" * 9) + HEAD
     q.ask("hub run", 1, ZERO32, "open", 1, *(word for byte in stream for word in ("bytes", 1, bytes([byte]))))

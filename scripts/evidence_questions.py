@@ -58,7 +58,7 @@ def of_observing(q, rng):
 
 @subject("an auditor of many providers")
 def of_providers(q, rng):
-    keys = [bytes([number]) * 32 for number in range(40)]
+    keys = [bytes([number]) * 32 for number in range(24)]
     q.ask("auditor new")
     chains = []
     for number, key in enumerate(keys):
@@ -71,7 +71,7 @@ def of_providers(q, rng):
             q.ask("auditor observe", key, written(pages[1]))
         if number in (1, 2):
             q.ask("auditor observe", key, written(chains[0][0]))
-    for number in [0, 1, 2, 3, 39]:
+    for number in [0, 1, 2, 3, 23]:
         for page in chains[number]:
             q.ask("auditor observe", keys[number], written(page))
         q.ask("auditor chain", keys[number])
@@ -81,15 +81,30 @@ def of_providers(q, rng):
     q.ask("auditor chain", keys[0])
 
 
+@subject("auditors whose first root is of a later epoch")
+def of_late_starts(q, rng):
+    key = SIGN_KEY.hex().encode()
+    for first, second in [(2, 3), (12, 13), (13, 400), (400, 2**32), (2**32, TOP), (TOP, TOP)]:
+        a = KEYED.page(first, KEYED.page(1))
+        b = KEYED.page(second, a) if first < second else a
+        q.ask("auditor new")
+        for verb in ["compare", "observe"]:
+            for page in (a, b, KEYED.page(1)):
+                q.ask(f"auditor {verb}", SIGN_KEY, written(page))
+        q.ask("auditor chain", SIGN_KEY)
+        if first in (13, 400):
+            q.ask("evidence audit", key, b"".join(written(page).hex().encode() + b"\n" for page in (a, b)))
+
+
 @subject("an auditor of a chain beyond epoch 12")
 def of_long_chains(q, rng):
-    pages = KEYED.pages([*range(1, 31), 2**32, TOP - 1, TOP])
+    pages = KEYED.pages([*range(1, 17), 2**32, TOP - 1, TOP])
     q.let("roots", b"".join(written(page) for page in pages))
     q.ask("auditor new")
     for page in pages:
         q.ask("auditor observe", SIGN_KEY, written(page))
     q.ask("auditor chain", SIGN_KEY)
-    others = [KEYED.page(20), KEYED.page(TOP, pages[-3]), KEYED.page(60, pages[29])]
+    others = [KEYED.page(14), KEYED.page(TOP, pages[-3]), KEYED.page(60, pages[15])]
     for page in [pages[0], pages[13], pages[-1], *others]:
         q.ask("auditor compare", SIGN_KEY, written(page))
         q.ask("auditor observe", SIGN_KEY, written(page))

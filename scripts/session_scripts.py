@@ -305,8 +305,9 @@ def hundreds_of_names():
 
 @script
 def hundreds_of_epochs():
-    yield "# One name with a key of its own in each of 300 epochs, and another that has one from time to time."
-    yield register(b"a", b"k")
+    yield "# One name with a key of its own in each of 300 epochs, which its owner watches, and another that has"
+    yield "# one from time to time."
+    yield from [watch(b"a"), register(b"a", b"k")]
     for epoch in range(2, 302):
         yield f"close {epoch}"
         yield change(b"a", key_of(epoch))
@@ -411,7 +412,7 @@ def generated_commands():
     rng = random.Random(13)
     short, long = [0, 1, 2, 3, 4, 5, 6, 16], [255, 256]
     epoch = 1
-    for turn in range(220):
+    for turn in range(140):
         name = bytes([7]) * rng.choice(long if turn % 25 == 7 else short)
         key = bytes([9]) * rng.choice([255, 700] if turn % 90 == 50 else short)
         near = max(epoch + rng.randrange(-6, 2), 0)
