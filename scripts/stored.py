@@ -1,23 +1,21 @@
 """The stored questions and answers of the test programs.
 
-Each module below has `files()`, which gives the text of each stored file by its path in the repository.
+Each of the modules of questions has `files()`, which gives the text of each stored file by its path in the
+repository.
 """
 
-import importlib
-import importlib.util
 import pathlib
 
+import fault_questions
+import questions
+import session_questions
+
 ROOT = pathlib.Path(__file__).resolve().parent.parent
-MODULES = ("questions", "session_questions", "fault_questions")
 
 
 def files():
-    """All stored files, of the modules that are there."""
-    found = {}
-    for name in MODULES:
-        if importlib.util.find_spec(name):
-            found.update(importlib.import_module(name).files())
-    return found
+    """All stored files."""
+    return questions.files() | session_questions.files() | fault_questions.files()
 
 
 def write():
@@ -26,16 +24,24 @@ def write():
         (ROOT / path).write_text(text)
 
 
+def first_difference(wanted, got):
+    """The number of the first line that differs, and the two lines."""
+    pairs = zip([*wanted.splitlines(True), "no line"], [*got.splitlines(True), "no line"])
+    return next((number, *pair) for number, pair in enumerate(pairs, 1) if pair[0] != pair[1])
+
+
 def differences():
-    """A line for each stored file that is not as it is computed."""
-    for path, text in files().items():
+    """A line for each stored file that is not as it is computed, and for each script that is not computed."""
+    computed = files()
+    for path, text in computed.items():
         file = ROOT / path
-        stored = file.read_text().splitlines() if file.exists() else []
-        lines = text.splitlines()
-        if stored != lines:
-            pairs = zip([*stored, "no line"], [*lines, "no line"])
-            number, (got, wanted) = next((n, pair) for n, pair in enumerate(pairs, 1) if pair[0] != pair[1])
+        stored = file.read_text() if file.exists() else ""
+        if stored != text:
+            number, wanted, got = first_difference(text, stored)
             yield f"{path}, line {number}: wanted {wanted[:200]!r}, got {got[:200]!r}"
+    for file in sorted(ROOT.glob("crates/*/data/*.script")):
+        if str(file.relative_to(ROOT)) not in computed:
+            yield f"{file.relative_to(ROOT)}: no question asks for this script"
 
 
 def check():
