@@ -21,13 +21,17 @@ def files():
 def write():
     for path, text in files().items():
         (ROOT / path).parent.mkdir(parents=True, exist_ok=True)
-        (ROOT / path).write_text(text)
+        (ROOT / path).write_bytes(text.encode())
 
 
 def first_difference(wanted, got):
-    """The number of the first line that differs, and the two lines."""
-    pairs = zip([*wanted.splitlines(True), "no line"], [*got.splitlines(True), "no line"])
+    """The number of the first line that differs, and the two lines. A line ends with LF alone."""
+    pairs = zip([*wanted.split(b"\n"), None], [*got.split(b"\n"), None])
     return next((number, *pair) for number, pair in enumerate(pairs, 1) if pair[0] != pair[1])
+
+
+def shown(line):
+    return "no line" if line is None else repr(line[:200].decode(errors="replace"))
 
 
 def differences():
@@ -35,10 +39,10 @@ def differences():
     computed = files()
     for path, text in computed.items():
         file = ROOT / path
-        stored = file.read_text() if file.exists() else ""
-        if stored != text:
-            number, wanted, got = first_difference(text, stored)
-            yield f"{path}, line {number}: wanted {wanted[:200]!r}, got {got[:200]!r}"
+        stored = file.read_bytes() if file.exists() else b""
+        if stored != text.encode():
+            number, wanted, got = first_difference(text.encode(), stored)
+            yield f"{path}, line {number}: wanted {shown(wanted)}, got {shown(got)}"
     for file in sorted(ROOT.glob("crates/*/data/*.script")):
         if str(file.relative_to(ROOT)) not in computed:
             yield f"{file.relative_to(ROOT)}: no question asks for this script"
