@@ -22,8 +22,8 @@ from typing import NamedTuple
 import session_scripts
 import sessions
 from answers import BadQuestion, Lines, told, told_text
+from asking import Questions, run
 from formats import *
-from questions import Questions, run
 
 # Devices -------------------------------------------------------------------------------------------------
 

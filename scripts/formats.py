@@ -69,7 +69,7 @@ MAX_EPOCH = 2**64 - 1
 
 
 class Refusal(Exception):
-    """Why a call is refused: a number, and the text that the code prints for it."""
+    """Why a call is refused: a number and its text."""
 
     texts = {}
 

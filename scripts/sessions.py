@@ -814,17 +814,15 @@ def responses(output):
 
 
 def response_line(kind, value):
-    match kind:
-        case k if k == PROMISE:
-            return f"promise {value.promise.epoch}"
-        case k if k == PROOF:
-            return f"proof {value.body.epoch}"
-        case k if k == ROOTS:
-            return " ".join(["roots", *(str(root.epoch) for root in value)])
-        case k if k == ROOT:
-            return f"root {value.epoch} after {value.body.previous_epoch}"
-        case k if k == REFUSED:
-            return f"refused {value}"
+    if kind == PROMISE:
+        return f"promise {value.promise.epoch}"
+    if kind == PROOF:
+        return f"proof {value.body.epoch}"
+    if kind == ROOTS:
+        return " ".join(["roots", *(str(root.epoch) for root in value)])
+    if kind == ROOT:
+        return f"root {value.epoch} after {value.body.previous_epoch}"
+    return f"refused {value}"
 
 
 def step_line(name, epoch, step):

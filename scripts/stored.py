@@ -1,41 +1,51 @@
 """The stored questions and answers of the test programs.
 
-Each module below has `files()`, which gives the text of each stored file by its path in the repository.
+Each of the modules of questions has `files()`, which gives the text of each stored file by its path in the
+repository.
 """
 
-import importlib
-import importlib.util
 import pathlib
 
+import fault_questions
+import questions
+import session_questions
+
 ROOT = pathlib.Path(__file__).resolve().parent.parent
-MODULES = ("questions", "session_questions", "fault_questions")
 
 
 def files():
-    """All stored files, of the modules that are there."""
-    found = {}
-    for name in MODULES:
-        if importlib.util.find_spec(name):
-            found.update(importlib.import_module(name).files())
-    return found
+    """All stored files."""
+    return questions.files() | session_questions.files() | fault_questions.files()
 
 
 def write():
     for path, text in files().items():
         (ROOT / path).parent.mkdir(parents=True, exist_ok=True)
-        (ROOT / path).write_text(text)
+        (ROOT / path).write_bytes(text.encode())
+
+
+def first_difference(wanted, got):
+    """The number of the first line that differs, and the two lines. A line ends with LF alone."""
+    pairs = zip([*wanted.split(b"\n"), None], [*got.split(b"\n"), None])
+    return next((number, *pair) for number, pair in enumerate(pairs, 1) if pair[0] != pair[1])
+
+
+def shown(line):
+    return "no line" if line is None else repr(line[:200].decode(errors="replace"))
 
 
 def differences():
-    """A line for each stored file that is not as it is computed."""
-    for path, text in files().items():
+    """A line for each stored file that is not as it is computed, and for each script that is not computed."""
+    computed = files()
+    for path, text in computed.items():
         file = ROOT / path
-        stored = file.read_text().splitlines() if file.exists() else []
-        lines = text.splitlines()
-        if stored != lines:
-            pairs = zip([*stored, "no line"], [*lines, "no line"])
-            number, (got, wanted) = next((n, pair) for n, pair in enumerate(pairs, 1) if pair[0] != pair[1])
-            yield f"{path}, line {number}: wanted {wanted[:200]!r}, got {got[:200]!r}"
+        stored = file.read_bytes() if file.exists() else b""
+        if stored != text.encode():
+            number, wanted, got = first_difference(text.encode(), stored)
+            yield f"{path}, line {number}: wanted {shown(wanted)}, got {shown(got)}"
+    for file in sorted(ROOT.glob("crates/*/data/*.script")):
+        if str(file.relative_to(ROOT)) not in computed:
+            yield f"{file.relative_to(ROOT)}: no question asks for this script"
 
 
 def check():

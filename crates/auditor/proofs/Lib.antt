@@ -1,3 +1,4 @@
 pub mod Contradicting
 pub mod Following
 pub mod Holding
+pub mod InOrder

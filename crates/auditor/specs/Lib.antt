@@ -1,5 +1,6 @@
 pub mod Chains
 pub mod Evidence
+pub mod InOrder
 pub mod Observing
 pub mod Taking
 pub use Rattle.proofs.specs.BrokenPromises

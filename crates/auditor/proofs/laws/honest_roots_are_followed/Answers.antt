@@ -1,5 +1,11 @@
+use Rattle.std.proofs.Common.{[]}
 use Rattle.auditor.proofs.Following.{extends, is_known}
+use Rattle.auditor.proofs.InOrder.{followed}
 use Rattle.auditor.proofs.laws.honest_roots_are_followed.Goals as goal
+
+pub returns-clause-all : goal.returns-clause-all
+returns-clause-all g c key roots observed answers before after is none come all =
+    followed g.H.NodeHash.digest_of g.S.Verifier.verified key observed [] roots answers before after is none come all
 
 pub returns-clause-next : goal.returns-clause-next
 returns-clause-next g c chain head root told is at-head link =
