@@ -127,19 +127,20 @@ def rows(program, piece, how):
         yield f"{count} {fault} {written}" + (f" next {head}" if head is not None else "") + ";"
 
 
-def read_first(data, piece, text):
-    """Reads to the end, and then writes a text."""
-    return Program([Read() for _ in cut_up(data, piece)] + [Read(), text])
-
-
 def by_lines(data, piece, texts):
-    """Writes the texts of each line once it is read whole. The end of the input ends the last line."""
+    """Writes the texts of each line once it is read whole. If the last line has no LF, a read that finds the end
+    tells that it is whole, and the next one that no line follows."""
     steps, done = [], 0
     for at in range(0, len(data), piece):
         whole = data[: at + piece].count(b"\n")
-        steps += [Read(), *(text for line in texts[done:whole] for text in line)]
+        steps += [Read(), *sum(texts[done:whole], [])]
         done = whole
-    return Program([*steps, Read(), *(text for line in texts[done:] for text in line)])
+    return Program([*steps, Read(), *sum(([*text, Read()] for text in texts[done:]), [])])
+
+
+def by_all_lines(data, piece, text):
+    """Reads all lines, and then writes a text."""
+    return Program([*by_lines(data, piece, [[] for _ in lines_of(data)]).steps, text])
 
 
 # The provider --------------------------------------------------------------------------------------------
@@ -225,15 +226,15 @@ class Sweeps(Lines):
         return program
 
     def of_lines(self, words):
-        return lambda data, piece: by_lines(data, piece, [(line[:130], b"\n") for line in lines_of(data)])
+        return lambda data, piece: by_lines(data, piece, [[line[:130], b"\n"] for line in lines_of(data)])
 
     def of_root(self, words):
         order = self.root_order(words)
-        return lambda data, piece: read_first(data, piece, root_text(*order, data).encode())
+        return lambda data, piece: by_all_lines(data, piece, root_text(*order, data).encode())
 
     def of_prove(self, words):
         index, order = words.text(), self.root_order(words)
-        return lambda data, piece: read_first(data, piece, prove_text(*order, index, data).encode())
+        return lambda data, piece: by_all_lines(data, piece, prove_text(*order, index, data).encode())
 
     def root_order(self, words):
         return {"sum": byte_sum, "sha256": sha256}[words.word()], words.optional(words.text)
@@ -243,7 +244,7 @@ class Sweeps(Lines):
 
         def program(data, piece):
             answers = sessions.audit(key, data).splitlines(keepends=True)
-            return by_lines(data, piece, [(answer,) for answer in answers])
+            return by_lines(data, piece, [[answer] for answer in answers])
 
         return program
 
@@ -351,11 +352,10 @@ def of_items(q):
         q.ask("prove", bad, "sum none read-fails 50", b"x\n")
         q.ask("prove", index, "sum", bad, "read-fails 50", b"x\n")
     q.note("An input of thousands of reads, and the longest path, of two indices that differ in their last bit.")
-    hundred = item_lines(*(b"%04d" % number for number in range(100)))
-    q.let("hundred", hundred)
-    q.ask("root sum none never 1", hundred)
-    q.ask("prove", b"0050".ljust(64, b"0"), "sha256 none never 1", hundred)
-    q.ask("root sha256 none read-fails 4096", hundred)
+    hundreds = q.let("hundreds", item_lines(*(b"%04d" % number for number in range(300))))
+    q.ask("root sum none never 1", hundreds)
+    q.ask("prove", b"0150".ljust(64, b"0"), "sha256 none never 1", hundreds)
+    q.ask("root sha256 none read-fails 4096", hundreds)
     zeros, one = b"0" * 64, b"1".rjust(64, b"0")
     neighbours = q.let("neighbours", b"%s %s\n%s %s\n" % (one, zeros, zeros, zeros))
     for index in (zeros, one):
