@@ -1,10 +1,12 @@
 -- A run from a fresh book is honest.
-use Rattle.std.proofs.Common.{◌≡◌, ℕ, ◌+◌, ◌-◌, ◌<◌, List, [], ◌∷◌, ◌++◌, length, length-append, get_or, map, replicate, Option, Some, None, All, Contains, refl, sym, ap, subst, ◌∙◌, arith, inl, inr, ◌⊎◌}
-use Rattle.std.specs.Prelude.{option_map}
+use Rattle.std.proofs.Common.{◌≡◌, ℕ, suc, ◌+◌, ◌-◌, ◌<◌, List, [], ◌∷◌, ◌++◌, length, length-append, get_or, map, replicate, Option, Some, None, All, Contains, refl, sym, ap, subst, ◌∙◌, arith, inl, inr, ◌⊎◌}
+use Rattle.std.specs.Prelude.{Bool, true, false, option_map}
+use Rattle.std.specs.Str.{bytes_eq}
 use Rattle.std.specs.List.{AllByRecursion}
 use Rattle.std.proofs.lemmas.List.Elements.{All-contains, All-contains_itself, All-from_recursion, All-weaker, recursion_from_All}
 use Rattle.std.proofs.lemmas.List.{get_or-append_right, get_or_append_left}
 use Rattle.std.proofs.lemmas.Option.{slice_get-get_or}
+use Rattle.std.proofs.lemmas.Slice.Eq.{bytes_eq-Decides}
 use Rattle.rand_core.specs.Stream.{Stream}
 use Rattle.encoding.specs.Bytes.{Is32Bytes}
 use Rattle.encoding.proofs.ByteLists.{IsBytes-zeros}
@@ -17,6 +19,7 @@ use Rattle.rootchain.specs.declared.signed_promise.SignedPromise.{SignedPromise}
 use Rattle.rootchain.specs.declared.signed_root.SignedRoot.{SignedRoot}
 use Rattle.proofs.specs.Accepts.{Accepts, HasIndex}
 use Rattle.proofs.specs.Replies.{Reply as Spelled}
+use Rattle.proofs.specs.declared.refusal.Refusal.TheVariants.{SameIndex}
 use Rattle.proofs.proofs.Passing.{accepts-passed, one_reply}
 use Rattle.book.specs.declared.record.Record.{Record}
 use Rattle.book.specs.declared.reply.Reply.{Reply}
@@ -25,8 +28,8 @@ use Rattle.book.specs.Asked.{Asked, Lookup}
 use Rattle.book.specs.Books.{Binding, Book, Page, pages}
 use Rattle.proofs.specs.BrokenPromises.{IsBrokenPromise}
 use Rattle.book.specs.Fresh.{HasSalts, IsCommand, IsEpoch, KeepsLaws, fresh}
-use Rattle.book.specs.Honest.{DoublesAreRefused, IndicesDiffer, IsAlone, IsAnswer, IsHonest, IsKept, IsSaid, Tells, key_at}
-use Rattle.book.specs.Maps.{at}
+use Rattle.book.specs.Honest.{key_at, IsAbout, IsAnswer, IsDouble, IsHonest, IsKept, IsSaid, IsSaidAt, ListsInOrder, Tells, UsersDiffer}
+use Rattle.book.specs.Maps.{Map, at}
 use Rattle.book.specs.Shows.{Provider, Sealed, index_of, promise, roots, sealed_behind, sealed_pages, IsRootOf}
 use Rattle.book.specs.Turns.{Run}
 use Rattle.proofs.specs.Watches.{expected}
@@ -35,11 +38,13 @@ use Rattle.book.proofs.Distinct.{AreApart, HasName, IsApart, apart-after, entry-
 use Rattle.book.proofs.Doubled.{doubled}
 use Rattle.book.proofs.Entries.{ascends_none, found-entry}
 use Rattle.book.proofs.Found.{AreSalted, IsRight, found-right}
-use Rattle.book.proofs.Members.{mapped-there}
+use Rattle.book.proofs.Members.{first-there, later-there, mapped-there}
 use Rattle.book.proofs.Placed.{Alone}
-use Rattle.book.proofs.Running.{Seen, SeenFound, SeenPromise, ran}
+use Rattle.book.proofs.Running.{at-said, ran, said-at, Seen, SeenFound, SeenPromise}
 use Rattle.book.proofs.Sealing.{Climb, IsSealed, all-sealed, no-clash, sealed-chain, sealed-page}
+use Rattle.book.proofs.Stretches.{consecutive-there}
 use Rattle.book.proofs.Turning.{IsSound}
+use Rattle.book.proofs.Users.{said-asked, users-apart}
 
 is-fresh : (epoch : ℕ) (nonce : List ℕ) (salts : Stream) → IsEpoch epoch → Is32Bytes nonce → IsSound (fresh epoch nonce salts)
 is-fresh epoch nonce salts is size = record {
@@ -53,7 +58,24 @@ some-key : (found : Option Binding) (key : List ℕ) → option_map (λ (binding
 some-key None key e = absurd cc
 some-key (Some binding) key e = (binding, refl)
 
--- ---- the front of a chain
+-- ---- a part of a chain
+
+module _ (hash : List ℕ → List ℕ) (verified : List ℕ → List ℕ → List ℕ → Type 0) (key : List ℕ) where
+  abbrev IsRoots : List SignedRoot → Type 0
+  IsRoots all = IsChain hash verified (record { key = key; roots = all })
+
+  without-first : (first : SignedRoot) (more : List SignedRoot) → 0 < length more → IsRoots (first ∷ more) → IsRoots more
+  without-first first more some chain = record {
+    first = some;
+    signed = λ k d p. chain.signed (suc k) d (omega (arith, p));
+    linked = λ k d p.
+        let e : suc k + 1 ≡ suc (k + 1) = omega arith in
+        subst (λ (m : ℕ). Links hash (get_or more k d) (get_or (first ∷ more) m d)) e (chain.linked (suc k) d (omega (arith, p)));
+  }
+
+  back-chain : (front back : List SignedRoot) → 0 < length back → IsRoots (front ++ back) → IsRoots back
+  back-chain [] back some chain = chain
+  back-chain (first ∷ front) back some chain = back-chain front back some (without-first first (front ++ back) (omega (arith, some, length-append front back)) chain)
 
 module _ (hash : List ℕ → List ℕ) (verified : List ℕ → List ℕ → List ℕ → Type 0) (key : List ℕ) (front : List SignedRoot) (root : SignedRoot) (back : List SignedRoot)
     (chain : IsChain hash verified (record { key = key; roots = front ++ root ∷ back })) (more : 0 < length front) where
@@ -113,9 +135,27 @@ module _ (provider : Provider) where
       (All-from_recursion (λ (each : Page). AreApart provider (HasName each.bindings)) (pages after) apart.pages)
       (sealed-page provider 0 (replicate 32 0) (pages after) (record { page = page; root = root }) is)
 
-  alone-list : (name : List ℕ) (page : Page) → IsAlone provider name page → Alone provider name page.bindings
-  alone-list name page alone = recursion_from_All _ page.bindings
-      (All-weaker (Contains page.bindings) (λ entry. index_of provider entry.0 ≡ index_of provider name → entry.0 ≡ name) alone page.bindings (All-contains_itself page.bindings))
+  alone-of : (name : List ℕ) (bindings : Map Binding) → ((entry : List ℕ × Binding) → Contains bindings entry → index_of provider entry.0 ≡ index_of provider name → entry.0 ≡ name) → Alone provider name bindings
+  alone-of name bindings alone = recursion_from_All _ bindings
+      (All-weaker (Contains bindings) (λ entry. index_of provider entry.0 ≡ index_of provider name → entry.0 ≡ name) alone bindings (All-contains_itself bindings))
+
+  -- ---- whether another name of a page has the index of one
+
+  abbrev HasDouble : Map Binding → List ℕ → Type 0
+  HasDouble bindings name = (entry : List ℕ × Binding) × Contains bindings entry × (index_of provider entry.0 ≡ index_of provider name)
+
+  alone-or-double : (bindings : Map Binding) (name : List ℕ) → Alone provider name bindings ⊎ HasDouble bindings name
+  alone-or-double [] name = inl tt
+  alone-or-double (entry ∷ more) name = by (bytes_eq (index_of provider entry.0) (index_of provider name)) refl (alone-or-double more name)
+    where
+      by : (test : Bool) → bytes_eq (index_of provider entry.0) (index_of provider name) ≡ test → Alone provider name more ⊎ HasDouble more name → Alone provider name (entry ∷ more) ⊎ HasDouble (entry ∷ more) name
+      by true is rest = inr (entry, first-there entry more, (bytes_eq-Decides (index_of provider entry.0) (index_of provider name)).0 is)
+      by false is (inl alone) = inl ((λ same. let e : true ≡ false = sym ((bytes_eq-Decides (index_of provider entry.0) (index_of provider name)).1 same) ∙ is in absurd cc), alone)
+      by false is (inr double) = inr (double.0, later-there entry more double.0 double.1, double.2)
+
+  -- a name that the page has is alone with its index
+  alone-named : (name : List ℕ) (bindings : Map Binding) → AreApart provider (HasName bindings) → HasName bindings name → Alone provider name bindings
+  alone-named name bindings apart has = alone-of name bindings (λ entry there same. apart entry.0 name (entry-named bindings entry there) has same)
 
   module _ (accepted verified : List ℕ → List ℕ → List ℕ → Type 0) (key : List ℕ) (laws : KeepsLaws accepted verified key provider) (after : Book) (sound : IsSound after) (salts : HasSalts after) where
     zeros : Is32Bytes (replicate 32 0)
@@ -135,12 +175,19 @@ module _ (provider : Provider) where
     in-chain : (page : Page) (root : SignedRoot) → IsRootOf provider after page root → Contains (roots provider after) root
     in-chain page root is = mapped-there (λ (each : Sealed). each.root) (sealed_pages provider after) (record { page = page; root = root }) is
 
-    told : (command : Asked) (said : Reply) (root : SignedRoot) → Seen provider after command said → Tells said root → Contains (roots provider after) root
-    told command (reply.Promised promised) root s tells = absurd tells
-    told command (reply.Found text) root s tells = absurd tells
-    told command (reply.Told told_roots) root s tells = let p = s root tells in in-chain p.0 root p.1
-    told command (reply.Last last) root s tells = subst (Contains (roots provider after)) tells (in-chain s.0 last s.1)
-    told command (reply.Refused why) root s tells = absurd tells
+    told : (latest : ℕ) (command : Asked) (said : Reply) (root : SignedRoot) → Seen provider latest after command said → Tells said root → Contains (roots provider after) root
+    told latest command (reply.Promised promised) root s tells = absurd tells
+    told latest command (reply.Found text) root s tells = absurd tells
+    told latest command (reply.Told told_roots) root s tells = consecutive-there (roots provider after) told_roots.items s root tells
+    told latest command (reply.Last last) root s tells = subst (Contains (roots provider after)) tells (in-chain s.0 last s.1)
+    told latest command (reply.Refused why) root s tells = absurd tells
+
+    listed : (latest : ℕ) (command : Asked) (said : Reply) → Seen provider latest after command said → ListsInOrder (roots provider after) said
+    listed latest command (reply.Promised promised) s = tt
+    listed latest command (reply.Found text) s = tt
+    listed latest command (reply.Told told_roots) s = s
+    listed latest command (reply.Last last) s = tt
+    listed latest command (reply.Refused why) s = tt
 
     salted : (page : Page) (root : SignedRoot) → IsRootOf provider after page root → AreSalted page.bindings
     salted page root is = recursion_from_All (λ entry. Is32Bytes entry.1.salt) page.bindings
@@ -151,14 +198,14 @@ module _ (provider : Provider) where
     signed-form [] are = tt
     signed-form (each ∷ all) are = ((are.0.form, are.0.small), signed-form all are.1)
 
-    right : (name : List ℕ) (epoch : ℕ) (text : List ℕ) → (s : SeenFound provider after name epoch text) → Alone provider name s.page.bindings → IsRight provider accepted verified key laws name s.page s.root.body text
-    right name epoch text s alone =
+    right : (latest : ℕ) (name : List ℕ) (epoch : ℕ) (text : List ℕ) → (s : SeenFound provider latest after name epoch text) → Alone provider name s.page.bindings → IsRight provider accepted verified key laws name s.page s.root.body text
+    right latest name epoch text s alone =
         let is = is-sealed s.page s.root s.is in
         found-right provider accepted verified key laws name s.page s.root.body text is.page is.form is.root is.nonce is.vuf_key s.named (salted s.page s.root s.is) alone s.answer
 
-    answer : (name : List ℕ) (epoch : ℕ) (text : List ℕ) → (s : SeenFound provider after name epoch text) → Alone provider name s.page.bindings → IsAnswer provider accepted verified key after name epoch text
-    answer name epoch text s alone =
-        let r = right name epoch text s alone in
+    answer : (latest : ℕ) (name : List ℕ) (epoch : ℕ) (text : List ℕ) → (s : SeenFound provider latest after name epoch text) → Alone provider name s.page.bindings → IsAnswer provider accepted verified key after latest name epoch text
+    answer latest name epoch text s alone =
+        let r = right latest name epoch text s alone in
         let forth : (statement : Option (List ℕ)) → Accepts provider.hash accepted s.root.body name text statement → statement ≡ key_at s.page name
         = λ statement accepts. sym (accepts-passed provider.hash accepted s.root.body name text r.reply r.spells statement accepts).0 ∙ r.states in
         let back : (statement : Option (List ℕ)) → statement ≡ key_at s.page name → Accepts provider.hash accepted s.root.body name text statement
@@ -191,10 +238,10 @@ module _ (provider : Provider) where
     })
 
     -- a promise that is kept is not broken by a reply that is right
-    unbroken : (command : Asked) (promised : SignedPromise) (name : List ℕ) (epoch : ℕ) (text : List ℕ) (root : SignedRoot) → IsKept provider accepted verified key after command promised → (s : SeenFound provider after name epoch text)
+    unbroken : (command : Asked) (promised : SignedPromise) (latest : ℕ) (name : List ℕ) (epoch : ℕ) (text : List ℕ) (root : SignedRoot) → IsKept provider accepted verified key after command promised → (s : SeenFound provider latest after name epoch text)
         → Alone provider name s.page.bindings → IsBrokenPromise provider.hash accepted verified key promised root text → ⊥
-    unbroken command promised name epoch text root k s alone b =
-        let r = right name epoch text s alone in
+    unbroken command promised latest name epoch text root k s alone b =
+        let r = right latest name epoch text s alone in
         let own : b.contradicts.passes.0 ≡ r.reply = one_reply text b.contradicts.passes.0 r.reply b.contradicts.passes.1 r.spells in
         let body : root.body ≡ s.root.body = sym b.contradicts.passes.2.of_body ∙ ap (λ (x : Spelled). x.body) own ∙ r.of_body in
         let behind : s.root.body.previous_epoch ≡ promised.promise.epoch = ap (λ (x : Body). x.previous_epoch) (sym body) ∙ b.next in
@@ -209,11 +256,11 @@ module _ (provider : Provider) where
         ∙ r.states ∙ ap (key_at s.page) (sym same) ∙ has)
 
     -- what is found for the name of a promise under the next root
-    is-due : (command : Asked) (promised : SignedPromise) (epoch : ℕ) (text : List ℕ) (root : SignedRoot) (statement : Option (List ℕ)) → IsKept provider accepted verified key after command promised
-        → (s : SeenFound provider after promised.promise.name epoch text) → Alone provider promised.promise.name s.page.bindings → root.body.previous_epoch ≡ promised.promise.epoch
+    is-due : (command : Asked) (promised : SignedPromise) (latest epoch : ℕ) (text : List ℕ) (root : SignedRoot) (statement : Option (List ℕ)) → IsKept provider accepted verified key after command promised
+        → (s : SeenFound provider latest after promised.promise.name epoch text) → Alone provider promised.promise.name s.page.bindings → root.body.previous_epoch ≡ promised.promise.epoch
         → Accepts provider.hash accepted root.body promised.promise.name text statement → (statement ≡ Some promised.promise.key) × HasIndex provider.hash text promised.promise.index
-    is-due command promised epoch text root statement k s alone behind accepts =
-        let r = right promised.promise.name epoch text s alone in
+    is-due command promised latest epoch text root statement k s alone behind accepts =
+        let r = right latest promised.promise.name epoch text s alone in
         let own : accepts.0 ≡ r.reply = one_reply text accepts.0 r.reply accepts.1 r.spells in
         let body : root.body ≡ s.root.body = sym accepts.2.of_body ∙ ap (λ (x : Spelled). x.body) own ∙ r.of_body in
         let has : key_at s.page promised.promise.name ≡ Some promised.promise.key = k.next s.page s.root s.is (ap (λ (x : Body). x.previous_epoch) (sym body) ∙ behind) in (
@@ -221,59 +268,97 @@ module _ (provider : Provider) where
           (r.reply, r.spells, ap provider.hash r.value ∙ sym k.index),
         )
 
-    abbrev IsRoots : List SignedRoot → Type 0
-    IsRoots all = IsChain provider.hash verified (record { key = key; roots = all })
+    -- ---- a reply that is of a double index
 
-    pub honest-sound : (commands : List Asked) (replies : List Reply) → ((asked : Asked) (said : Reply) → IsSaid commands replies asked said → Seen provider after asked said)
-        → IsApart provider after → IndicesDiffer provider commands replies after → IsHonest provider accepted verified key after commands replies
-    honest-sound commands replies shown apart differ = record {
-      chain = chain-of after.earlier after.last sound.climb are-sealed;
+    double : (latest : ℕ) (name : List ℕ) (epoch : ℕ) (text : List ℕ) → (s : SeenFound provider latest after name epoch text) → at s.page.bindings name ≡ None → HasDouble s.page.bindings name
+        → IsDouble provider accepted verified key after latest name epoch text
+    double latest name epoch text s none (entry, there, same) =
+        let i = is-sealed s.page s.root s.is in
+        let d = doubled provider accepted verified key laws name s.page s.root.body text entry i.page i.form i.vuf_key s.named s.answer there same none in
+        record {
+          page = s.page;
+          root = s.root;
+          is = s.is;
+          asked = s.asked;
+          absent = none;
+          other = entry;
+          held = there;
+          same_index = same;
+          reply = d.reply;
+          spelled = d.spells;
+          refused = d.refused;
+        }
+
+    -- it is accepted under no root, for no name
+    never-accepted : (latest : ℕ) (name : List ℕ) (epoch : ℕ) (text : List ℕ) → IsDouble provider accepted verified key after latest name epoch text
+        → (body : Body) (other : List ℕ) (statement : Option (List ℕ)) → Accepts provider.hash accepted body other text statement → ⊥
+    never-accepted latest name epoch text d body other statement accepts =
+        d.refused.fails ((accepts-passed provider.hash accepted body other text d.reply d.spelled statement accepts).1 SameIndex)
+
+    pub honest-sound : (first : ℕ) (commands : List Asked) (replies : List Reply) → ((latest : ℕ) (asked : Asked) (said : Reply) → IsSaidAt first commands replies latest asked said → Seen provider latest after asked said)
+        → IsApart provider after
+        → (UsersDiffer provider commands → (asked : Asked) → Contains commands asked → (name : List ℕ) → IsAbout asked name → (page : Page) (root : SignedRoot) → IsRootOf provider after page root → Alone provider name page.bindings)
+        → IsHonest provider accepted verified key after first commands replies
+    honest-sound first commands replies shown apart users = record {
+      chain = whole;
       forms = All-from_recursion IsSignedRoot (roots provider after) (signed-form (sealed_pages provider after) are-sealed);
-      told = λ command said root is tells. told command said root (shown command said is) tells;
+      told = λ command said root is tells. let s = seen command said is in told s.0 command said root s.1 tells;
+      listed = λ command said is. let s = seen command said is in listed s.0 command said s.1;
+      followed = λ front taken back root is some.
+          let chain = back-chain provider.hash verified key front (taken ++ root ∷ back) (omega (arith, some, length-append taken (root ∷ back))) (subst (IsRoots provider.hash verified key) is whole) in
+          (front-chain provider.hash verified key taken root back chain some, next-root provider.hash verified key taken root back chain some);
       linear = λ one other is also evidence. no-clash provider 0 (replicate 32 0) (pages after) sound.climb one other is also evidence.2;
-      found = λ name epoch text is. let s = found name epoch text is in answer name epoch text s (alone name epoch text is s);
-      kept = λ command promised is. kept command promised (shown command (reply.Promised promised) is);
-      audited = λ front back root is more. (front-chain provider.hash verified key front root back (subst IsRoots is whole) more, next-root provider.hash verified key front root back (subst IsRoots is whole) more);
+      found = λ latest name epoch text is. elim (either latest name epoch text (looked latest name epoch text is)) [
+        | inl alone ↦ inl (answer latest name epoch text (looked latest name epoch text is) alone)
+        | inr doubles ↦ inr doubles
+      ];
+      apart = λ differ latest name epoch text is.
+          let s = looked latest name epoch text is in
+          answer latest name epoch text s (users differ (Lookup name epoch) (said-asked commands replies (Lookup name epoch) (reply.Found text) (said-at first commands replies latest (Lookup name epoch) (reply.Found text) is)) name refl s.page s.root s.is);
+      kept = λ command promised is. holds command promised is;
       due = λ command promised epoch text root statement is also behind accepts.
-          let s = found promised.promise.name epoch text also in
-          is-due command promised epoch text root statement (kept command promised (shown command (reply.Promised promised) is)) s (alone promised.promise.name epoch text also s) behind accepts;
+          let t = at-said first commands replies (Lookup promised.promise.name epoch) (reply.Found text) also in
+          let s = looked t.0 promised.promise.name epoch text t.1 in
+          elim (either t.0 promised.promise.name epoch text s) [
+            | inl alone ↦ is-due command promised t.0 epoch text root statement (holds command promised is) s alone behind accepts
+            | inr doubles ↦ absurd (never-accepted t.0 promised.promise.name epoch text doubles root.body promised.promise.name statement accepts)
+          ];
       unbroken = λ command promised name epoch text root is also broken.
-          let s = found name epoch text also in
-          unbroken command promised name epoch text root (kept command promised (shown command (reply.Promised promised) is)) s (alone name epoch text also s) broken;
+          let t = at-said first commands replies (Lookup name epoch) (reply.Found text) also in
+          let s = looked t.0 name epoch text t.1 in
+          elim (either t.0 name epoch text s) [
+            | inl alone ↦ unbroken command promised t.0 name epoch text root (holds command promised is) s alone broken
+            | inr doubles ↦ absurd (never-accepted t.0 name epoch text doubles root.body promised.promise.name broken.contradicts.statement broken.contradicts.passes)
+          ];
     }
       where
-        whole : IsRoots (roots provider after)
+        whole : IsRoots provider.hash verified key (roots provider after)
         whole = chain-of after.earlier after.last sound.climb are-sealed
 
-        found : (name : List ℕ) (epoch : ℕ) (text : List ℕ) → IsSaid commands replies (Lookup name epoch) (reply.Found text) → SeenFound provider after name epoch text
-        found name epoch text is = shown (Lookup name epoch) (reply.Found text) is name epoch refl
+        seen : (asked : Asked) (said : Reply) → IsSaid commands replies asked said → (latest : ℕ) × Seen provider latest after asked said
+        seen asked said is = let t = at-said first commands replies asked said is in (t.0, shown t.0 asked said t.1)
 
-        alone : (name : List ℕ) (epoch : ℕ) (text : List ℕ) → IsSaid commands replies (Lookup name epoch) (reply.Found text) → (s : SeenFound provider after name epoch text) → Alone provider name s.page.bindings
-        alone name epoch text is s = alone-list name s.page (elim (named-or-not s.page.bindings name) [
-          | inl has ↦ λ entry there same. page-apart after apart s.page s.root s.is entry.0 name (entry-named s.page.bindings entry there) has same
-          | inr none ↦ differ name epoch text is s.page s.root s.is none s.answer
-        ])
+        looked : (latest : ℕ) (name : List ℕ) (epoch : ℕ) (text : List ℕ) → IsSaidAt first commands replies latest (Lookup name epoch) (reply.Found text) → SeenFound provider latest after name epoch text
+        looked latest name epoch text is = shown latest (Lookup name epoch) (reply.Found text) is name epoch refl
+
+        holds : (command : Asked) (promised : SignedPromise) → IsSaid commands replies command (reply.Promised promised) → IsKept provider accepted verified key after command promised
+        holds command promised is = kept command promised (seen command (reply.Promised promised) is).1
+
+        either : (latest : ℕ) (name : List ℕ) (epoch : ℕ) (text : List ℕ) (s : SeenFound provider latest after name epoch text) → Alone provider name s.page.bindings ⊎ IsDouble provider accepted verified key after latest name epoch text
+        either latest name epoch text s = elim (named-or-not s.page.bindings name) [
+          | inl has ↦ inl (alone-named name s.page.bindings (page-apart after apart s.page s.root s.is) has)
+          | inr none ↦ elim (alone-or-double s.page.bindings name) [
+            | inl alone ↦ inl alone
+            | inr has ↦ inr (double latest name epoch text s none has)
+          ]
+        ]
 
   pub honest : {K : Type 0} (accepted verified : List ℕ → List ℕ → List ℕ → Type 0) (key : List ℕ) → KeepsLaws accepted verified key provider → (kept failed : K → Record → K → Type 0)
       (epoch : ℕ) (nonce : List ℕ) (salts : Stream) (before later : K) (after : Book) (commands : List Asked) (replies : List Reply)
       → IsEpoch epoch → Is32Bytes nonce → All IsCommand commands → Run provider kept failed (fresh epoch nonce salts) before commands replies after later
-      → HasSalts after → IndicesDiffer provider commands replies after → IsHonest provider accepted verified key after commands replies
-  honest accepted verified key laws kept failed epoch nonce salts before later after commands replies is size are run salted differ =
+      → HasSalts after → IsHonest provider accepted verified key after epoch commands replies
+  honest accepted verified key laws kept failed epoch nonce salts before later after commands replies is size are run salted =
       let r = ran provider kept failed commands replies (fresh epoch nonce salts) after before later (is-fresh epoch nonce salts is size) (recursion_from_All IsCommand commands are) run in
-      honest-sound accepted verified key laws after r.goes.sound salted commands replies r.shown (apart-run kept failed epoch nonce salts before later after commands replies run) differ
-
-  pub doubles-refused : {K : Type 0} (accepted verified : List ℕ → List ℕ → List ℕ → Type 0) (key : List ℕ) → KeepsLaws accepted verified key provider → (kept failed : K → Record → K → Type 0)
-      (epoch : ℕ) (nonce : List ℕ) (salts : Stream) (before later : K) (after : Book) (commands : List Asked) (replies : List Reply)
-      → IsEpoch epoch → Is32Bytes nonce → All IsCommand commands → Run provider kept failed (fresh epoch nonce salts) before commands replies after later
-      → HasSalts after → DoublesAreRefused provider accepted verified key after commands replies
-  doubles-refused accepted verified key laws kept failed epoch nonce salts before later after commands replies is size are run salted name asked text said page root rooted answer entry there same other =
-      let r = ran provider kept failed commands replies (fresh epoch nonce salts) after before later (is-fresh epoch nonce salts is size) (recursion_from_All IsCommand commands are) run in
-      let s = r.shown (Lookup name asked) (reply.Found text) said name asked refl in
-      let i = is-sealed accepted verified key laws after r.goes.sound salted page root rooted in
-      let apart = page-apart after (apart-run kept failed epoch nonce salts before later after commands replies run) page root rooted in
-      let none : at page.bindings name ≡ None = elim (named-or-not page.bindings name) [
-        | inl has ↦ absurd (other (apart entry.0 name (entry-named page.bindings entry there) has same))
-        | inr none ↦ none
-      ] in
-      let d = doubled provider accepted verified key laws name page root.body text entry i.page i.form i.vuf_key s.named answer there same none in
-      (d.reply, d.spells, d.refused)
+      honest-sound accepted verified key laws after r.goes.sound salted epoch commands replies r.shown (apart-run kept failed epoch nonce salts before later after commands replies run)
+      (λ differ asked there name about page root rooted. alone-of name page.bindings
+          (users-apart provider kept failed epoch nonce salts before later after commands replies run differ asked there name about page root rooted))

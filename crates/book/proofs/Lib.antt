@@ -11,13 +11,16 @@ pub mod Honesty
 pub mod Joining
 pub mod Keeping
 pub mod Members
+pub mod OneRoot
 pub mod PathEnds
 pub mod Placed
 pub mod Rooted
 pub mod Running
 pub mod Sealing
+pub mod Settled
 pub mod Sizes
 pub mod Soundness
 pub mod Stepping
+pub mod Stretches
 pub mod Turning
 pub mod Users

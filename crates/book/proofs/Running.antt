@@ -1,28 +1,32 @@
 -- What commands, one after another, do to a sound book, and what their replies show of it in the end.
-use Rattle.std.proofs.Common.{◌≡◌, ℕ, List, [], ◌∷◌, Option, Some, None, Contains, refl, sym, ap, subst, inl, inr, ◌∙◌}
+use Rattle.std.proofs.Common.{◌≡◌, ℕ, List, [], ◌∷◌, map, Option, Some, None, Contains, refl, sym, ap, subst, inl, inr, ◌∙◌}
 use Rattle.std.specs.Bool.{⊤}
 use Rattle.std.specs.Prelude.{Bool, not, ◌||◌, is_some, is_none, nat_le}
 use Rattle.std.specs.List.{AllByRecursion, AllZip}
+use Rattle.std.proofs.lemmas.List.{map-append}
 use Rattle.encoding.specs.Limits.{IsName, IsKeyData}
 use Rattle.rootchain.specs.declared.signed_promise.SignedPromise.{SignedPromise}
 use Rattle.rootchain.specs.declared.signed_root.SignedRoot.{SignedRoot}
 use Rattle.book.specs.declared.record.Record.{Record}
 use Rattle.book.specs.declared.reply.Reply.{Reply}
 use Rattle.book.specs.declared.reply.Reply.TheVariants as reply
+use Rattle.book.specs.declared.refusal.Refusal.{Refusal}
 use Rattle.book.specs.declared.refusal.Refusal.TheVariants.{BadName, BadKey, NameTaken, NoSuchName, PendingExists, IndexTaken, NoSuchEpoch, EpochNotLater}
-use Rattle.book.specs.Answers.{Answer, has_its_index, is_within, Promised, Found, refusal, with_pending}
+use Rattle.book.specs.Answers.{Answer, has_its_index, is_within, next_page, Promised, Found, Told, Last, refusal, told, with_pending}
 use Rattle.book.specs.Asked.{Asked, Register, Change, Promise, Lookup, History, Head, Close}
 use Rattle.book.specs.Books.{Binding, Book, Page, page_at, pages}
 use Rattle.book.specs.Fresh.{IsCommand}
-use Rattle.book.specs.Honest.{IsAskedBy, IsPromisedBy, IsSaid}
+use Rattle.book.specs.Honest.{latest_after, AreConsecutive, IsAskedBy, IsPromisedBy, IsSaid, IsSaidAt}
 use Rattle.book.specs.Maps.{at}
-use Rattle.book.specs.Shows.{Provider, Sealed, index_of, promise, sealed_behind, signed_promise, IsReplyOf, IsRootOf}
+use Rattle.book.specs.Shows.{Provider, Sealed, index_of, promise, roots, sealed_behind, sealed_pages, signed_promise, IsReplyOf, IsRootOf}
+use Rattle.book.specs.Steps.{Answers, step}
 use Rattle.book.specs.Turns.{Shows, Turn, Run}
 use Rattle.book.proofs.Entries.{at_put_same, found-entry}
 use Rattle.book.proofs.Found.{IsBinding}
-use Rattle.book.proofs.Members.{first-or-later, first-there, later-there, none-there}
+use Rattle.book.proofs.Members.{first-or-later, none-there}
 use Rattle.book.proofs.Stepping.{Does, stepped}
-use Rattle.book.proofs.Turning.{Goes, Holds, IsSound, above-last, asked-page, goes-nowhere, goes-on, goes-page, goes-pending, holds-now, is-key, is-name, not-there, passed, two-passed}
+use Rattle.book.proofs.Stretches.{consecutive-more, told-consecutive}
+use Rattle.book.proofs.Turning.{Goes, Holds, IsSound, above-last, asked-page, goes-nowhere, goes-on, goes-page, goes-pending, holds-now, is-key, is-name, later, not-there, passed, two-passed}
 
 root-epoch : (provider : Provider) (epoch : ℕ) (before : List ℕ) (pages : List Page) (each : Sealed) → Contains (sealed_behind provider epoch before pages) each → each.root.body.epoch ≡ each.page.epoch
 root-epoch provider epoch before [] each is = absurd (none-there each is)
@@ -31,14 +35,28 @@ root-epoch provider epoch before (page ∷ pages) each is = elim (first-or-later
   | inr later ↦ root-epoch provider page.epoch _ pages each later
 ]
 
-zipped : {X Y : Type 0} (R : X → Y → Type 0) (xs : List X) (ys : List Y) (y : Y) → AllZip R xs ys → Contains ys y → (x : X) × R x y
-zipped R [] [] y all is = absurd (none-there y is)
-zipped R [] (z ∷ zs) y all is = absurd all
-zipped R (x ∷ xs) [] y all is = absurd all
-zipped R (x ∷ xs) (z ∷ zs) y all is = elim (first-or-later z zs y is) [
-  | inl same ↦ (x, subst (R x) same all.0)
-  | inr later ↦ zipped R xs zs y all.1 later
-]
+-- a closing that is refused makes no page
+refused-latest : (latest : ℕ) (asked : Asked) (why : Refusal) → latest_after latest asked (reply.Refused why) ≡ latest
+refused-latest latest (Register name key) why = refl
+refused-latest latest (Change name key) why = refl
+refused-latest latest (Promise name) why = refl
+refused-latest latest (Lookup name epoch) why = refl
+refused-latest latest (History from count) why = refl
+refused-latest latest Head why = refl
+refused-latest latest (Close epoch) why = refl
+
+-- which command a reply came to, and when
+pub at-said : (now : ℕ) (commands : List Asked) (replies : List Reply) (asked : Asked) (said : Reply) → IsSaid commands replies asked said → (latest : ℕ) × IsSaidAt now commands replies latest asked said
+at-said now [] replies asked said is = absurd is
+at-said now (command ∷ commands) [] asked said is = absurd is
+at-said now (command ∷ commands) (answer ∷ replies) asked said (inl here) = (now, inl (refl, here.0, here.1))
+at-said now (command ∷ commands) (answer ∷ replies) asked said (inr later) = let t = at-said (latest_after now command answer) commands replies asked said later in (t.0, inr t.1)
+
+pub said-at : (now : ℕ) (commands : List Asked) (replies : List Reply) (latest : ℕ) (asked : Asked) (said : Reply) → IsSaidAt now commands replies latest asked said → IsSaid commands replies asked said
+said-at now [] replies latest asked said is = absurd is
+said-at now (command ∷ commands) [] latest asked said is = absurd is
+said-at now (command ∷ commands) (answer ∷ replies) latest asked said (inl here) = inl (here.1, here.2)
+said-at now (command ∷ commands) (answer ∷ replies) latest asked said (inr later) = inr (said-at (latest_after now command answer) commands replies latest asked said later)
 
 module _ (provider : Provider) where
   -- a name and a key, which is bound to it from the next page on
@@ -51,7 +69,8 @@ module _ (provider : Provider) where
   record Answered (book after : Book) (asked : Asked) (answer : Answer) : Type 0 where
     pub goes : Goes provider book after
     pub promised : (name : List ℕ) (binding : Binding) → answer ≡ Promised name binding → IsPromisedIn after name binding × IsPromisedBy asked name binding.key
-    pub found : (name : List ℕ) (epoch : ℕ) → asked ≡ Lookup name epoch → (page : Page) (other : List ℕ) (binding : Option Binding) → answer ≡ Found page other binding → (other ≡ name) × IsName name × IsAskedBy epoch page × (binding ≡ at page.bindings name)
+    pub found : (name : List ℕ) (epoch : ℕ) → asked ≡ Lookup name epoch → (page : Page) (other : List ℕ) (binding : Option Binding) → answer ≡ Found page other binding → (other ≡ name) × IsName name × IsAskedBy book.last.epoch epoch page × (binding ≡ at page.bindings name)
+    pub told : (some : List Page) → answer ≡ Told some → (from : ℕ) × (count : ℕ) × (some ≡ told after from count)
 
   abbrev taken : Book → List ℕ → Bool
   taken book name = has_its_index (index_of provider) name book.last.bindings || has_its_index (index_of provider) name book.pending
@@ -67,6 +86,7 @@ module _ (provider : Provider) where
     goes = goes;
     promised = λ other binding same. holds other binding same;
     found = λ other epoch is page named binding same. absurd cc;
+    told = λ some same. absurd cc;
   }
     where
       own : Binding
@@ -106,6 +126,7 @@ module _ (provider : Provider) where
             let b : does.0 ≡ binding = cc in
             (promised-now book other binding sound (ap (at book.pending) (sym n) ∙ does.1 ∙ ap (λ (x : Binding). Some x) b), sym n);
         found = λ other epoch is page named binding same. absurd cc;
+        told = λ some same. let e = sym does.2 ∙ same in absurd cc;
       })
   answered book after (Lookup name epoch) answer sound are none does =
       let one = two-passed (not (is_within 1 255 name)) (is_none (page_at book epoch)) BadName NoSuchEpoch [] none in
@@ -121,21 +142,24 @@ module _ (provider : Provider) where
             let b : at (does.0).bindings name ≡ binding = cc in (
               sym m ∙ n,
               subst IsName n (is-name name one.0 are),
-              subst (λ (x : Page). IsAskedBy also x) p (subst (λ (k : ℕ). IsAskedBy k does.0) at_epoch (asked-page book epoch does.0 does.1)),
+              subst (λ (x : Page). IsAskedBy book.last.epoch also x) p (subst (λ (k : ℕ). IsAskedBy book.last.epoch k does.0) at_epoch (asked-page book epoch does.0 does.1)),
               sym b ∙ ap (λ (x : Page). at x.bindings name) p ∙ ap (at page.bindings) n,
             );
+        told = λ some same. let e = sym does.2 ∙ same in absurd cc;
       })
   answered book after (History from count) answer sound are none does =
       subst (λ (b : Book). Answered book b (History from count) answer) (sym does.1) (record {
         goes = goes-nowhere provider book sound;
         promised = λ other binding same. let e = sym does.0 ∙ same in absurd cc;
         found = λ other also is page named binding same. let e = sym does.0 ∙ same in absurd cc;
+        told = λ some same. let e : Told (told book from count) ≡ Told some = sym does.0 ∙ same in let f : told book from count ≡ some = cc in (from, count, sym f);
       })
   answered book after Head answer sound are none does =
       subst (λ (b : Book). Answered book b Head answer) (sym does.1) (record {
         goes = goes-nowhere provider book sound;
         promised = λ other binding same. let e = sym does.0 ∙ same in absurd cc;
         found = λ other also is page named binding same. let e = sym does.0 ∙ same in absurd cc;
+        told = λ some same. let e = sym does.0 ∙ same in absurd cc;
       })
   answered book after (Close epoch) answer sound are none does =
       let one = passed (nat_le epoch book.last.epoch, EpochNotLater) [] none in
@@ -143,6 +167,7 @@ module _ (provider : Provider) where
         goes = goes-page provider book epoch sound are (above-last epoch book.last.epoch one.0);
         promised = λ other binding same. let e = sym does.0 ∙ same in absurd cc;
         found = λ other also is page named binding same. let e = sym does.0 ∙ same in absurd cc;
+        told = λ some same. let e = sym does.0 ∙ same in absurd cc;
       })
 
   -- ---- what is seen of a reply
@@ -159,22 +184,22 @@ module _ (provider : Provider) where
     pub named : IsName name
     pub keyed : IsKeyData binding.key
 
-  pub record SeenFound (after : Book) (name : List ℕ) (epoch : ℕ) (text : List ℕ) : Type 0 where
+  pub record SeenFound (latest : ℕ) (after : Book) (name : List ℕ) (epoch : ℕ) (text : List ℕ) : Type 0 where
     pub page : Page
     pub root : SignedRoot
     pub is : IsRootOf provider after page root
-    pub asked : IsAskedBy epoch page
+    pub asked : IsAskedBy latest epoch page
     pub named : IsName name
     pub answer : IsReplyOf provider page root.body name (at page.bindings name) text
 
-  abbrev pub Seen : Book → Asked → Reply → Type 0
-  Seen after asked (reply.Promised promised) = SeenPromise after asked promised
-  Seen after asked (reply.Found text) = (name : List ℕ) (epoch : ℕ) → asked ≡ Lookup name epoch → SeenFound after name epoch text
-  Seen after asked (reply.Told told) = (root : SignedRoot) → Contains told.items root → (page : Page) × IsRootOf provider after page root
-  Seen after asked (reply.Last root) = (page : Page) × IsRootOf provider after page root
-  Seen after asked (reply.Refused why) = ⊤
+  abbrev pub Seen : ℕ → Book → Asked → Reply → Type 0
+  Seen latest after asked (reply.Promised promised) = SeenPromise after asked promised
+  Seen latest after asked (reply.Found text) = (name : List ℕ) (epoch : ℕ) → asked ≡ Lookup name epoch → SeenFound latest after name epoch text
+  Seen latest after asked (reply.Told told) = AreConsecutive (roots provider after) told.items
+  Seen latest after asked (reply.Last root) = (page : Page) × IsRootOf provider after page root
+  Seen latest after asked (reply.Refused why) = ⊤
 
-  seen : (book after : Book) (asked : Asked) (answer : Answer) (said : Reply) → Answered book after asked answer → Shows provider after answer said → Seen after asked said
+  seen : (book after : Book) (asked : Asked) (answer : Answer) (said : Reply) → Answered book after asked answer → Shows provider after answer said → Seen book.last.epoch after asked said
   seen book after asked answer (reply.Promised promised) a shows = record {
     page = after.last;
     root = shows.2;
@@ -190,71 +215,89 @@ module _ (provider : Provider) where
   seen book after asked answer (reply.Found text) a shows = λ name epoch is.
       let f = a.found name epoch is shows.0 shows.1 shows.2 shows.4 in
       record { page = shows.0; root = shows.3; is = shows.5; asked = f.2; named = f.1; answer = subst (λ (found : Option Binding). IsReplyOf provider shows.0 (shows.3).body name found text) f.3 (subst (λ (n : List ℕ). IsReplyOf provider shows.0 (shows.3).body n shows.2 text) f.0 shows.6) }
-  seen book after asked answer (reply.Told told) a shows = λ root is. zipped (IsRootOf provider after) shows.0 told.items root shows.2 is
+  seen book after asked answer (reply.Told told_roots) a shows =
+      let f = a.told shows.0 shows.1 in
+      told-consecutive provider after a.goes.sound.climb f.0 f.1 told_roots.items (subst (λ (some : List Page). AllZip (IsRootOf provider after) some told_roots.items) f.2 shows.2)
   seen book after asked answer (reply.Last root) a shows = (shows.0, shows.2)
   seen book after asked answer (reply.Refused why) a shows = tt
 
-  seen-later : (book after : Book) (asked : Asked) (said : Reply) → Goes provider book after → Seen book asked said → Seen after asked said
-  seen-later book after asked (reply.Promised promised) goes s = record {
+  seen-later : (latest : ℕ) (book after : Book) (asked : Asked) (said : Reply) → Goes provider book after → Seen latest book asked said → Seen latest after asked said
+  seen-later latest book after asked (reply.Promised promised) goes s = record {
     page = s.page;
     root = s.root;
     name = s.name;
     binding = s.binding;
-    is = goes.later s.page s.root s.is;
+    is = later provider book after goes s.page s.root s.is;
     same = s.same;
     by = s.by;
     holds = goes.holds s.name s.binding.key s.root.body.epoch s.holds;
     named = s.named;
     keyed = s.keyed;
   }
-  seen-later book after asked (reply.Found text) goes s = λ name epoch is.
+  seen-later latest book after asked (reply.Found text) goes s = λ name epoch is.
       let f = s name epoch is in
-      record { page = f.page; root = f.root; is = goes.later f.page f.root f.is; asked = f.asked; named = f.named; answer = f.answer }
-  seen-later book after asked (reply.Told told) goes s = λ root is. let f = s root is in (f.0, goes.later f.0 root f.1)
-  seen-later book after asked (reply.Last root) goes s = (s.0, goes.later s.0 root s.1)
-  seen-later book after asked (reply.Refused why) goes s = tt
+      record { page = f.page; root = f.root; is = later provider book after goes f.page f.root f.is; asked = f.asked; named = f.named; answer = f.answer }
+  seen-later latest book after asked (reply.Told told_roots) goes s =
+      subst (λ (all : List SignedRoot). AreConsecutive all told_roots.items)
+      (sym (ap (map (λ (each : Sealed). each.root)) goes.grows ∙ map-append (λ (each : Sealed). each.root) (sealed_pages provider book) goes.more))
+      (consecutive-more (roots provider book) told_roots.items (map (λ (each : Sealed). each.root) goes.more) s)
+  seen-later latest book after asked (reply.Last root) goes s = (s.0, later provider book after goes s.0 root s.1)
+  seen-later latest book after asked (reply.Refused why) goes s = tt
+
+  -- the last page after a command that was answered so
+  last-now : (book after : Book) (asked : Asked) (answer : Answer) (said : Reply) → Does book asked answer after → Shows provider after answer said → after.last.epoch ≡ latest_after book.last.epoch asked said
+  last-now book after (Register name key) answer said does shows = ap (λ (b : Book). b.last.epoch) does.1
+  last-now book after (Change name key) answer said does shows = ap (λ (b : Book). b.last.epoch) does.1
+  last-now book after (Promise name) answer said does shows = ap (λ (b : Book). b.last.epoch) does.3
+  last-now book after (Lookup name epoch) answer said does shows = ap (λ (b : Book). b.last.epoch) does.3
+  last-now book after (History from count) answer said does shows = ap (λ (b : Book). b.last.epoch) does.1
+  last-now book after Head answer said does shows = ap (λ (b : Book). b.last.epoch) does.1
+  last-now book after (Close epoch) answer (reply.Promised promised) does shows = let e = sym does.0 ∙ shows.3 in absurd cc
+  last-now book after (Close epoch) answer (reply.Found text) does shows = let e = sym does.0 ∙ shows.4 in absurd cc
+  last-now book after (Close epoch) answer (reply.Told told_roots) does shows = let e = sym does.0 ∙ shows.1 in absurd cc
+  last-now book after (Close epoch) answer (reply.Last root) does shows = ap (λ (b : Book). b.last.epoch) does.1
+  last-now book after (Close epoch) answer (reply.Refused why) does shows = absurd shows
 
   module _ {K : Type 0} (kept failed : K → Record → K → Type 0) where
     pub record Turned (book after : Book) (asked : Asked) (said : Reply) : Type 0 where
       pub goes : Goes provider book after
-      pub shown : Seen after asked said
+      pub shown : Seen book.last.epoch after asked said
+      pub latest : after.last.epoch ≡ latest_after book.last.epoch asked said
+
+    turned-so : (book after : Book) (asked : Asked) (answer : Answer) (said : Reply) → IsSound book → IsCommand asked → step (index_of provider) book asked ≡ (Answers answer, after)
+        → Shows provider after answer said → Turned book after asked said
+    turned-so book after asked answer said sound are steps shows =
+        let s = stepped (index_of provider) book asked answer after steps in
+        let a = answered book after asked answer sound are s.none s.does in
+        record { goes = a.goes; shown = seen book after asked answer said a shows; latest = last-now book after asked answer said s.does shows }
 
     turned : (book after : Book) (before later : K) (asked : Asked) (said : Reply) → IsSound book → IsCommand asked → Turn provider kept failed book before asked said after later → Turned book after asked said
     turned book after before later asked (reply.Refused why) sound are turn =
-        record { goes = subst (Goes provider book) (sym turn.0) (goes-nowhere provider book sound); shown = tt }
-    turned book after before later asked (reply.Promised promised) sound are turn =
-        let s = stepped (index_of provider) book asked turn.0 after turn.1 in let a = answered book after asked turn.0 sound are s.none s.does in record { goes = a.goes; shown = seen book after asked turn.0 (reply.Promised promised) a turn.3 }
-    turned book after before later asked (reply.Found text) sound are turn =
-        let s = stepped (index_of provider) book asked turn.0 after turn.1 in let a = answered book after asked turn.0 sound are s.none s.does in record { goes = a.goes; shown = seen book after asked turn.0 (reply.Found text) a turn.3 }
-    turned book after before later asked (reply.Told told) sound are turn =
-        let s = stepped (index_of provider) book asked turn.0 after turn.1 in let a = answered book after asked turn.0 sound are s.none s.does in record { goes = a.goes; shown = seen book after asked turn.0 (reply.Told told) a turn.3 }
-    turned book after before later asked (reply.Last root) sound are turn =
-        let s = stepped (index_of provider) book asked turn.0 after turn.1 in let a = answered book after asked turn.0 sound are s.none s.does in record { goes = a.goes; shown = seen book after asked turn.0 (reply.Last root) a turn.3 }
+        subst (λ (b : Book). Turned book b asked (reply.Refused why)) (sym turn.0)
+        (record { goes = goes-nowhere provider book sound; shown = tt; latest = sym (refused-latest book.last.epoch asked why) })
+    turned book after before later asked (reply.Promised promised) sound are turn = turned-so book after asked turn.0 (reply.Promised promised) sound are turn.1 turn.3
+    turned book after before later asked (reply.Found text) sound are turn = turned-so book after asked turn.0 (reply.Found text) sound are turn.1 turn.3
+    turned book after before later asked (reply.Told told_roots) sound are turn = turned-so book after asked turn.0 (reply.Told told_roots) sound are turn.1 turn.3
+    turned book after before later asked (reply.Last root) sound are turn = turned-so book after asked turn.0 (reply.Last root) sound are turn.1 turn.3
 
     pub record Ran (book after : Book) (commands : List Asked) (replies : List Reply) : Type 0 where
       pub goes : Goes provider book after
-      pub shown : (asked : Asked) (said : Reply) → IsSaid commands replies asked said → Seen after asked said
-      pub asked : (asked : Asked) (said : Reply) → IsSaid commands replies asked said → Contains commands asked
+      pub shown : (latest : ℕ) (asked : Asked) (said : Reply) → IsSaidAt book.last.epoch commands replies latest asked said → Seen latest after asked said
 
     joined : (asked : Asked) (said : Reply) (commands : List Asked) (replies : List Reply) (book middle after : Book) → Turned book middle asked said → Ran middle after commands replies
         → Ran book after (asked ∷ commands) (said ∷ replies)
-    joined asked said commands replies book middle after turn more = record {
-      goes = goes-on provider book middle after turn.goes more.goes;
-      shown = shown;
-      asked = is-asked;
-    }
+    joined asked said commands replies book middle after turn more = record { goes = goes-on provider book middle after turn.goes more.goes; shown = shown }
       where
-        shown : (command : Asked) (answer : Reply) → IsSaid (asked ∷ commands) (said ∷ replies) command answer → Seen after command answer
-        shown command answer (inl here) = subst (λ (c : Asked). Seen after c answer) here.0 (subst (Seen after asked) here.1 (seen-later middle after asked said more.goes turn.shown))
-        shown command answer (inr later) = more.shown command answer later
-
-        is-asked : (command : Asked) (answer : Reply) → IsSaid (asked ∷ commands) (said ∷ replies) command answer → Contains (asked ∷ commands) command
-        is-asked command answer (inl here) = subst (Contains (asked ∷ commands)) here.0 (first-there asked commands)
-        is-asked command answer (inr later) = later-there asked commands command (more.asked command answer later)
+        shown : (latest : ℕ) (command : Asked) (answer : Reply) → IsSaidAt book.last.epoch (asked ∷ commands) (said ∷ replies) latest command answer → Seen latest after command answer
+        shown latest command answer (inl here) =
+            subst (λ (n : ℕ). Seen n after command answer) here.0
+            (subst (λ (c : Asked). Seen book.last.epoch after c answer) here.1
+            (subst (Seen book.last.epoch after asked) here.2 (seen-later book.last.epoch middle after asked said more.goes turn.shown)))
+        shown latest command answer (inr next) = more.shown latest command answer (subst (λ (n : ℕ). IsSaidAt n commands replies latest command answer) (sym turn.latest) next)
 
     pub ran : (commands : List Asked) (replies : List Reply) (book after : Book) (before later : K) → IsSound book → AllByRecursion IsCommand commands → Run provider kept failed book before commands replies after later
         → Ran book after commands replies
-    ran [] [] book after before later sound are run = record { goes = subst (Goes provider book) (sym run.0) (goes-nowhere provider book sound); shown = λ asked said is. absurd is; asked = λ asked said is. absurd is }
+    ran [] [] book after before later sound are run = record { goes = subst (Goes provider book) (sym run.0) (goes-nowhere provider book sound); shown = λ latest asked said is. absurd is }
     ran [] (said ∷ replies) book after before later sound are run = absurd run
     ran (asked ∷ commands) [] book after before later sound are run = absurd run
     ran (asked ∷ commands) (said ∷ replies) book after before later sound are run =

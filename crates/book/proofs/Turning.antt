@@ -4,6 +4,7 @@ use Rattle.std.specs.Prelude.{is_some, option_map}
 use Rattle.std.specs.BTreeMap.{is_at}
 use Rattle.std.specs.List.{AllByRecursion, find}
 use Rattle.std.proofs.lemmas.Bool.{eqb-true, leb-true, leb-false, not-false}
+use Rattle.std.proofs.lemmas.List.{append-nil, append_assoc}
 use Rattle.std.proofs.lemmas.List.Elements.{Contains-append_left, Contains-push_cases}
 use Rattle.encoding.specs.Bytes.{IsBytes}
 use Rattle.encoding.specs.Limits.{IsWithin, IsName, IsKeyData}
@@ -62,12 +63,12 @@ pub not-there : {X : Type 0} (found : Option X) → is_some found ≡ false → 
 not-there None e = refl
 not-there (Some x) e = absurd cc
 
-pub asked-page : (book : Book) (epoch : ℕ) (page : Page) → page_at book epoch ≡ Some page → IsAskedBy epoch page
-asked-page book epoch page is = by (eqb epoch 0) refl is
+pub asked-page : (book : Book) (epoch : ℕ) (page : Page) → page_at book epoch ≡ Some page → IsAskedBy book.last.epoch epoch page
+asked-page book epoch page is = by (eqb epoch 0) is
   where
-    by : (t : Bool) → eqb epoch 0 ≡ t → cond t (Some book.last) (find (λ (each : Page). eqb each.epoch epoch) (pages book)) ≡ Some page → IsAskedBy epoch page
-    by true test h = inl (eqb-true epoch 0 test)
-    by false test h = inr (eqb-true page.epoch epoch (found-passes (λ (each : Page). eqb each.epoch epoch) (pages book) page h))
+    by : (t : Bool) → cond t (Some book.last) (find (λ (each : Page). eqb each.epoch epoch) (pages book)) ≡ Some page → page.epoch ≡ cond t book.last.epoch epoch
+    by true h = let e : page ≡ book.last = cc in ap (λ (each : Page). each.epoch) e
+    by false h = eqb-true page.epoch epoch (found-passes (λ (each : Page). eqb each.epoch epoch) (pages book) page h)
 
 -- ---- a sound book
 
@@ -148,23 +149,30 @@ module _ (provider : Provider) where
   -- ---- from one book to a later one
 
   pub record Goes (book after : Book) : Type 0 where
-    pub later : (page : Page) (root : SignedRoot) → IsRootOf provider book page root → IsRootOf provider after page root
+    pub more : List Sealed
+    pub grows : sealed_pages provider after ≡ sealed_pages provider book ++ more
     pub holds : (name key : List ℕ) (epoch : ℕ) → Holds book name key epoch → Holds after name key epoch
     pub sound : IsSound after
 
+  -- a root stays that of its page
+  pub later : (book after : Book) → Goes book after → (page : Page) (root : SignedRoot) → IsRootOf provider book page root → IsRootOf provider after page root
+  later book after goes page root is = subst (λ (all : List Sealed). Contains all (sealed_with page root)) (sym goes.grows) (Contains-append_left (sealed_pages provider book) goes.more _ is)
+
   pub goes-nowhere : (book : Book) → IsSound book → Goes book book
-  goes-nowhere book sound = record { later = λ page root is. is; holds = λ name key epoch held. held; sound = sound }
+  goes-nowhere book sound = record { more = []; grows = sym (append-nil (sealed_pages provider book)); holds = λ name key epoch held. held; sound = sound }
 
   pub goes-on : (book middle after : Book) → Goes book middle → Goes middle after → Goes book after
   goes-on book middle after one two = record {
-    later = λ page root is. two.later page root (one.later page root is);
+    more = one.more ++ two.more;
+    grows = two.grows ∙ ap (λ (all : List Sealed). all ++ two.more) one.grows ∙ append_assoc (sealed_pages provider book) one.more two.more;
     holds = λ name key epoch held. two.holds name key epoch (one.holds name key epoch held);
     sound = two.sound;
   }
 
   pub goes-pending : (book : Book) (name key : List ℕ) → IsSound book → IsName name → IsKeyData key → at book.pending name ≡ None → Goes book (with_pending book name key)
   goes-pending book name key sound named keyed none = record {
-    later = λ page root is. is;
+    more = [];
+    grows = sym (append-nil (sealed_pages provider book));
     holds = λ other owned epoch held. record { next = held.next; waits = still other owned epoch held.waits };
     sound = sound-pending book name key sound named keyed;
   }
@@ -183,7 +191,8 @@ module _ (provider : Provider) where
 
   pub goes-page : (book : Book) (epoch : ℕ) → IsSound book → epoch < 2 ^ 64 → book.last.epoch < epoch → Goes book (with_page book (next_page book epoch))
   goes-page book epoch sound fits above = record {
-    later = λ page root is. subst (λ (all : List Sealed). Contains all (record { page = page; root = root })) (sym next.is) (Contains-append_left (sealed_pages provider book) _ _ is);
+    more = record { page = next_page book epoch; root = next.root } ∷ [];
+    grows = next.is;
     holds = λ name key asked held. record { next = λ page root is behind. kept name key asked held page root behind (cases page root is); waits = inr (before asked name key held.waits) };
     sound = sound-page book epoch sound fits above;
   }

@@ -1,19 +1,19 @@
--- Where the indices of all names that are asked about differ, no reply is of a page that has another name with the index.
-use Rattle.std.proofs.Common.{ℕ, List, [], ◌∷◌, Contains, refl, sym, subst, inl, inr}
+-- Where the indices of all names that are asked about differ, no page has another name with the index of one of them.
+use Rattle.std.proofs.Common.{◌≡◌, ℕ, List, [], ◌∷◌, Contains, refl, sym, subst, inl, inr}
 use Rattle.std.specs.Bool.{⊤}
 use Rattle.std.specs.List.{AllByRecursion}
 use Rattle.std.proofs.lemmas.List.Elements.{All-contains, All-from_recursion}
 use Rattle.rand_core.specs.Stream.{Stream}
+use Rattle.rootchain.specs.declared.signed_root.SignedRoot.{SignedRoot}
 use Rattle.book.specs.declared.record.Record.{Record}
 use Rattle.book.specs.declared.reply.Reply.{Reply}
-use Rattle.book.specs.declared.reply.Reply.TheVariants as reply
 use Rattle.book.specs.Answers.{Answer, with_pending, next_page, with_page}
 use Rattle.book.specs.Asked.{Asked, Register, Change, Promise, Lookup, History, Head, Close}
 use Rattle.book.specs.Books.{Binding, Book, Page, pages}
 use Rattle.book.specs.Fresh.{fresh}
-use Rattle.book.specs.Honest.{IndicesDiffer, IsAbout, IsSaid, UsersDiffer}
+use Rattle.book.specs.Honest.{IsAbout, IsSaid, UsersDiffer}
 use Rattle.book.specs.Maps.{Map}
-use Rattle.book.specs.Shows.{Provider}
+use Rattle.book.specs.Shows.{index_of, Provider, IsRootOf}
 use Rattle.book.specs.Turns.{Run}
 use Rattle.book.proofs.Carried.{carried}
 use Rattle.book.proofs.Entries.{all_overwritten, all_put}
@@ -50,7 +50,7 @@ module _ (P : List ℕ → Type 0) where
   named-after book after Head answer named about does = subst (IsNamed P) (sym does.1) named
   named-after book after (Close epoch) answer named about does = subst (IsNamed P) (sym does.1) (named-page book epoch named)
 
-said-asked : (commands : List Asked) (replies : List Reply) (asked : Asked) (said : Reply) → IsSaid commands replies asked said → Contains commands asked
+pub said-asked : (commands : List Asked) (replies : List Reply) (asked : Asked) (said : Reply) → IsSaid commands replies asked said → Contains commands asked
 said-asked [] replies asked said is = absurd is
 said-asked (command ∷ commands) [] asked said is = absurd is
 said-asked (command ∷ commands) (answer ∷ replies) asked said (inl here) = subst (Contains (command ∷ commands)) here.0 (first-there command commands)
@@ -62,11 +62,13 @@ module _ (provider : Provider) where
   IsUser commands name = (command : Asked) × Contains commands command × IsAbout command name
 
   pub users-apart : {K : Type 0} (kept failed : K → Record → K → Type 0) (epoch : ℕ) (nonce : List ℕ) (salts : Stream) (before later : K) (after : Book) (commands : List Asked) (replies : List Reply)
-      → Run provider kept failed (fresh epoch nonce salts) before commands replies after later → UsersDiffer provider commands → IndicesDiffer provider commands replies after
-  users-apart kept failed epoch nonce salts before later after commands replies run differ name asked text is page root rooted absent answer entry there same =
+      → Run provider kept failed (fresh epoch nonce salts) before commands replies after later → UsersDiffer provider commands
+      → (asked : Asked) → Contains commands asked → (name : List ℕ) → IsAbout asked name → (page : Page) (root : SignedRoot) → IsRootOf provider after page root
+      → (entry : List ℕ × Binding) → Contains page.bindings entry → index_of provider entry.0 ≡ index_of provider name → entry.0 ≡ name
+  users-apart kept failed epoch nonce salts before later after commands replies run differ asked there name about page root rooted entry held same =
       let named = carried provider kept failed (IsNamed (IsUser commands)) commands replies (fresh epoch nonce salts) after before later
       (λ command there book next given holds none does. named-after (IsUser commands) book next command given holds (λ user about. (command, there, about)) does) (record { pages = (tt, tt); pending = tt }) run in
       let bound : AreNamed (IsUser commands) page.bindings = All-contains (λ (each : Page). AreNamed (IsUser commands) each.bindings) (pages after) page
       (All-from_recursion (λ (each : Page). AreNamed (IsUser commands) each.bindings) (pages after) named.pages) (sealed-page provider 0 _ (pages after) (record { page = page; root = root }) rooted) in
-      let user : IsUser commands entry.0 = (All-contains (λ (each : List ℕ × Binding). IsUser commands each.0 × ⊤) page.bindings entry (All-from_recursion (λ (each : List ℕ × Binding). IsUser commands each.0 × ⊤) page.bindings bound) there).0 in
-      differ user.0 (Lookup name asked) entry.0 name user.1 (said-asked commands replies (Lookup name asked) (reply.Found text) is) user.2 refl same
+      let user : IsUser commands entry.0 = (All-contains (λ (each : List ℕ × Binding). IsUser commands each.0 × ⊤) page.bindings entry (All-from_recursion (λ (each : List ℕ × Binding). IsUser commands each.0 × ⊤) page.bindings bound) held).0 in
+      differ user.0 asked entry.0 name user.1 there user.2 about same

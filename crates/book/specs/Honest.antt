@@ -1,6 +1,6 @@
 -- What an honest provider's users see of a run: one chain of roots, replies that are accepted and state
 -- what the pages have, promises that are kept, and nothing that is evidence (CONIKS, sections 3 and 4).
-use Rattle.std.specs.Prelude.{◌≡◌, ◌≢◌, ◌↔◌, ◌⊎◌, ℕ, ◌<◌, List, [], ◌∷◌, ◌++◌, length, Option, Some, None, All, Contains, option_map}
+use Rattle.std.specs.Prelude.{◌≡◌, ◌≢◌, ◌↔◌, ◌⊎◌, ◌==◌, ℕ, ◌<◌, if◌then◌else◌, List, [], ◌∷◌, ◌++◌, length, Option, Some, None, All, Contains, option_map, ⊤}
 use Rattle.rootchain.specs.Bodies.{body_bytes}
 use Rattle.rootchain.specs.Chains.{IsChain, IsHead, Links, Verifies}
 use Rattle.rootchain.specs.Promises.{promise_bytes, IsSignedPromise}
@@ -27,6 +27,32 @@ IsSaid [] replies command answered = ⊥
 IsSaid (asked ∷ more) [] command answered = ⊥
 IsSaid (asked ∷ more) (said ∷ replies) command answered = ((asked ≡ command) × (said ≡ answered)) ⊎ IsSaid more replies command answered
 
+-- the epoch of the last page after a command that was answered so, by that of the last page before it: a
+-- closing that is answered with a root makes a page
+abbrev pub latest_after : ℕ → Asked → Reply → ℕ
+latest_after latest (Register name key) said = latest
+latest_after latest (Change name key) said = latest
+latest_after latest (Promise name) said = latest
+latest_after latest (Lookup name epoch) said = latest
+latest_after latest (History from count) said = latest
+latest_after latest Head said = latest
+latest_after latest (Close epoch) said = closed said
+  where
+    closed : Reply → ℕ
+    closed (reply.Promised signed) = latest
+    closed (reply.Found text) = latest
+    closed (reply.Told told) = latest
+    closed (reply.Last root) = epoch
+    closed (reply.Refused why) = latest
+
+-- this reply came to this command while the last page was of the epoch `latest`; before all the commands it
+-- is of the epoch `now`
+abbrev pub IsSaidAt : ℕ → List Asked → List Reply → ℕ → Asked → Reply → Type 0
+IsSaidAt now [] replies latest command answered = ⊥
+IsSaidAt now (asked ∷ more) [] latest command answered = ⊥
+IsSaidAt now (asked ∷ more) (said ∷ replies) latest command answered =
+    ((now ≡ latest) × (asked ≡ command) × (said ≡ answered)) ⊎ IsSaidAt (latest_after now asked said) more replies latest command answered
+
 -- the key that a page has at a name, if any
 abbrev pub key_at : Page → List ℕ → Option (List ℕ)
 key_at page name = option_map (λ (binding : Binding). binding.key) (at page.bindings name)
@@ -39,10 +65,21 @@ Tells (reply.Told told) root = Contains told.items root
 Tells (reply.Last last) root = last ≡ root
 Tells (reply.Refused why) root = ⊥
 
--- the page is the one that is asked for by this epoch; 0 asks for the last at its time, and only the run
--- says which that was
-abbrev pub IsAskedBy : ℕ → Page → Type 0
-IsAskedBy epoch page = (epoch ≡ 0) ⊎ (page.epoch ≡ epoch)
+-- the page is the one that is asked for by this epoch, where 0 asks for the last
+abbrev pub IsAskedBy : ℕ → ℕ → Page → Type 0
+IsAskedBy latest epoch page = page.epoch ≡ (if epoch == 0 then latest else epoch)
+
+-- these roots stand in the list one behind another, and none between them is left out
+abbrev pub AreConsecutive : List SignedRoot → List SignedRoot → Type 0
+AreConsecutive all some = (front : List SignedRoot) × (back : List SignedRoot) × (all ≡ front ++ (some ++ back))
+
+-- if the reply is a list of roots, it is of consecutive ones of these
+abbrev pub ListsInOrder : List SignedRoot → Reply → Type 0
+ListsInOrder all (reply.Promised signed) = ⊤
+ListsInOrder all (reply.Found text) = ⊤
+ListsInOrder all (reply.Told told) = AreConsecutive all told.items
+ListsInOrder all (reply.Last root) = ⊤
+ListsInOrder all (reply.Refused why) = ⊤
 
 -- the command is about this name
 abbrev pub IsAbout : Asked → List ℕ → Type 0
@@ -66,15 +103,6 @@ IsPromisedBy Head for bound = ⊥
 IsPromisedBy (Close epoch) for bound = ⊥
 
 module _ (provider : Provider) where
-  -- no other name of the page has the name's index
-  abbrev pub IsAlone : List ℕ → Page → Type 0
-  IsAlone name page = (entry : List ℕ × Binding) → Contains page.bindings entry → index_of provider entry.0 ≡ index_of provider name → entry.0 ≡ name
-
-  -- no reply to a look-up of a name that its page lacks is of a page that has another name with the name's index
-  abbrev pub IndicesDiffer : List Asked → List Reply → Book → Type 0
-  IndicesDiffer commands replies book = (name : List ℕ) (epoch : ℕ) (text : List ℕ) → IsSaid commands replies (Lookup name epoch) (reply.Found text)
-      → (page : Page) (root : SignedRoot) → IsRootOf provider book page root → at page.bindings name ≡ None → IsReplyOf provider page root.body name (at page.bindings name) text → IsAlone name page
-
   -- two names that are asked about and have one index are one name
   abbrev pub UsersDiffer : List Asked → Type 0
   UsersDiffer commands = (one two : Asked) (name other : List ℕ) → Contains commands one → Contains commands two → IsAbout one name → IsAbout two other
@@ -84,14 +112,29 @@ module _ (provider : Provider) where
     -- under the root of the page that was asked for, the text is accepted with what the page has at the
     -- name, and with nothing else; it has the name's index, and states what is expected exactly where
     -- the page has it
-    pub record IsAnswer (name : List ℕ) (epoch : ℕ) (text : List ℕ) : Type 0 where
+    pub record IsAnswer (latest : ℕ) (name : List ℕ) (epoch : ℕ) (text : List ℕ) : Type 0 where
       pub page : Page
       pub root : SignedRoot
       pub is : IsRootOf provider after page root
-      pub asked : IsAskedBy epoch page
+      pub asked : IsAskedBy latest epoch page
       pub states : (statement : Option (List ℕ)) → Accepts provider.hash accepted root.body name text statement ↔ (statement ≡ key_at page name)
       pub index : HasIndex provider.hash text (index_of provider name)
       pub watched : (watch : Watch) → Accepts provider.hash accepted root.body name text (expected watch page.epoch) ↔ (key_at page name ≡ expected watch page.epoch)
+
+    -- the page that was asked for lacks the name, and another of its names has the name's index: under its
+    -- root the text is refused, since it shows the absence by a leaf of the very index
+    pub record IsDouble (latest : ℕ) (name : List ℕ) (epoch : ℕ) (text : List ℕ) : Type 0 where
+      pub page : Page
+      pub root : SignedRoot
+      pub is : IsRootOf provider after page root
+      pub asked : IsAskedBy latest epoch page
+      pub absent : at page.bindings name ≡ None
+      pub other : List ℕ × Binding
+      pub held : Contains page.bindings other
+      pub same_index : index_of provider other.0 ≡ index_of provider name
+      pub reply : ReplyRead
+      pub spelled : Spells text reply
+      pub refused : IsFirst (Passes provider.hash accepted root.body name reply) SameIndex
 
     -- the promise is what the command asks for, signed over the root of a page, and the next page has its key
     pub record IsKept (command : Asked) (promised : SignedPromise) : Type 0 where
@@ -107,30 +150,28 @@ module _ (provider : Provider) where
       pub next : (next_page : Page) (next_root : SignedRoot) → IsRootOf provider after next_page next_root → next_root.body.previous_epoch ≡ promised.promise.epoch
           → key_at next_page promised.promise.name ≡ Some promised.promise.key
 
-    -- a reply of a page that has another name with the name's index is refused: the absence is shown by a
-    -- leaf of the very index
-    abbrev pub DoublesAreRefused : List Asked → List Reply → Type 0
-    DoublesAreRefused commands replies = (name : List ℕ) (epoch : ℕ) (text : List ℕ) → IsSaid commands replies (Lookup name epoch) (reply.Found text)
-        → (page : Page) (root : SignedRoot) → IsRootOf provider after page root → IsReplyOf provider page root.body name (at page.bindings name) text
-        → (entry : List ℕ × Binding) → Contains page.bindings entry → index_of provider entry.0 ≡ index_of provider name → entry.0 ≢ name
-        → (told : ReplyRead) × Spells text told × IsFirst (Passes provider.hash accepted root.body name told) SameIndex
-
-    -- what the users see of the commands and replies of a run
-    pub record IsHonest (commands : List Asked) (replies : List Reply) : Type 0 where
+    -- what the users see of the commands and replies of a run from a first page of this epoch
+    pub record IsHonest (first : ℕ) (commands : List Asked) (replies : List Reply) : Type 0 where
       -- the signed roots of all pages are a chain
       pub chain : IsChain provider.hash verified (record { key = key; roots = roots provider after })
       -- each has a spelling
       pub forms : All IsSignedRoot (roots provider after)
       -- each root that is told is one of it
       pub told : (command : Asked) (said : Reply) (root : SignedRoot) → IsSaid commands replies command said → Tells said root → Contains (roots provider after) root
-      -- who took the first of them takes each next one behind the last that was taken
-      pub audited : (front back : List SignedRoot) (root : SignedRoot) → roots provider after ≡ front ++ root ∷ back → 0 < length front
-          → IsChain provider.hash verified (record { key = key; roots = front })
-          × ((head : SignedRoot) × IsHead (record { key = key; roots = front }) head × Verifies verified key root × Links provider.hash head root)
+      -- the roots of a list that is told are consecutive
+      pub listed : (command : Asked) (said : Reply) → IsSaid commands replies command said → ListsInOrder (roots provider after) said
+      -- who took some that are consecutive, from whichever on, takes the next one behind the last that was taken
+      pub followed : (front taken back : List SignedRoot) (root : SignedRoot) → roots provider after ≡ front ++ (taken ++ root ∷ back) → 0 < length taken
+          → IsChain provider.hash verified (record { key = key; roots = taken })
+          × ((head : SignedRoot) × IsHead (record { key = key; roots = taken }) head × Verifies verified key root × Links provider.hash head root)
       -- no two of its roots are evidence
       pub linear : (one other : SignedRoot) → Contains (roots provider after) one → Contains (roots provider after) other → ¬ AreEvidence provider.hash verified key one other
-      -- each reply to a look-up is accepted, with what the page has
-      pub found : (name : List ℕ) (epoch : ℕ) (text : List ℕ) → IsSaid commands replies (Lookup name epoch) (reply.Found text) → IsAnswer name epoch text
+      -- each reply to a look-up is accepted, with what the page has, or it is of a double index
+      pub found : (latest : ℕ) (name : List ℕ) (epoch : ℕ) (text : List ℕ) → IsSaidAt first commands replies latest (Lookup name epoch) (reply.Found text)
+          → IsAnswer latest name epoch text ⊎ IsDouble latest name epoch text
+      -- where the users' indices differ, each is accepted
+      pub apart : UsersDiffer commands → (latest : ℕ) (name : List ℕ) (epoch : ℕ) (text : List ℕ) → IsSaidAt first commands replies latest (Lookup name epoch) (reply.Found text)
+          → IsAnswer latest name epoch text
       -- each promise is kept
       pub kept : (command : Asked) (promised : SignedPromise) → IsSaid commands replies command (reply.Promised promised) → IsKept command promised
       -- what is found for its name under the next root states its key, at its index

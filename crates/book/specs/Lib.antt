@@ -9,6 +9,7 @@ pub mod Maps
 pub mod Refusals
 pub mod Runs
 pub mod Salted
+pub mod Seen
 pub mod Shows
 pub mod Sound
 pub mod Steps

@@ -1,4 +1,4 @@
-ghost use Rattle.std.specs.Prelude.{◌≡◌, ℕ, ◌<◌, List, [], ◌∷◌, ◌++◌, length, All, AllPairs, Bool};
+ghost use Rattle.std.specs.Prelude.{◌≡◌, ℕ, ◌<◌, List, [], ◌∷◌, ◌++◌, length, map, All, AllPairs, Bool};
 ghost use Rattle.std.specs.List.{AllZip};
 ghost use Rattle.encoding.specs.Bytes.{Is32Bytes};
 ghost use Rattle.rand_core.specs.Stream.{fill_bytes, Stream};
@@ -8,10 +8,11 @@ ghost use Rattle.rootchain.specs.declared.body.Body.{Body};
 ghost use Rattle.book.specs.Books.{Book, Page, pages};
 ghost use Rattle.book.specs.Folds.{Fate, Tells, folded};
 ghost use Rattle.book.specs.Fresh.{fresh, provider_of, HasSalts, IsCommand, IsEpoch};
-ghost use Rattle.book.specs.Honest.{DoublesAreRefused, IndicesDiffer, IsHonest, UsersDiffer};
+ghost use Rattle.book.specs.Honest.{IsHonest};
 ghost use Rattle.book.specs.Keeps.{fails_next, keeps_next};
 ghost use Rattle.book.specs.Maps.{at, overwritten};
 ghost use Rattle.book.specs.Salted.{salted};
+ghost use Rattle.book.specs.Seen.{seen, FailAlike};
 ghost use Rattle.book.specs.Shows.{index_of, IsReplyOf, Provider};
 ghost use Rattle.book.specs.Sound.{IsSound};
 ghost use Rattle.book.specs.Steps.{Answers, step};
@@ -26,14 +27,14 @@ use vrfiface::Vuf;
 
 /// Whatever is asked of a directory, from its first page on, and whatever is kept of it: the users
 /// of an honest provider see one chain of roots, accept each reply with what the pages have, and
-/// have each promise kept, if no look-up meets another name with its index.
+/// have each promise kept. Only the reply to a look-up that meets another name with its index is not
+/// accepted: checking refuses it for just that.
 pub fn honest<H: NodeHash, V: Vuf, S: Signer>()
     ensures { (vuf : V) (signer : S) (provider : Provider) (commands : List Asked) (replies : List Reply) (after : Book)
         → provider ≡ provider_of H.digest_of V.value_of (V.public_key vuf) S.signature_of (S.public_key signer)
         → Is32Bytes (V.public_key vuf)
-        → IsFirstRun provider commands replies after
-        → IndicesDiffer provider commands replies after
-        → IsHonest provider V.accepted S.verified (S.public_key signer) after commands replies }
+        → (began : IsFirstRun provider commands replies after)
+        → IsHonest provider V.accepted S.verified (S.public_key signer) after began.epoch commands replies }
 {}
 
 /// A run with any keeper is one with a list that says of each record whether it was kept.
@@ -43,28 +44,23 @@ pub fn keeps_are_listed<K: Keeper>()
         → (keeps : List Bool) × Run provider keeps_next fails_next book keeps commands replies after [] }
 {}
 
-/// No look-up of a run from a first page meets another name with its index, where all names that
-/// are asked about have indices of their own.
-pub fn users_have_own_indices()
-    ensures { (provider : Provider) (commands : List Asked) (replies : List Reply) (after : Book)
-        → IsFirstRun provider commands replies after → UsersDiffer provider commands → IndicesDiffer provider commands replies after }
-{}
-
-/// The reply to a look-up that meets another name with its index is refused for just that.
-pub fn doubles_are_refused<H: NodeHash, V: Vuf, S: Signer>()
-    ensures { (vuf : V) (signer : S) (provider : Provider) (commands : List Asked) (replies : List Reply) (after : Book)
-        → provider ≡ provider_of H.digest_of V.value_of (V.public_key vuf) S.signature_of (S.public_key signer)
-        → Is32Bytes (V.public_key vuf)
-        → IsFirstRun provider commands replies after
-        → DoublesAreRefused provider V.accepted S.verified (S.public_key signer) after commands replies }
-{}
-
 /// Runs one after another are a run.
 pub fn runs_join<K: Keeper>()
     ensures { (provider : Provider) (book middle after : Book) (keeper keeper_between keeper_after : K) (commands others : List Asked) (replies answers : List Reply)
         → Run provider K.kept K.failed book keeper commands replies middle keeper_between
         → Run provider K.kept K.failed middle keeper_between others answers after keeper_after
         → Run provider K.kept K.failed book keeper (commands ++ others) (replies ++ answers) after keeper_after }
+{}
+
+/// The commands settle a run, whatever keeps the records: where no call runs out of memory, and the
+/// keepers fail alike, another run of the same commands has the same replies, and leaves the same book.
+pub fn runs_are_settled<K: Keeper, L: Keeper>()
+    ensures { (provider : Provider) (book after left : Book) (keeper later : K) (beside behind : L) (commands : List Asked) (replies others : List Reply)
+        → IsSound (index_of provider) book
+        → AllZip FailAlike replies others
+        → Run provider K.kept K.failed book keeper commands replies after later
+        → Run provider L.kept L.failed book beside commands others left behind
+        → (after ≡ left) × (map seen replies ≡ map seen others) }
 {}
 
 /// A run, with whatever keeper, is the fold of the steps of its commands under some fate of each:

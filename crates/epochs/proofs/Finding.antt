@@ -1,6 +1,6 @@
 -- Where pages whose epochs ascend have the page of an epoch, and those from an epoch on; and the roots beside them.
 use Rattle.std.proofs.Common.{◌≡◌, ◌≢◌, ℕ, zero, suc, ◌+◌, ◌-◌, ◌<◌, ◌≤◌, List, [], ◌∷◌, ◌++◌, length, map, take, drop, get_or, slice_get, replicate, Bool, true, false, cond, Some, None, Ok, Err, eqb, ltb, leb, AllPairs, Contains, refl, sym, ap, subst, subst₂, inl, inr, ◌∙◌, arith}
-use Rattle.std.specs.List.{AllByRecursion, filter, find}
+use Rattle.std.specs.List.{filter, find}
 use Rattle.std.specs.List.Sorted.{IsBinarySearchResult, IsNonDecreasingBy, IsPartitionPoint}
 use Rattle.std.specs.Ordering.{is_lt, nat_cmp, ordering_index}
 use Rattle.std.specs.Cmp.{nat_cmp_is}
@@ -9,8 +9,7 @@ use Rattle.std.specs.declared.cmp.Ordering.TheVariants.{Less, Equal, Greater}
 use Rattle.std.proofs.lemmas.Bool.{cases_lt, eq-eqb, le-leb, lt-leb, ltb-false, ltb-true, ne_eqb}
 use Rattle.std.proofs.lemmas.Cmp.{nat_cmp_total, ranked}
 use Rattle.std.proofs.lemmas.List.{get_or-map, length-map, length_push, same_from_push}
-use Rattle.std.proofs.lemmas.List.Elements.{All-from_recursion, Contains-get_or}
-use Rattle.std.proofs.lemmas.List.Kept.{AllPairs-cons}
+use Rattle.std.proofs.lemmas.List.Elements.{Contains-get_or}
 use Rattle.std.proofs.lemmas.List.Sorted.{searchable_from_sorted}
 use Rattle.std.proofs.lemmas.Option.{get_or_from_slice_get, slice_get_within}
 use Rattle.rootchain.specs.Bodies.{body_bytes}
@@ -22,27 +21,10 @@ use Rattle.book.specs.Shows.{Provider, Sealed, body_behind, roots, sealed_behind
 use Rattle.epochs.proofs.Ends.{front_final, slice_get-final}
 use Rattle.book.proofs.Members.{first-or-later, first-there, later-there, none-there}
 use Rattle.book.proofs.Rooted.{rooted-at}
-use Rattle.book.proofs.Sealing.{Climb}
 
 -- epochs ascend
 abbrev pub EpochsAscend : List Page → Type 0
 EpochsAscend = AllPairs (λ (earlier later : Page). earlier.epoch < later.epoch)
-
-climb-above : (epoch : ℕ) (pages : List Page) → Climb epoch pages → AllByRecursion (λ (page : Page). epoch < page.epoch) pages
-climb-above epoch [] climb = tt
-climb-above epoch (page ∷ pages) climb = (climb.0, lower pages (climb-above page.epoch pages climb.1))
-  where
-    lower : (more : List Page) → AllByRecursion (λ (each : Page). page.epoch < each.epoch) more → AllByRecursion (λ (each : Page). epoch < each.epoch) more
-    lower [] above = tt
-    lower (each ∷ more) above = (omega (arith, climb.0, above.0), lower more above.1)
-
--- pages that climb ascend
-pub climb-ascend : (epoch : ℕ) (pages : List Page) → Climb epoch pages → EpochsAscend pages
-climb-ascend epoch [] climb = λ i j d p q. absurd (omega arith)
-climb-ascend epoch (page ∷ pages) climb =
-    AllPairs-cons (λ (earlier later : Page). earlier.epoch < later.epoch) page pages
-    (All-from_recursion (λ (each : Page). page.epoch < each.epoch) pages (climb-above page.epoch pages climb.1))
-    (climb-ascend page.epoch pages climb.1)
 
 -- ---- the page of an epoch
 

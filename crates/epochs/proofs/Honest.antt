@@ -6,7 +6,7 @@ use Rattle.book.specs.declared.reply.Reply.{Reply}
 use Rattle.book.specs.Asked.{Asked}
 use Rattle.book.specs.Books.{Book, Page, pages}
 use Rattle.book.specs.Fresh.{fresh, HasSalts, IsCommand, KeepsLaws}
-use Rattle.book.specs.Honest.{IndicesDiffer, IsHonest}
+use Rattle.book.specs.Honest.{IsHonest}
 use Rattle.book.specs.Shows.{Provider, Sealed, index_of, sealed_behind, IsRootOf}
 use Rattle.book.specs.Sound.{IsPage, IsSound}
 use Rattle.book.specs.Turns.{Run}
@@ -28,14 +28,14 @@ key-behind provider epoch before (page ∷ pages) each is = elim (first-or-later
 pub root_key : (provider : Provider) (book : Book) (page : Page) (root : SignedRoot) → IsRootOf provider book page root → root.body.vuf_key ≡ provider.vuf_key
 root_key provider book page root is = key-behind provider 0 (replicate 32 0) (pages book) (record { page = page; root = root }) is
 
-module _ (provider : Provider) (accepted verified : List ℕ → List ℕ → List ℕ → Type 0) (key : List ℕ) (laws : KeepsLaws accepted verified key provider) {K : Type 0} (kept failed : K → Record → K → Type 0) where
+-- what the users of a run from a new book on see
+module _ (provider : Provider) {K : Type 0} (kept failed : K → Record → K → Type 0) (accepted verified : List ℕ → List ℕ → List ℕ → Type 0) (key : List ℕ) (laws : KeepsLaws accepted verified key provider) where
   pub seen_honest : (book after : Book) (before later : K) (commands : List Asked) (replies : List Reply) → IsSound (index_of provider) book → IsSound (index_of provider) after
       → All IsCommand commands → Run provider kept failed book before commands replies after later
-      → (epoch : ℕ) (nonce : List ℕ) (salts : Stream) → book ≡ fresh epoch nonce salts
-      → IndicesDiffer provider commands replies after → IsHonest provider accepted verified key after commands replies
-  seen_honest book after before later commands replies sound sound_after are run epoch nonce salts is differ =
+      → (epoch : ℕ) (nonce : List ℕ) (salts : Stream) → book ≡ fresh epoch nonce salts → IsHonest provider accepted verified key after epoch commands replies
+  seen_honest book after before later commands replies sound sound_after are run epoch nonce salts is =
       honest provider accepted verified key laws kept failed epoch nonce salts before later after commands replies (page.from_one, page.in_eight_bytes) page.nonce are
-      (subst (λ (b : Book). Run provider kept failed b before commands replies after later) is run) (has-salts (index_of provider) after sound_after) differ
+      (subst (λ (b : Book). Run provider kept failed b before commands replies after later) is run) (has-salts (index_of provider) after sound_after)
     where
       begun : IsSound (index_of provider) (fresh epoch nonce salts)
       begun = subst (IsSound (index_of provider)) is sound

@@ -1,5 +1,5 @@
 ghost use Rattle.std.specs.Prelude.{◌≡◌, ◌+◌, ◌<◌, ◌≤◌, IfErr, IfOk};
-ghost use Rattle.book.specs.Fresh.{fresh};
+ghost use Rattle.book.specs.Fresh.{fresh, KeepsLaws};
 ghost use Rattle.book.specs.Shows.{index_of, IsRootOf};
 ghost use Rattle.book.specs.Sound.{IsSound};
 ghost use Rattle.epochs.specs.Beginnings.{IsBeginRefusal};
@@ -118,7 +118,11 @@ impl<H: NodeHash, V: Vuf, S: Signer, R: Rng> Directory<H, V, S, R> {
     pub fn head(&self) -> &SignedRoot
         ensures head { IsRootOf (provider H.digest_of V.value_of S.signature_of self.now) (book R.stream self.now) self.now.last result.now }
         ensures sound { IsSound (index_of (provider H.digest_of V.value_of S.signature_of self.now)) (book R.stream self.now) }
+        ensures laws { KeepsLaws V.accepted S.verified self.now.key (provider H.digest_of V.value_of S.signature_of self.now) }
     {
-        &self.roots[self.roots.len() - 1]
+        let root = &self.roots[self.roots.len() - 1];
+        // What this ensures: a public key of the verifiable function has 32 bytes.
+        root.body.vuf_key.bytes();
+        root
     }
 }

@@ -1,23 +1,24 @@
 -- What the users of a whole list of messages see at the desk of an honest provider.
-use Rattle.std.proofs.Common.{◌≡◌, ℕ, List, [], ◌∷◌, Bool, true, false, cond, Some, None, All, sym, ap, subst, ◌∙◌, inl, inr}
+use Rattle.std.proofs.Common.{◌≡◌, ℕ, List, [], ◌∷◌, Bool, true, false, cond, Some, None, All, sym, subst, inl, inr}
 use Rattle.std.proofs.lemmas.List.Elements.{All-cons, All-nil}
 use Rattle.std.specs.Str.{bytes_eq}
 use Rattle.rand_core.specs.Stream.{Stream}
 use Rattle.book.specs.declared.record.Record.{Record}
 use Rattle.book.specs.declared.reply.Reply.{Reply}
 use Rattle.book.specs.Asked.{Asked, Register, Change, Promise, Lookup, History, Head, Close}
-use Rattle.book.specs.Books.{Book}
-use Rattle.book.specs.Fresh.{HasSalts, IsCommand, KeepsLaws, provider_of}
-use Rattle.book.specs.Shows.{Provider}
-use Rattle.book.specs.Turns.{Run}
-use Rattle.book.proofs.Honesty.{honest}
+use Rattle.book.specs.Fresh.{IsCommand}
+use Rattle.book.specs.Shows.{Provider, index_of}
+use Rattle.book.specs.Sound.{IsSound}
 use Rattle.epochs.specs.Kept.{book, provider}
+use Rattle.epochs.proofs.Honest.{seen_honest}
+use Rattle.epochs.proofs.Running.{same_provider}
 use Rattle.wire.specs.Requests as request
 use Rattle.wire.specs.Streams.{Message, Whole, BadFrame}
 use Rattle.hub.specs.Desks.{command, Desked, DeskAnswers}
-use Rattle.hub.specs.DeskRuns.{IsNew, Reaches, ShowHonest, ShowReplies}
+use Rattle.hub.specs.DeskRuns.{IsWell, Reaches, ShowHonestRun, ShowReplies}
 use Rattle.hub.specs.Runs.{Line, AllAnswered}
 use Rattle.hub.proofs.DeskRunning.{lines_show_run}
+use Rattle.hub.proofs.Readable.{lines_read, run_for}
 
 -- a request that is a command holds names, keys and epochs within their limits
 request_is : (token : List ℕ) (requested : request.Asked) (asked : Asked) → request.IsAsked requested → command token requested ≡ Some asked → IsCommand asked
@@ -43,22 +44,31 @@ commands_are token (line ∷ more) commands replies (inl (code, turned, says, sh
 commands_are token (line ∷ more) commands replies (inr (asked, told, later, others, reaches, says, is, are, shows)) =
     subst (All IsCommand) (sym is) (All-cons IsCommand asked later (reached_is token line.message asked reaches) (commands_are token more later others shows))
 
-module _ {R K : Type 0} (digest_of : List ℕ → List ℕ) (value_of signature_of : List ℕ → List ℕ → List ℕ) (stream : R → Stream) (kept failed : K → Record → K → Type 0) where
-  pub lines_are_honest : (accepted verified : List ℕ → List ℕ → List ℕ → Type 0) (vuf_key key : List ℕ)
-      → KeepsLaws accepted verified key (provider_of digest_of value_of vuf_key signature_of key)
-      → (before : Desked R K) (lines : List Line) (after : Desked R K) → IsNew stream vuf_key key before.directory → HasSalts (book stream after.directory)
+module _ {R K : Type 0} (digest_of : List ℕ → List ℕ) (value_of signature_of : List ℕ → List ℕ → List ℕ) (stream : R → Stream) (kept failed : K → Record → K → Type 0)
+    (accepted verified : List ℕ → List ℕ → List ℕ → Type 0) where
+  pub lines_show_honest_run : (before : Desked R K) (lines : List Line) (after : Desked R K)
+      → IsWell digest_of value_of signature_of stream accepted verified before → IsWell digest_of value_of signature_of stream accepted verified after
       → AllAnswered (DeskAnswers digest_of value_of signature_of stream kept failed) before lines after
-      → ShowHonest (provider_of digest_of value_of vuf_key signature_of key) accepted verified key before.token lines (book stream after.directory)
-  lines_are_honest accepted verified vuf_key key laws before lines after new salts answered =
-      let (commands, replies, shows, run, keys, token) = lines_show_run digest_of value_of signature_of stream kept failed before lines after answered in
-      let same : provider digest_of value_of signature_of before.directory ≡ provider_of digest_of value_of vuf_key signature_of key =
-      ap (λ (k : List ℕ). provider_of digest_of value_of k signature_of before.directory.key) new.is_vuf_key ∙ ap (λ (k : List ℕ). provider_of digest_of value_of vuf_key signature_of k) new.is_key
+      → ShowHonestRun digest_of value_of signature_of stream kept failed accepted verified before lines after
+  lines_show_honest_run before lines after well well_after answered =
+      let (commands, replies, shown, run, keys, token) = lines_show_run digest_of value_of signature_of stream kept failed before lines after answered in
+      let by : Provider = provider digest_of value_of signature_of before.directory in
+      let sound_after : IsSound (index_of by) (book stream after.directory) =
+      subst (λ (p : Provider). IsSound (index_of p) (book stream after.directory)) (same_provider digest_of value_of signature_of stream kept failed before.directory after.directory keys) well_after.sound
       in
-      let ran = subst (λ (p : Provider). Run p kept failed (book stream before.directory) before.keeper commands replies (book stream after.directory) after.keeper) same run in
-      let from = subst (λ (b : Book). Run (provider_of digest_of value_of vuf_key signature_of key) kept failed b before.keeper commands replies (book stream after.directory) after.keeper) new.begun ran in (
-        commands,
-        replies,
-        shows,
-        honest (provider_of digest_of value_of vuf_key signature_of key) accepted verified key laws kept failed new.epoch new.nonce new.salts before.keeper after.keeper
-            (book stream after.directory) commands replies new.is_epoch new.is_nonce (commands_are before.token lines commands replies shows) from salts,
-      )
+      let are : All IsCommand commands = commands_are before.token lines commands replies shown in
+      record {
+        commands = commands;
+        replies = replies;
+        shown = shown;
+        run = run;
+        honest = λ epoch nonce salts is.
+            let seen = seen_honest by kept failed accepted verified before.directory.key well.laws (book stream before.directory) (book stream after.directory) before.keeper after.keeper commands replies
+            well.sound sound_after are run epoch nonce salts is in (
+              lines_read by accepted verified before.directory.key (book stream after.directory) epoch commands replies seen before.token lines commands replies shown
+                  (run_for by kept failed commands replies (book stream before.directory) (book stream after.directory) before.keeper after.keeper run) (λ asked told said. said),
+              seen,
+            );
+        keys = keys;
+        token = token;
+      }

@@ -2,6 +2,7 @@
 use Rattle.std.proofs.Common.{◌≡◌, ℕ, List, [], ◌∷◌, Option, Some, None, Ok, Err, refl, sym, ap, subst, ◌∙◌, inl, inr}
 use Rattle.rand_core.specs.Stream.{Stream}
 use Rattle.book.specs.declared.record.Record.{Record}
+use Rattle.book.specs.declared.reply.Reply.{Reply}
 use Rattle.book.specs.Asked.{Asked}
 use Rattle.book.specs.Fresh.{provider_of}
 use Rattle.book.specs.Shows.{Provider}
@@ -9,13 +10,16 @@ use Rattle.book.specs.Turns.{Run}
 use Rattle.epochs.specs.Kept.{Kept, book, provider, HasKeysOf}
 use Rattle.wire.specs.Streams.{Message, Whole, BadFrame}
 use Rattle.hub.specs.Desks.{command, Commanded, Desked, DeskAnswers}
-use Rattle.hub.specs.DeskRuns.{IsTurnedAway, Reaches, ShowReplies, ShowRun}
+use Rattle.hub.specs.DeskRuns.{IsTurnedAway, Reaches, ShowReplies}
 use Rattle.hub.specs.Exchanges.{refused_frame, Replies}
 use Rattle.hub.specs.Runs.{Line, AllAnswered}
 
 module _ {R K : Type 0} (digest_of : List ℕ → List ℕ) (value_of signature_of : List ℕ → List ℕ → List ℕ) (stream : R → Stream) (kept failed : K → Record → K → Type 0) where
+  -- the commands and replies of a run that the lines show
   abbrev Shown : Desked R K → List Line → Desked R K → Type 0
-  Shown = ShowRun digest_of value_of signature_of stream kept failed
+  Shown before lines after = (commands : List Asked) × (replies : List Reply) × ShowReplies before.token lines commands replies
+      × Run (provider digest_of value_of signature_of before.directory) kept failed (book stream before.directory) before.keeper commands replies (book stream after.directory) after.keeper
+      × HasKeysOf before.directory after.directory × (after.token ≡ before.token)
 
   abbrev provider_at : Kept R → Provider
   provider_at directory = provider digest_of value_of signature_of directory

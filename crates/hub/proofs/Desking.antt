@@ -43,7 +43,7 @@ same_pages by book from count pages true e =
     (refl, sym same)
 same_pages by book from count pages false e = absurd (let wrong : Refuses BadRange ≡ Answers (ToldPages pages) = ap (λ (x : Outcome × Book). x.0) e in cc)
 
-few_pages : (by : List ℕ → List ℕ) (book : Book) (from count : ℕ) (pages : List Page) → step by book (History from count) ≡ (Answers (ToldPages pages), book) → length pages ≤ 64
+pub few_pages : (by : List ℕ → List ℕ) (book : Book) (from count : ℕ) (pages : List Page) → step by book (History from count) ≡ (Answers (ToldPages pages), book) → length pages ≤ 64
 few_pages by book from count pages e =
     let t = same_pages by book from count pages (nat_le 1 count && nat_le count 64) e in
     let below : count ≤ 64 = leb-true count 64 (and_parts (nat_le 1 count) (nat_le count 64) t.0).1 in

@@ -1,3 +1,4 @@
+pub mod Cutting
 pub mod DeskHonest
 pub mod DeskRunning
 pub mod Desking
@@ -10,7 +11,10 @@ pub mod Once
 pub mod Others
 pub mod Outputting
 pub mod Owning
+pub mod Readable
 pub mod Running
+pub mod Settled
+pub mod SettledRuns
 pub mod Steps
 pub mod Stopping
 pub mod Streaming

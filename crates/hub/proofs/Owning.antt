@@ -66,7 +66,7 @@ piece_more stream piece (next ∷ more) counted =
 
 -- ---- the messages of one session
 
-of_other : (n k : ℕ) (ms : List Message) (rest : List (ℕ × Message)) → (k == n) ≡ false → messages_of n (map (λ message. (k, message)) ms ++ rest) ≡ messages_of n rest
+pub of_other : (n k : ℕ) (ms : List Message) (rest : List (ℕ × Message)) → (k == n) ≡ false → messages_of n (map (λ message. (k, message)) ms ++ rest) ≡ messages_of n rest
 of_other n k [] rest e = refl
 of_other n k (m ∷ ms) rest e = rw e (of_other n k ms rest e)
 
@@ -93,7 +93,7 @@ nothing_more : (found : Option Stream) → [] ≡ later_messages found []
 nothing_more None = refl
 nothing_more (Some stream) = refl
 
-same_is : (n : ℕ) → (n == n) ≡ true
+pub same_is : (n : ℕ) → (n == n) ≡ true
 same_is n = by_test (n == n) refl
   where
     by_test : (b : Bool) → (n == n) ≡ b → b ≡ true
@@ -252,7 +252,7 @@ sessions_hear session sessions events up =
 
 -- ---- runs
 
-own_asked : (n : ℕ) (ls : List Line) → map (λ line. line.message) (lines_of n ls) ≡ messages_of n (map asked ls)
+pub own_asked : (n : ℕ) (ls : List Line) → map (λ line. line.message) (lines_of n ls) ≡ messages_of n (map asked ls)
 own_asked n [] = refl
 own_asked n (line ∷ ls) = by_test (line.session == n) (own_asked n ls)
   where
@@ -261,7 +261,7 @@ own_asked n (line ∷ ls) = by_test (line.session == n) (own_asked n ls)
     by_test true next = ap (λ (t : List Message). line.message ∷ t) next
     by_test false next = next
 
-own_told : (n : ℕ) (ls : List Line) → told n ls ≡ flat_map (λ line. line.reply) (lines_of n ls)
+pub own_told : (n : ℕ) (ls : List Line) → told n ls ≡ flat_map (λ line. line.reply) (lines_of n ls)
 own_told n [] = refl
 own_told n (line ∷ ls) = by_test (line.session == n) (own_told n ls)
   where

@@ -10,6 +10,7 @@ use Rattle.wire.specs.Streams.{Held, Message, Rest, messages, messages_within, w
 use Rattle.hub.specs.Events.{BySession, Happening, Open, Bytes, End, Hubbed, at, due, number}
 use Rattle.hub.specs.Exchanges.{Exchange, Exchanges}
 use Rattle.hub.specs.Happenings.{Answered, Does}
+pub use Rattle.hub.specs.Runs.{lines}
 use Rattle.hub.specs.Runs.{Line, Stream, Streams, changed, completed, completed_by, each, fresh, rest_of, with_piece, AllAnswered}
 use Rattle.hub.proofs.Entries.{due_each, insert_each, lookup_each, remove_each, set_each, all_found, all_inserted, all_removed, all_set, AllAt}
 use Rattle.hub.proofs.Streaming.{left_within, tells_append, tells_more, told_all, told_of}
@@ -32,11 +33,6 @@ each_fresh (entry ∷ more) = ap (λ (t : BySession Held). entry ∷ t) (each_fr
 -- the messages that are answered
 abbrev pub messages_of : List Exchange → List Message
 messages_of = map (λ exchange. exchange.message)
-
--- the messages of a session with their replies
-abbrev pub lines : ℕ → List Exchange → List Line
-lines session [] = []
-lines session (exchange ∷ more) = record { session = session; message = exchange.message; reply = exchange.reply } ∷ lines session more
 
 -- a piece whose messages are all told
 piece_told : (stream : Stream) (piece : List ℕ) (now : List Message) (left : Held) → IsTold stream → Tells (with_more (rest_of stream) piece) now left → IsSpent left

@@ -15,6 +15,10 @@ pub any_err : {T E : Type 0} (r : Result T E) (P : Type 0) → P → OnErr r P
 any_err (Ok done) P p = tt
 any_err (Err e) P p = p
 
+pub if_err : {T E : Type 0} (r : Result T E) (P Q : Type 0) → OnErr r P → (P → Q) → OnErr r Q
+if_err (Ok done) P Q p next = tt
+if_err (Err e) P Q p next = next p
+
 module _ {S : Type 0} (answers : S → Frame → List ℕ → S → Type 0) where
   pub stopped : {X : Type 0} (f : X → Happening) (before between after : Hubbed S) (events : List X) (k : ℕ) (d : X) → k < length events
       → ((ls : List Line) × RunsSo answers before (map f (take k events)) ls between)
@@ -49,9 +53,11 @@ module _ {S : Type 0} (answers : S → Frame → List ℕ → S → Type 0) wher
   runs_begin before between done rest events ls split run =
       let start : Streams = each fresh before.sessions in (
         ls,
-        commands (after_events start done) rest,
-        ap (commands start) split ∙ commands_append start done rest ∙ ap (λ (t : List (ℕ × Message)). t ++ commands (after_events start done) rest) (sym run.messages),
-        run.answered,
+        (
+          commands (after_events start done) rest,
+          ap (commands start) split ∙ commands_append start done rest ∙ ap (λ (t : List (ℕ × Message)). t ++ commands (after_events start done) rest) (sym run.messages),
+          run.answered,
+        ),
       )
 
   -- and so are those of a run and a first part of a piece
@@ -71,13 +77,15 @@ module _ {S : Type 0} (answers : S → Frame → List ℕ → S → Type 0) wher
       ∙ ap (λ (m : List (ℕ × Message)). m ++ later) (sym (asked_lines it xs))
       in (
         ls ++ lines session xs,
-        later,
-        ap (commands start) split ∙ commands_append start done (it ∷ rest)
-            ∙ ap (λ (m : List (ℕ × Message)). m ++ commands streams (it ∷ rest)) (sym run.messages)
-            ∙ ap (λ (m : List (ℕ × Message)). map asked ls ++ m) first
-            ∙ sym (append_assoc (map asked ls) (map asked (lines session xs)) later)
-            ∙ ap (λ (m : List (ℕ × Message)). m ++ later) (sym (map-append asked ls (lines session xs))),
-        answered_append answers before.service ls between.service (lines session xs) after.service run.answered t.2,
+        (
+          later,
+          ap (commands start) split ∙ commands_append start done (it ∷ rest)
+              ∙ ap (λ (m : List (ℕ × Message)). m ++ commands streams (it ∷ rest)) (sym run.messages)
+              ∙ ap (λ (m : List (ℕ × Message)). map asked ls ++ m) first
+              ∙ sym (append_assoc (map asked ls) (map asked (lines session xs)) later)
+              ∙ ap (λ (m : List (ℕ × Message)). m ++ later) (sym (map-append asked ls (lines session xs))),
+          answered_append answers before.service ls between.service (lines session xs) after.service run.answered t.2,
+        ),
       )
 
   pub begun : {X : Type 0} (f : X → Happening) (before between after : Hubbed S) (events : List X) (k : ℕ) (d : X) → k < length events

@@ -1,22 +1,25 @@
 -- What the messages of sessions ask of the directory of a desk, and the run that their replies show.
-use Rattle.std.specs.Prelude.{◌≡◌, ◌⊎◌, ℕ, List, [], ◌∷◌, Some, None, Ok, Err}
-use Rattle.encoding.specs.Bytes.{Is32Bytes}
+use Rattle.std.specs.Prelude.{◌≡◌, ◌≢◌, ◌↔◌, ◌⊎◌, ℕ, List, [], ◌∷◌, Some, None, Ok, Err, ⊤}
+use mathlib.Core.Logic.{inl, inr}
 use Rattle.rand_core.specs.Stream.{Stream}
 use Rattle.book.specs.declared.record.Record.{Record}
 use Rattle.book.specs.declared.reply.Reply.{Reply}
 use Rattle.book.specs.Asked.{Asked}
-use Rattle.book.specs.Books.{Book}
-use Rattle.book.specs.Fresh.{fresh, IsEpoch}
-use Rattle.book.specs.Honest.{IndicesDiffer, IsHonest}
-use Rattle.book.specs.Shows.{Provider}
+use Rattle.book.specs.Fresh.{fresh, KeepsLaws}
+use Rattle.book.specs.Honest.{IsHonest}
+use Rattle.book.specs.Shows.{index_of}
+use Rattle.book.specs.Sound.{IsSound}
 use Rattle.book.specs.Turns.{Run}
-use Rattle.epochs.specs.Kept.{Kept, book, provider, HasKeysOf}
+use Rattle.epochs.specs.Kept.{book, provider, HasKeysOf}
 use Rattle.wire.specs.declared.refusal.ReadRefusal.{ReadRefusal}
 use Rattle.wire.specs.Frames.{frame_bytes}
+use Rattle.wire.specs.Laws.{IsReadAs}
 use Rattle.wire.specs.Refusals.{read_refusal_number}
 use Rattle.wire.specs.Requests as request
+use Rattle.wire.specs.Responses as response
+use Rattle.wire.specs.Responses.{response_frame}
 use Rattle.wire.specs.Streams.{Message, Whole, BadFrame}
-use Rattle.hub.specs.Desks.{command, reply_frame, Desked, IsRead}
+use Rattle.hub.specs.Desks.{command, reply_frame, Desked, IsRead, IsResponseOf}
 use Rattle.hub.specs.Exchanges.{refused_frame}
 use Rattle.hub.specs.Runs.{Line}
 
@@ -41,26 +44,34 @@ ShowReplies token (line ∷ more) commands replies =
     ⊎ ((asked : Asked) × (told : Reply) × (later : List Asked) × (others : List Reply) × Reaches token line.message asked
     × (line.reply ≡ frame_bytes (reply_frame told)) × (commands ≡ asked ∷ later) × (replies ≡ told ∷ others) × ShowReplies token more later others)
 
-module _ {R K : Type 0} (digest_of : List ℕ → List ℕ) (value_of signature_of : List ℕ → List ℕ → List ℕ) (stream : R → Stream) (kept failed : K → Record → K → Type 0) where
-  -- the lines show a run of the directory: each message is answered as the book stands after the commands
-  -- of all messages before it
-  abbrev pub ShowRun : Desked R K → List Line → Desked R K → Type 0
-  ShowRun before lines after = (commands : List Asked) × (replies : List Reply) × ShowReplies before.token lines commands replies
-      × Run (provider digest_of value_of signature_of before.directory) kept failed (book stream before.directory) before.keeper commands replies (book stream after.directory) after.keeper
-      × HasKeysOf before.directory after.directory × (after.token ≡ before.token)
+-- each frame is read as one response: that of the reply, or the refusal
+abbrev pub AreRead : (token : List ℕ) (lines : List Line) (commands : List Asked) (replies : List Reply) → ShowReplies token lines commands replies → Type 0
+AreRead token [] commands replies shown = ⊤
+AreRead token (line ∷ more) commands replies (inl (code, away, says, shown)) =
+    IsReadAs (response_frame (response.Refused code)) (response.Refused code) × AreRead token more commands replies shown
+AreRead token (line ∷ more) commands replies (inr (asked, told, later, others, reaches, says, is, are, shown)) =
+    ((responded : response.Responded) × IsResponseOf told responded × IsReadAs (reply_frame told) responded) × AreRead token more later others shown
 
--- a directory as it begins, with these public keys
-pub record IsNew {R : Type 0} (stream : R → Stream) (vuf_key key : List ℕ) (directory : Kept R) : Type 0 where
-  pub epoch : ℕ
-  pub nonce : List ℕ
-  pub salts : Stream
-  pub begun : book stream directory ≡ fresh epoch nonce salts
-  pub is_epoch : IsEpoch epoch
-  pub is_nonce : Is32Bytes nonce
-  pub is_vuf_key : directory.vuf_key ≡ vuf_key
-  pub is_key : directory.key ≡ key
+-- neither reply refuses because memory ran out; and both refuse because a record was not kept, or neither does
+abbrev pub RefuseAlike : Line → Line → Type 0
+RefuseAlike line other = (line.reply ≢ refused_frame 14) × (other.reply ≢ refused_frame 14) × ((line.reply ≡ refused_frame 19) ↔ (other.reply ≡ refused_frame 19))
 
--- the lines show what the users of an honest provider see, where no look-up meets another name with its index
-abbrev pub ShowHonest : Provider → (List ℕ → List ℕ → List ℕ → Type 0) → (List ℕ → List ℕ → List ℕ → Type 0) → List ℕ → List ℕ → List Line → Book → Type 0
-ShowHonest provided accepted verified key token lines after = (commands : List Asked) × (replies : List Reply) × ShowReplies token lines commands replies
-    × (IndicesDiffer provided commands replies after → IsHonest provided accepted verified key after commands replies)
+-- what the types keep of each desk: its book is sound, and the functions of its provider keep their laws
+pub record IsWell {R K : Type 0} (digest_of : List ℕ → List ℕ) (value_of signature_of : List ℕ → List ℕ → List ℕ) (stream : R → Stream) (accepted verified : List ℕ → List ℕ → List ℕ → Type 0) (desk : Desked R K) : Type 0 where
+  pub sound : IsSound (index_of (provider digest_of value_of signature_of desk.directory)) (book stream desk.directory)
+  pub laws : KeepsLaws accepted verified desk.directory.key (provider digest_of value_of signature_of desk.directory)
+
+-- What the lines show: a run of the directory, in which each message is answered as the book stands after
+-- the commands of all messages before it. If the book was new, each frame is read as a response, and the users
+-- see of this very run what those of an honest provider see.
+pub record ShowHonestRun {R K : Type 0} (digest_of : List ℕ → List ℕ) (value_of signature_of : List ℕ → List ℕ → List ℕ) (stream : R → Stream) (kept failed : K → Record → K → Type 0)
+    (accepted verified : List ℕ → List ℕ → List ℕ → Type 0) (before : Desked R K) (lines : List Line) (after : Desked R K) : Type 0 where
+  pub commands : List Asked
+  pub replies : List Reply
+  pub shown : ShowReplies before.token lines commands replies
+  pub run : Run (provider digest_of value_of signature_of before.directory) kept failed (book stream before.directory) before.keeper commands replies (book stream after.directory) after.keeper
+  pub honest : (epoch : ℕ) (nonce : List ℕ) (salts : Stream) → book stream before.directory ≡ fresh epoch nonce salts
+      → AreRead before.token lines commands replies shown
+      × IsHonest (provider digest_of value_of signature_of before.directory) accepted verified before.directory.key (book stream after.directory) epoch commands replies
+  pub keys : HasKeysOf before.directory after.directory
+  pub token : after.token ≡ before.token

@@ -2,6 +2,7 @@
 use Rattle.std.specs.Prelude.{◌≡◌, ℕ, List, Option, Some, None, Result, Ok, Err, if◌then◌else◌}
 use Rattle.std.specs.Str.{bytes_eq}
 use Rattle.rand_core.specs.Stream.{Stream}
+use Rattle.proofs.specs.Replies.{Reply as Spelled, Spells}
 use Rattle.book.specs.declared.record.Record.{Record}
 use Rattle.book.specs.declared.reply.Reply.{Reply}
 use Rattle.book.specs.declared.reply.Reply.TheVariants as reply
@@ -47,6 +48,14 @@ reply_frame (reply.Found text) = proof_frame text
 reply_frame (reply.Told told) = response_frame (response.Roots told.items)
 reply_frame (reply.Last root) = response_frame (response.Root root)
 reply_frame (reply.Refused why) = response_frame (response.Refused (refusal_number why))
+
+-- the response that a reply is; the text of a look-up's reply spells it
+abbrev pub IsResponseOf : Reply → response.Responded → Type 0
+IsResponseOf (reply.Promised signed) responded = responded ≡ response.Promise signed
+IsResponseOf (reply.Found text) responded = (found : Spelled) × Spells text found × (responded ≡ response.Proof found)
+IsResponseOf (reply.Told told) responded = responded ≡ response.Roots told.items
+IsResponseOf (reply.Last root) responded = responded ≡ response.Root root
+IsResponseOf (reply.Refused why) responded = responded ≡ response.Refused (refusal_number why)
 
 module _ {R K : Type 0} (digest_of : List ℕ → List ℕ) (value_of signature_of : List ℕ → List ℕ → List ℕ) (stream : R → Stream) (kept failed : K → Record → K → Type 0) where
   -- the directory takes the turn of a command, and the frame of its reply is told; whoever closes an epoch

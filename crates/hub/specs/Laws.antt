@@ -1,4 +1,4 @@
--- A session is told of its own streams alone, whatever the others send.
+-- A session is told of its own streams alone, whatever the others send and wherever the streams are cut.
 use Rattle.std.specs.Prelude.{◌≡◌, ◌==◌, ◌&&◌, ℕ, List, [], ◌∷◌, ◌++◌, map, filter, flat_map, if◌then◌else◌, not, Bool, false, is_some, Option, Some, None}
 use Rattle.std.specs.List.Sorted.{IsStrictlySortedBy}
 use Rattle.std.specs.Map.{keys_of}
@@ -7,7 +7,7 @@ use Rattle.wire.specs.Frames.{Frame}
 use Rattle.wire.specs.Laws.{joined}
 use Rattle.wire.specs.Streams.{Held, Message, Rest, messages, with_more}
 use Rattle.hub.specs.Events.{BySession, Happening, Open, Bytes, End, Hubbed, at, due, number}
-use Rattle.hub.specs.Runs.{Line, Streams, after_event, commands, each, fresh, told, Runs}
+use Rattle.hub.specs.Runs.{Line, Streams, after_event, commands, each, fresh, told, BringTheSame, Runs}
 
 -- ---- the streams of a session
 
@@ -66,6 +66,23 @@ messages_of session all = map (λ one. one.1) (filter (λ one. one.0 == session)
 -- the lines of one session
 abbrev pub lines_of : ℕ → List Line → List Line
 lines_of session = filter (λ line. line.session == session)
+
+-- what is sent on a stream: what was held of it, and the pieces that came as one, if any came
+abbrev pub sent : OwnStream → Held × Option (List ℕ)
+sent (held, []) = (held, None)
+sent (held, piece ∷ more) = (held, Some (joined (piece ∷ more)))
+
+-- each session sends the same on its streams, wherever these are cut, and the messages are of the same
+-- sessions in turn
+pub record SendTheSame (sessions : BySession Held) (events others : List Happening) : Type 0 where
+  pub streams : (session : ℕ) → map sent (own_streams (at sessions session) (own_events session (each fresh sessions) events))
+      ≡ map sent (own_streams (at sessions session) (own_events session (each fresh sessions) others))
+  pub turns : map (λ one. one.0) (commands (each fresh sessions) events) ≡ map (λ one. one.0) (commands (each fresh sessions) others)
+
+-- Where the streams are cut, these are the same messages in the same order.
+abbrev pub CutsBringTheSame : Type 0
+CutsBringTheSame = (sessions : BySession Held) (events others : List Happening) → IsStrictlySortedBy nat_cmp (keys_of sessions)
+    → SendTheSame sessions events others → BringTheSame (each fresh sessions) events others
 
 -- The messages of a session are those of its own streams, also where it is ended and opened again.
 abbrev pub SessionsHearTheirOwn : Type 0

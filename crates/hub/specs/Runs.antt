@@ -10,7 +10,7 @@ use Rattle.wire.specs.Frames.{Frame}
 use Rattle.wire.specs.Streams.{Held, Message, Rest, messages, messages_within, with_more}
 use Rattle.hub.specs.declared.refusal.HubRefusal.{HubRefusal}
 use Rattle.hub.specs.Events.{BySession, Happening, Open, Bytes, End, Hubbed, at, due, number}
-use Rattle.hub.specs.Exchanges.{Replies}
+use Rattle.hub.specs.Exchanges.{Exchange, Replies}
 use Rattle.hub.specs.Happenings.{IsPart}
 
 -- ---- streams
@@ -89,6 +89,10 @@ abbrev pub commands : Streams → List Happening → List (ℕ × Message)
 commands streams [] = []
 commands streams (it ∷ more) = map (λ message. (number it, message)) (brought streams it) ++ commands (after_event streams it) more
 
+-- the events bring the same messages in the same order, wherever the pieces are cut
+abbrev pub BringTheSame : Streams → List Happening → List Happening → Type 0
+BringTheSame streams events others = commands streams events ≡ commands streams others
+
 -- at some time the session was open: before one of the events, or after the last
 abbrev pub was_open : Streams → List Happening → ℕ → Bool
 was_open streams [] session = is_some (at streams session)
@@ -101,6 +105,11 @@ pub record Line : Type 0 where
   pub session : ℕ
   pub message : Message
   pub reply : List ℕ
+
+-- the messages of a session with their replies, as lines of it
+abbrev pub lines : ℕ → List Exchange → List Line
+lines session [] = []
+lines session (exchange ∷ more) = record { session = session; message = exchange.message; reply = exchange.reply } ∷ lines session more
 
 abbrev pub asked : Line → ℕ × Message
 asked line = (line.session, line.message)
@@ -115,6 +124,14 @@ pub record AreOutputs (streams : Streams) (events : List Happening) (lines : Lis
   pub ascend : IsStrictlySortedBy nat_cmp (keys_of outputs)
   pub of_each : (session : ℕ) → at outputs session ≡ (if was_open streams events session then Some (told session lines) else None)
 
+-- the bytes that a session gets: none, if it has no output
+abbrev pub or_nothing : Option (List ℕ) → List ℕ
+or_nothing None = []
+or_nothing (Some output) = output
+
+abbrev pub bytes_of : BySession (List ℕ) → ℕ → List ℕ
+bytes_of outputs session = or_nothing (at outputs session)
+
 module _ {S : Type 0} (answers : S → Frame → List ℕ → S → Type 0) where
   -- each message is answered as the service stands after those before it
   abbrev pub AllAnswered : S → List Line → S → Type 0
@@ -127,10 +144,14 @@ module _ {S : Type 0} (answers : S → Frame → List ℕ → S → Type 0) wher
     pub answered : AllAnswered before.service lines after.service
     pub left : after.sessions ≡ each rest_of (after_events (each fresh before.sessions) events)
 
+  -- these are the first messages of a run with their replies, and they are answered
+  abbrev pub AreFirst : Hubbed S → List Happening → List Line → S → Type 0
+  AreFirst before events lines after = (later : List (ℕ × Message))
+      × (commands (each fresh before.sessions) events ≡ map asked lines ++ later) × AllAnswered before.service lines after
+
   -- the first messages of a run are answered
   abbrev pub Begins : Hubbed S → List Happening → S → Type 0
-  Begins before events after = (lines : List Line) × (later : List (ℕ × Message))
-      × (commands (each fresh before.sessions) events ≡ map asked lines ++ later) × AllAnswered before.service lines after
+  Begins before events after = (lines : List Line) × AreFirst before events lines after
 
   -- a run that stopped where memory ran out: after some of its events, and perhaps in one
   abbrev pub Stops : Hubbed S → List Happening → Hubbed S → Type 0

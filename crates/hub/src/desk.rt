@@ -1,9 +1,12 @@
 ghost use Rattle.std.specs.Prelude.{◌≡◌, ◌+◌, ◌≤◌, ◌++◌, ℕ, List, length, IfOk, vec_len, vec_capacity};
 ghost use Rattle.book.specs.declared.reply.Reply.{Reply};
+ghost use Rattle.book.specs.Shows.{IsRootOf};
+ghost use Rattle.epochs.specs.Kept.{book, provider};
 ghost use Rattle.epochs.specs.Replied.{found, last, promised, IsTold};
 ghost use Rattle.wire.specs.Frames.{frame_bytes};
 ghost use Rattle.wire.specs.Requests.{request_seen, Change, Close, Lookup, Promise, Register};
 ghost use Rattle.wire.specs.Responses.{answer_frame, HasFewRoots};
+ghost use Rattle.hub.specs.DeskRuns.{IsWell};
 ghost use Rattle.hub.specs.Desks.{reply_frame, Serves};
 
 use crate::Service;
@@ -45,6 +48,14 @@ impl<H: NodeHash, V: Vuf, S: Signer, R: Rng, K: Keeper> Desk<H, V, S, R, K> {
             keeper,
             token,
         }
+    }
+
+    /// The latest root of the directory.
+    pub(crate) fn head(&self) -> &SignedRoot
+        ensures head { IsRootOf (provider H.digest_of V.value_of S.signature_of (self.now).directory) (book R.stream (self.now).directory) (self.now).directory.last result.now }
+        ensures well { IsWell H.digest_of V.value_of S.signature_of R.stream V.accepted S.verified self.now }
+    {
+        self.directory.head()
     }
 
     /// Answers a request by one call of the directory, and writes the reply.

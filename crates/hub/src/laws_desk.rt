@@ -1,10 +1,11 @@
-ghost use Rattle.std.specs.Prelude.{List};
-ghost use Rattle.encoding.specs.Bytes.{Is32Bytes};
-ghost use Rattle.book.specs.Fresh.{provider_of, HasSalts};
+ghost use Rattle.std.specs.Prelude.{◌≡◌, ℕ, List};
+ghost use Rattle.std.specs.List.{AllZip};
 ghost use Rattle.epochs.specs.Kept.{book};
-ghost use Rattle.hub.specs.DeskRuns.{IsNew, ShowHonest, ShowRun};
+ghost use Rattle.hub.specs.DeskRuns.{IsWell, RefuseAlike, ShowHonestRun};
 ghost use Rattle.hub.specs.Desks.{Desked, DeskAnswers};
-ghost use Rattle.hub.specs.Runs.{AllAnswered, Line};
+ghost use Rattle.hub.specs.Events.{BySession, Happening, Hubbed};
+ghost use Rattle.hub.specs.Laws.{CutsBringTheSame};
+ghost use Rattle.hub.specs.Runs.{bytes_of, each, fresh, AllAnswered, AreOutputs, BringTheSame, Line, Runs};
 
 use book::Keeper;
 use nodehash::NodeHash;
@@ -12,24 +13,29 @@ use rand_core::Rng;
 use sigiface::Signer;
 use vrfiface::Vuf;
 
-/// The messages that a desk answered one after another are a run of its directory: each reply shows
-/// the book as the commands of all messages before it leave it. Messages that do not reach the
-/// directory are refused, and change nothing.
-pub fn replies_show_a_run<H: NodeHash, V: Vuf, S: Signer, R: Rng, K: Keeper>()
+/// The messages that a desk answered one after another, of whichever sessions, show a run of its
+/// directory: each reply shows the book as the commands of all messages before it leave it. From a new
+/// directory on, the users see of it what those of an honest provider see.
+pub fn replies_are_honest<H: NodeHash, V: Vuf, S: Signer, R: Rng, K: Keeper>()
     ensures { (before after : Desked R K) (lines : List Line)
+        → IsWell H.digest_of V.value_of S.signature_of R.stream V.accepted S.verified before
+        → IsWell H.digest_of V.value_of S.signature_of R.stream V.accepted S.verified after
         → AllAnswered (DeskAnswers H.digest_of V.value_of S.signature_of R.stream K.kept K.failed) before lines after
-        → ShowRun H.digest_of V.value_of S.signature_of R.stream K.kept K.failed before lines after }
+        → ShowHonestRun H.digest_of V.value_of S.signature_of R.stream K.kept K.failed V.accepted S.verified before lines after }
 {}
 
-/// What the users see of all messages from a new directory on, of whichever sessions: one chain of
-/// roots, replies that are accepted with what the pages have, promises that are kept, and no
-/// evidence, where no look-up meets another name with its index.
-pub fn replies_are_honest<H: NodeHash, V: Vuf, S: Signer, R: Rng, K: Keeper>()
-    ensures { (vuf : V) (signer : S) (before after : Desked R K) (lines : List Line)
-        → Is32Bytes (V.public_key vuf)
-        → IsNew R.stream (V.public_key vuf) (S.public_key signer) before.directory
-        → HasSalts (book R.stream after.directory)
-        → AllAnswered (DeskAnswers H.digest_of V.value_of S.signature_of R.stream K.kept K.failed) before lines after
-        → ShowHonest (provider_of H.digest_of V.value_of (V.public_key vuf) S.signature_of (S.public_key signer))
-        V.accepted S.verified (S.public_key signer) before.token lines (book R.stream after.directory) }
+/// Where the streams are cut does not matter. Two lists of events that bring the same messages in the
+/// same order get the same replies, if memory does not run out and the keeper fails alike. They leave
+/// the same book, and each session gets the same bytes.
+pub fn cuts_do_not_matter<H: NodeHash, V: Vuf, S: Signer, R: Rng, K: Keeper>()
+    ensures bring { CutsBringTheSame }
+    ensures tell { (before after left : Hubbed (Desked R K)) (events others : List Happening) (lines told : List Line) (outputs given : BySession (List ℕ))
+        → IsWell H.digest_of V.value_of S.signature_of R.stream V.accepted S.verified before.service
+        → BringTheSame (each fresh before.sessions) events others
+        → AllZip RefuseAlike lines told
+        → Runs (DeskAnswers H.digest_of V.value_of S.signature_of R.stream K.kept K.failed) before events lines after
+        → Runs (DeskAnswers H.digest_of V.value_of S.signature_of R.stream K.kept K.failed) before others told left
+        → AreOutputs (each fresh before.sessions) events lines outputs → AreOutputs (each fresh before.sessions) others told given
+        → (lines ≡ told) × (book R.stream after.service.directory ≡ book R.stream left.service.directory)
+        × ((session : ℕ) → bytes_of outputs session ≡ bytes_of given session) }
 {}

@@ -25,7 +25,7 @@ mod sessions;
 pub use desk::Desk;
 pub use event::Event;
 pub use laws::sessions_hear_their_own;
-pub use laws_desk::{replies_are_honest, replies_show_a_run};
+pub use laws_desk::{cuts_do_not_matter, replies_are_honest};
 pub use refusal::HubRefusal;
 pub use service::Service;
 pub use sessions::Hub;

@@ -2,11 +2,15 @@ ghost use Rattle.std.specs.Prelude.{◌≡◌, ◌⊎◌, ◌∷◌, [], List, m
 ghost use Rattle.std.specs.List.Sorted.{IsStrictlySortedBy};
 ghost use Rattle.std.specs.Map.{keys_of};
 ghost use Rattle.std.specs.Ordering.{nat_cmp};
+ghost use Rattle.book.specs.Shows.{IsRootOf};
+ghost use Rattle.epochs.specs.Kept.{book, provider};
+ghost use Rattle.hub.specs.DeskRuns.{IsWell, ShowHonestRun};
+ghost use Rattle.hub.specs.Desks.{DeskAnswers};
 ghost use Rattle.hub.specs.Events.{due, number, seen, Bytes as AreBytes, End as IsEnd, Open as IsOpen};
 ghost use Rattle.hub.specs.Exchanges.{Exchange, LacksRoom, replies};
 ghost use Rattle.hub.specs.Happenings.{Happens, HearsAt, IsPart, Passes};
 ghost use Rattle.hub.specs.Outputs.{pair_seen, AppendsUnless};
-ghost use Rattle.hub.specs.Runs.{each, fresh, AreOutputs, Begins, Line, Runs, Stops};
+ghost use Rattle.hub.specs.Runs.{each, fresh, AreFirst, AreOutputs, Begins, Line, Runs, Stops};
 
 use crate::desk::Desk;
 use crate::drain::hear;
@@ -17,6 +21,7 @@ use encoding::Hash32;
 use epochs::Directory;
 use nodehash::NodeHash;
 use rand_core::Rng;
+use rootchain::SignedRoot;
 use sigiface::Signer;
 use std::alloc::{AllocError, Global};
 use std::collections::BTreeMap;
@@ -58,6 +63,41 @@ where
     {
         Hub::over(alloc, Desk::new(directory, keeper, token))
     }
+
+    /// The latest root of the directory.
+    pub fn head(&self) -> &SignedRoot
+        ensures head { IsRootOf (provider H.digest_of V.value_of S.signature_of self.now.service.directory) (book R.stream self.now.service.directory) self.now.service.directory.last result.now }
+        ensures well { IsWell H.digest_of V.value_of S.signature_of R.stream V.accepted S.verified self.now.service }
+    {
+        self.service.head()
+    }
+
+    /// Handles events in order, of which a refused one does nothing. Returns the output of each
+    /// session that was open or is opened, by their numbers: the replies to its own messages, which
+    /// show one run of the directory on the messages of all sessions. From a new directory on, the
+    /// client accepts each, where no look-up meets another name with its index.
+    ///
+    /// # Errors
+    ///
+    /// `AllocError` if memory runs out, in an event or for what is returned. The run stops there,
+    /// and the outputs so far are lost.
+    pub fn run(&mut self, events: &[Event<'_>]) -> Result<Vec<(u32, Vec<u8>)>, AllocError>
+        ensures ok { IfOk result (λ outputs. (lines : List Line)
+            × Runs (DeskAnswers H.digest_of V.value_of S.signature_of R.stream K.kept K.failed) self.old (map seen events.now) lines self.new
+            × AreOutputs (each fresh (self.old).sessions) (map seen events.now) lines (map pair_seen outputs.items)
+            × ShowHonestRun H.digest_of V.value_of S.signature_of R.stream K.kept K.failed V.accepted S.verified (self.old).service lines (self.new).service) }
+        ensures err { OnErr result (Stops (DeskAnswers H.digest_of V.value_of S.signature_of R.stream K.kept K.failed) self.old (map seen events.now) self.new) }
+        ensures begun { OnErr result ((lines : List Line) × AreFirst (DeskAnswers H.digest_of V.value_of S.signature_of R.stream K.kept K.failed) self.old (map seen events.now) lines (self.new).service
+            × ShowHonestRun H.digest_of V.value_of S.signature_of R.stream K.kept K.failed V.accepted S.verified (self.old).service lines (self.new).service) }
+        ensures ascend { IsStrictlySortedBy nat_cmp (keys_of (self.old).sessions) }
+    {
+        // What the two calls of `head` ensure: the book is sound before and after, and the
+        // provider's functions keep their laws.
+        self.head();
+        let outputs = self.run_any(events);
+        self.head();
+        outputs
+    }
 }
 
 impl<D: Service + Drop> Hub<D> {
@@ -89,14 +129,8 @@ impl<D: Service + Drop> Hub<D> {
         }
     }
 
-    /// Handles events in order, of which a refused one does nothing. Returns the output of each
-    /// session that was open or is opened, by their numbers.
-    ///
-    /// # Errors
-    ///
-    /// `AllocError` if memory runs out, in an event or for what is returned. The run stops there,
-    /// and the outputs so far are lost.
-    pub fn run(&mut self, events: &[Event<'_>]) -> Result<Vec<(u32, Vec<u8>)>, AllocError>
+    /// Handles events in order, of any service: see `run`.
+    fn run_any(&mut self, events: &[Event<'_>]) -> Result<Vec<(u32, Vec<u8>)>, AllocError>
         ensures ok { IfOk result (λ outputs. (lines : List Line) × Runs D.answers self.old (map seen events.now) lines self.new
             × AreOutputs (each fresh (self.old).sessions) (map seen events.now) lines (map pair_seen outputs.items)) }
         ensures err { OnErr result (Stops D.answers self.old (map seen events.now) self.new) }

@@ -1,5 +1,5 @@
 -- A session that is served, piece by piece.
-use Rattle.std.proofs.Common.{◌≡◌, ℕ, List, [], ◌∷◌, ◌++◌, Option, Some, Ok, Err, refl, sym, ap, subst, ◌∙◌, append_assoc, append-nil}
+use Rattle.std.proofs.Common.{◌≡◌, ℕ, List, [], ◌∷◌, ◌++◌, Option, Some, Result, Ok, Err, refl, sym, ap, subst, ◌∙◌, append_assoc, append-nil}
 use Rattle.std.specs.Ordering.{nat_cmp}
 use Rattle.std.specs.BTreeMap.{is_at}
 use Rattle.std.specs.Map.{set_value}
@@ -40,32 +40,32 @@ beginning_after old mid new text more wrote (rest, some, but) = (rest, some, but
 module _ {S : Type 0} (answers : S → Frame → List ℕ → S → Type 0) where
   -- ---- messages
 
-  all_replied : (s : S) (h : Held) (xs : List Exchange) (t : S) (left : Held) → Exchanges answers s h xs t left → AllReplied answers s xs t
-  all_replied s h [] t left (same, held) = same
-  all_replied s h (x ∷ xs) t left (middle, between, takes, replied, rest) = (middle, replied, all_replied middle between xs t left rest)
+  all_replied : (session : ℕ) (s : S) (h : Held) (xs : List Exchange) (t : S) (left : Held) → Exchanges answers s h xs t left → AllReplied answers session s xs t
+  all_replied session s h [] t left (same, held) = same
+  all_replied session s h (x ∷ xs) t left (middle, between, takes, replied, rest) = (middle, replied, all_replied session middle between xs t left rest)
 
-  whole : (s : S) (bytes : List ℕ) (xs : List Exchange) (t : S) (left : Held) → Exchanges answers s (Rest bytes) xs t left → IsSpent left → Answers answers s bytes xs t
-  whole s bytes xs t left exchanged spent = (
+  whole : (session : ℕ) (s : S) (bytes : List ℕ) (xs : List Exchange) (t : S) (left : Held) → Exchanges answers s (Rest bytes) xs t left → IsSpent left → Answers (AllReplied answers session) s bytes xs t
+  whole session s bytes xs t left exchanged spent = (
     ap (λ (m : List Message × Held). m.0) (told_all (Rest bytes) (messages_of xs) left (exchanges_tell answers s (Rest bytes) xs t left exchanged) spent),
-    all_replied s (Rest bytes) xs t left exchanged,
+    all_replied session s (Rest bytes) xs t left exchanged,
   )
 
-  first : (s : S) (bytes : List ℕ) (xs : List Exchange) (t : S) (left : Held) → Exchanges answers s (Rest bytes) xs t left → AnswersFirst answers s bytes xs t
-  first s bytes xs t left exchanged =
+  first : (session : ℕ) (s : S) (bytes : List ℕ) (xs : List Exchange) (t : S) (left : Held) → Exchanges answers s (Rest bytes) xs t left → AnswersFirst (AllReplied answers session) s bytes xs t
+  first session s bytes xs t left exchanged =
       let told = told_of (Rest bytes) (messages_of xs) left (exchanges_tell answers s (Rest bytes) xs t left exchanged) in (
         (messages_within told.0 left).0,
         ap (λ (m : List Message × Held). m.0) told.1,
-        all_replied s (Rest bytes) xs t left exchanged,
+        all_replied session s (Rest bytes) xs t left exchanged,
       )
 
-  pub nothing_served : (before after : Hubbed S) (input written : Option (List ℕ)) → after ≡ before
-      → Serves answers before.service input written (Err OutOfMemory) after.service input written
-  nothing_served before after input written same = (
+  pub nothing_served : (session : ℕ) (before after : Hubbed S) (input written : Option (List ℕ)) → after ≡ before
+      → Serves (AllReplied answers session) before.service input written (Err OutOfMemory) after.service input written
+  nothing_served session before after input written same = (
     [],
     [],
     [],
     Consumes-nil input,
-    first before.service [] [] after.service (Rest []) (ap (λ (h : Hubbed S). h.service) same, refl),
+    first session before.service [] [] after.service (Rest []) (ap (λ (h : Hubbed S). h.service) same, refl),
     ([], refl, Appends-nil written),
   )
 
@@ -92,14 +92,14 @@ module _ {S : Type 0} (answers : S → Frame → List ℕ → S → Type 0) wher
     is_left (bytes, xs, held, exchanged, spent, here, set, eaten, wrote) = (held, set)
 
     pub ended : Midway opened session service input written before left text → (rest : Option (List ℕ)) → Consumes left rest [] → IsAtEnd rest
-        → Serves answers service input written (Ok tt) before.service rest text
+        → Serves (AllReplied answers session) service input written (Ok tt) before.service rest text
     ended (bytes, xs, held, exchanged, spent, here, set, eaten, wrote) rest none over =
-        (bytes ++ [], xs, Consumes-trans input left rest bytes [] eaten none, over, subst (λ (b : List ℕ). Answers answers service b xs before.service) (sym (append-nil bytes)) (whole service bytes xs before.service held exchanged spent), wrote)
+        (bytes ++ [], xs, Consumes-trans input left rest bytes [] eaten none, over, subst (λ (b : List ℕ). Answers (AllReplied answers session) service b xs before.service) (sym (append-nil bytes)) (whole session service bytes xs before.service held exchanged spent), wrote)
 
     pub unread : Midway opened session service input written before left text → (rest : Option (List ℕ)) → Keeps left rest
-        → Serves answers service input written (Err CannotRead) before.service rest text
+        → Serves (AllReplied answers session) service input written (Err CannotRead) before.service rest text
     unread (bytes, xs, held, exchanged, spent, here, set, eaten, wrote) rest kept =
-        (bytes, xs, Consumes-kept input left rest bytes eaten kept, whole service bytes xs before.service held exchanged spent, wrote)
+        (bytes, xs, Consumes-kept input left rest bytes eaten kept, whole session service bytes xs before.service held exchanged spent, wrote)
 
     -- ---- a piece more
 
@@ -134,14 +134,14 @@ module _ {S : Type 0} (answers : S → Frame → List ℕ → S → Type 0) wher
 
       -- less is written, or fewer messages are answered
       pub faulted : Midway opened session service input written before left text → (fault : ServeFault) → AnswersPiece answers before session piece text (Err fault) after told
-          → Serves answers service input written (Err fault) after.service rest told × IsLeft after
+          → Serves (AllReplied answers session) service input written (Err fault) after.service rest told × IsLeft after
       faulted midway CannotRead wrong = absurd wrong
       faulted midway CannotWrite (held, ys, last, (there, put, more), spent, wrote) = (
         (
           midway.0 ++ piece,
           midway.1 ++ ys,
           Consumes-trans input left rest midway.0 piece midway.7 took,
-          whole service (midway.0 ++ piece) (midway.1 ++ ys) after.service last (joined midway held ys last there more) spent,
+          whole session service (midway.0 ++ piece) (midway.1 ++ ys) after.service last (joined midway held ys last there more) spent,
           subst (WritesBeginning written told) (sym (replies_append midway.1 ys)) (beginning_after written text told (replies midway.1) (replies ys) midway.8 wrote),
         ),
         (last, kept_by midway last put),
@@ -152,8 +152,19 @@ module _ {S : Type 0} (answers : S → Frame → List ℕ → S → Type 0) wher
           midway.1 ++ ys,
           unwritten,
           Consumes-trans input left rest midway.0 piece midway.7 took,
-          first service (midway.0 ++ piece) (midway.1 ++ ys) after.service last (joined midway held ys last there more),
+          first session service (midway.0 ++ piece) (midway.1 ++ ys) after.service last (joined midway held ys last there more),
           subst (λ (t : List ℕ). WritesBut written told t unwritten) (sym (replies_append midway.1 ys)) (but_after written text told (replies midway.1) (replies ys) unwritten midway.8 wrote),
         ),
         (kept, kept_by midway kept put),
       )
+
+-- ---- what more is said of the messages
+
+pub serves_also : {S : Type 0} (Replied Also : S → List Exchange → S → Type 0) (before after : S) → ((xs : List Exchange) → Replied before xs after → Also before xs after)
+    → (input written : Option (List ℕ)) (result : Result (Unit {0}) ServeFault) (left told : Option (List ℕ))
+    → Serves Replied before input written result after left told → Serves Also before input written result after left told
+serves_also Replied Also before after also input written (Ok done) left told (bytes, xs, took, over, (spelled, replied), wrote) = (bytes, xs, took, over, (spelled, also xs replied), wrote)
+serves_also Replied Also before after also input written (Err CannotRead) left told (bytes, xs, took, (spelled, replied), wrote) = (bytes, xs, took, (spelled, also xs replied), wrote)
+serves_also Replied Also before after also input written (Err CannotWrite) left told (bytes, xs, took, (spelled, replied), wrote) = (bytes, xs, took, (spelled, also xs replied), wrote)
+serves_also Replied Also before after also input written (Err OutOfMemory) left told (bytes, xs, unwritten, took, (later, spelled, replied), wrote) =
+    (bytes, xs, unwritten, took, (later, spelled, also xs replied), wrote)

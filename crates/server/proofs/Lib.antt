@@ -1,4 +1,5 @@
 pub mod Conversing
 pub mod Ending
 pub mod Heard
+pub mod Joined
 pub mod Opened

@@ -1,10 +1,15 @@
 -- One session, from a reader to a writer.
-use Rattle.std.specs.Prelude.{◌≡◌, ℕ, List, [], ◌∷◌, ◌++◌, map, Option, Result, Ok, Err}
+use Rattle.std.specs.Prelude.{◌≡◌, ℕ, List, [], ◌∷◌, ◌++◌, flat_map, map, Option, Result, Ok, Err}
 use Rattle.std.specs.Io.KnownBytes.{Appends, Consumes, IsAtEnd}
 use Rattle.textio.specs.Output.{WritesBeginning, WritesBut}
+use Rattle.rand_core.specs.Stream.{Stream}
 use Rattle.wire.specs.Frames.{Frame}
 use Rattle.wire.specs.Streams.{Message, Rest, messages}
-use Rattle.hub.specs.Exchanges.{Exchange, Replies, replies}
+use Rattle.book.specs.declared.record.Record.{Record}
+use Rattle.hub.specs.DeskRuns.{ShowHonestRun}
+use Rattle.hub.specs.Desks.{Desked, DeskAnswers}
+use Rattle.hub.specs.Exchanges.{Exchange, replies}
+use Rattle.hub.specs.Runs.{lines, AllAnswered, Line}
 use Rattle.server.specs.declared.fault.ServeFault.{ServeFault}
 use Rattle.server.specs.declared.fault.ServeFault.TheVariants.{CannotRead, CannotWrite, OutOfMemory}
 
@@ -15,19 +20,35 @@ spelled bytes = (messages (Rest bytes)).0
 abbrev pub messages_of : List Exchange → List Message
 messages_of = map (λ exchange. exchange.message)
 
-module _ {S : Type 0} (answers : S → Frame → List ℕ → S → Type 0) where
-  -- each message is answered as the service stands after those before it
-  abbrev pub AllReplied : S → List Exchange → S → Type 0
-  AllReplied service [] after = after ≡ service
-  AllReplied service (exchange ∷ more) after = (middle : S) × Replies answers service exchange.message exchange.reply middle × AllReplied middle more after
+-- each message is answered as the service stands after those before it
+abbrev pub AllReplied : {S : Type 0} → (S → Frame → List ℕ → S → Type 0) → ℕ → S → List Exchange → S → Type 0
+AllReplied answers session before exchanges after = AllAnswered answers before (lines session exchanges) after
 
+-- the same at a desk, and the replies show a run of its directory, and what its users see of that run
+abbrev pub RepliedHonestly : {R K : Type 0} → (List ℕ → List ℕ) → (List ℕ → List ℕ → List ℕ) → (List ℕ → List ℕ → List ℕ) → (R → Stream) → (K → Record → K → Type 0) → (K → Record → K → Type 0)
+    → (List ℕ → List ℕ → List ℕ → Type 0) → (List ℕ → List ℕ → List ℕ → Type 0) → ℕ → Desked R K → List Exchange → Desked R K → Type 0
+RepliedHonestly digest_of value_of signature_of stream kept failed accepted verified session before exchanges after =
+    AllReplied (DeskAnswers digest_of value_of signature_of stream kept failed) session before exchanges after
+    × ShowHonestRun digest_of value_of signature_of stream kept failed accepted verified before (lines session exchanges) after
+
+-- sessions are served one after another, of each its number, and its messages with their replies
+abbrev pub AllServed : {S : Type 0} → (S → Frame → List ℕ → S → Type 0) → S → List (ℕ × List Exchange) → S → Type 0
+AllServed answers before [] after = after ≡ before
+AllServed {S} answers before (one ∷ more) after = (middle : S) × AllReplied answers one.0 before one.1 middle × AllServed answers middle more after
+
+-- the messages of all of them, with their replies
+abbrev pub all_lines : List (ℕ × List Exchange) → List Line
+all_lines = flat_map (λ one. lines one.0 one.1)
+
+-- what is served where messages are replied to so
+module _ {S : Type 0} (Replied : S → List Exchange → S → Type 0) where
   -- these are the messages of the bytes with their replies
   abbrev pub Answers : S → List ℕ → List Exchange → S → Type 0
-  Answers service bytes exchanges after = (spelled bytes ≡ messages_of exchanges) × AllReplied service exchanges after
+  Answers service bytes exchanges after = (spelled bytes ≡ messages_of exchanges) × Replied service exchanges after
 
   -- these are the first messages of the bytes with their replies
   abbrev pub AnswersFirst : S → List ℕ → List Exchange → S → Type 0
-  AnswersFirst service bytes exchanges after = (later : List Message) × (spelled bytes ≡ messages_of exchanges ++ later) × AllReplied service exchanges after
+  AnswersFirst service bytes exchanges after = (later : List Message) × (spelled bytes ≡ messages_of exchanges ++ later) × Replied service exchanges after
 
   -- What comes of the bytes that are read: all their messages are answered, and the replies written, up
   -- to the end of the input or to a failed read; less is written where a write fails; and where memory

@@ -9,6 +9,7 @@
 mod fault;
 mod input;
 mod keys;
+mod laws;
 mod listening;
 mod order;
 mod serving;
@@ -16,6 +17,7 @@ mod serving;
 pub use fault::ServeFault;
 pub use input::serve_directory;
 pub use keys::ServedDesk;
+pub use laws::sessions_show_one_run;
 pub use listening::listen;
 pub use order::{DirectoryOrder, ListenOrder};
 pub use serving::serve;

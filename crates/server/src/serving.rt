@@ -7,13 +7,18 @@ ghost use Rattle.std.specs.Map.{set_value};
 ghost use Rattle.hub.specs.Events.{at, due, Bytes as AreBytes, Open as IsOpen};
 ghost use Rattle.wire.specs.Streams.{Held, Rest};
 ghost use Rattle.server.specs.Pieces.{AnswersPiece};
-ghost use Rattle.server.specs.Serving.{Serves};
+ghost use Rattle.server.specs.Serving.{AllReplied, RepliedHonestly, Serves};
 
 use crate::ServeFault;
-use hub::{Event, Hub, Service};
+use book::Keeper;
+use hub::{Desk, Event, Hub, Service};
+use nodehash::NodeHash;
+use rand_core::Rng;
+use sigiface::Signer;
 use std::alloc::Global;
 use std::io::{Read, Write};
 use textio::{read_some, write_text};
+use vrfiface::Vuf;
 
 /// The most bytes that are read at once.
 const PIECE_SIZE: usize = 4096;
@@ -50,7 +55,7 @@ fn converse<S: Service + Drop, R: Read, W: Write>(
 ) -> Result<(), ServeFault>
     requires { at hub.old.sessions session ≡ Some (Rest []) }
     ensures keeps { (kept : Held) × (hub.new.sessions ≡ set_value (is_at (nat_cmp session)) hub.old.sessions kept) }
-    ensures serves { Serves S.answers hub.old.service (R.remaining reader.old) (W.contents writer.old) result
+    ensures serves { Serves (AllReplied S.answers session) hub.old.service (R.remaining reader.old) (W.contents writer.old) result
         hub.new.service (R.remaining reader.new) (W.contents writer.new) }
 {
     let mut room = [0; PIECE_SIZE];
@@ -66,13 +71,43 @@ fn converse<S: Service + Drop, R: Read, W: Write>(
 }
 
 /// Opens the session, answers all that the reader gives, in pieces of at most 4,096 bytes, and ends
-/// the session, whatever comes.
+/// the session, whatever comes. The replies show a run of the directory; from a new directory on, the
+/// client accepts each, where no look-up meets another name with its index.
 ///
 /// # Errors
 ///
 /// `CannotRead` and `CannotWrite` if a read or a write failed; `OutOfMemory`. What was written is
 /// then a beginning of the session's output.
-pub fn serve<S: Service + Drop, R: Read, W: Write>(
+pub fn serve<H, V, S, G, K, R, W>(
+    alloc: Global,
+    hub: &mut Hub<Desk<H, V, S, G, K>>,
+    session: u32,
+    reader: &mut R,
+    writer: &mut W,
+) -> Result<(), ServeFault>
+where
+    H: NodeHash + Drop,
+    V: Vuf + Drop,
+    S: Signer + Drop,
+    G: Rng + Drop,
+    K: Keeper + Drop,
+    R: Read,
+    W: Write,
+    requires { due hub.old.sessions (IsOpen session) ≡ None }
+    ensures serves { Serves (RepliedHonestly H.digest_of V.value_of S.signature_of G.stream K.kept K.failed V.accepted S.verified session)
+        hub.old.service (R.remaining reader.old) (W.contents writer.old) result hub.new.service (R.remaining reader.new) (W.contents writer.new) }
+    ensures ended { hub.new.sessions ≡ hub.old.sessions }
+{
+    // What the two calls of `head` ensure: the book is sound before and after, and the provider's
+    // functions keep their laws.
+    hub.head();
+    let outcome = serve_any(alloc, hub, session, reader, writer);
+    hub.head();
+    outcome
+}
+
+/// Serves one session of any service: see `serve`.
+fn serve_any<S: Service + Drop, R: Read, W: Write>(
     alloc: Global,
     hub: &mut Hub<S>,
     session: u32,
@@ -80,7 +115,7 @@ pub fn serve<S: Service + Drop, R: Read, W: Write>(
     writer: &mut W,
 ) -> Result<(), ServeFault>
     requires { due hub.old.sessions (IsOpen session) ≡ None }
-    ensures serves { Serves S.answers hub.old.service (R.remaining reader.old) (W.contents writer.old) result
+    ensures serves { Serves (AllReplied S.answers session) hub.old.service (R.remaining reader.old) (W.contents writer.old) result
         hub.new.service (R.remaining reader.new) (W.contents writer.new) }
     ensures ended { hub.new.sessions ≡ hub.old.sessions }
 {

@@ -5,10 +5,10 @@ use Rattle.book.proofs.Honesty.{honest}
 use Rattle.book.proofs.laws.honest.Goals as goal
 
 pub returns : goal.returns
-returns g c vuf signer provider commands replies after is key_size began differ =
+returns g c vuf signer provider commands replies after is key_size began =
     honest provider g.V.VufCheck.accepted g.S.Verifier.verified (g.S.Signer.public_key signer)
     (subst (KeepsLaws g.V.VufCheck.accepted g.S.Verifier.verified (g.S.Signer.public_key signer)) (sym is) laws)
-    keeps_next fails_next began.epoch began.nonce began.salts began.keeps [] after commands replies began.is_epoch began.is_nonce began.are_commands began.run began.has_salts differ
+    keeps_next fails_next began.epoch began.nonce began.salts began.keeps [] after commands replies began.is_epoch began.is_nonce began.are_commands began.run began.has_salts
   where
     laws : KeepsLaws g.V.VufCheck.accepted g.S.Verifier.verified (g.S.Signer.public_key signer)
         (provider_of g.H.NodeHash.digest_of g.V.Vuf.value_of (g.V.Vuf.public_key vuf) g.S.Signer.signature_of (g.S.Signer.public_key signer))

@@ -1,20 +1,18 @@
-use Rattle.std.proofs.Common.{rules, IsErr, IsOk}
-use Rattle.server.proofs.Conversing.{nothing_served}
-use Rattle.server.proofs.Ending.{begins_empty, ended_whole, unopened}
+use Rattle.hub.specs.Desks.{DeskAnswers}
+use Rattle.hub.proofs.DeskHonest.{lines_show_honest_run}
+use Rattle.hub.specs.Runs.{lines}
+use Rattle.server.specs.Serving.{AllReplied, RepliedHonestly}
+use Rattle.server.proofs.Conversing.{serves_also}
 use Rattle.server.proofs.serving.serve.Goals as goal
 
-pub returns-then-is_err-clause-serves : goal.returns-then-is_err-clause-serves
-returns-then-is_err-clause-serves g c =
-    let bad : IsErr c.event.result = search rules in
-    nothing_served g.S.Service.answers c.args.hub.now c.event.new.self _ _ (unopened g.S.Service.answers c.args.hub.now c.args.session _ _ c.event.result c.event.new.self c.event.ensures.happens c.requires bad)
-
-pub converse-outcome-requires : goal.converse-outcome-requires
-converse-outcome-requires g c =
-    let good : IsOk c.event.result = search rules in
-    begins_empty g.S.Service.answers c.args.hub.now c.args.session _ _ c.event.result c.event.new.self c.event.ensures.happens good
-
-pub returns-clause-ended : goal.returns-clause-ended
-returns-clause-ended g c =
-    let good : IsOk c.event.result = search rules in
-    (ended_whole g.S.Service.answers c.args.hub.now c.args.session _ _ _ _ c.event.result c.event-ended.result c.event.new.self c.converse-outcome.new.hub c.event-ended.new.self
-    c.requires c.event.ensures.happens good c.converse-outcome.ensures.keeps c.event-ended.ensures.happens).1
+pub returns-clause-serves : goal.returns-clause-serves
+returns-clause-serves g c =
+    serves_also (AllReplied (DeskAnswers g.H.NodeHash.digest_of g.V.Vuf.value_of g.S.Signer.signature_of g.G.Rng.stream g.K.Keeper.kept g.K.Keeper.failed) c.args.session)
+    (RepliedHonestly g.H.NodeHash.digest_of g.V.Vuf.value_of g.S.Signer.signature_of g.G.Rng.stream g.K.Keeper.kept g.K.Keeper.failed g.V.VufCheck.accepted g.S.Verifier.verified c.args.session)
+    c.args.hub.now.service c.serve_any-outcome.new.hub.service
+    (λ xs replied. (
+      replied,
+      lines_show_honest_run g.H.NodeHash.digest_of g.V.Vuf.value_of g.S.Signer.signature_of g.G.Rng.stream g.K.Keeper.kept g.K.Keeper.failed g.V.VufCheck.accepted g.S.Verifier.verified
+          c.args.hub.now.service (lines c.args.session xs) c.serve_any-outcome.new.hub.service c.head.ensures.well c.head-2.ensures.well replied,
+    ))
+    _ _ c.serve_any-outcome.result _ _ c.serve_any-outcome.ensures.serves

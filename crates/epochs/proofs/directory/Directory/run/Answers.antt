@@ -1,13 +1,12 @@
-use Rattle.std.proofs.Common.{◌≡◌, ◌∙◌, map, take, refl, subst}
+use Rattle.std.proofs.Common.{◌≡◌, ◌∙◌, map, take, refl, subst, subst₂}
 use Rattle.std.proofs.lemmas.List.{take_all}
 use Rattle.std.proofs.lemmas.List.Elements.{All-map, All-more, All-nil}
-use Rattle.encoding.specs.Bytes.{Is32Bytes}
 use Rattle.book.specs.Asked.{asked}
 use Rattle.book.specs.Fresh.{IsCommand, KeepsLaws}
 use Rattle.book.specs.Shows.{Provider, index_of}
 use Rattle.book.specs.Sound.{IsSound}
 use Rattle.epochs.specs.Kept.{book, provider}
-use Rattle.epochs.proofs.Honest.{root_key, seen_honest}
+use Rattle.epochs.proofs.Honest.{seen_honest}
 use Rattle.epochs.proofs.Running.{run_next, run_stays, same_provider, so_anyway}
 use Rattle.epochs.proofs.directory.Directory.run.Goals as goal
 
@@ -52,8 +51,8 @@ returns-clause-keys g c = c.loop-command.invariant.0.1
 
 pub returns-clause-honest : goal.returns-clause-honest
 returns-clause-honest g c =
-    seen_honest (provider g.H.NodeHash.digest_of g.V.Vuf.value_of g.S.Signer.signature_of c.args.self.now) g.V.VufCheck.accepted g.S.Verifier.verified c.args.self.now.key laws
-    g.K.Keeper.kept g.K.Keeper.failed (book g.R.Rng.stream c.args.self.now) (book g.R.Rng.stream c.loop-command.self) c.args.keeper.now c.loop-command.keeper
+    seen_honest (provider g.H.NodeHash.digest_of g.V.Vuf.value_of g.S.Signer.signature_of c.args.self.now) g.K.Keeper.kept g.K.Keeper.failed
+    g.V.VufCheck.accepted g.S.Verifier.verified c.args.self.now.key laws (book g.R.Rng.stream c.args.self.now) (book g.R.Rng.stream c.loop-command.self) c.args.keeper.now c.loop-command.keeper
     (map asked c.args.commands.now) c.loop-command.replies.items (rw (← c.self.view_is) c.self.invariant.sound) sound
     (All-map IsCommand asked c.args.commands.now (rw (take_all _ _ c.loop-command-test.false) at c.loop-command.invariant.1))
     (rw (take_all _ _ c.loop-command-test.false) at c.loop-command.invariant.0.0)
@@ -64,15 +63,5 @@ returns-clause-honest g c =
     sound : IsSound (index_of (provider g.H.NodeHash.digest_of g.V.Vuf.value_of g.S.Signer.signature_of c.args.self.now)) (book g.R.Rng.stream c.loop-command.self)
     sound = subst (λ (p : Provider). IsSound (index_of p) (book g.R.Rng.stream c.loop-command.self)) same c.head.ensures.sound
 
-    size : Is32Bytes c.args.self.now.vuf_key
-    size = subst Is32Bytes (root_key (provider g.H.NodeHash.digest_of g.V.Vuf.value_of g.S.Signer.signature_of c.loop-command.self) (book g.R.Rng.stream c.loop-command.self) c.loop-command.self.last c.head.result.now c.head.ensures.head ∙ c.loop-command.invariant.0.1.0) c.bytes.ensures.size
-
     laws : KeepsLaws g.V.VufCheck.accepted g.S.Verifier.verified c.args.self.now.key (provider g.H.NodeHash.digest_of g.V.Vuf.value_of g.S.Signer.signature_of c.args.self.now)
-    laws = record {
-      digest_size = g.met.H.NodeHash.digest_size;
-      value_is_accepted = rw (← c.self.view_is) (g.met.V.Vuf.value_is_accepted c.self.inside.vuf);
-      value_size = g.met.V.Vuf.value_size c.args.self.now.vuf_key;
-      signature_verifies = rw (← c.self.view_is) (g.met.S.Signer.signature_verifies c.self.inside.signer);
-      signature_size = g.met.S.Signer.signature_size c.args.self.now.key;
-      vuf_key_size = size;
-    }
+    laws = subst₂ (KeepsLaws g.V.VufCheck.accepted g.S.Verifier.verified) c.loop-command.invariant.0.1.1 same c.head.ensures.laws

@@ -4,7 +4,7 @@ use Rattle.hub.specs.Events.{seen}
 use Rattle.hub.proofs.Outputting.{are_outputs, if_ok, outputs_begin, ran_more}
 use Rattle.hub.proofs.Running.{nothing_run}
 use Rattle.hub.proofs.Stopping.{any_err, begun, runs_begin, stopped, stopped_first, stopped_last}
-use Rattle.hub.proofs.sessions.Hub.run.Goals as goal
+use Rattle.hub.proofs.sessions.Hub.run_any.Goals as goal
 
 pub returns-in_err-outputs-clause-err : goal.returns-in_err-outputs-clause-err
 returns-in_err-outputs-clause-err g c = any_err c.from_residual.result _ (stopped_first g.D.Service.answers c.args.self.now _ (nothing_run g.D.Service.answers c.args.self.now).0)

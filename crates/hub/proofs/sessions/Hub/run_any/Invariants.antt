@@ -1,7 +1,7 @@
 use Rattle.std.proofs.Common.{map, take}
 use Rattle.hub.specs.Events.{seen}
 use Rattle.hub.proofs.Outputting.{RanSo}
-use Rattle.hub.proofs.sessions.Hub.run.Given as goal
+use Rattle.hub.proofs.sessions.Hub.run_any.Given as goal
 
 -- the events so far are run, and these are their outputs
 abbrev pub invariant-loop-event : goal.invariant-loop-event

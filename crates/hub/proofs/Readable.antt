@@ -1,0 +1,160 @@
+-- The frames that an honest provider's desk replies with are read as responses.
+use Rattle.std.proofs.Common.{◌≡◌, ◌⊎◌, ℕ, ◌<◌, ◌≤◌, List, [], ◌∷◌, length, Contains, refl, sym, ap, subst, subst₂, ◌∙◌, inl, inr, arith}
+use Rattle.std.specs.Bool.{⊤}
+use Rattle.std.specs.List.{AllByRecursion, AllZip}
+use Rattle.std.proofs.lemmas.Slice.Zip.{AllZip-long}
+use Rattle.proofs.specs.Replies.{Reply as Spelled, Spells}
+use Rattle.rootchain.specs.SignedRoots.{IsSignedRoot}
+use Rattle.rootchain.specs.declared.signed_root.SignedRoot.{SignedRoot}
+use Rattle.book.specs.declared.record.Record.{Record}
+use Rattle.book.specs.declared.refusal.Refusal.{Refusal}
+use Rattle.book.specs.declared.refusal.Refusal.TheVariants.{BadName, BadKey, NameTaken, NoSuchName, PendingExists, IndexTaken, NoSuchEpoch, EpochNotLater, NoPromise, Memory, BadRange, KeepFailed}
+use Rattle.book.specs.declared.reply.Reply.{Reply}
+use Rattle.book.specs.declared.reply.Reply.TheVariants as reply
+use Rattle.book.specs.Answers.{Answer}
+use Rattle.book.specs.Answers as answer
+use Rattle.book.specs.Asked.{Asked, Register, Change, Promise, Lookup, History, Head, Close}
+use Rattle.book.specs.Books.{Book, Page}
+use Rattle.book.specs.Honest.{key_at, IsAnswer, IsDouble, IsHonest, IsSaid}
+use Rattle.book.specs.Refusals.{refusal_number}
+use Rattle.book.specs.Shows.{Provider, index_of, roots, IsRootOf}
+use Rattle.book.specs.Steps.{Answers, step}
+use Rattle.book.specs.Turns.{Run, Turn}
+use Rattle.book.proofs.Members.{first-there, later-there}
+use Rattle.book.proofs.Running.{at-said}
+use Rattle.book.proofs.Stepping.{Does, stepped}
+use Rattle.wire.specs.declared.refusal.ReadRefusal.{ReadRefusal}
+use Rattle.wire.specs.declared.refusal.ReadRefusal.TheVariants.{BadKind, BadBody}
+use Rattle.wire.specs.Frames.{Frame}
+use Rattle.wire.specs.Laws.{IsReadAs}
+use Rattle.wire.specs.Refusals.{read_refusal_number}
+use Rattle.wire.specs.Responses as response
+use Rattle.wire.specs.Responses.{Responded, proof_frame, response_frame, IsResponse}
+use Rattle.wire.specs.Streams.{Message, Whole, BadFrame}
+use Rattle.wire.proofs.ReadBack.{responses_read}
+use Rattle.hub.specs.Desks.{reply_frame, IsResponseOf}
+use Rattle.hub.specs.DeskRuns.{AreRead, IsTurnedAway, ShowReplies}
+use Rattle.hub.specs.Runs.{Line}
+use Rattle.hub.proofs.Desking.{few_pages}
+
+-- ---- which command a reply answers
+
+-- a text answers a look-up, and a list of roots is short
+abbrev IsFor : Asked → Reply → Type 0
+IsFor asked (reply.Promised signed) = ⊤
+IsFor asked (reply.Found text) = (name : List ℕ) × (epoch : ℕ) × (asked ≡ Lookup name epoch)
+IsFor asked (reply.Told told) = length told.items ≤ 64
+IsFor asked (reply.Last root) = ⊤
+IsFor asked (reply.Refused why) = ⊤
+
+abbrev sort : Answer → ℕ
+sort (answer.Promised name binding) = 0
+sort (answer.Found page name found) = 1
+sort (answer.Told pages) = 2
+sort (answer.Last page) = 3
+
+module _ (provider : Provider) where
+  found_for : (book after : Book) (asked : Asked) (said : Answer) → Does book asked said after → sort said ≡ 1 → (name : List ℕ) × (epoch : ℕ) × (asked ≡ Lookup name epoch)
+  found_for book after (Register name key) said does is = absurd (let wrong : 0 ≡ 1 = sym (ap sort does.0) ∙ is in cc)
+  found_for book after (Change name key) said does is = absurd (let wrong : 0 ≡ 1 = sym (ap sort does.0) ∙ is in cc)
+  found_for book after (Promise name) said does is = absurd (let wrong : 0 ≡ 1 = sym (ap sort does.2) ∙ is in cc)
+  found_for book after (Lookup name epoch) said does is = (name, epoch, refl)
+  found_for book after (History from count) said does is = absurd (let wrong : 2 ≡ 1 = sym (ap sort does.0) ∙ is in cc)
+  found_for book after Head said does is = absurd (let wrong : 3 ≡ 1 = sym (ap sort does.0) ∙ is in cc)
+  found_for book after (Close epoch) said does is = absurd (let wrong : 3 ≡ 1 = sym (ap sort does.0) ∙ is in cc)
+
+  told_for : (book after : Book) (asked : Asked) (pages : List Page) → step (index_of provider) book asked ≡ (Answers (answer.Told pages), after) → Does book asked (answer.Told pages) after → length pages ≤ 64
+  told_for book after (Register name key) pages steps does = absurd (let wrong : 2 ≡ 0 = ap sort does.0 in cc)
+  told_for book after (Change name key) pages steps does = absurd (let wrong : 2 ≡ 0 = ap sort does.0 in cc)
+  told_for book after (Promise name) pages steps does = absurd (let wrong : 2 ≡ 0 = ap sort does.2 in cc)
+  told_for book after (Lookup name epoch) pages steps does = absurd (let wrong : 2 ≡ 1 = ap sort does.2 in cc)
+  told_for book after (History from count) pages steps does = few_pages (index_of provider) book from count pages (steps ∙ ap (λ (b : Book). (Answers (answer.Told pages), b)) does.1)
+  told_for book after Head pages steps does = absurd (let wrong : 2 ≡ 3 = ap sort does.0 in cc)
+  told_for book after (Close epoch) pages steps does = absurd (let wrong : 2 ≡ 3 = ap sort does.0 in cc)
+
+  module _ {K : Type 0} (kept failed : K → Record → K → Type 0) where
+    turn_for : (book after : Book) (before later : K) (asked : Asked) (said : Reply) → Turn provider kept failed book before asked said after later → IsFor asked said
+    turn_for book after before later asked (reply.Promised signed) turn = tt
+    turn_for book after before later asked (reply.Found text) (all, steps, keeps, (page, name, found, root, is, rooted, shows)) =
+        found_for book after asked all (stepped (index_of provider) book asked all after steps).does (ap sort is)
+    turn_for book after before later asked (reply.Told told) (all, steps, keeps, (pages, is, zip)) =
+        let so : step (index_of provider) book asked ≡ (Answers (answer.Told pages), after) = steps ∙ ap (λ (a : Answer). (Answers a, after)) is in
+        let few : length pages ≤ 64 = told_for book after asked pages so (stepped (index_of provider) book asked (answer.Told pages) after so).does in
+        omega (arith, few, AllZip-long (IsRootOf provider after) pages told.items zip)
+    turn_for book after before later asked (reply.Last root) turn = tt
+    turn_for book after before later asked (reply.Refused why) turn = tt
+
+    pub run_for : (commands : List Asked) (replies : List Reply) (book after : Book) (before later : K) → Run provider kept failed book before commands replies after later → AllZip IsFor commands replies
+    run_for [] [] book after before later run = tt
+    run_for [] (said ∷ replies) book after before later run = absurd run
+    run_for (asked ∷ commands) [] book after before later run = absurd run
+    run_for (asked ∷ commands) (said ∷ replies) book after before later (middle, between, turn, run) =
+        (turn_for book middle before between asked said turn, run_for commands replies middle after between later run)
+
+-- ---- responses
+
+number_small : (why : Refusal) → refusal_number why < 256
+number_small BadName = omega arith
+number_small BadKey = omega arith
+number_small NameTaken = omega arith
+number_small NoSuchName = omega arith
+number_small PendingExists = omega arith
+number_small IndexTaken = omega arith
+number_small NoSuchEpoch = omega arith
+number_small EpochNotLater = omega arith
+number_small NoPromise = omega arith
+number_small Memory = omega arith
+number_small BadRange = omega arith
+number_small KeepFailed = omega arith
+
+read_small : (refusal : ReadRefusal) → read_refusal_number refusal < 256
+read_small BadKind = omega arith
+read_small BadBody = omega arith
+
+away_small : (token : List ℕ) (message : Message) (code : ℕ) → IsTurnedAway token message code → code < 256
+away_small token BadFrame code is = omega (arith, is)
+away_small token (Whole frame) code (inl (refusal, read, is)) = omega (arith, is, read_small refusal)
+away_small token (Whole frame) code (inr (requested, read, none, is)) = omega (arith, is)
+
+module _ (provider : Provider) (accepted verified : List ℕ → List ℕ → List ℕ → Type 0) (key : List ℕ) (after : Book) (first : ℕ) (all : List Asked) (said : List Reply)
+    (honest : IsHonest provider accepted verified key after first all said) where
+  told_form : (root : SignedRoot) → Contains (roots provider after) root → IsSignedRoot root
+  told_form root (k, within, is) = subst IsSignedRoot is (honest.forms k root within)
+
+  told_forms : (some : List SignedRoot) → ((root : SignedRoot) → Contains some root → Contains (roots provider after) root) → AllByRecursion IsSignedRoot some
+  told_forms [] there = tt
+  told_forms (root ∷ more) there = (told_form root (there root (first-there root more)), told_forms more (λ other is. there other (later-there root more other is)))
+
+  -- what a reader gets of the frame of a reply
+  abbrev ReadsBack : Reply → Type 0
+  ReadsBack told = (responded : Responded) × IsResponseOf told responded × IsReadAs (reply_frame told) responded
+
+  reads_back : (told : Reply) (responded : Responded) → IsResponseOf told responded → IsResponse responded → reply_frame told ≡ response_frame responded → ReadsBack told
+  reads_back told responded is form same = (responded, is, subst (λ (f : Frame). IsReadAs f responded) (sym same) (responses_read responded form))
+
+  reply_read : (asked : Asked) (told : Reply) → IsSaid all said asked told → IsFor asked told → ReadsBack told
+  reply_read asked (reply.Promised signed) is for = reads_back (reply.Promised signed) (response.Promise signed) refl (honest.kept asked signed is).form refl
+  reply_read asked (reply.Found text) is (name, epoch, same) =
+      let t = at-said first all said (Lookup name epoch) (reply.Found text) (subst (λ (a : Asked). IsSaid all said a (reply.Found text)) same is) in
+      let (read, spells) = spelled name epoch text (honest.found t.0 name epoch text t.1) in
+      reads_back (reply.Found text) (response.Proof read) (read, spells, refl) spells.1 (ap proof_frame spells.0)
+    where
+      spelled : (name : List ℕ) (epoch : ℕ) (text : List ℕ) {latest : ℕ}
+          → IsAnswer provider accepted verified key after latest name epoch text ⊎ IsDouble provider accepted verified key after latest name epoch text → (read : Spelled) × Spells text read
+      spelled name epoch text (inl answer) = let states = (answer.states (key_at answer.page name)).1 refl in (states.0, states.1)
+      spelled name epoch text (inr double) = (double.reply, double.spelled)
+  reply_read asked (reply.Told told) is few =
+      reads_back (reply.Told told) (response.Roots told.items) refl (few, told_forms told.items (λ root there. honest.told asked (reply.Told told) root is there)) refl
+  reply_read asked (reply.Last root) is for = reads_back (reply.Last root) (response.Root root) refl (told_form root (honest.told asked (reply.Last root) root is refl)) refl
+  reply_read asked (reply.Refused why) is for = reads_back (reply.Refused why) (response.Refused (refusal_number why)) refl (number_small why) refl
+
+  pub lines_read : (token : List ℕ) (lines : List Line) (commands : List Asked) (replies : List Reply) (shown : ShowReplies token lines commands replies) → AllZip IsFor commands replies
+      → ((asked : Asked) (told : Reply) → IsSaid commands replies asked told → IsSaid all said asked told) → AreRead token lines commands replies shown
+  lines_read token [] commands replies shown for are = tt
+  lines_read token (line ∷ more) commands replies (inl (code, away, says, shows)) for are =
+      (responses_read (response.Refused code) (away_small token line.message code away), lines_read token more commands replies shows for are)
+  lines_read token (line ∷ more) commands replies (inr (asked, told, later, others, reaches, says, is, too, shows)) for are =
+      let fors = subst₂ (λ (c : List Asked) (r : List Reply). AllZip IsFor c r) is too for in
+      let there : (a : Asked) (t : Reply) → IsSaid (asked ∷ later) (told ∷ others) a t → IsSaid all said a t =
+      λ a t one. are a t (subst₂ (λ (c : List Asked) (r : List Reply). IsSaid c r a t) (sym is) (sym too) one) in
+      (reply_read asked told (there asked told (inl (refl, refl))) fors.0, lines_read token more later others shows fors.1 (λ a t one. there a t (inr one)))
