@@ -1,0 +1,13 @@
+#!/usr/bin/env bash
+# Measures what the gate costs from nothing, by crates, and prints the tables of docs/ARCHITECTURE.md,
+# "The gate": processor time for proofs, edits, and programs that are built and run. It changes nothing.
+#
+#   scripts/gate_cost.sh                  # rt ci --anew: proves all, whatever earlier runs kept
+#   scripts/gate_cost.sh COMMAND WORD..   # another command, as rt ci --anew lanes, or .ci/run
+#   scripts/gate_cost.sh --watch PID      # a command that runs already, from now on
+#
+# What the command prints goes to standard error, and the tables to standard output. Needs Python 3.9 and
+# Linux. Other processes on the machine lengthen the time by the clock, and hardly the rest.
+set -euo pipefail
+cd "$(dirname "$0")/.."
+exec python3 scripts/gate_cost.py "$@"
