@@ -361,4 +361,4 @@ module _ (provider : Provider) where
       let r = ran provider kept failed commands replies (fresh epoch nonce salts) after before later (is-fresh epoch nonce salts is size) (recursion_from_All IsCommand commands are) run in
       honest-sound accepted verified key laws after r.goes.sound salted epoch commands replies r.shown (apart-run kept failed epoch nonce salts before later after commands replies run)
       (λ differ asked there name about page root rooted. alone-of name page.bindings
-          (users-apart provider kept failed epoch nonce salts before later after commands replies run differ asked there name about page root rooted))
+      (users-apart provider kept failed epoch nonce salts before later after commands replies run differ asked there name about page root rooted))

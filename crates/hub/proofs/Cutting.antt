@@ -64,11 +64,11 @@ all_sent (stream ∷ more) = ap₂ (λ (ms : List Message) (rest : List Message)
 pub cuts_bring : CutsBringTheSame
 cuts_bring sessions events others up same =
     by_sessions (commands (each fresh sessions) events) (commands (each fresh sessions) others) same.turns (λ session.
-        sessions_hear session sessions events up
-        ∙ all_sent (own_streams (at sessions session) (own_events session (each fresh sessions) events))
-        ∙ ap (flat_map of_sent) (same.streams session)
-        ∙ sym (all_sent (own_streams (at sessions session) (own_events session (each fresh sessions) others)))
-        ∙ sym (sessions_hear session sessions others up))
+    sessions_hear session sessions events up
+    ∙ all_sent (own_streams (at sessions session) (own_events session (each fresh sessions) events))
+    ∙ ap (flat_map of_sent) (same.streams session)
+    ∙ sym (all_sent (own_streams (at sessions session) (own_events session (each fresh sessions) others)))
+    ∙ sym (sessions_hear session sessions others up))
 
 -- ---- a session that is not open
 

@@ -1,5 +1,5 @@
 // Connections over TCP, one after another. Contracts do not know what a socket carries, so the clauses
-// speak of the keys and of the line with the address; tests cover the rest.
+// speak of the keys and of the line with the address; `scripts/listen.sh` covers the rest.
 ghost use Rattle.std.specs.Prelude.{◌≡◌, ◌≢◌, ◌↔◌, [], Err, IfErr, None};
 ghost use Rattle.textio.specs.declared.program_fault.ProgramFault.TheVariants.{BadHex};
 ghost use Rattle.server.specs.Asked.{values_of};
