@@ -355,12 +355,10 @@ def of_items(q):
     hundreds = q.let("hundreds", item_lines(*(b"%04d" % number for number in range(300))))
     q.ask("root sum none never 1", hundreds)
     q.ask("prove", b"0150".ljust(64, b"0"), "sha256 none never 1", hundreds)
-    q.ask("root sha256 none read-fails 4096", hundreds)
     zeros, one = b"0" * 64, b"1".rjust(64, b"0")
     neighbours = q.let("neighbours", b"%s %s\n%s %s\n" % (one, zeros, zeros, zeros))
-    for index in (zeros, one):
-        q.ask("prove", index, "sum none never 1", neighbours)
-        q.ask("prove", index, "sum none write-fails 4096", neighbours)
+    q.ask("prove", zeros, "sum none never 1", neighbours)
+    q.ask("prove", one, "sum none write-fails 4096", neighbours)
 
 
 def signed_root(epoch, previous=None, nonce=b"\4" * 32):
@@ -391,7 +389,7 @@ def of_audits(q):
     q.ask("audit", key[1:], "read-fails 100", known)
     q.ask("audit", key, "read-fails 100", b"")
     q.ask("audit", key, "never 1", b"".join(lines))
-    q.ask("audit", key, "never 4096 780a*1100")
+    q.ask("audit", key, "never 4096 780a*1001")
     q.note("The verdict on a file is written whole.")
     forked = evidence_json(RootEvidence("fork", roots[1], SignedRoot.read(bytes.fromhex(fork.decode())))).encode()
     none = evidence_json(RootEvidence("fork", roots[1], roots[1])).encode()
@@ -418,7 +416,7 @@ def of_sessions(q):
     more = [request_frame("change", b"a", b"l"), request_frame("close", TOKEN, 9), request_frame("history", 0, 64)]
     more = q.let("more", b"".join(more))
     for devices in READS + WRITES:
-        for verb, piece, frames in (("serve", 7, talk), ("sessions", 20, talk), ("sessions", 100, talk + more)):
+        for verb, piece, frames in (("serve", 20, talk), ("sessions", 30, talk), ("sessions", 100, talk + more)):
             q.ask(verb, devices, piece, frames)
     q.ask("sessions read-fails 1", talk)
     q.ask("serve write-fails 4096", talk + more)
@@ -436,7 +434,7 @@ def of_sessions(q):
     q.ask("sessions never 1", times(b"\0\0\0\1\x09", 600))
     q.ask("sessions read-fails 4096", times(HEAD, 3000))
     q.ask("sessions write-fails 4096", times(HEAD, 400))
-    q.ask("serve read-interrupted 1", times(HEAD, 30))
+    q.ask("serve read-interrupted 1", times(HEAD, 6))
 
 
 def messages_of(script):
@@ -462,8 +460,8 @@ SCRIPTS = ("two_epochs", "promises", "changes", "last_epoch", "limits_of_names_a
 def of_keepers(q):
     q.note("A record that is not kept: that call is refused and changes nothing, and its salt serves the next one.")
     scripts = [list(messages_of(session_scripts.SCRIPTS[name]())) for name in SCRIPTS]
-    many = [("register", b"n%d" % number, b"k") for number in range(12)]
-    many += [("close", TOKEN, 2), *(("lookup", 0, b"n%d" % number) for number in range(12)), ("head",)]
+    many = [("register", b"n%d" % number, b"k") for number in range(5)]
+    many += [("close", TOKEN, 2), *(("lookup", 0, b"n%d" % number) for number in range(5)), ("head",)]
     for requests in [list(messages_of(LOST_OPERATIONS)), *scripts, many]:
         frames = [request_frame(*request) for request in requests]
         q.ask("directory", *(frame[4:] for frame in frames))
