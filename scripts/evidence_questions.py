@@ -115,6 +115,14 @@ def of_long_chains(q, rng):
         q.ask("auditor chain", SIGN_KEY)
 
 
+@subject("an auditor of signatures of other lengths than 32, and of a chain of hundreds of roots")
+def of_wide_roots(q, rng):
+    pages = KEYED.pages(range(1, 301))
+    for size in [1, 31, 33, 35, 255, 256]:
+        q.ask("auditor any", SIGN_KEY, *(pages[at].root.body.write() + counted(b"\7" * size) for at in [0, 1, 0, 3]))
+    q.ask("auditor any", SIGN_KEY, *(page.root.body.write() + counted(b"\7") for page in pages))
+
+
 # Evidence that is judged ------------------------------------------------------------------------------------
 
 

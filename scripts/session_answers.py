@@ -6,6 +6,7 @@ where the value of a name is the name. A verb on a value that is not there yet i
 """
 
 from answers import (
+    AnyChain,
     OUT_OF_MEMORY,
     BadQuestion,
     Lines,
@@ -315,6 +316,11 @@ class SessionAnswers(Lines):
     def auditor_observe(self, w):
         """`observe KEY ROOT`"""
         return place_words(self.auditor.observe(w.hash(), w.bytes()))
+
+    def auditor_any(self, w):
+        """`any KEY ROOT..`: what a fresh auditor under a verifier that accepts each signature says of each root."""
+        key, auditor = w.hash(), Auditor(sha256, AnyChain)
+        return [word for _ in range(w.left()) for word in place_words(auditor.observe(key, w.bytes()))]
 
     def auditor_compare(self, w):
         """`compare KEY ROOT`"""

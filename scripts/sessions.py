@@ -544,16 +544,16 @@ STARTED, EXTENDED = "started", "extended"
 
 
 class Auditor:
-    """One chain for each provider, by its key."""
+    """One chain for each provider, by its key, of a kind that says which signatures verify."""
 
-    def __init__(self, digest):
-        self.digest, self.chains = digest, {}
+    def __init__(self, digest, kind=Chain):
+        self.digest, self.kind, self.chains = digest, kind, {}
 
     def observe(self, key, root):
         """Where a root stands to its provider's chain, which starts with it or takes it as the next one."""
         root = SignedRoot.read(root)
         if key not in self.chains:
-            self.chains[key] = Chain.start(self.digest, key, root)
+            self.chains[key] = self.kind.start(self.digest, key, root)
             return STARTED
         place = self.chains[key].take(root)
         return EXTENDED if place == NEXT else place

@@ -1,6 +1,6 @@
 //! Of `auditor`: an auditor, which stays for the next lines, and judging.
 
-use crate::stand_ins::{Functions, keyed};
+use crate::stand_ins::{AnySign, Functions, keyed};
 use crate::telling::{refuse_root, say_evidence};
 use auditor::{Auditor, Evidence, Observed, judge};
 use encoding::{Hash32, ProofText};
@@ -24,6 +24,7 @@ pub(crate) fn answer(case: &mut Case<'_>, kept: &mut KeyedAuditor) {
             *kept = Auditor::new(case.alloc());
             case.say("ok");
         }
+        b"any" => any(case),
         verb => answer_on(case, &mut keyed(), verb, kept),
     }
 }
@@ -72,6 +73,19 @@ fn say_observed(case: &mut Case<'_>, observed: &Observed) {
         Observed::Ahead => case.say("ahead"),
         Observed::BeforeStart => case.say("before start"),
         Observed::Evidence(evidence) => say_evidence(case, evidence),
+    }
+}
+
+/// `any KEY ROOT..`: a fresh auditor, under a verifier that accepts each signature, observes the roots.
+fn any(case: &mut Case<'_>) {
+    let mut auditor: Auditor<Sha256Hash, AnySign> = Auditor::new(case.alloc());
+    let key = case.hash();
+    for _ in 0..case.left() {
+        let root = case.bytes();
+        match auditor.observe(&mut Sha256Hash::new(), &AnySign, &key, root) {
+            Ok(observed) => say_observed(case, &observed),
+            Err(why) => refuse_root(case, why),
+        }
     }
 }
 
