@@ -20,8 +20,12 @@ def of_updates(q, rng):
     link, ahead = KEYED.page(12, KEYED.page(9, b, nonce=run(2))), KEYED.page(12, KEYED.page(11, c))
     forged = KEYED.page(7, a, sign_key=OTHER_KEY)
     lets(q, a=a, b=b, c=c)
-    q.ask("client head")
+    q.note("No client and no monitor is there yet.")
+    for verb in ["client head", "monitor name", "monitor next", "monitor client", "monitor reconcile"]:
+        q.ask(verb)
     q.ask("client update", roots(a))
+    q.ask("monitor new", b"a", "none")
+    q.note("A client starts at a signed root.")
     for root in [b"R", b"", written(a)[:-1], written(a) + b"\0", written(KEYED.page(3, sign_key=OTHER_KEY))]:
         q.ask("client start", SIGN_KEY, root)
     for size in [31, 33, 100, 256]:
@@ -454,9 +458,6 @@ def of_watching(q, rng):
     lets(q, a=a, b=b, c=c, d=d)
     ra, rb, rc, rd = (q.let(f"r{page.epoch}", page.reply(b"a").write()) for page in (a, b, c, d))
     first = q.let("first", a.promise(b"a", b"k"))
-    for verb in ["name", "next", "client", "reconcile"]:
-        q.ask(f"monitor {verb}")
-    q.ask("monitor new", b"a", "none")
     q.ask("client start", SIGN_KEY, written(a))
     q.ask("monitor new", b"", "none")
     q.ask("monitor new", b"a" * 256, "none")
