@@ -25,7 +25,7 @@
 //! | `chains` | `Chain::start`, `extend`, `place`, `take` | `start`, `extend`, `place`, `take` |
 //! | | `take_list`, `at`, `after`, `head`, `key` | `take-list`, `at`, `after`, `head`, `key` |
 //! | | `compare` | `compare`, `compare-sum` |
-//! | | the same under a verifier that accepts all | `any` |
+//! | | `take`, `extend` under a verifier that accepts all | `any`, `any-extended` |
 //! | `trees` | `Tree::new`, `with`, `copy` | `new`, `with`, `copy` |
 //! | | `placed`, `from_items`, `with_all` | `from`, `more` |
 //! | | `root`, `get`, `path`, `Path::level` | `root`, `get`, `path` |
@@ -39,6 +39,7 @@
 //! | | `Feed::new`, `feed`, `ready`, `next` | `new`, `feed` |
 //! | `text` | `hex_digits`, `hex32`, `option_hex32`, `option_nonce` | `digits`, `hex32`, `option-hex`, `option-nonce` |
 //! | | `ProgramFault::status`, `tell` | `fault` |
+//! | | the texts of refusals that only a device or a want of memory gives | `refusal` |
 //! | `items` | `root`, `prove` | `root`, `prove` |
 //!
 //! `number` of each refusal is told with the refusal. `next_line` and `write_text` read and write each line.
