@@ -17,9 +17,7 @@ pub(crate) struct Named {
 /// Whether this may be a name: letters, digits, `_` and `.`.
 pub(crate) fn is_name(text: &[u8]) -> bool {
     !text.is_empty()
-        && text
-            .iter()
-            .all(|byte| byte.is_ascii_alphanumeric() || *byte == b'_' || *byte == b'.')
+        && text.iter().all(|byte| byte.is_ascii_alphanumeric() || *byte == b'_' || *byte == b'.')
 }
 
 impl Named {

@@ -33,7 +33,8 @@ fn answer_on<H, V>(
     by: &mut Functions<H, V>,
     verb: &[u8],
     auditor: &mut Kept<H>,
-) where
+)
+where
     H: NodeHash + Drop,
     V: VufCheck + Drop,
 {
@@ -132,7 +133,8 @@ fn tell_judged<H, V>(
     by: &mut Functions<H, V>,
     key: &Hash32,
     evidence: Result<Evidence, Refusal>,
-) where
+)
+where
     H: NodeHash + Drop,
     V: VufCheck + Drop,
 {

@@ -56,7 +56,8 @@ fn answer_on<H, V>(
     by: &mut Functions<H, V>,
     verb: &[u8],
     client: &mut Kept<H, V>,
-) where
+)
+where
     H: NodeHash + Drop,
     V: VufCheck + Drop,
 {
@@ -207,7 +208,8 @@ pub(crate) fn reconcile_both<H, V>(
     by: &mut Functions<H, V>,
     one: Option<&Kept<H, V>>,
     other: Option<&Kept<H, V>>,
-) where
+)
+where
     H: NodeHash + Drop,
     V: VufCheck + Drop,
 {
@@ -217,12 +219,8 @@ pub(crate) fn reconcile_both<H, V>(
     }
 }
 
-fn reconcile_two<H, V>(
-    case: &mut Case<'_>,
-    hash: &mut H,
-    one: &Kept<H, V>,
-    other: &Kept<H, V>,
-) where
+fn reconcile_two<H, V>(case: &mut Case<'_>, hash: &mut H, one: &Kept<H, V>, other: &Kept<H, V>)
+where
     H: NodeHash + Drop,
     V: VufCheck + Drop,
 {

@@ -145,11 +145,8 @@ fn refuse(case: &mut Case<'_>, why: Refusal) {
 }
 
 /// Keeps the directory that was made, and tells its root.
-fn keep<H, V>(
-    case: &mut Case<'_>,
-    kept: &mut Option<Made<H, V>>,
-    made: Result<Made<H, V>, Refusal>,
-) where
+fn keep<H, V>(case: &mut Case<'_>, kept: &mut Option<Made<H, V>>, made: Result<Made<H, V>, Refusal>)
+where
     H: NodeHash + Drop,
     V: Vuf + Drop,
 {

@@ -2,10 +2,8 @@
 
 use crate::auditors::{of_roots, proof_text};
 use crate::telling::{refuse_root, say_fault};
-use audits::{
-    AuditOrder, ReadFault, Verdict, audit, evidence_json, judge_file, read_evidence,
-};
 use auditor::Evidence;
+use audits::{AuditOrder, ReadFault, Verdict, audit, evidence_json, judge_file, read_evidence};
 use encoding::{Cursor, Form};
 use proofs::BrokenPromise;
 use questions::Case;
@@ -85,7 +83,9 @@ fn say_roots(case: &mut Case<'_>, kind: &str, one: &SignedRoot, other: &SignedRo
 /// The promise, and the root and the proof as one.
 fn say_broken(case: &mut Case<'_>, broken: &BrokenPromise) {
     let mut second = Vec::new(case.alloc());
-    if second.extend_from_slice(broken.root.write().bytes()).is_err()
+    if second
+        .extend_from_slice(broken.root.write().bytes())
+        .is_err()
         || second.extend_from_slice(broken.proof.bytes()).is_err()
     {
         return case.lack_memory();

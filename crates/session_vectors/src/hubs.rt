@@ -75,12 +75,7 @@ impl KeptHub {
 
 fn make(alloc: Global, first: &First) -> Result<Hub<ServedDesk>, Refusal> {
     match make_keyed(alloc, first, &common_secrets()) {
-        Ok(directory) => Ok(Hub::new(
-            alloc,
-            directory,
-            NoKeeper,
-            Hash32::new(TOKEN),
-        )),
+        Ok(directory) => Ok(Hub::new(alloc, directory, NoKeeper, Hash32::new(TOKEN))),
         Err(why) => Err(why),
     }
 }

@@ -5,6 +5,33 @@
 //! `text`.
 //! Those whose names end in `-sum` hash by sums of bytes, and a name is its own value. The stored
 //! answers come from `scripts/formats.py`, which computes them from the definitions alone.
+//!
+//! The public calls of the libraries, and the verbs that ask them:
+//!
+//! | Subject | Calls | Verbs |
+//! |---|---|---|
+//! | `directory` | `Directory::new`, `head` | `new`, `head` |
+//! | | `register`, `change`, `promise`, `close` | `register`, `change`, `promise`, `close` |
+//! | | `lookup`, `history`; `run` | `lookup`, `history`; `run` |
+//! | `hub` | `Hub::new`, `event`; `run` | `new`, `open`, `bytes`, `end`; `run` |
+//! | `serve` | `serve_directory`, which calls `serve` | `run`, `keys` |
+//! | `client` | `Client::start`, `update`, `look` | `start`, `update`, `look` |
+//! | | `keep_promise`, `due`, `due_epoch` | `keep`, `due`, `due-epoch` |
+//! | | `key`, `chain` | `key`, `head` |
+//! | | `reconcile` | `reconcile`, `reconcile-self` |
+//! | `monitor` | `Monitor::new`, `update` | `new`, `update` |
+//! | | `next_epoch`, `step` | `next`, `step` |
+//! | | `expect_change` with `read_promise` and `keep_read` of a client | `expect` |
+//! | | `expected`, `name`, `client` | `expected`, `name`, `client` |
+//! | `auditor` | `Auditor::new`, `observe`, `compare`, `chain` | `new`, `observe`, `compare`, `chain` |
+//! | | `judge` | `judge` |
+//! | `evidence` | `evidence_json`, `read_evidence` | `json`, `read` |
+//! | | `judge_file`, `audit` | `judge`, `audit` |
+//! | `text` | refusals of memory, of a keeper and of streams | `refusal` |
+//! | `script` | all of them together, through frames | |
+//!
+//! Of the other public calls, `scripts/statuses.sh` asks `judge_at`, and `scripts/listen.sh` asks `listen`.
+//! The crate `faults` has keepers, readers and writers that fail.
 #![tactic(auto)]
 
 mod auditors;

@@ -40,7 +40,8 @@ fn answer_on<H, V>(
     by: &mut Functions<H, V>,
     verb: &[u8],
     monitor: &mut Kept<H, V>,
-) where
+)
+where
     H: NodeHash + Drop,
     V: VufCheck + Drop,
 {
@@ -76,7 +77,8 @@ fn new<H, V>(
     case: &mut Case<'_>,
     client: &mut Option<Client<H, V, KeyedSign>>,
     kept: &mut Option<Kept<H, V>>,
-) where
+)
+where
     H: NodeHash + Drop,
     V: VufCheck + Drop,
 {

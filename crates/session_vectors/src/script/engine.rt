@@ -208,7 +208,12 @@ where
 
     fn watch_from_head(&mut self, name: Name, key: Option<KeyData>, printed: &mut Printed) {
         self.ask(&Request::Head, printed);
-        match Client::start(self.alloc, &self.by.verifier, self.key, body_of(&self.reply)) {
+        match Client::start(
+            self.alloc,
+            &self.by.verifier,
+            self.key,
+            body_of(&self.reply),
+        ) {
             Ok(client) => self.add_monitor(Monitor::new(self.alloc, client, name, key), printed),
             Err(why) => tell_client(self.alloc, printed, why),
         }
@@ -236,12 +241,7 @@ where
         true
     }
 
-    fn hear(
-        &mut self,
-        session: u32,
-        piece: &[u8],
-        output: &mut Vec<u8>,
-    ) -> Result<(), HubRefusal> {
+    fn hear(&mut self, session: u32, piece: &[u8], output: &mut Vec<u8>) -> Result<(), HubRefusal> {
         let heard = self.hub.event(&Event::Bytes(session, piece), output);
         if heard != Err(HubRefusal::NoSession) {
             return heard;
@@ -314,9 +314,9 @@ where
             if let Some(root) = roots.next() {
                 let by = &mut self.by;
                 let bytes = root.write();
-                let observed =
-                    self.auditor
-                        .observe(&mut by.hash, &by.verifier, &self.key, bytes.bytes());
+                let observed = self
+                    .auditor
+                    .observe(&mut by.hash, &by.verifier, &self.key, bytes.bytes());
                 tell_observed(self.alloc, printed, observed);
             }
         }
@@ -373,7 +373,8 @@ pub(crate) fn play<H, V, R>(
     engine: &mut Engine<H, V, R>,
     script: &[u8],
     printed: &mut Printed,
-) where
+)
+where
     H: NodeHash + Drop,
     V: Vuf + Drop,
     R: Rng + Drop,

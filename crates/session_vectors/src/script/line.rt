@@ -116,11 +116,7 @@ fn read_alone<'a>(verb: &[u8]) -> Line<'a> {
     }
 }
 
-fn read_one<'a>(
-    verb: &[u8],
-    one: &[u8],
-    room: &'a mut Room,
-) -> Result<Line<'a>, AllocError> {
+fn read_one<'a>(verb: &[u8], one: &[u8], room: &'a mut Room) -> Result<Line<'a>, AllocError> {
     match verb {
         b"promise" => read_promise(one, room),
         b"close" => Ok(closing(one)),
@@ -171,11 +167,7 @@ fn read_two<'a>(
 }
 
 /// `lookup NAME EPOCH`
-fn read_lookup<'a>(
-    name: &[u8],
-    epoch: &[u8],
-    room: &'a mut Room,
-) -> Result<Line<'a>, AllocError> {
+fn read_lookup<'a>(name: &[u8], epoch: &[u8], room: &'a mut Room) -> Result<Line<'a>, AllocError> {
     let Some(epoch) = number(epoch) else {
         return Ok(Line::Unknown);
     };
@@ -202,11 +194,7 @@ fn history<'a>(from: &[u8], count: &[u8]) -> Line<'a> {
 }
 
 /// `bytes S HEX`
-fn read_piece<'a>(
-    number: &[u8],
-    piece: &[u8],
-    room: &'a mut Room,
-) -> Result<Line<'a>, AllocError> {
+fn read_piece<'a>(number: &[u8], piece: &[u8], room: &'a mut Room) -> Result<Line<'a>, AllocError> {
     let Some(session) = session(number) else {
         return Ok(Line::Unknown);
     };

@@ -204,7 +204,11 @@ pub(crate) fn tell_client(alloc: Global, printed: &mut Printed, why: Refusal) {
         Refusal::Root(why) => say_refused(printed, "client refuses root", why.number()),
         Refusal::Proof(why) => say_refused(printed, "client refuses proof", why.number()),
         Refusal::RootDiffers(evidence) => tell_evidence(alloc, printed, evidence),
-        Refusal::UnknownRoot => say_refused(printed, "client refuses", Refusal::UnknownRoot.number()),
+        Refusal::UnknownRoot => say_refused(
+            printed,
+            "client refuses",
+            Refusal::UnknownRoot.number(),
+        ),
         Refusal::NoPromise => say_refused(printed, "client refuses", Refusal::NoPromise.number()),
     }
 }
@@ -214,7 +218,11 @@ pub(crate) fn tell_monitor(alloc: Global, printed: &mut Printed, why: monitor::R
     match why {
         monitor::Refusal::Client(why) => tell_client(alloc, printed, why),
         monitor::Refusal::OtherPromise => {
-            say_refused(printed, "client refuses", monitor::Refusal::OtherPromise.number());
+            say_refused(
+                printed,
+                "client refuses",
+                monitor::Refusal::OtherPromise.number(),
+            );
         }
     }
 }
