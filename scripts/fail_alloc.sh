@@ -3,20 +3,21 @@
 #
 #   scripts/fail_alloc.sh [--seconds N] [PROGRAM..]
 #
-# The programs are vectors, session_vectors and faults, as they were built last; one that is not built counts as
-# failed. Each answers a question once more where a call lacked memory. So a run passes if it writes the stored
-# answers, or if it ends with status 1 before its first answer. Any other end is a wrong answer in place of a
-# refusal, or a state that a refused call has changed.
+# The programs are vectors, session_vectors and faults, as they were built last. Each answers a question once
+# more where a call lacked memory. So a run passes if it writes the stored answers, or if it ends with status 1
+# before its first answer. Any other end is a wrong answer in place of a refusal, or shows that a refused call
+# has changed something. A program that is not built counts as failed.
 #
-# It goes through every 4,096th allocation first, then halves the distance until it has tried all, or until the
-# seconds are over (300 unless given), on as many processors as there are. The last line is `N passed, N failed`,
-# and the status is 0 where none failed.
+# The questions of each subject, which stand between empty lines, are a run of their own. First every 4,096th
+# allocation of all runs fails, then the distance is halved until all were tried, or until the seconds are over
+# (300 unless given). It takes as many processors as there are. The last line is `N passed, N failed`, and the
+# status is 0 where none failed.
 #
-# `rt try --fail-alloc` makes one allocation fail too, but takes a minute to build for each, and what it builds is
-# hundreds of times slower. So a library in front of the C library's counts them in the built program.
+# `rt try --fail-alloc` makes an allocation fail too, but builds for a minute each time, and what it builds is
+# hundreds of times slower. So a library in front of the C library's counts allocations in the built program.
 set -uo pipefail
 cd "$(dirname "$0")/.." || exit 1
-root=$PWD
+crates=$PWD/crates
 
 seconds=300
 if [ "${1:-}" = --seconds ]; then
@@ -37,74 +38,92 @@ compiler=$kit/toolchain/bin/clang
 library=$folder/fail_nth.so
 "$compiler" -O1 -fPIC -shared -nostdlib -o "$library" scripts/fail_nth.c || exit 1
 
-# Runs a program whose allocation of this number fails: run PROGRAM NUMBER OUTPUT COUNT
+# Answers the questions of a subject, where the allocation of this number fails, in the folder that has the
+# program's files: run PROGRAM SUBJECT NUMBER OUTPUT COUNT
 run() {
-    timeout 120 env FAIL_NTH="$2" LD_PRELOAD="$library" "$root/crates/$1/out/$1" \
-        <"$root/crates/$1/stdin" >"$3" 2>/dev/null 3>"$4"
+    local data=$crates/$1/data
+    [ -d "$data" ] || data=$folder
+    timeout 120 env -C "$data" FAIL_NTH="$3" LD_PRELOAD="$library" "$crates/$1/out/$1" \
+        <"$folder/$1/$2.questions" >"$4" 2>/dev/null 3>"$5"
 }
 
-# The first line that is not as stored: differs PROGRAM OUTPUT
-differs() {
-    diff "$2" "$root/crates/$1/stdout" | head -n 2 | cut -c 1-200 | tr '\n' ' '
+# Splits the questions of a program into subjects, and counts the allocations of each: a line PROGRAM SUBJECT
+# COUNT. Fails if the answers are not the stored ones.
+count() {
+    local part subject
+    mkdir "$folder/$1"
+    awk -v RS= -v folder="$folder/$1" '{ print > (folder "/" NR ".questions") }' "$crates/$1/stdin"
+    for part in $(ls "$folder/$1" | sort -n); do
+        subject=${part%.questions}
+        run "$1" "$subject" 0 "$folder/$1/$subject.answers" "$folder/count" || return 1
+        cat "$folder/$1/$subject.answers" >>"$folder/$1/answers"
+        echo "$1 $subject $(cat "$folder/count")"
+    done
+    cmp "$folder/$1/answers" "$crates/$1/stdout" >&2
 }
 
-# Tries a part of the allocations of a program until a time: try_part PROGRAM WORKER ALL UNTIL. Writes how many
-# runs passed and failed, and how many of those that passed ended before the first answer.
+# All allocations in the order in which they are tried: a line PROGRAM SUBJECT NUMBER each.
+order() {
+    awk '{ for (number = 1; number <= $3; number++) print $1, $2, number }' |
+        awk '{ line[NR] = $0 }
+            END {
+                for (step = 4096; step >= 1; step /= 2)
+                    for (place = 1; place <= NR; place += step)
+                        if (step == 4096 || (place - 1) / step % 2 == 1)
+                            print line[place]
+            }'
+}
+
+# Tries a part of the allocations until the time is over: a line PROGRAM END each, END `passed`, `early` or
+# `failed`.
 try_part() {
-    local program=$1 worker=$2 all=$3 until=$4
-    local output=$folder/output.$worker place=0 passed=0 failed=0 early=0 step number status
-    for ((step = 4096; step > 0; step /= 2)); do
-        for ((number = 1; number <= all; number += step)); do
-            # These were tried with the step before.
-            [ $step = 4096 ] || [ $(((number - 1) / step % 2)) = 1 ] || continue
-            place=$((place + 1))
-            [ $((place % workers)) = "$worker" ] || continue
-            [ $SECONDS -lt "$until" ] || break 2
-            run "$program" $number "$output" /dev/null
+    local program subject number status output=$folder/output.$1
+    awk -v workers="$workers" -v worker="$1" 'NR % workers == worker' "$folder/order" |
+        while [ $SECONDS -lt "$seconds" ] && read -r program subject number; do
+            run "$program" "$subject" "$number" "$output" /dev/null
             status=$?
-            if [ $status = 0 ] && cmp -s "$output" "$root/crates/$program/stdout"; then
-                passed=$((passed + 1))
+            if [ $status = 0 ] && cmp -s "$output" "$folder/$program/$subject.answers"; then
+                echo "$program passed"
             elif [ $status = 1 ] && [ ! -s "$output" ]; then
-                passed=$((passed + 1))
-                early=$((early + 1))
+                echo "$program early"
             else
-                failed=$((failed + 1))
-                echo "$program: allocation $number fails: status $status, $(differs "$program" "$output")"
+                echo "$program failed"
+                tell "$program" "$subject" "$number" $status "$output" >&2
             fi
         done
-    done
-    echo "$passed $failed $early" >"$folder/done.$worker"
 }
 
-passed=0
+# Tells of a wrong run: the first line of the answers that differs.
+tell() {
+    local note
+    note=$(grep -m 1 '^#' "$folder/$1/$2.questions")
+    echo "$1, ${note#\# }: allocation $3 fails: status $4:" \
+        "$(diff "$5" "$folder/$1/$2.answers" | head -n 2 | cut -c 1-200 | tr '\n' ' ')"
+}
+
 failed=0
-left=${#programs[@]}
 for program in "${programs[@]}"; do
-    until=$((SECONDS + (seconds - SECONDS) / left))
-    left=$((left - 1))
-    # A program's files lie in the folder that it is run in.
-    cd "$root/crates/$program/data" 2>/dev/null || cd "$folder" || exit 1
-    if ! run "$program" 0 "$folder/whole" "$folder/count" ||
-        ! cmp "$folder/whole" "$root/crates/$program/stdout"; then
+    if [ -x "crates/$program/out/$program" ] && count "$program" >"$folder/counted"; then
+        cat "$folder/counted" >>"$folder/counts"
+    else
         echo "$program: not built, or it does not write the stored answers"
         failed=$((failed + 1))
-        continue
     fi
-    all=$(cat "$folder/count")
-    for ((worker = 0; worker < workers; worker++)); do
-        try_part "$program" $worker "$all" $until &
-    done
-    wait
-    tried=0
-    early=0
-    for ((worker = 0; worker < workers; worker++)); do
-        read -r its_passed its_failed its_early <"$folder/done.$worker"
-        passed=$((passed + its_passed))
-        failed=$((failed + its_failed))
-        early=$((early + its_early))
-        tried=$((tried + its_passed + its_failed))
-    done
+done
+touch "$folder/counts"
+order <"$folder/counts" >"$folder/order"
+for ((worker = 0; worker < workers; worker++)); do
+    try_part $worker >"$folder/ends.$worker" &
+done
+wait
+
+cat "$folder"/ends.* >"$folder/ends"
+for program in "${programs[@]}"; do
+    all=$(grep -c "^$program " "$folder/order")
+    tried=$(grep -c "^$program " "$folder/ends")
+    early=$(grep -c "^$program early$" "$folder/ends")
     echo "$program: $tried of $all allocations failed in turn, $early of them before the first answer"
 done
-echo "$passed passed, $failed failed"
+failed=$((failed + $(grep -c " failed$" "$folder/ends")))
+echo "$(grep -vc " failed$" "$folder/ends") passed, $failed failed"
 [ $failed = 0 ]

@@ -23,7 +23,7 @@ import session_scripts
 import sessions
 from answers import BadQuestion, Lines, told, told_text
 from formats import *
-from questions import Questions, run
+from asking import Questions, run
 
 # Devices -------------------------------------------------------------------------------------------------
 
@@ -127,19 +127,20 @@ def rows(program, piece, how):
         yield f"{count} {fault} {written}" + (f" next {head}" if head is not None else "") + ";"
 
 
-def read_first(data, piece, text):
-    """Reads to the end, and then writes a text."""
-    return Program([Read() for _ in cut_up(data, piece)] + [Read(), text])
-
-
 def by_lines(data, piece, texts):
-    """Writes the texts of each line once it is read whole. The end of the input ends the last line."""
+    """Writes the texts of each line once it is read whole. If the last line has no LF, a read that finds the end
+    tells that it is whole, and the next one that no line follows."""
     steps, done = [], 0
     for at in range(0, len(data), piece):
         whole = data[: at + piece].count(b"\n")
-        steps += [Read(), *(text for line in texts[done:whole] for text in line)]
+        steps += [Read(), *sum(texts[done:whole], [])]
         done = whole
-    return Program([*steps, Read(), *(text for line in texts[done:] for text in line)])
+    return Program([*steps, Read(), *sum(([*text, Read()] for text in texts[done:]), [])])
+
+
+def by_all_lines(data, piece, text):
+    """Reads all lines, and then writes a text."""
+    return Program([*by_lines(data, piece, [[] for _ in lines_of(data)]).steps, text])
 
 
 # The provider --------------------------------------------------------------------------------------------
@@ -225,15 +226,15 @@ class Sweeps(Lines):
         return program
 
     def of_lines(self, words):
-        return lambda data, piece: by_lines(data, piece, [(line[:130], b"\n") for line in lines_of(data)])
+        return lambda data, piece: by_lines(data, piece, [[line[:130], b"\n"] for line in lines_of(data)])
 
     def of_root(self, words):
         order = self.root_order(words)
-        return lambda data, piece: read_first(data, piece, root_text(*order, data).encode())
+        return lambda data, piece: by_all_lines(data, piece, root_text(*order, data).encode())
 
     def of_prove(self, words):
         index, order = words.text(), self.root_order(words)
-        return lambda data, piece: read_first(data, piece, prove_text(*order, index, data).encode())
+        return lambda data, piece: by_all_lines(data, piece, prove_text(*order, index, data).encode())
 
     def root_order(self, words):
         return {"sum": byte_sum, "sha256": sha256}[words.word()], words.optional(words.text)
@@ -243,7 +244,7 @@ class Sweeps(Lines):
 
         def program(data, piece):
             answers = sessions.audit(key, data).splitlines(keepends=True)
-            return by_lines(data, piece, [(answer,) for answer in answers])
+            return by_lines(data, piece, [[answer] for answer in answers])
 
         return program
 
@@ -351,16 +352,13 @@ def of_items(q):
         q.ask("prove", bad, "sum none read-fails 50", b"x\n")
         q.ask("prove", index, "sum", bad, "read-fails 50", b"x\n")
     q.note("An input of thousands of reads, and the longest path, of two indices that differ in their last bit.")
-    hundred = item_lines(*(b"%04d" % number for number in range(100)))
-    q.let("hundred", hundred)
-    q.ask("root sum none never 1", hundred)
-    q.ask("prove", b"0050".ljust(64, b"0"), "sha256 none never 1", hundred)
-    q.ask("root sha256 none read-fails 4096", hundred)
+    hundreds = q.let("hundreds", item_lines(*(b"%04d" % number for number in range(300))))
+    q.ask("root sum none never 1", hundreds)
+    q.ask("prove", b"0150".ljust(64, b"0"), "sha256 none never 1", hundreds)
     zeros, one = b"0" * 64, b"1".rjust(64, b"0")
     neighbours = q.let("neighbours", b"%s %s\n%s %s\n" % (one, zeros, zeros, zeros))
-    for index in (zeros, one):
-        q.ask("prove", index, "sum none never 1", neighbours)
-        q.ask("prove", index, "sum none write-fails 4096", neighbours)
+    q.ask("prove", zeros, "sum none never 1", neighbours)
+    q.ask("prove", one, "sum none write-fails 4096", neighbours)
 
 
 def signed_root(epoch, previous=None, nonce=b"\4" * 32):
@@ -391,7 +389,7 @@ def of_audits(q):
     q.ask("audit", key[1:], "read-fails 100", known)
     q.ask("audit", key, "read-fails 100", b"")
     q.ask("audit", key, "never 1", b"".join(lines))
-    q.ask("audit", key, "never 4096 780a*1100")
+    q.ask("audit", key, "never 4096 780a*1001")
     q.note("The verdict on a file is written whole.")
     forked = evidence_json(RootEvidence("fork", roots[1], SignedRoot.read(bytes.fromhex(fork.decode())))).encode()
     none = evidence_json(RootEvidence("fork", roots[1], roots[1])).encode()
@@ -418,7 +416,7 @@ def of_sessions(q):
     more = [request_frame("change", b"a", b"l"), request_frame("close", TOKEN, 9), request_frame("history", 0, 64)]
     more = q.let("more", b"".join(more))
     for devices in READS + WRITES:
-        for verb, piece, frames in (("serve", 7, talk), ("sessions", 20, talk), ("sessions", 100, talk + more)):
+        for verb, piece, frames in (("serve", 20, talk), ("sessions", 30, talk), ("sessions", 100, talk + more)):
             q.ask(verb, devices, piece, frames)
     q.ask("sessions read-fails 1", talk)
     q.ask("serve write-fails 4096", talk + more)
@@ -436,7 +434,7 @@ def of_sessions(q):
     q.ask("sessions never 1", times(b"\0\0\0\1\x09", 600))
     q.ask("sessions read-fails 4096", times(HEAD, 3000))
     q.ask("sessions write-fails 4096", times(HEAD, 400))
-    q.ask("serve read-interrupted 1", times(HEAD, 30))
+    q.ask("serve read-interrupted 1", times(HEAD, 6))
 
 
 def messages_of(script):
@@ -462,8 +460,8 @@ SCRIPTS = ("two_epochs", "promises", "changes", "last_epoch", "limits_of_names_a
 def of_keepers(q):
     q.note("A record that is not kept: that call is refused and changes nothing, and its salt serves the next one.")
     scripts = [list(messages_of(session_scripts.SCRIPTS[name]())) for name in SCRIPTS]
-    many = [("register", b"n%d" % number, b"k") for number in range(12)]
-    many += [("close", TOKEN, 2), *(("lookup", 0, b"n%d" % number) for number in range(12)), ("head",)]
+    many = [("register", b"n%d" % number, b"k") for number in range(5)]
+    many += [("close", TOKEN, 2), *(("lookup", 0, b"n%d" % number) for number in range(5)), ("head",)]
     for requests in [list(messages_of(LOST_OPERATIONS)), *scripts, many]:
         frames = [request_frame(*request) for request in requests]
         q.ask("directory", *(frame[4:] for frame in frames))
