@@ -345,11 +345,16 @@ def of_hub_runs(q, rng):
         ("end", 7), ("open", 8), ("open", 7), ("bytes", 7, frame(9, b"")), ("end", 1), ("end", 9),
     ]
     q.ask("hub run", 1, ZERO32, *(word for event in events for word in event))
+    q.note("Two runs: what the first one leaves open has an output in the second one, and half a frame goes on.")
+    for count in [0, 1, 2, 6, 8, 14, 15]:
+        q.ask("hub run-on", 1, ZERO32, count, *(word for event in events for word in event))
+    q.ask("hub run-on", 0, ZERO32, 0, "open", 1)
     q.note("330 sessions, each with a frame that is refused, and some with a head.")
     unread = q.let("u", frame(9, b""))
     events = [("open", session, "bytes", session, unread) for session in range(330)]
     events += [("bytes", session, HEAD) for session in range(0, 330, 30)]
     q.ask("hub run", 1, ZERO32, *(word for event in events for word in event))
+    q.ask("hub run-on", 1, ZERO32, 330, *(word for session in range(330) for word in ("open", session)))
     q.note("A long output, made by one piece and by hundreds.")
     q.ask("hub run", 1, ZERO32, "open", 1, "bytes", 1, f"{HEAD.hex()}*600")
     q.let("h", HEAD)

@@ -24,6 +24,7 @@ from sessions import *
 HUB_TOKEN = bytes([4]) * 32
 MAX_PROOF_TEXT = 10700
 MAX_SESSION = 2**32 - 1
+MOST_EVENTS = 1000
 EVIDENCE_KINDS = (FORK, LINK, SKIP, BROKEN)
 # Refusals that no question leads to.
 REFUSALS = {
@@ -174,7 +175,20 @@ class SessionAnswers(Lines):
 
     def hub_run(self, w):
         """`run EPOCH NONCE (open S|bytes S PIECE|end S)..`: the output of each session of a new hub."""
-        hub = self.new_hub(w)
+        return self.outputs(self.new_hub(w), self.events(w))
+
+    def hub_run_on(self, w):
+        """`run-on EPOCH NONCE COUNT (open S|bytes S PIECE|end S)..`: a run of so many events, and then the outputs of
+        a run of the rest."""
+        hub, count = self.new_hub(w), w.number(MOST_EVENTS)
+        events = self.events(w)
+        if count > len(events):
+            raise BadQuestion
+        hub.run(events[:count])
+        return self.outputs(hub, events[count:])
+
+    @staticmethod
+    def events(w):
         events = []
         while w.left():
             verb = w.word()
@@ -182,6 +196,10 @@ class SessionAnswers(Lines):
                 raise BadQuestion
             session = w.number(MAX_SESSION)
             events.append((verb, session, w.bytes()) if verb == "bytes" else (verb, session))
+        return events
+
+    @staticmethod
+    def outputs(hub, events):
         return [f"{session}:{told(output)}" for session, output in hub.run(events)] or ["-"]
 
     # serve

@@ -289,12 +289,15 @@ SCRIPTS.update({f"stops_at_{name}": stopping(line) for name, line in STOPS.items
 
 @script
 def hundreds_of_names():
-    yield "# 300 names in one page."
+    yield "# 300 names in one page, and 150 changes in the next."
     for number in range(300):
         yield register(name_of(number), key_of(number))
     for number in range(0, 300, 7):
         yield promise(name_of(number))
     yield from ["close 2", "head"]
+    for number in range(0, 300, 2):
+        yield change(name_of(number), key_of(number + 1))
+    yield "close 3"
     for number in range(300):
         yield lookup(name_of(number), 2 if number % 2 else 0)
     for number in range(300, 320):

@@ -108,6 +108,7 @@ pub(crate) fn answer(case: &mut Case<'_>, kept: &mut KeptHub) {
     match case.word() {
         b"new" => new(case, kept),
         b"run" => run(case),
+        b"run-on" => run_again(case),
         verb => {
             if let Some(event) = event(case, verb) {
                 happen(case, kept, &event);
@@ -228,6 +229,39 @@ fn run(case: &mut Case<'_>) {
     match make(case.alloc(), &first) {
         Ok(hub) => run_on(case, hub, &events),
         Err(why) => refuse(case, why),
+    }
+}
+
+/// The most events of a first run.
+const MOST_EVENTS: usize = 1000;
+
+/// `run-on EPOCH NONCE COUNT (open S|bytes S PIECE|end S)..`: a run of so many events, and one of the rest.
+fn run_again(case: &mut Case<'_>) {
+    let first = read_first(case);
+    let count = case.number_to(MOST_EVENTS);
+    let events = events(case);
+    let Some((before, after)) = events.split_at_checked(count) else {
+        return case.spoil();
+    };
+    if case.is_spoiled() {
+        return;
+    }
+    match make(case.alloc(), &first) {
+        Ok(hub) => run_in_turn(case, hub, before, after),
+        Err(why) => refuse(case, why),
+    }
+}
+
+fn run_in_turn(
+    case: &mut Case<'_>,
+    made: Hub<ServedDesk>,
+    before: &[Event<'_>],
+    after: &[Event<'_>],
+) {
+    let mut hub = made;
+    match hub.run(before) {
+        Ok(_) => run_on(case, hub, after),
+        Err(_) => case.lack_memory(),
     }
 }
 

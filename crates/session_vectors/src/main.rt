@@ -2,8 +2,7 @@
 //!
 //! A question is a subject, a verb, and arguments; the crate `questions` says how words are read. The
 //! subjects are `directory`, `hub`, `serve`, `client`, `monitor`, `auditor`, `evidence`, `script` and
-//! `text`.
-//! Those whose names end in `-sum` hash by sums of bytes, and a name is its own value. The stored
+//! `text`. Those whose names end in `-sum` hash by sums of bytes, and a name is its own value. The stored
 //! answers come from `scripts/formats.py`, which computes them from the definitions alone.
 //!
 //! The public calls of the libraries, and the verbs that ask them:
@@ -13,7 +12,7 @@
 //! | `directory` | `Directory::new`, `head` | `new`, `head` |
 //! | | `register`, `change`, `promise`, `close` | `register`, `change`, `promise`, `close` |
 //! | | `lookup`, `history`; `run` | `lookup`, `history`; `run` |
-//! | `hub` | `Hub::new`, `event`; `run` | `new`, `open`, `bytes`, `end`; `run` |
+//! | `hub` | `Hub::new`, `event`; `run` | `new`, `open`, `bytes`, `end`; `run`, `run-on` |
 //! | `serve` | `serve_directory`, which calls `serve` | `run`, `keys` |
 //! | `client` | `Client::start`, `update`, `look` | `start`, `update`, `look` |
 //! | | `keep_promise`, `due`, `due_epoch` | `keep`, `due`, `due-epoch` |
