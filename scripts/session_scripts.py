@@ -140,6 +140,22 @@ def half_messages():
 
 
 @script
+def two_sessions():
+    yield "# Two sessions and a closing between their messages. Look-ups of epoch 0 show the latest page of their moment."
+    alice, bob = b"alice", b"bob"
+    cut = request_frame("lookup", 0, alice)
+    yield piece(1, request_frame("register", alice, b"k1") + cut[:3])
+    yield piece(2, request_frame("head") * 2 + cut)
+    yield from [piece(1, cut[3:]), piece(2, closing(2)), piece(2, request_frame("close", bytes(31) + b"\1", 3))]
+    asked = [("lookup", 0, alice), ("lookup", 1, alice), ("lookup", 2, bob), ("history", 1, 64)]
+    yield piece(1, b"".join(request_frame(*request) for request in asked))
+    yield from [piece(2, frame(9, b"")), piece(2, request_frame("change", alice, b"k2")), "end 1"]
+    yield piece(1, closing(5) + cut + request_frame("history", 2, 2))
+    yield "# What the client accepts of each page."
+    yield from [lookup(name, epoch) for name in [alice, bob] for epoch in [1, 2, 5, 0]]
+
+
+@script
 def failed_streams():
     yield "# A bad length is refused once. Then the session prints nothing, until it is ended and opened again."
     yield from ["bytes 1 00000000", "bytes 1 0000000106", "bytes 2 0000000106", "bytes 3 00010001"]
