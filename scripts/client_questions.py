@@ -104,6 +104,7 @@ def of_late_starts(q, rng):
         q.ask("client due-epoch", b"a")
         q.ask("client due", b"a", replies[1])
         q.ask("monitor new", b"a", "none")
+        q.ask("monitor update", roots(KEYED.page(1)))
         q.ask("monitor expect", b"k", promise)
         for reply in replies:
             q.ask("monitor next")
@@ -237,6 +238,8 @@ def of_promises(q, rng):
         q.ask(f"{client} due", b"a", replies[2])
         q.ask(f"{client} due", b"a", replies[1][:-1])
         q.ask(f"{client} due", b"a", replies[1] + b"\0")
+        for reply in wrong_replies(provider, b"a", b.reply(b"a")):
+            q.ask(f"{client} due", b"a", reply)
         q.ask(f"{client} due", b"a", b.reply(b"b").write())
         q.ask(f"{client} due", b"a", replies[1])
         q.ask(f"{client} due", b"a", replies[1])
@@ -474,6 +477,8 @@ def of_watching(q, rng):
     fork = KEYED.page(1, nonce=run(1))
     for reply in [b"", ra[:-1], ra + b"\0", rb, fork.reply(b"a").write(), a.reply(b"b").write()]:
         q.ask("monitor step", reply)
+    for reply in wrong_replies(KEYED, b"a", a.reply(b"a")):
+        q.ask("monitor step", reply)
     q.ask("monitor next")
     q.ask("monitor step", ra)
     q.ask("monitor next")
@@ -493,6 +498,7 @@ def of_watching(q, rng):
     for epoch in [0, 1, 2, 3, TOP]:
         q.ask("monitor expected", epoch)
     q.ask("monitor update", roots(b, c)[:-1])
+    q.ask("monitor update", u16(1) + long_signature(b, 33))
     q.ask("monitor update", roots(c))
     q.ask("monitor update", roots(KEYED.page(1, nonce=run(1))))
     q.ask("monitor update", roots(b))

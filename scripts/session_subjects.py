@@ -157,3 +157,11 @@ def cheats(provider=KEYED):
     for bindings in [{}, {b"a": b"k1"}, {b"b": b"k9", b"c": b"k"}]:
         page = provider.page(8, b, bindings)
         yield BROKEN, [promised, written(page), page.reply(b"a").write()]
+
+
+def wrong_replies(provider, name, good):
+    """Replies that are refused for their leaf, for the way of their leaf, and for their siblings."""
+    index = provider.index_of(name)
+    far = bytes(byte ^ 255 for byte in index)
+    ends = [(Other(index, run(2)), good.siblings), (Other(far, run(2)), (ZERO32,)), (Empty(), (run(3),))]
+    return [replace(good, end=end, siblings=siblings).write() for end, siblings in ends]
