@@ -40,26 +40,27 @@ library=$folder/fail_nth.so
 
 # Answers the questions of a subject, where the allocation of this number fails, in the folder that has the
 # program's files: run PROGRAM SUBJECT NUMBER OUTPUT COUNT
-run() {
-    local data=$crates/$1/data
-    [ -d "$data" ] || data=$folder
-    timeout 120 env -C "$data" FAIL_NTH="$3" LD_PRELOAD="$library" "$crates/$1/out/$1" \
+run() (
+    cd "$crates/$1/data" 2>/dev/null || cd "$folder" || exit
+    ulimit -t 120
+    FAIL_NTH=$3 LD_PRELOAD=$library exec "$crates/$1/out/$1" \
         <"$folder/$1/$2.questions" >"$4" 2>/dev/null 3>"$5"
-}
+)
 
-# Splits the questions of a program into subjects, and counts the allocations of each: a line PROGRAM SUBJECT
-# COUNT. Fails if the answers are not the stored ones.
+# Splits the questions of a program into subjects, answers them, and counts the allocations of each: a line
+# PROGRAM SUBJECT COUNT. Fails if the program does not write the stored answers.
 count() {
     local part subject
     mkdir "$folder/$1"
+    cp "$crates/$1/stdin" "$folder/$1/all.questions"
+    run "$1" all 0 "$folder/$1/all.answers" /dev/null &&
+        cmp "$folder/$1/all.answers" "$crates/$1/stdout" >&2 || return 1
     awk -v RS= -v folder="$folder/$1" '{ print > (folder "/" NR ".questions") }' "$crates/$1/stdin"
-    for part in $(ls "$folder/$1" | sort -n); do
-        subject=${part%.questions}
+    for part in "$folder/$1"/[0-9]*.questions; do
+        subject=$(basename "$part" .questions)
         run "$1" "$subject" 0 "$folder/$1/$subject.answers" "$folder/count" || return 1
-        cat "$folder/$1/$subject.answers" >>"$folder/$1/answers"
         echo "$1 $subject $(cat "$folder/count")"
     done
-    cmp "$folder/$1/answers" "$crates/$1/stdout" >&2
 }
 
 # All allocations in the order in which they are tried: a line PROGRAM SUBJECT NUMBER each.
