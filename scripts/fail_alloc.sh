@@ -1,7 +1,7 @@
 #!/usr/bin/env bash
 # Makes the allocations of the test programs fail, one a run, and compares what is written.
 #
-#   scripts/fail_alloc.sh [--seconds N] [PROGRAM..]
+#   scripts/fail_alloc.sh [--seconds N] [--most N] [PROGRAM..]
 #
 # The programs are vectors, session_vectors and faults, as they were built last. Each answers a question once
 # more where a call lacked memory. So a run passes if it writes the stored answers, or if it ends with status 1
@@ -9,9 +9,9 @@
 # has changed something. A program that is not built counts as failed.
 #
 # The questions of each subject, which stand between empty lines, are a run of their own. First every 4,096th
-# allocation of all runs fails, then the distance is halved until all were tried, or until the seconds are over
-# (300 unless given). It takes as many processors as there are. The last line is `N passed, N failed`, and the
-# status is 0 where none failed.
+# allocation of all runs fails, then the distance is halved. It ends where all were tried, or the most that is
+# given, or where the seconds are over (300 unless given). It takes as many processors as there are. The last
+# line is `N passed, N failed`, and the status is 0 where none failed.
 #
 # `rt try --fail-alloc` makes an allocation fail too, but builds for a minute each time, and what it builds is
 # hundreds of times slower. So a library in front of the C library's counts allocations in the built program.
@@ -20,10 +20,15 @@ cd "$(dirname "$0")/.." || exit 1
 crates=$PWD/crates
 
 seconds=300
-if [ "${1:-}" = --seconds ]; then
-    seconds=${2:?--seconds takes a number}
+most=1000000000
+while [ $# -gt 0 ]; do
+    case $1 in
+    --seconds) seconds=${2:?--seconds takes a number} ;;
+    --most) most=${2:?--most takes a number} ;;
+    *) break ;;
+    esac
     shift 2
-fi
+done
 programs=("$@")
 [ $# -gt 0 ] || programs=(vectors session_vectors faults)
 workers=$(nproc)
@@ -112,7 +117,8 @@ for program in "${programs[@]}"; do
     fi
 done
 touch "$folder/counts"
-order <"$folder/counts" >"$folder/order"
+order <"$folder/counts" >"$folder/all"
+head -n "$most" "$folder/all" >"$folder/order"
 for ((worker = 0; worker < workers; worker++)); do
     try_part $worker >"$folder/ends.$worker" &
 done
@@ -120,7 +126,7 @@ wait
 
 cat "$folder"/ends.* >"$folder/ends"
 for program in "${programs[@]}"; do
-    all=$(grep -c "^$program " "$folder/order")
+    all=$(grep -c "^$program " "$folder/all")
     tried=$(grep -c "^$program " "$folder/ends")
     early=$(grep -c "^$program early$" "$folder/ends")
     echo "$program: $tried of $all allocations failed in turn, $early of them before the first answer"
