@@ -1,20 +1,15 @@
--- The outcome of a program that answers no status.
-use Rattle.std.proofs.Common.{◌≡◌, ◌∙◌, ℕ, List, Option, Result, Ok, Err, ap, refl, sym}
-use Rattle.std.specs.Prelude.{◌↔◌}
+-- One fault, as the end of calls with different answers.
+use Rattle.std.proofs.Common.{◌≡◌, Result, Ok, Err, ap}
 use Rattle.textio.specs.declared.program_fault.ProgramFault.{ProgramFault}
-use Rattle.textio.specs.Output.{Ends}
-use Rattle.directoryd.specs.Programs.{EndsAt, IsZero, without_status}
 
--- it says no less with the status 0
-pub ends_at : (Says : List ℕ → Result (List ℕ) ProgramFault → Type 0) (input old new : Option (List ℕ)) (outcome : Result ℕ ProgramFault)
-    (said : Result (Unit {0}) ProgramFault) → IsZero outcome → without_status outcome ≡ said → Ends Says input old new said → EndsAt 0 Says input old new outcome
-ends_at Says input old new (Ok given) said zero same ends = (zero, rw same ends)
-ends_at Says input old new (Err fault) said zero same ends = rw same ends
+abbrev Fails : (A : Type 0) → ProgramFault → Result A ProgramFault
+Fails A fault = Err fault
 
--- it has the same fault
-pub fault_is : (outcome : Result ℕ ProgramFault) (said : Result (Unit {0}) ProgramFault) (fault : ProgramFault) → without_status outcome ≡ said
-    → (outcome ≡ Err fault) ↔ (said ≡ Err fault)
-fault_is (Ok given) (Ok done) fault same = (λ e. absurd cc, λ e. absurd cc)
-fault_is (Ok given) (Err other) fault same = absurd cc
-fault_is (Err other) (Ok done) fault same = absurd cc
-fault_is (Err other) (Err said) fault same = (λ e. cc, λ e. cc)
+abbrev Gives : (A : Type 0) → A → Result A ProgramFault
+Gives A answer = Ok answer
+
+pub same_fault : (A B : Type 0) (x y : ProgramFault) → Fails A x ≡ Fails A y → Fails B x ≡ Fails B y
+same_fault A B x y e = let same : x ≡ y = cc in ap (Fails B) same
+
+pub no_fault : (A B : Type 0) (a : A) (b : B) (x y : ProgramFault) → Gives A a ≡ Fails A x → Gives B b ≡ Fails B y
+no_fault A B a b x y e = absurd cc

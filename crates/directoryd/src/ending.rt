@@ -6,7 +6,7 @@ ghost use Rattle.textio.specs.declared.program_fault.ProgramFault.{ProgramFault}
 ghost use Rattle.audits.specs.declared.judging.Verdict.{Verdict};
 ghost use Rattle.audits.specs.Verdicts.{JudgesAt};
 ghost use Rattle.directoryd.specs.Orders.{values_in};
-ghost use Rattle.directoryd.specs.Programs.{verdict_outcome, without_status, EndsAs, IsZero, Obeys, Runs, Starts};
+ghost use Rattle.directoryd.specs.Programs.{verdict_outcome, EndsAs, Obeys, Runs, Starts};
 
 use crate::order::{Order, order};
 use crate::refusal::{refuse, refuse_bytes};
@@ -43,17 +43,6 @@ fn judge<F: Files, W: Write>(
     }
 }
 
-/// The outcome of a program that answers no status, which is 0 if all went well.
-fn with_zero(outcome: Result<(), ProgramFault>) -> Result<u8, ProgramFault>
-    ensures zero { IsZero result }
-    ensures same { without_status result ≡ outcome }
-{
-    match outcome {
-        Ok(()) => Ok(0),
-        Err(fault) => Err(fault),
-    }
-}
-
 /// Does what is ordered, and answers the status.
 fn obey<N, R, W, E>(
     alloc: Global,
@@ -72,13 +61,14 @@ where
         (E.contents errors.old) (E.contents errors.new) result }
 {
     match order {
-        Order::Root(order) => with_zero(root(alloc, order, reader, writer)),
-        Order::Prove(order) => with_zero(prove(alloc, order, reader, writer)),
-        Order::Audit(order) => with_zero(audit(alloc, order, reader, writer)),
-        Order::Judge(order) => judge(alloc, system, order, writer),
-        Order::Serve(order) => with_zero(serve_directory(alloc, order, reader, writer)),
-        Order::Listen(order) => with_zero(listen(alloc, system, order, errors)),
+        Order::Root(order) => root(alloc, order, reader, writer)?,
+        Order::Prove(order) => prove(alloc, order, reader, writer)?,
+        Order::Audit(order) => audit(alloc, order, reader, writer)?,
+        Order::Judge(order) => return judge(alloc, system, order, writer),
+        Order::Serve(order) => serve_directory(alloc, order, reader, writer)?,
+        Order::Listen(order) => listen(alloc, system, order, errors)?,
     }
+    Ok(0)
 }
 
 /// Does what the words order, or says why they order nothing.

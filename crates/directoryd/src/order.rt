@@ -1,6 +1,6 @@
-ghost use Rattle.std.specs.Prelude.{◌≡◌, ◌⊎◌, ◌≤◌, IsOkAnd, IfOk, IfErr, Some, codes, false, map, option_map};
+ghost use Rattle.std.specs.Prelude.{◌≡◌, ◌⊎◌, ◌≤◌, IfOk, IfErr, Some, codes, false, map, option_map};
 ghost use Rattle.std.specs.NonZero.{non_zero_u64_get};
-ghost use Rattle.clap.specs.Words.{AddsArg, AddsSubcommand, app_of, found_of, kind_of, rows_of, rule_of};
+ghost use Rattle.clap.specs.Words.{app_of, found_of, kind_of, rows_of, rule_of};
 ghost use Rattle.clap.specs.declared.builder.command.Command.TheViews.{out-Command};
 ghost use Rattle.clap.specs.declared.error.kind.ErrorKind.TheVariants.{OutOfMemory};
 ghost use Rattle.directoryd.specs.CommandLine.{audit_app, directory_app, hash_rule, judge_app, listen_app, nonce_rule, number_rule, positional_rule, prove_app, required_rule, root_app, serve_app, text_rule, with_directory, with_keys, IsHashNames, Refuses};
@@ -176,32 +176,6 @@ fn address_arg<'a>(alloc: Global) -> Arg<'a>
     )
 }
 
-/// A command with one more argument, unless memory ran out.
-fn with_arg<'a>(
-    command: Result<Command<'a>, AllocError>,
-    arg: Arg<'a>,
-) -> Result<Command<'a>, AllocError>
-    ensures { IfOk result (λ new. IsOkAnd command (λ old. AddsArg old arg.entry new)) }
-{
-    match command {
-        Ok(command) => command.arg(arg),
-        Err(why) => Err(why),
-    }
-}
-
-/// A command with one more subcommand, unless memory ran out.
-fn with_command<'a>(
-    command: Result<Command<'a>, AllocError>,
-    below: Result<Command<'a>, AllocError>,
-) -> Result<Command<'a>, AllocError>
-    ensures { IfOk result (λ new. IsOkAnd command (λ old. IsOkAnd below (λ sub. AddsSubcommand old sub new))) }
-{
-    match (command, below) {
-        (Ok(command), Ok(below)) => command.subcommand(below),
-        (Err(why), _) | (_, Err(why)) => Err(why),
-    }
-}
-
 /// `root`, with its options.
 fn root_command<'a>(alloc: Global, names: ValueParser<'a>) -> Result<Command<'a>, AllocError>
     ensures app { IfOk result (λ c. app_of c ≡ root_app names.entry) }
@@ -209,8 +183,10 @@ fn root_command<'a>(alloc: Global, names: ValueParser<'a>) -> Result<Command<'a>
 {
     let root = Command::new(alloc, "root")
         .about("Prints the root of the items on standard input")
-        .after_help(ROOT_HELP);
-    with_arg(with_arg(Ok(root), hash_arg(alloc, names)), nonce_arg(alloc))
+        .after_help(ROOT_HELP)
+        .arg(hash_arg(alloc, names))?
+        .arg(nonce_arg(alloc))?;
+    Ok(root)
 }
 
 /// `prove`, with its options.
@@ -220,10 +196,11 @@ fn prove_command<'a>(alloc: Global, names: ValueParser<'a>) -> Result<Command<'a
 {
     let prove = Command::new(alloc, "prove")
         .about("Prints the path of an index among the items on standard input")
-        .after_help(PROVE_HELP);
-    let index = required_arg(alloc, "index", "The index, 64 hexadecimal digits");
-    let prove = with_arg(Ok(prove), index);
-    with_arg(with_arg(prove, hash_arg(alloc, names)), nonce_arg(alloc))
+        .after_help(PROVE_HELP)
+        .arg(required_arg(alloc, "index", "The index, 64 hexadecimal digits"))?
+        .arg(hash_arg(alloc, names))?
+        .arg(nonce_arg(alloc))?;
+    Ok(prove)
 }
 
 /// `audit`, with its option.
@@ -233,8 +210,9 @@ fn audit_command<'a>(alloc: Global) -> Result<Command<'a>, AllocError>
 {
     let audit = Command::new(alloc, "audit")
         .about("Audits the signed roots on standard input")
-        .after_help(AUDIT_HELP);
-    audit.arg(required_arg(alloc, "key", KEY_HELP))
+        .after_help(AUDIT_HELP)
+        .arg(required_arg(alloc, "key", KEY_HELP))?;
+    Ok(audit)
 }
 
 /// `judge`, with its option and its file.
@@ -244,9 +222,10 @@ fn judge_command<'a>(alloc: Global) -> Result<Command<'a>, AllocError>
 {
     let judge = Command::new(alloc, "judge")
         .about("Says whether a file is evidence against a provider")
-        .after_help(JUDGE_HELP);
-    let judge = with_arg(Ok(judge), required_arg(alloc, "key", KEY_HELP));
-    with_arg(judge, positional_arg(alloc, "file", "FILE", "The file of evidence"))
+        .after_help(JUDGE_HELP)
+        .arg(required_arg(alloc, "key", KEY_HELP))?
+        .arg(positional_arg(alloc, "file", "FILE", "The file of evidence"))?;
+    Ok(judge)
 }
 
 /// A command with the keys of a directory and the operator's token.
@@ -254,10 +233,12 @@ fn add_keys<'a>(alloc: Global, command: Command<'a>) -> Result<Command<'a>, Allo
     ensures app { IfOk result (λ c. app_of c ≡ with_keys (app_of command.entry)) }
     ensures local { IfOk result (λ c. (out-Command c).has_globals ≡ (out-Command command.entry).has_globals) }
 {
-    let signing = with_arg(Ok(command), required_arg(alloc, "sign-key", SIGN_KEY_HELP));
-    let valuing = with_arg(signing, required_arg(alloc, "vuf-key", VUF_KEY_HELP));
-    let salting = with_arg(valuing, required_arg(alloc, "salt-key", SALT_KEY_HELP));
-    with_arg(salting, required_arg(alloc, "token", TOKEN_HELP))
+    let with_keys = command
+        .arg(required_arg(alloc, "sign-key", SIGN_KEY_HELP))?
+        .arg(required_arg(alloc, "vuf-key", VUF_KEY_HELP))?
+        .arg(required_arg(alloc, "salt-key", SALT_KEY_HELP))?
+        .arg(required_arg(alloc, "token", TOKEN_HELP))?;
+    Ok(with_keys)
 }
 
 /// A command with the options of a directory.
@@ -265,8 +246,10 @@ fn add_directory<'a>(alloc: Global, command: Command<'a>) -> Result<Command<'a>,
     ensures app { IfOk result (λ c. app_of c ≡ with_directory (app_of command.entry)) }
     ensures local { IfOk result (λ c. (out-Command c).has_globals ≡ (out-Command command.entry).has_globals) }
 {
-    let with_epoch = with_arg(add_keys(alloc, command), epoch_arg(alloc));
-    with_arg(with_epoch, nonce_arg(alloc))
+    let with_directory = add_keys(alloc, command)?
+        .arg(epoch_arg(alloc))?
+        .arg(nonce_arg(alloc))?;
+    Ok(with_directory)
 }
 
 /// `serve`, with its options.
@@ -288,8 +271,10 @@ fn listen_command<'a>(alloc: Global) -> Result<Command<'a>, AllocError>
     let bare = Command::new(alloc, "listen")
         .about("Answers connections one after another")
         .after_help(LISTEN_HELP);
-    let with_count = with_arg(add_directory(alloc, bare), count_arg(alloc));
-    with_arg(with_count, address_arg(alloc))
+    let listen = add_directory(alloc, bare)?
+        .arg(count_arg(alloc))?
+        .arg(address_arg(alloc))?;
+    Ok(listen)
 }
 
 /// The subcommands, of which one has to be there.
@@ -297,15 +282,16 @@ fn command<'a>(alloc: Global) -> Result<Command<'a>, AllocError>
     ensures { IfOk result (λ c. (names : _) × IsHashNames names × (app_of c ≡ directory_app names)) }
 {
     let names = hash_names();
-    let bare = Command::new(alloc, "directoryd")
+    let directoryd = Command::new(alloc, "directoryd")
         .about("A CONIKS key directory")
-        .subcommand_required(true);
-    let with_root = with_command(Ok(bare), root_command(alloc, names));
-    let with_prove = with_command(with_root, prove_command(alloc, names));
-    let with_audit = with_command(with_prove, audit_command(alloc));
-    let with_judge = with_command(with_audit, judge_command(alloc));
-    let with_serve = with_command(with_judge, serve_command(alloc));
-    with_command(with_serve, listen_command(alloc))
+        .subcommand_required(true)
+        .subcommand(root_command(alloc, names)?)?
+        .subcommand(prove_command(alloc, names)?)?
+        .subcommand(audit_command(alloc)?)?
+        .subcommand(judge_command(alloc)?)?
+        .subcommand(serve_command(alloc)?)?
+        .subcommand(listen_command(alloc)?)?;
+    Ok(directoryd)
 }
 
 /// The hash function of a name that `--hash` takes.

@@ -1,19 +1,20 @@
-use crate::directory::key_of;
-use crate::replies::{Held, key, name, tree_around};
+use crate::digests::take_digests;
+use crate::replies::tree_around;
 use crate::roots::{
     BODY_BYTES, KEYED_BYTES, SIGNED_BYTES, after, bodies, first_body, hash_of, provider,
     provider_vuf, signed,
 };
-use crate::run::Run;
-use crate::steps::Steps;
+use crate::steps::end_step;
+use anyhow::{Context, Result};
 use auditor::{Auditor, Evidence, Observed, judge};
-use commit::commit_text;
-use encoding::Hash32;
+use commit::{commit, commit_text};
+use encoding::{Hash32, KeyData, Name, ProofText};
 use nodehash::Sha256Hash;
-use proofs::BrokenPromise;
+use proofs::{BrokenPromise, End, make};
 use rootchain::{Body, Promise, RootEvidence, SignedPromise};
 use sigiface::{KeyedSign, Signer};
-use std::alloc::Global;
+use std::alloc::{AllocError, Global};
+use vrfiface::{Vuf, index_of};
 
 /// The bytes of a root with the stand-in's signature.
 const ROOT_BYTES: usize = BODY_BYTES + 2 + 32;
@@ -23,13 +24,28 @@ const LEAF_BYTES: usize = 101;
 
 const INTERIOR_BYTES: usize = 64;
 
+/// What is measured of an auditor.
+#[derive(Clone, Copy)]
+pub(crate) struct Audits {
+    /// The roots of the chain.
+    pub(crate) roots: usize,
+    /// The roots that then extend it, and as many of its roots that are observed once more.
+    pub(crate) more: usize,
+    /// The siblings of the proof that shows a broken promise, at most 256.
+    pub(crate) siblings: usize,
+    /// How often each piece of evidence is judged.
+    pub(crate) times: usize,
+    /// The digests of each length that are timed before and after.
+    pub(crate) digests: usize,
+}
+
 /// The bytes of a chain of so many signed roots, one behind the other.
-fn chain(run: &Run<'_>, roots: usize) -> Vec<u8> {
-    let mut bytes = run.list(roots.saturating_mul(ROOT_BYTES));
-    for body in bodies(run, first_body(), roots) {
-        run.extend(&mut bytes, signed(body).write().bytes());
+fn chain(alloc: Global, roots: usize) -> Result<Vec<u8>, AllocError> {
+    let mut bytes = Vec::with_capacity(alloc, roots.saturating_mul(ROOT_BYTES))?;
+    for body in bodies(alloc, first_body(), roots)? {
+        bytes.extend_from_slice(signed(body).write().bytes())?;
     }
-    bytes
+    Ok(bytes)
 }
 
 /// An auditor, and what it counts by.
@@ -37,38 +53,42 @@ fn chain(run: &Run<'_>, roots: usize) -> Vec<u8> {
 struct Watch {
     auditor: Auditor<Sha256Hash, KeyedSign>,
     hash: Sha256Hash,
+    verifier: KeyedSign,
+    key: Hash32,
 }
 
 impl Watch {
     fn new(alloc: Global) -> Watch {
+        let verifier = provider();
+        let key = verifier.public();
         Watch {
             auditor: Auditor::new(alloc),
             hash: Sha256Hash::new(),
+            verifier,
+            key,
         }
     }
 
-    fn observe(&mut self, run: &Run<'_>, root: &[u8]) -> Option<Observed> {
-        let verifier = provider();
-        let key = verifier.public();
-        let observed = self
-            .auditor
-            .observe(&mut self.hash, &verifier, &key, root);
-        run.keep(observed)
+    fn observe(&mut self, root: &[u8]) -> Result<Observed> {
+        Ok(
+            self.auditor
+                .observe(&mut self.hash, &self.verifier, &self.key, root)?,
+        )
     }
 
     /// Observes these roots, and counts those that the chain begins with or that extend it.
-    fn observe_all(&mut self, run: &Run<'_>, roots: &[u8]) -> u64 {
+    fn observe_all(&mut self, roots: &[u8]) -> Result<u64> {
         let mut taken: u64 = 0;
         for root in roots.chunks_exact(ROOT_BYTES) {
-            if let Some(Observed::Started | Observed::Extended) = self.observe(run, root) {
+            if let Observed::Started | Observed::Extended = self.observe(root)? {
                 taken = taken.saturating_add(1);
             }
         }
-        taken
+        Ok(taken)
     }
 
     /// Observes so many of these roots, each far from the one before, and counts those that are known.
-    fn observe_again(&mut self, run: &Run<'_>, roots: &[u8], times: usize) -> u64 {
+    fn observe_again(&mut self, roots: &[u8], times: usize) -> Result<u64> {
         let count = (roots.len() / ROOT_BYTES).max(1);
         let mut place: usize = 0;
         let mut known: u64 = 0;
@@ -76,12 +96,12 @@ impl Watch {
             place = place.wrapping_add(7919) % count;
             let start = place.saturating_mul(ROOT_BYTES);
             let end = start.saturating_add(ROOT_BYTES);
-            let root = roots.get(start..end).unwrap_or(&[]);
-            if let Some(Observed::Known) = self.observe(run, root) {
+            let root = roots.get(start..end).context("no root is there")?;
+            if let Observed::Known = self.observe(root)? {
                 known = known.saturating_add(1);
             }
         }
-        known
+        Ok(known)
     }
 }
 
@@ -101,98 +121,92 @@ fn forked(body: &Body) -> Body {
     }
 }
 
-/// Appends the case of this evidence, which takes the digests of two signatures and of so many bodies.
-fn add_case(run: &Run<'_>, cases: &mut Vec<Case>, evidence: RootEvidence, bodies: usize) {
-    let mut lengths = run.list(bodies.saturating_add(2));
-    for _ in 0..2 {
-        run.push(&mut lengths, SIGNED_BYTES);
-    }
-    for _ in 0..bodies {
-        run.push(&mut lengths, BODY_BYTES);
-    }
-    let evidence = Evidence::Root(evidence);
-    run.push(cases, Case { evidence, lengths });
-}
-
 /// A fork, a broken link and a skipped epoch.
-fn cases_of_roots(run: &Run<'_>) -> Vec<Case> {
+fn cases_of_roots(alloc: Global) -> Result<Vec<Case>, AllocError> {
     let third = after(&first_body(), 2);
     let seventh = after(&third, 4);
-    let other = forked(&seventh);
-    let mut cases = run.list(4);
-    let fork = RootEvidence::Fork(signed(seventh), signed(other));
-    add_case(run, &mut cases, fork, 0);
-    let link = RootEvidence::Link(signed(seventh), signed(after(&other, 2)));
-    add_case(run, &mut cases, link, 1);
-    let skip = RootEvidence::Skip(signed(seventh), signed(after(&third, 6)));
-    add_case(run, &mut cases, skip, 0);
-    cases
-}
-
-/// What the provider holds for a name, though it promised another key.
-fn held() -> Held {
-    Held::new(name(b"somebody"), Hash32::new([9; 32]), key(&key_of(0, 1)))
-}
-
-/// The promise of another key in the first epoch.
-fn promise_of(held: &Held) -> Promise {
-    let first = first_body();
-    Promise {
-        epoch: first.epoch,
-        root_hash: hash_of(&first),
-        index: held.index,
-        name: held.name.copied(),
-        key: key(&key_of(0, 2)),
-    }
-}
-
-/// The lengths of the texts of a broken promise, below so many siblings.
-fn lengths_of(run: &Run<'_>, held: &Held, promise: &Promise, siblings: usize) -> Vec<usize> {
-    let mut lengths = run.list(siblings.saturating_add(6));
-    for _ in 0..siblings {
-        run.push(&mut lengths, INTERIOR_BYTES);
-    }
-    let ends = [
-        KEYED_BYTES.saturating_add(promise.write().bytes().len()),
-        SIGNED_BYTES,
-        KEYED_BYTES.saturating_add(held.name.bytes().len()),
-        held.value.bytes().len(),
-        commit_text(&held.salt, &held.name, &held.key).bytes().len(),
-        LEAF_BYTES,
+    let cases = [
+        (
+            RootEvidence::Fork(signed(seventh), signed(forked(&seventh))),
+            0,
+        ),
+        (
+            RootEvidence::Link(signed(seventh), signed(after(&forked(&seventh), 2))),
+            1,
+        ),
+        (
+            RootEvidence::Skip(signed(seventh), signed(after(&third, 6))),
+            0,
+        ),
     ];
-    for length in ends {
-        run.push(&mut lengths, length);
+    let mut all = Vec::with_capacity(alloc, 4)?;
+    for (roots, bodies) in cases {
+        let mut lengths = Vec::from_slice(alloc, &[SIGNED_BYTES, SIGNED_BYTES])?;
+        if bodies == 1 {
+            lengths.push(BODY_BYTES)?;
+        }
+        let evidence = Evidence::Root(roots);
+        all.push(Case { evidence, lengths })?;
     }
-    lengths
+    Ok(all)
 }
 
 /// A promise that was broken: the next root's tree has another key at the name, below so many siblings.
-fn broken_promise(run: &Run<'_>, held: &Held, siblings: usize) -> Option<BrokenPromise> {
-    let tree = tree_around(run, &[held.item()], siblings)?;
-    let body = Body {
-        root: tree.root(),
-        nonce: Hash32::default(),
-        ..after(&first_body(), 1)
+fn broken_case(alloc: Global, siblings: usize) -> Result<Case> {
+    let hash = &mut Sha256Hash::new();
+    let vuf = provider_vuf();
+    let name = Name::new(b"somebody")?;
+    let promised = KeyData::new(&[7; 32])?;
+    let key = KeyData::new(&[8; 32])?;
+    let salt = Hash32::new([9; 32]);
+    let value = vuf.value(&name);
+    let index = index_of(hash, value.bytes());
+    let commitment = commit(hash, &salt, &name, &key);
+    let tree = tree_around(alloc, hash, &[(index, commitment)], siblings)?;
+
+    let first = first_body();
+    let mut second = after(&first, 1);
+    second.root = tree.root();
+    second.nonce = Hash32::default();
+    let end = End::Present { salt, key: &key };
+    let reply = make(&second, &value, &end, &tree.path(&index));
+    let mut proof = ProofText::new();
+    proof.push_slice(reply.bytes());
+
+    let promise = Promise {
+        epoch: first.epoch,
+        root_hash: hash_of(&first),
+        index,
+        name,
+        key: promised,
     };
-    let promise = promise_of(held);
-    let signature = provider().sign(promise.write().bytes());
-    Some(BrokenPromise {
+    let text = promise.write();
+    let mut lengths = vec![in alloc; INTERIOR_BYTES; siblings]?;
+    lengths.push(KEYED_BYTES.saturating_add(text.bytes().len()))?;
+    lengths.push(SIGNED_BYTES)?;
+    lengths.push(KEYED_BYTES.saturating_add(promise.name.bytes().len()))?;
+    lengths.push(value.bytes().len())?;
+    lengths.push(commit_text(&salt, &promise.name, &key).bytes().len())?;
+    lengths.push(LEAF_BYTES)?;
+    let signature = provider().sign(text.bytes());
+    let evidence = Evidence::Broken(BrokenPromise {
         promise: SignedPromise { promise, signature },
-        root: signed(body),
-        proof: held.reply(&body, &tree.path(&held.index)),
-    })
+        root: signed(second),
+        proof,
+    });
+    Ok(Case { evidence, lengths })
 }
 
-/// The cases of roots, and that of a promise that was broken.
-fn all_cases(run: &Run<'_>, siblings: usize) -> Vec<Case> {
-    let mut cases = cases_of_roots(run);
-    let held = held();
-    if let Some(broken) = broken_promise(run, &held, siblings) {
-        let lengths = lengths_of(run, &held, &broken.promise.promise, siblings);
-        let evidence = Evidence::Broken(broken);
-        run.push(&mut cases, Case { evidence, lengths });
+/// Takes the digests of texts of these lengths, so often.
+pub(crate) fn take_all(room: &mut [u8], lengths: &[usize], times: usize) -> Result<u64> {
+    let mut last: u64 = 0;
+    for _ in 0..times {
+        for length in lengths {
+            let text = room.get_mut(..*length).context("the text is too long")?;
+            last = take_digests(text, 1);
+        }
     }
-    cases
+    Ok(last)
 }
 
 /// Judges the evidence so often, and counts how often it holds.
@@ -210,45 +224,45 @@ fn judge_all(evidence: &Evidence, times: usize) -> u64 {
     held
 }
 
-/// The steps of the cases: the digests of its texts, and its judging, so often.
-fn measure_cases(steps: &Steps<'_, impl Print + Input>, cases: &[Case], times: usize) {
-    for Case { evidence, lengths } in cases {
-        steps.end(steps.run.digest_all(lengths, times));
-        steps.end(judge_all(evidence, times));
-    }
-}
-
-/// The steps of an auditor: a chain observed; more roots that extend it; roots of it once more.
-fn measure_roots(
-    steps: &Steps<'_, impl Print + Input>,
-    watch: &mut Watch,
-    roots: &[u8],
-    more: usize,
-) {
-    let split = roots.len().saturating_sub(more.saturating_mul(ROOT_BYTES));
-    let (first, rest) = roots.split_at(split);
-    steps.end(watch.observe_all(steps.run, first));
-    steps.end(watch.observe_all(steps.run, rest));
-    steps.end(watch.observe_again(steps.run, roots, more));
-}
-
-/// The steps of digests: of bodies, and of what is signed of them.
-pub(crate) fn measure_digests(steps: &Steps<'_, impl Print + Input>, count: usize) {
-    steps.digest(BODY_BYTES, count);
-    steps.digest(SIGNED_BYTES, count);
-}
-
-/// `audit ROOTS MORE SIBLINGS TIMES DIGESTS`. The steps: digests of bodies, and of what is signed of them;
-/// those of an auditor; for each kind of evidence the digests of its texts, and its judging, so often; and
+/// The steps: digests of bodies, and of what is signed of them; a chain observed; more roots that extend
+/// it; roots of it once more; for each kind of evidence the digests of its texts, and its judging; and
 /// the first digests again.
-pub(crate) fn measure(steps: &Steps<'_, impl Print + Input>) {
-    let [count, more, siblings, times, digests, ..] = steps.run.numbers(5);
-    let roots = chain(steps.run, count.saturating_add(more));
-    let cases = all_cases(steps.run, siblings);
-    let mut watch = Watch::new(steps.run.alloc);
-    steps.end(0);
-    measure_digests(steps, digests);
-    measure_roots(steps, &mut watch, &roots, more);
-    measure_cases(steps, &cases, times);
-    measure_digests(steps, digests);
+pub(crate) fn measure(rt: &(impl Print + Input), alloc: Global, wanted: &Audits) -> Result<()> {
+    let roots = chain(alloc, wanted.roots.saturating_add(wanted.more))?;
+    let split = wanted.roots.saturating_mul(ROOT_BYTES).min(roots.len());
+    let (first, more) = roots.split_at(split);
+    let mut cases = cases_of_roots(alloc)?;
+    cases.push(broken_case(alloc, wanted.siblings)?)?;
+    let mut watch = Watch::new(alloc);
+    let mut room = [0; 512];
+
+    end_step(rt, alloc, 0)?;
+    end_step(
+        rt,
+        alloc,
+        take_all(&mut room, &[BODY_BYTES], wanted.digests)?,
+    )?;
+    end_step(
+        rt,
+        alloc,
+        take_all(&mut room, &[SIGNED_BYTES], wanted.digests)?,
+    )?;
+    end_step(rt, alloc, watch.observe_all(first)?)?;
+    end_step(rt, alloc, watch.observe_all(more)?)?;
+    end_step(rt, alloc, watch.observe_again(&roots, wanted.more)?)?;
+    for case in &cases {
+        end_step(rt, alloc, take_all(&mut room, &case.lengths, wanted.times)?)?;
+        end_step(rt, alloc, judge_all(&case.evidence, wanted.times))?;
+    }
+    end_step(
+        rt,
+        alloc,
+        take_all(&mut room, &[BODY_BYTES], wanted.digests)?,
+    )?;
+    end_step(
+        rt,
+        alloc,
+        take_all(&mut room, &[SIGNED_BYTES], wanted.digests)?,
+    )?;
+    Ok(())
 }

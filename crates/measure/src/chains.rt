@@ -1,11 +1,21 @@
-use crate::roots::{after, first_body, provider, signed};
-use crate::run::Run;
-use crate::steps::Steps;
-use anyhow::anyhow;
+use crate::steps::end_step;
+use anyhow::{Result, bail};
 use encoding::Hash32;
 use nodehash::{NodeHash, Sha256Hash};
-use rootchain::{Body, Chain, Compare, RootEvidence};
+use rootchain::{Body, Chain, Compare, RootEvidence, SignedRoot};
 use sigiface::{KeyedSign, Signer};
+use std::alloc::Global;
+
+/// What is measured of two chains of one key.
+#[derive(Clone, Copy)]
+pub(crate) struct Histories {
+    /// The roots of each chain.
+    pub(crate) roots: usize,
+    /// How many of the first roots both chains have.
+    pub(crate) shared: usize,
+    /// How often the chains are compared.
+    pub(crate) rounds: usize,
+}
 
 /// A chain, and its bodies as one byte string.
 #[derive(Drop)]
@@ -14,41 +24,42 @@ struct History {
     bytes: Vec<u8>,
 }
 
+/// A root with this body.
+fn signed(signer: &KeyedSign, body: Body) -> SignedRoot {
+    let signature = signer.sign(body.write().bytes());
+    SignedRoot { body, signature }
+}
+
 impl History {
-    /// A chain of one root.
-    fn new(run: &Run<'_>, body: Body) -> Option<History> {
-        let signer = provider();
-        let chain = Chain::start(run.alloc, &signer, signer.public(), signed(body));
-        let chain = run.keep(chain)?;
-        let bytes = run.copied(body.write().bytes());
-        Some(History { chain, bytes })
+    /// The chain of an epoch after the other. The roots that are not shared have this byte in their
+    /// nonces.
+    fn new(alloc: Global, wanted: &Histories, byte: u8) -> Result<History> {
+        let signer = KeyedSign::new(Hash32::default());
+        let mut hash = Sha256Hash::new();
+        let nonce = |number: usize| {
+            Hash32::new([if number < wanted.shared { 0 } else { byte }; 32])
+        };
+        let mut body = Body {
+            epoch: 1,
+            previous_epoch: 0,
+            root: Hash32::default(),
+            previous_hash: Hash32::default(),
+            nonce: nonce(0),
+            vuf_key: Hash32::default(),
+        };
+        let first = signed(&signer, body);
+        let mut chain = Chain::start(alloc, &signer, signer.public(), first)?;
+        let mut bytes = Vec::from_slice(alloc, body.write().bytes())?;
+        for number in 1..wanted.roots {
+            body.previous_hash = hash.digest(body.write().bytes());
+            body.previous_epoch = body.epoch;
+            body.epoch = body.epoch.saturating_add(1);
+            body.nonce = nonce(number);
+            chain.extend(&mut hash, &signer, signed(&signer, body))?;
+            bytes.extend_from_slice(body.write().bytes())?;
+        }
+        Ok(History { chain, bytes })
     }
-
-    fn extend(&mut self, run: &Run<'_>, body: Body) {
-        run.extend(&mut self.bytes, body.write().bytes());
-        let extended = self
-            .chain
-            .extend(&mut Sha256Hash::new(), &provider(), signed(body));
-        run.keep(extended);
-    }
-}
-
-/// The nonce of the root of this number. Those of roots that are not shared have this byte.
-fn nonce_of(number: usize, shared: usize, byte: u8) -> Hash32 {
-    Hash32::new([if number < shared { 0 } else { byte }; 32])
-}
-
-/// The history of so many roots, of an epoch after the other, of which so many are shared.
-fn history_of(run: &Run<'_>, roots: usize, shared: usize, byte: u8) -> Option<History> {
-    let mut body = first_body();
-    body.nonce = nonce_of(0, shared, byte);
-    let mut history = History::new(run, body)?;
-    for number in 1..roots {
-        body = after(&body, 1);
-        body.nonce = nonce_of(number, shared, byte);
-        history.extend(run, body);
-    }
-    Some(history)
 }
 
 /// Compares the byte strings, and counts how often they are equal. Each round starts at another byte,
@@ -74,18 +85,9 @@ fn epoch_of(answer: &Compare) -> u64 {
     }
 }
 
-/// Compares two chains. Takes at most one digest.
-fn compare(run: &Run<'_>, hash: &mut Sha256Hash, one: &History, other: &History) -> u64 {
-    if *one.chain.key() == *other.chain.key() {
-        epoch_of(&Chain::compare(hash, &one.chain, &other.chain))
-    } else {
-        run.fail(anyhow!("the chains are of two providers"));
-        0
-    }
-}
-
-/// Compares the chains, first and second in turn, and adds up the epochs of their forks.
-fn compare_chains(run: &Run<'_>, one: &History, other: &History, rounds: usize) -> u64 {
+/// Compares the chains, first and second in turn, and adds up the epochs of their forks. Each comparison
+/// takes at most one digest.
+fn compare_chains(one: &History, other: &History, rounds: usize) -> Result<u64> {
     let mut hash = Sha256Hash::new();
     let mut epochs: u64 = 0;
     for round in 0..rounds {
@@ -94,33 +96,25 @@ fn compare_chains(run: &Run<'_>, one: &History, other: &History, rounds: usize) 
         } else {
             (other, one)
         };
-        epochs = epochs.saturating_add(compare(run, &mut hash, one, other));
+        if *one.chain.key() != *other.chain.key() {
+            bail!("the chains are of two providers");
+        }
+        let answer = Chain::compare(&mut hash, &one.chain, &other.chain);
+        epochs = epochs.saturating_add(epoch_of(&answer));
     }
     if hash.count() > rounds as u64 {
-        run.fail(anyhow!("a comparison took more than one digest"));
+        bail!("a comparison took more than one digest");
     }
-    epochs
+    Ok(epochs)
 }
 
-/// The steps of two chains.
-fn measure_chains(
-    steps: &Steps<'_, impl Print + Input>,
-    one: &History,
-    other: &History,
-    rounds: usize,
-) {
-    steps.end(one.bytes.len() as u64);
-    steps.end(compare_bytes(&one.bytes, &other.bytes, rounds));
-    steps.end(compare_chains(steps.run, one, other, rounds));
-}
-
-/// `chains ROOTS SHARED ROUNDS`. The steps: the bodies of two chains of one key compared as byte strings,
-/// so often; then the chains. So many of their first roots are the same.
-pub(crate) fn measure(steps: &Steps<'_, impl Print + Input>) {
-    let [roots, shared, rounds, ..] = steps.run.numbers(3);
-    if let Some(one) = history_of(steps.run, roots, shared, 1)
-        && let Some(other) = history_of(steps.run, roots, shared, 2)
-    {
-        measure_chains(steps, &one, &other, rounds);
-    }
+/// The steps: the bodies of both chains compared as byte strings, so often; then the chains.
+pub(crate) fn measure(rt: &(impl Print + Input), alloc: Global, wanted: &Histories) -> Result<()> {
+    let one = History::new(alloc, wanted, 1)?;
+    let other = History::new(alloc, wanted, 2)?;
+    end_step(rt, alloc, one.bytes.len() as u64)?;
+    let equal = compare_bytes(&one.bytes, &other.bytes, wanted.rounds);
+    end_step(rt, alloc, equal)?;
+    end_step(rt, alloc, compare_chains(&one, &other, wanted.rounds)?)?;
+    Ok(())
 }

@@ -1,5 +1,7 @@
-use crate::steps::Steps;
+use crate::steps::end_step;
+use anyhow::Result;
 use sha2::{Digest, Sha256};
+use std::alloc::Global;
 
 /// Takes so many digests of a text, and returns the first byte of the last one. Each digest's first
 /// byte goes into the text before the next, so that every digest is needed.
@@ -14,12 +16,15 @@ pub(crate) fn take_digests(text: &mut [u8], count: usize) -> u64 {
     u64::from(first)
 }
 
-/// `digests BYTES COUNT`. The one step: so many digests of a text of so many bytes.
-pub(crate) fn measure(steps: &Steps<'_, impl Print + Input>) {
-    let [bytes, count, ..] = steps.run.numbers(2);
-    let text = vec![in steps.run.alloc; 0; bytes];
-    if let Some(mut text) = steps.run.keep(text) {
-        steps.end(0);
-        steps.end(take_digests(&mut text, count));
-    }
+/// The one step: so many digests of a text of so many bytes.
+pub(crate) fn measure(
+    rt: &(impl Print + Input),
+    alloc: Global,
+    bytes: usize,
+    count: usize,
+) -> Result<()> {
+    let mut text = vec![in alloc; 0; bytes]?;
+    end_step(rt, alloc, 0)?;
+    end_step(rt, alloc, take_digests(&mut text, count))?;
+    Ok(())
 }

@@ -1,56 +1,58 @@
-use crate::pages::{Following, Pages, keep_looks, look_all};
-use crate::replies::{LookUp, measure_checks};
-use crate::run::Run;
-use crate::steps::Steps;
+use crate::pages::{
+    Answered, Following, Pages, Sizes, answered_at, check_all, keep_looks, look_all,
+};
+use crate::roots::provider_vuf;
+use crate::steps::end_step;
+use anyhow::Result;
+use std::alloc::Global;
 
-/// The look-ups of all names under the root of this place.
-fn look_ups_at(run: &Run<'_>, pages: &Pages, place: usize) -> Vec<LookUp> {
-    let mut look_ups = run.list(pages.held.len());
-    if let Some(body) = pages.bodies.get(place) {
-        for held in &pages.held {
-            let look_up = pages.look_up(run, held, body);
-            run.push(&mut look_ups, look_up);
-        }
-    }
-    look_ups
+/// What is measured of the looks of a client.
+#[derive(Clone, Copy)]
+pub(crate) struct Looks {
+    pub(crate) sizes: Sizes,
+    /// The epochs at which all names were looked up before.
+    pub(crate) epochs: usize,
+    /// The epochs after them, at each of which all names are looked up again.
+    pub(crate) rounds: usize,
 }
 
 /// The steps of a round: its replies made, read and checked, looked at by the client, and read and checked
 /// once more.
 fn measure_round(
-    steps: &Steps<'_, impl Print + Input>,
+    rt: &(impl Print + Input),
+    alloc: Global,
     client: &mut Following,
-    look_ups: &[LookUp],
-) {
-    steps.end(0);
-    measure_checks(steps, look_ups, 1);
-    steps.end(look_all(steps.run, client, look_ups));
-    measure_checks(steps, look_ups, 1);
+    look_ups: &[Answered],
+) -> Result<()> {
+    let vuf = provider_vuf();
+    end_step(rt, alloc, 0)?;
+    end_step(rt, alloc, check_all(look_ups, &vuf)?)?;
+    end_step(rt, alloc, look_all(client, look_ups, &vuf)?)?;
+    end_step(rt, alloc, check_all(look_ups, &vuf)?)?;
+    Ok(())
 }
 
-/// The steps of a client without a look: the looks of the first epochs, at each of which it looks all names
-/// up; and then the rounds, each at one more epoch.
+/// The steps of a client without a look: the looks of the first epochs, and then the rounds.
 fn measure_client(
-    steps: &Steps<'_, impl Print + Input>,
-    pages: &Pages,
+    rt: &(impl Print + Input),
+    alloc: Global,
     client: &mut Following,
-    epochs: usize,
-    rounds: usize,
-) {
-    steps.end(0);
-    steps.end(keep_looks(steps.run, client, pages, &pages.held, epochs));
-    for round in 0..rounds {
-        let look_ups = look_ups_at(steps.run, pages, epochs.saturating_add(round));
-        measure_round(steps, client, &look_ups);
+    pages: &Pages,
+    wanted: &Looks,
+) -> Result<()> {
+    end_step(rt, alloc, 0)?;
+    let bytes = keep_looks(client, pages, (0, wanted.sizes.names), wanted.epochs)?;
+    end_step(rt, alloc, bytes)?;
+    for round in 0..wanted.rounds {
+        let look_ups = answered_at(alloc, pages, wanted.epochs.saturating_add(round))?;
+        measure_round(rt, alloc, client, &look_ups)?;
     }
+    Ok(())
 }
 
-/// `looks NAMES SIBLINGS ROOTS EPOCHS ROUNDS`. The steps of a client.
-pub(crate) fn measure(steps: &Steps<'_, impl Print + Input>) {
-    let [names, siblings, roots, epochs, rounds, ..] = steps.run.numbers(5);
-    if let Some(pages) = Pages::new(steps.run, names, siblings, roots)
-        && let Some(mut client) = pages.client(steps.run)
-    {
-        measure_client(steps, &pages, &mut client, epochs, rounds);
-    }
+/// The steps of `measure_client`.
+pub(crate) fn measure(rt: &(impl Print + Input), alloc: Global, wanted: &Looks) -> Result<()> {
+    let pages = Pages::new(alloc, &wanted.sizes)?;
+    let mut client = pages.client(alloc)?;
+    measure_client(rt, alloc, &mut client, &pages, wanted)
 }

@@ -18,7 +18,6 @@ mod pages;
 mod reconciling;
 mod replies;
 mod roots;
-mod run;
 mod sessions;
 mod steps;
 mod texts;
@@ -27,9 +26,7 @@ mod updating;
 mod watching;
 mod whole;
 
-use anyhow::{Context, Result, anyhow, bail};
-use run::Run;
-use steps::Steps;
+use anyhow::{Context, Result, bail};
 use std::alloc::Global;
 use std::env;
 use std::net::{Net, TcpListener, TcpStream};
@@ -45,107 +42,241 @@ const USAGE: &str = "usage: measure digests BYTES COUNT | texts COUNT ROUNDS \
     | ask PORT NAMES FRAMES IN_FLIGHT ROUNDS | exchange PORT NAMES FRAMES ROUNDS \
     | answer REQUEST REPLY";
 
-/// The programs that `all` runs, each with small numbers, which show that it still works.
-static ALL: [(&str, &[usize]); 15] = [
-    ("digests", &[64, 3]),
-    ("texts", &[9, 1]),
-    ("tree", &[5, 2, 1]),
-    ("whole", &[5, 2, 1]),
-    ("changes", &[5, 3, 2, 2, 1]),
-    ("replies", &[4, 3, 2, 1]),
-    ("chains", &[5, 3, 2]),
-    ("epochs", &[5, 3, 2, 4, 2, 1]),
-    ("hub", &[5, 3, 16, 2]),
-    ("feed", &[3, 2]),
-    ("audit", &[5, 3, 2, 2, 1]),
-    ("looks", &[3, 12, 4, 2, 2]),
-    ("updates", &[1, 2, 1]),
-    ("watch", &[12, 2, 2]),
-    ("clients", &[12, 3, 1, 2, 2]),
-];
-
-/// Runs the program of this name, if it is one on digests, trees, replies or chains.
-fn run_program(steps: &Steps<'_, impl Print + Input>, name: &str) {
-    match name {
-        "digests" => digests::measure(steps),
-        "texts" => texts::measure(steps),
-        "tree" => tree::measure(steps),
-        "whole" => whole::measure(steps),
-        "changes" => changes::measure(steps),
-        "replies" => replies::measure(steps),
-        "chains" => chains::measure(steps),
-        _ => run_party(steps, name),
-    }
-}
-
-/// Runs the program of this name, if it is one on a directory, an auditor, clients or monitors.
-fn run_party(steps: &Steps<'_, impl Print + Input>, name: &str) {
-    match name {
-        "epochs" => directory::measure(steps),
-        "hub" => sessions::measure(steps),
-        "feed" => feeding::measure(steps),
-        "audit" => auditing::measure(steps),
-        "looks" => looking::measure(steps),
-        "updates" => updating::measure(steps),
-        "watch" => watching::measure(steps),
-        "clients" => reconciling::measure(steps),
-        _ => steps.run.fail(anyhow!("{USAGE}")),
-    }
-}
-
-/// Runs the program of this name, which may be one over loopback.
-fn run_any<R>(steps: &Steps<'_, R>, name: &str)
-where
-    R: Print + Input + Net<Listener = TcpListener, Stream = TcpStream>,
-{
-    match name {
-        "ask" | "exchange" => exchange::measure(steps, name),
-        "answer" => exchange::answer(steps),
-        _ => run_program(steps, name),
-    }
-}
-
-/// Runs the programs of `all`.
-fn run_all(rt: &(impl Print + Input), alloc: Global) -> Result<()> {
-    for (name, numbers) in &ALL {
-        let run = Run::new(alloc, numbers);
-        run_program(&Steps { rt, run: &run }, name);
-        run.into_result()?;
-    }
-    Ok(())
-}
-
 /// The number that this word writes.
 fn number(word: &str) -> Result<usize> {
     word.parse::<usize>()
         .context(format_args!("reading {word:?}"))
 }
 
-/// The numbers that these words write.
-fn numbers_of(alloc: Global, words: &[String]) -> Result<Vec<usize>> {
-    let mut numbers = Vec::with_capacity(alloc, words.len())?;
-    for word in words {
-        numbers.push(number(word)?)?;
+/// Runs the program of this name on these numbers.
+fn run(rt: &(impl Print + Input), alloc: Global, program: &str, numbers: &[usize]) -> Result<()> {
+    match (program, numbers) {
+        ("digests", &[bytes, count]) => digests::measure(rt, alloc, bytes, count),
+        ("texts", &[count, rounds]) => texts::measure(rt, alloc, count, rounds),
+        ("tree", &[grown, more, digests]) => {
+            let inserts = tree::Inserts {
+                grown,
+                more,
+                digests,
+            };
+            tree::measure(rt, alloc, &inserts)
+        }
+        ("whole", &[items, times, digests]) => {
+            let lists = whole::Lists {
+                items,
+                times,
+                digests,
+            };
+            whole::measure(rt, alloc, &lists)
+        }
+        ("changes", &[items, changes, lists, rounds, digests]) => {
+            let wanted = changes::Changes {
+                items,
+                changes,
+                lists,
+                rounds,
+                digests,
+            };
+            changes::measure(rt, alloc, &wanted)
+        }
+        ("replies", &[siblings, replies, rounds, digests]) => {
+            let look_ups = replies::LookUps {
+                siblings,
+                replies,
+                rounds,
+                digests,
+            };
+            replies::measure(rt, alloc, &look_ups)
+        }
+        ("chains", &[roots, shared, rounds]) => {
+            let histories = chains::Histories {
+                roots,
+                shared,
+                rounds,
+            };
+            chains::measure(rt, alloc, &histories)
+        }
+        _ => run_on_directory(rt, alloc, program, numbers),
     }
-    Ok(numbers)
 }
 
-/// Runs the program of this name on these numbers.
-fn run_on<R>(rt: &R, alloc: Global, name: &str, numbers: &[usize]) -> Result<()>
+/// Runs the program of this name on these numbers, if it is one of those on a directory and its
+/// sessions.
+fn run_on_directory(
+    rt: &(impl Print + Input),
+    alloc: Global,
+    program: &str,
+    numbers: &[usize],
+) -> Result<()> {
+    match (program, numbers) {
+        ("epochs", &[names, changes, rounds, look_ups, look_up_rounds, digests]) => {
+            let wanted = directory::Epochs {
+                names,
+                changes,
+                rounds,
+                look_ups,
+                look_up_rounds,
+                digests,
+            };
+            directory::measure(rt, alloc, &wanted)
+        }
+        ("hub", &[names, frames, piece, rounds]) => {
+            let wanted = sessions::Sessions {
+                names,
+                frames,
+                piece,
+                rounds,
+            };
+            sessions::measure(rt, alloc, &wanted)
+        }
+        ("feed", &[frames, times]) => {
+            let wanted = feeding::Pieces { frames, times };
+            feeding::measure(rt, alloc, &wanted)
+        }
+        _ => run_on_auditor(rt, alloc, program, numbers),
+    }
+}
+
+/// Runs the program of this name on these numbers, if it is the one on an auditor.
+fn run_on_auditor(
+    rt: &(impl Print + Input),
+    alloc: Global,
+    program: &str,
+    numbers: &[usize],
+) -> Result<()> {
+    match (program, numbers) {
+        ("audit", &[roots, more, siblings, times, digests]) => {
+            let wanted = auditing::Audits {
+                roots,
+                more,
+                siblings,
+                times,
+                digests,
+            };
+            auditing::measure(rt, alloc, &wanted)
+        }
+        _ => run_on_clients(rt, alloc, program, numbers),
+    }
+}
+
+/// Runs the program of this name on these numbers, if it is one of those on clients and monitors.
+fn run_on_clients(
+    rt: &(impl Print + Input),
+    alloc: Global,
+    program: &str,
+    numbers: &[usize],
+) -> Result<()> {
+    match (program, numbers) {
+        ("looks", &[names, siblings, roots, epochs, rounds]) => {
+            let sizes = pages::Sizes {
+                names,
+                siblings,
+                roots,
+            };
+            let wanted = looking::Looks {
+                sizes,
+                epochs,
+                rounds,
+            };
+            looking::measure(rt, alloc, &wanted)
+        }
+        ("updates", &[before, lists, digests]) => {
+            let wanted = updating::Updates {
+                before,
+                lists,
+                digests,
+            };
+            updating::measure(rt, alloc, &wanted)
+        }
+        ("watch", &[siblings, epochs, rounds]) => {
+            let wanted = watching::Watches {
+                siblings,
+                epochs,
+                rounds,
+            };
+            watching::measure(rt, alloc, &wanted)
+        }
+        ("clients", &[siblings, names, shared, epochs, rounds]) => {
+            let wanted = reconciling::Clients {
+                siblings,
+                names,
+                shared,
+                epochs,
+                rounds,
+            };
+            reconciling::measure(rt, alloc, &wanted)
+        }
+        _ => bail!("{USAGE}"),
+    }
+}
+
+/// Runs the program of this name on these numbers, if it is one of those over loopback, and says
+/// whether it is.
+fn run_over_loopback<R>(rt: &R, alloc: Global, program: &str, numbers: &[usize]) -> Result<bool>
 where
     R: Print + Input + Net<Listener = TcpListener, Stream = TcpStream>,
 {
-    let run = Run::new(alloc, numbers);
-    run_any(&Steps { rt, run: &run }, name);
-    run.into_result()
+    match (program, numbers) {
+        ("ask", &[port, names, frames, in_flight, rounds]) => {
+            let wanted = exchange::Asked {
+                port,
+                names,
+                frames,
+                in_flight,
+                rounds,
+            };
+            exchange::measure(rt, alloc, &wanted)?;
+        }
+        ("exchange", &[port, names, frames, rounds]) => {
+            let wanted = exchange::Asked {
+                port,
+                names,
+                frames,
+                in_flight: 1,
+                rounds,
+            };
+            exchange::measure_look_ups(rt, alloc, &wanted)?;
+        }
+        ("answer", &[request, reply]) => exchange::answer(rt, alloc, request, reply)?,
+        _ => return Ok(false),
+    }
+    Ok(true)
+}
+
+/// Runs each program once, on small numbers: this shows that they still work.
+fn run_all(rt: &(impl Print + Input), alloc: Global) -> Result<()> {
+    run(rt, alloc, "digests", &[64, 3])?;
+    run(rt, alloc, "texts", &[9, 1])?;
+    run(rt, alloc, "tree", &[5, 2, 1])?;
+    run(rt, alloc, "whole", &[5, 2, 1])?;
+    run(rt, alloc, "changes", &[5, 3, 2, 2, 1])?;
+    run(rt, alloc, "replies", &[4, 3, 2, 1])?;
+    run(rt, alloc, "chains", &[5, 3, 2])?;
+    run(rt, alloc, "epochs", &[5, 3, 2, 4, 2, 1])?;
+    run(rt, alloc, "hub", &[5, 3, 16, 2])?;
+    run(rt, alloc, "feed", &[3, 2])?;
+    run(rt, alloc, "audit", &[5, 3, 2, 2, 1])?;
+    run(rt, alloc, "looks", &[3, 12, 4, 2, 2])?;
+    run(rt, alloc, "updates", &[1, 2, 1])?;
+    run(rt, alloc, "watch", &[12, 2, 2])?;
+    run(rt, alloc, "clients", &[12, 3, 1, 2, 2])
 }
 
 fn main(rt: HostRuntime) -> Result<()> {
     let alloc = rt.alloc();
     let words: Vec<String> = env::args(&rt)?.collect(alloc)?;
-    match words.as_slice() {
-        [_, name] if name.as_str() == "all" => run_all(&rt, alloc),
-        [_, name, rest @ ..] => run_on(&rt, alloc, name, &numbers_of(alloc, rest)?),
-        _ => bail!("{USAGE}"),
+    let [_, program, rest @ ..] = words.as_slice() else {
+        bail!("{USAGE}");
+    };
+    if program.as_str() == "all" {
+        return run_all(&rt, alloc);
     }
+    let mut numbers = Vec::with_capacity(alloc, rest.len())?;
+    for word in rest {
+        numbers.push(number(word)?)?;
+    }
+    if run_over_loopback(&rt, alloc, program, &numbers)? {
+        return Ok(());
+    }
+    run(&rt, alloc, program, &numbers)
 }

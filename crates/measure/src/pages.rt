@@ -1,144 +1,206 @@
-use crate::replies::{Held, LookUp, body_of, tree_around};
-use crate::roots::{bodies, lists, provider, provider_vuf, signed};
-use crate::run::Run;
-use anyhow::anyhow;
+use crate::directory::{key_of, name_of};
+use crate::replies::tree_around;
+use crate::roots::{bodies, first_body, lists, provider, provider_vuf, signed};
+use anyhow::{Context, Result};
 use client::Client;
-use encoding::ProofText;
-use nodehash::Sha256Hash;
+use commit::commit;
+use encoding::{Hash32, Index, KeyData, Name, ProofText, Small};
+use nodehash::{NodeHash, Sha256Hash};
 use prefixtree::Tree;
-use proofs::Statement;
+use proofs::{End, ReplyView, Statement, check, make};
 use rootchain::Body;
 use sigiface::{KeyedSign, Signer};
-use vrfiface::KeyedVuf;
+use std::alloc::Global;
+use vrfiface::{KeyedVuf, Vuf, index_of};
 
 /// A client of the provider.
 pub(crate) type Following = Client<Sha256Hash, KeyedVuf, KeyedSign>;
 
-/// Names, a tree of them, and the bodies of a chain of roots that all have this tree.
+/// What a provider has, of which a client looks names up.
+#[derive(Clone, Copy)]
+pub(crate) struct Sizes {
+    pub(crate) names: usize,
+    /// The siblings of each reply, at most 256.
+    pub(crate) siblings: usize,
+    pub(crate) roots: usize,
+}
+
+/// A name of 16 bytes, and what the provider holds for it.
+#[derive(Drop)]
+struct Held {
+    name: Name,
+    value: Small,
+    index: Index,
+    salt: Hash32,
+    key: KeyData,
+}
+
+impl Held {
+    /// What the provider holds for the name of this number.
+    fn new(vuf: &KeyedVuf, number: u64) -> Result<Held> {
+        let name = Name::new(&name_of(number))?;
+        let key = KeyData::new(&key_of(number, 1))?;
+        let salt = Hash32::new(key_of(number, 2));
+        let value = vuf.value(&name);
+        Ok(Held {
+            index: index_of(&mut Sha256Hash::new(), value.bytes()),
+            name,
+            value,
+            salt,
+            key,
+        })
+    }
+}
+
+/// A tree of names, and a chain of roots that all have this tree.
 #[derive(Drop)]
 pub(crate) struct Pages {
-    pub(crate) held: Vec<Held>,
+    held: Vec<Held>,
     tree: Tree<Sha256Hash>,
-    pub(crate) bodies: Vec<Body>,
+    bodies: Vec<Body>,
 }
 
-/// What the provider holds for so many names.
-fn held_names(run: &Run<'_>, count: usize) -> Vec<Held> {
-    let mut held = run.list(count);
-    for number in 0..count as u64 {
-        run.push(&mut held, Held::of_number(number));
-    }
-    held
-}
-
-/// The tree of these names, in which the path of each has so many siblings.
-fn tree_of(run: &Run<'_>, held: &[Held], siblings: usize) -> Option<Tree<Sha256Hash>> {
-    let mut items = run.list(held.len());
-    for one in held {
-        run.push(&mut items, one.item());
-    }
-    tree_around(run, &items, siblings)
+/// A look-up of a name, the body of the root that it asks under, and its reply.
+#[derive(Drop)]
+pub(crate) struct Answered {
+    pub(crate) name: Name,
+    pub(crate) body: Body,
+    pub(crate) reply: Vec<u8>,
 }
 
 impl Pages {
-    /// So many names, replies with so many siblings, and so many roots.
-    pub(crate) fn new(
-        run: &Run<'_>,
-        names: usize,
-        siblings: usize,
-        roots: usize,
-    ) -> Option<Pages> {
-        let held = held_names(run, names);
-        let tree = tree_of(run, &held, siblings)?;
-        let bodies = bodies(run, body_of(&tree), roots);
-        Some(Pages { held, tree, bodies })
+    pub(crate) fn new(alloc: Global, sizes: &Sizes) -> Result<Pages> {
+        let mut hash = Sha256Hash::new();
+        let vuf = provider_vuf();
+        let mut held = Vec::with_capacity(alloc, sizes.names)?;
+        let mut items = Vec::with_capacity(alloc, sizes.names)?;
+        for number in 0..sizes.names as u64 {
+            let one = Held::new(&vuf, number)?;
+            let commitment = commit(&mut hash, &one.salt, &one.name, &one.key);
+            items.push((one.index, commitment))?;
+            held.push(one)?;
+        }
+        let tree = tree_around(alloc, &mut hash, &items, sizes.siblings)?;
+        let first = Body {
+            root: tree.root(),
+            nonce: Hash32::default(),
+            ..first_body()
+        };
+        Ok(Pages {
+            held,
+            tree,
+            bodies: bodies(alloc, first, sizes.roots)?,
+        })
     }
 
     /// A client that has all roots, and kept no look.
-    pub(crate) fn client(&self, run: &Run<'_>) -> Option<Following> {
-        let Some(first) = self.bodies.first() else {
-            run.fail(anyhow!("there is no root"));
-            return None;
+    pub(crate) fn client(&self, alloc: Global) -> Result<Following> {
+        let verifier = provider();
+        let first = self.bodies.first().context("there is no root")?;
+        let root = signed(*first).write();
+        let mut client = Client::start(alloc, &verifier, verifier.public(), root.bytes())?;
+        for list in lists(alloc, &self.bodies)? {
+            client.update(&mut Sha256Hash::new(), &verifier, &list)?;
+        }
+        Ok(client)
+    }
+
+    /// The name of this number.
+    pub(crate) fn name(&self, number: usize) -> Result<&Name> {
+        let held = self.held.get(number).context("there is no such name")?;
+        Ok(&held.name)
+    }
+
+    /// The key of the name of this number.
+    pub(crate) fn key(&self, number: usize) -> Result<KeyData> {
+        let held = self.held.get(number).context("there is no such name")?;
+        Ok(held.key.copied())
+    }
+
+    /// The body of the root of this place in the chain.
+    pub(crate) fn body(&self, place: usize) -> Result<&Body> {
+        self.bodies.get(place).context("there is no such root")
+    }
+
+    /// The reply to a look-up of the name of this number.
+    pub(crate) fn reply(&self, number: usize, body: &Body) -> Result<ProofText> {
+        let held = self.held.get(number).context("there is no such name")?;
+        let end = End::Present {
+            salt: held.salt,
+            key: &held.key,
         };
-        let lists = lists(run, &self.bodies);
-        let mut client = start_client(run, *first)?;
-        update_all(run, &mut client, &lists);
-        Some(client)
+        Ok(make(body, &held.value, &end, &self.tree.path(&held.index)))
     }
 
-    /// The reply to a look-up of a name.
-    fn reply(&self, held: &Held, body: &Body) -> ProofText {
-        held.reply(body, &self.tree.path(&held.index))
-    }
-
-    /// The look-up of a name under the root with this body.
-    pub(crate) fn look_up(&self, run: &Run<'_>, held: &Held, body: &Body) -> LookUp {
-        held.look_up(run, body, &self.tree.path(&held.index))
+    /// A look-up of the name of this number under the root of this place.
+    pub(crate) fn answered(&self, alloc: Global, number: usize, place: usize) -> Result<Answered> {
+        let body = *self.body(place)?;
+        let reply = self.reply(number, &body)?;
+        Ok(Answered {
+            name: self.name(number)?.copied(),
+            body,
+            reply: Vec::from_slice(alloc, reply.bytes())?,
+        })
     }
 }
 
-/// A client whose chain starts with this body.
-pub(crate) fn start_client(run: &Run<'_>, first: Body) -> Option<Following> {
-    let verifier = provider();
-    let root = signed(first).write();
-    let client = Client::start(run.alloc, &verifier, verifier.public(), root.bytes());
-    run.keep(client)
+/// The look-ups of all names under the root of this place.
+pub(crate) fn answered_at(alloc: Global, pages: &Pages, place: usize) -> Result<Vec<Answered>> {
+    let mut look_ups = Vec::with_capacity(alloc, pages.held.len())?;
+    for number in 0..pages.held.len() {
+        look_ups.push(pages.answered(alloc, number, place)?)?;
+    }
+    Ok(look_ups)
 }
 
-/// The client takes these lists.
-pub(crate) fn update_all(run: &Run<'_>, client: &mut Following, lists: &[Vec<u8>]) {
+/// Reads and checks all replies, and counts the digests.
+pub(crate) fn check_all(look_ups: &[Answered], vuf: &KeyedVuf) -> Result<u64> {
     let mut hash = Sha256Hash::new();
-    let verifier = provider();
-    for list in lists {
-        run.keep(client.update(&mut hash, &verifier, list));
+    for look_up in look_ups {
+        let view = ReplyView::read(&look_up.reply)?;
+        check(&mut hash, vuf, &look_up.body, &look_up.name, &view)?;
     }
+    Ok(hash.count())
 }
 
 /// The client looks all names up, and keeps the replies. Counts the keys.
-pub(crate) fn look_all(run: &Run<'_>, client: &mut Following, look_ups: &[LookUp]) -> u64 {
+pub(crate) fn look_all(
+    client: &mut Following,
+    look_ups: &[Answered],
+    vuf: &KeyedVuf,
+) -> Result<u64> {
     let mut hash = Sha256Hash::new();
-    let vuf = provider_vuf();
     let mut keys: u64 = 0;
-    for LookUp { name, body, reply } in look_ups {
-        let stated = client.look(&mut hash, &vuf, name, body.epoch, reply);
-        if let Some(Statement::Present(_)) = run.keep(stated) {
+    for look_up in look_ups {
+        let epoch = look_up.body.epoch;
+        let stated = client.look(&mut hash, vuf, &look_up.name, epoch, &look_up.reply)?;
+        if let Statement::Present(_) = stated {
             keys = keys.saturating_add(1);
         }
     }
-    keys
+    Ok(keys)
 }
 
-/// The client looks these names up under a root. Counts the bytes of the replies that it keeps.
-fn keep_each(
-    run: &Run<'_>,
+/// The client looks the names from one number to another up under each root of so many places, root by
+/// root. Counts the bytes of the replies that it keeps.
+pub(crate) fn keep_looks(
     client: &mut Following,
     pages: &Pages,
-    names: &[Held],
-    body: &Body,
-) -> u64 {
+    names: (usize, usize),
+    places: usize,
+) -> Result<u64> {
     let mut hash = Sha256Hash::new();
     let vuf = provider_vuf();
+    let (first, end) = names;
     let mut bytes: u64 = 0;
-    for held in names {
-        let reply = pages.reply(held, body);
-        run.keep(client.look(&mut hash, &vuf, &held.name, body.epoch, reply.bytes()));
-        bytes = bytes.saturating_add(reply.bytes().len() as u64);
+    for place in 0..places {
+        let body = *pages.body(place)?;
+        for number in first..end {
+            let reply = pages.reply(number, &body)?;
+            let name = pages.name(number)?;
+            client.look(&mut hash, &vuf, name, body.epoch, reply.bytes())?;
+            bytes = bytes.saturating_add(reply.bytes().len() as u64);
+        }
     }
-    bytes
-}
-
-/// The client looks these names up under each of the first roots, root by root. Counts the bytes of the
-/// replies that it keeps.
-pub(crate) fn keep_looks(
-    run: &Run<'_>,
-    client: &mut Following,
-    pages: &Pages,
-    names: &[Held],
-    roots: usize,
-) -> u64 {
-    let mut bytes: u64 = 0;
-    for body in pages.bodies.get(..roots).unwrap_or(&[]) {
-        bytes = bytes.saturating_add(keep_each(run, client, pages, names, body));
-    }
-    bytes
+    Ok(bytes)
 }

@@ -1,12 +1,27 @@
-use crate::pages::{Following, Pages, keep_looks};
-use crate::run::Run;
-use crate::steps::Steps;
-use anyhow::anyhow;
+use crate::pages::{Following, Pages, Sizes, keep_looks};
+use crate::steps::end_step;
+use anyhow::{Result, bail};
 use client::{Outcome, reconcile};
 use nodehash::Sha256Hash;
+use std::alloc::Global;
+
+/// What is measured of two clients.
+#[derive(Clone, Copy)]
+pub(crate) struct Clients {
+    /// The siblings of each reply, at most 256.
+    pub(crate) siblings: usize,
+    /// The names that each client looks up.
+    pub(crate) names: usize,
+    /// How many of them both clients look up.
+    pub(crate) shared: usize,
+    /// The epochs, at each of which a client looks up its names.
+    pub(crate) epochs: usize,
+    /// How often the clients are reconciled.
+    pub(crate) rounds: usize,
+}
 
 /// Reconciles the clients, first and second in turn, and counts how often they agree.
-fn reconcile_all(run: &Run<'_>, one: &Following, other: &Following, rounds: usize) -> u64 {
+fn reconcile_all(one: &Following, other: &Following, rounds: usize) -> Result<u64> {
     let mut hash = Sha256Hash::new();
     let mut agreed: u64 = 0;
     for round in 0..rounds {
@@ -16,63 +31,59 @@ fn reconcile_all(run: &Run<'_>, one: &Following, other: &Following, rounds: usiz
             (other, one)
         };
         if *one.key() != *other.key() {
-            run.fail(anyhow!("the clients are of two providers"));
-        } else if let Outcome::Agree = reconcile(&mut hash, one, other) {
+            bail!("the clients are of two providers");
+        }
+        if let Outcome::Agree = reconcile(&mut hash, one, other) {
             agreed = agreed.saturating_add(1);
         }
     }
-    agreed
+    Ok(agreed)
 }
 
-/// What two clients look up: the first one the first names, so many, and the second one those from
-/// another one on. They do so at so many epochs, and are reconciled in so many rounds.
-#[derive(Clone, Copy)]
-struct Wanted {
-    names: usize,
-    second: usize,
-    epochs: usize,
-    rounds: usize,
-}
-
-/// The steps of a client whose replies have so many bytes, and of the second one.
-fn measure_second(
-    steps: &Steps<'_, impl Print + Input>,
-    wanted: Wanted,
-    pages: &Pages,
-    one: &Following,
+/// The steps: both clients made, whose replies have so many bytes; and the clients reconciled.
+fn measure_clients(
+    rt: &(impl Print + Input),
+    alloc: Global,
+    clients: (&Following, &Following),
     bytes: u64,
-) {
-    if let Some(mut other) = pages.client(steps.run) {
-        let names = pages.held.get(wanted.second..).unwrap_or(&[]);
-        let more = keep_looks(steps.run, &mut other, pages, names, wanted.epochs);
-        steps.end(bytes.saturating_add(more));
-        steps.end(reconcile_all(steps.run, one, &other, wanted.rounds));
-    }
+    rounds: usize,
+) -> Result<()> {
+    let (one, other) = clients;
+    end_step(rt, alloc, bytes)?;
+    end_step(rt, alloc, reconcile_all(one, other, rounds)?)?;
+    Ok(())
 }
 
-/// The steps of both clients.
-fn measure_first(steps: &Steps<'_, impl Print + Input>, wanted: Wanted, pages: &Pages) {
-    if let Some(mut one) = pages.client(steps.run) {
-        let names = pages.held.get(..wanted.names).unwrap_or(&[]);
-        let bytes = keep_looks(steps.run, &mut one, pages, names, wanted.epochs);
-        measure_second(steps, wanted, pages, &one, bytes);
-    }
+/// A client whose looks are those of the names from one number to another, and the bytes of their replies.
+fn client_of(
+    alloc: Global,
+    pages: &Pages,
+    names: (usize, usize),
+    epochs: usize,
+) -> Result<(Following, u64)> {
+    let mut client = pages.client(alloc)?;
+    let bytes = keep_looks(&mut client, pages, names, epochs)?;
+    Ok((client, bytes))
 }
 
-/// `clients SIBLINGS NAMES SHARED EPOCHS ROUNDS`. The steps: two clients made, each of which looked so many
-/// names up at each epoch, some of them shared, and whose replies have so many bytes; and the clients
-/// reconciled so often.
-pub(crate) fn measure(steps: &Steps<'_, impl Print + Input>) {
-    let [siblings, names, shared, epochs, rounds, ..] = steps.run.numbers(5);
-    let second = names.saturating_sub(shared);
-    let wanted = Wanted {
-        names,
-        second,
-        epochs,
-        rounds,
+/// The steps of `measure_clients`.
+pub(crate) fn measure(rt: &(impl Print + Input), alloc: Global, wanted: &Clients) -> Result<()> {
+    let names = wanted.names;
+    let first = names.saturating_sub(wanted.shared);
+    let end = names.saturating_add(first);
+    let sizes = Sizes {
+        names: end,
+        siblings: wanted.siblings,
+        roots: wanted.epochs,
     };
-    let all = names.saturating_add(second);
-    if let Some(pages) = Pages::new(steps.run, all, siblings, epochs) {
-        measure_first(steps, wanted, &pages);
-    }
+    let pages = Pages::new(alloc, &sizes)?;
+    let (one, bytes) = client_of(alloc, &pages, (0, names), wanted.epochs)?;
+    let (other, more) = client_of(alloc, &pages, (first, end), wanted.epochs)?;
+    measure_clients(
+        rt,
+        alloc,
+        (&one, &other),
+        bytes.saturating_add(more),
+        wanted.rounds,
+    )
 }

@@ -1,9 +1,9 @@
-use crate::run::Run;
-use anyhow::anyhow;
+use anyhow::{Result, bail};
 use encoding::Hash32;
 use nodehash::{NodeHash, Sha256Hash};
 use rootchain::{Body, MAX_ROOTS, SignedRoot, write_list};
 use sigiface::{KeyedSign, Signer};
+use std::alloc::{AllocError, Global};
 use vrfiface::KeyedVuf;
 
 /// The bytes of a body, and those that the stand-in digests to sign it: a letter and a key before it.
@@ -54,43 +54,30 @@ pub(crate) fn signed(body: Body) -> SignedRoot {
 }
 
 /// So many bodies, of which each follows the one before it by an epoch.
-pub(crate) fn bodies(run: &Run<'_>, first: Body, count: usize) -> Vec<Body> {
-    let mut bodies = run.list(count);
+pub(crate) fn bodies(alloc: Global, first: Body, count: usize) -> Result<Vec<Body>, AllocError> {
+    let mut bodies = Vec::with_capacity(alloc, count)?;
     let mut body = first;
     for _ in 0..count {
-        run.push(&mut bodies, body);
+        bodies.push(body)?;
         body = after(&body, 1);
     }
-    bodies
-}
-
-/// The signed roots of these bodies.
-fn signed_roots(run: &Run<'_>, bodies: &[Body]) -> Vec<SignedRoot> {
-    let mut roots = run.list(bodies.len());
-    for body in bodies {
-        run.push(&mut roots, signed(*body));
-    }
-    roots
-}
-
-/// The list of the signed roots of these bodies.
-fn list_of(run: &Run<'_>, bodies: &[Body]) -> Vec<u8> {
-    let mut list = Vec::new(run.alloc);
-    let roots = signed_roots(run, bodies);
-    if roots.len() > MAX_ROOTS {
-        run.fail(anyhow!("the list is too long"));
-    } else {
-        run.keep(write_list(&roots, &mut list));
-    }
-    list
+    Ok(bodies)
 }
 
 /// The lists of the signed roots of these bodies, each with as many as a list may have.
-pub(crate) fn lists(run: &Run<'_>, bodies: &[Body]) -> Vec<Vec<u8>> {
-    let mut lists = Vec::new(run.alloc);
+pub(crate) fn lists(alloc: Global, bodies: &[Body]) -> Result<Vec<Vec<u8>>> {
+    let mut lists = Vec::new(alloc);
     for part in bodies.chunks(MAX_ROOTS) {
-        let list = list_of(run, part);
-        run.push(&mut lists, list);
+        let mut roots = Vec::with_capacity(alloc, part.len())?;
+        for body in part {
+            roots.push(signed(*body))?;
+        }
+        if roots.len() > MAX_ROOTS {
+            bail!("the list is too long");
+        }
+        let mut list = Vec::new(alloc);
+        write_list(&roots, &mut list)?;
+        lists.push(list)?;
     }
-    lists
+    Ok(lists)
 }

@@ -1,34 +1,16 @@
-use crate::run::Run;
-use crate::steps::Steps;
-use anyhow::Error;
+use crate::steps::end_step;
+use anyhow::Result;
 use encoding::{Hash32, Index};
 use nodehash::{NodeHash, NodeText, Sha256Hash, interior_text, leaf_text};
 use sha2::{Digest, Sha256};
+use std::alloc::{AllocError, Global};
 
-/// The digest of a number.
-fn digest_of(number: usize) -> [u8; 32] {
-    Sha256::digest(&(number as u64).to_be_bytes())
-}
-
-/// The texts of so many interior nodes, each made of the digest of a number.
-fn interiors(run: &Run<'_>, count: usize) -> Vec<NodeText> {
-    let mut texts = run.list(count);
-    for number in 0..count {
-        let hash = Hash32::new(digest_of(number));
-        run.push(&mut texts, interior_text(&hash, &hash));
-    }
-    texts
-}
-
-/// The texts of so many leaves, each made of the digest of a number.
-fn leaves(run: &Run<'_>, count: usize) -> Vec<NodeText> {
-    let mut texts = run.list(count);
-    for number in 0..count {
-        let digest = digest_of(number);
-        let hash = Hash32::new(digest);
-        run.push(&mut texts, leaf_text(&hash, &Index::new(digest), 20, &hash));
-    }
-    texts
+/// The text of an interior node and that of a leaf, made of the digest of a number.
+fn texts_of(number: usize) -> (NodeText, NodeText) {
+    let digest = Sha256::digest(&(number as u64).to_be_bytes());
+    let hash = Hash32::new(digest);
+    let leaf = leaf_text(&hash, &Index::new(digest), 20, &hash);
+    (interior_text(&hash, &hash), leaf)
 }
 
 /// The first bytes of these digests, added up.
@@ -40,66 +22,52 @@ fn first_bytes(digests: &[Hash32]) -> u64 {
     total
 }
 
-/// Takes the digests of the texts one by one, and adds up their first bytes.
-fn one_by_one(run: &Run<'_>, hash: &mut Sha256Hash, texts: &[NodeText]) -> u64 {
-    let mut digests = run.list(texts.len());
-    for text in texts {
-        run.push(&mut digests, hash.digest(text.bytes()));
-    }
-    first_bytes(&digests)
-}
-
-/// Takes the digests of the texts all at once, and adds up their first bytes.
-fn all_at_once(run: &Run<'_>, hash: &mut Sha256Hash, texts: &[NodeText]) -> u64 {
-    match vec![in run.alloc; Hash32::default(); texts.len()] {
-        Ok(mut digests) => {
-            hash.digest_all(texts, &mut digests);
-            first_bytes(&digests)
-        }
-        Err(why) => {
-            run.fail(Error::from(why));
-            0
-        }
-    }
-}
-
-/// The step of these texts one by one, so often.
-fn measure_single(
-    steps: &Steps<'_, impl Print + Input>,
-    texts: &[NodeText],
-    rounds: usize,
-) {
+/// Takes the digests of the texts one by one, so often, and adds up their first bytes.
+fn one_by_one(alloc: Global, texts: &[NodeText], rounds: usize) -> Result<u64, AllocError> {
     let mut hash = Sha256Hash::new();
     let mut total: u64 = 0;
     for _ in 0..rounds {
-        total = total.saturating_add(one_by_one(steps.run, &mut hash, texts));
+        let mut digests = Vec::with_capacity(alloc, texts.len())?;
+        for text in texts {
+            digests.push(hash.digest(text.bytes()))?;
+        }
+        total = total.saturating_add(first_bytes(&digests));
     }
-    steps.end(total);
+    Ok(total)
 }
 
-/// The step of these texts all at once, so often.
-fn measure_joint(
-    steps: &Steps<'_, impl Print + Input>,
-    texts: &[NodeText],
-    rounds: usize,
-) {
+/// Takes the digests of the texts all at once, so often, and adds up their first bytes.
+fn all_at_once(alloc: Global, texts: &[NodeText], rounds: usize) -> Result<u64, AllocError> {
     let mut hash = Sha256Hash::new();
     let mut total: u64 = 0;
     for _ in 0..rounds {
-        total = total.saturating_add(all_at_once(steps.run, &mut hash, texts));
+        let mut digests = vec![in alloc; Hash32::default(); texts.len()]?;
+        hash.digest_all(texts, &mut digests);
+        total = total.saturating_add(first_bytes(&digests));
     }
-    steps.end(total);
+    Ok(total)
 }
 
-/// `texts COUNT ROUNDS`. The steps: the digests of so many texts of 64 bytes, one by one and then all at
-/// once, each so often; and the same for texts of 101 bytes.
-pub(crate) fn measure(steps: &Steps<'_, impl Print + Input>) {
-    let [count, rounds, ..] = steps.run.numbers(2);
-    let interiors = interiors(steps.run, count);
-    let leaves = leaves(steps.run, count);
-    steps.end(0);
-    measure_single(steps, &interiors, rounds);
-    measure_joint(steps, &interiors, rounds);
-    measure_single(steps, &leaves, rounds);
-    measure_joint(steps, &leaves, rounds);
+/// The steps: the digests of so many texts of 64 bytes, one by one and then all at once, each so
+/// often; and the same for texts of 101 bytes.
+pub(crate) fn measure(
+    rt: &(impl Print + Input),
+    alloc: Global,
+    count: usize,
+    rounds: usize,
+) -> Result<()> {
+    let mut interiors = Vec::with_capacity(alloc, count)?;
+    let mut leaves = Vec::with_capacity(alloc, count)?;
+    for number in 0..count {
+        let (interior, leaf) = texts_of(number);
+        interiors.push(interior)?;
+        leaves.push(leaf)?;
+    }
+
+    end_step(rt, alloc, 0)?;
+    end_step(rt, alloc, one_by_one(alloc, &interiors, rounds)?)?;
+    end_step(rt, alloc, all_at_once(alloc, &interiors, rounds)?)?;
+    end_step(rt, alloc, one_by_one(alloc, &leaves, rounds)?)?;
+    end_step(rt, alloc, all_at_once(alloc, &leaves, rounds)?)?;
+    Ok(())
 }

@@ -1,49 +1,79 @@
-use crate::auditing::measure_digests;
-use crate::pages::{Following, start_client, update_all};
-use crate::roots::{bodies, first_body, lists};
-use crate::run::Run;
-use crate::steps::Steps;
+use crate::auditing::take_all;
+use crate::pages::Following;
+use crate::roots::{BODY_BYTES, SIGNED_BYTES, bodies, first_body, lists, provider, signed};
+use crate::steps::end_step;
+use anyhow::Result;
+use client::Client;
+use nodehash::Sha256Hash;
 use rootchain::MAX_ROOTS;
+use sigiface::Signer;
+use std::alloc::Global;
 
-/// The step of these lists, which the client takes. Its number is the epoch of the client's head.
-fn measure_update(
-    steps: &Steps<'_, impl Print + Input>,
-    client: &mut Following,
-    lists: &[Vec<u8>],
-) {
-    update_all(steps.run, client, lists);
-    steps.end(client.chain().head().body.epoch);
+/// What is measured of the updates of a client.
+#[derive(Clone, Copy)]
+pub(crate) struct Updates {
+    /// The lists of 64 roots that the client has before.
+    pub(crate) before: usize,
+    /// The lists of 64 roots that it then takes, and takes once more.
+    pub(crate) lists: usize,
+    /// The digests of each length that are timed before and after.
+    pub(crate) digests: usize,
 }
 
-/// The steps of updates by these lists, of which so many come before.
-fn measure_lists(
-    steps: &Steps<'_, impl Print + Input>,
-    client: &mut Following,
-    lists: &[Vec<u8>],
-    before: usize,
-) {
-    let (first, more) = lists.split_at(before.min(lists.len()));
-    measure_update(steps, client, first);
-    measure_update(steps, client, more);
-    measure_update(steps, client, more);
-}
-
-/// So many lists of roots.
-fn lists_of(run: &Run<'_>, count: usize) -> Vec<Vec<u8>> {
-    let bodies = bodies(run, first_body(), count.saturating_mul(MAX_ROOTS));
-    lists(run, &bodies)
-}
-
-/// `updates BEFORE LISTS DIGESTS`. The steps: digests; updates of a client by so many lists of 64 roots; by
-/// further lists; and by these once more; digests again.
-pub(crate) fn measure(steps: &Steps<'_, impl Print + Input>) {
-    let [before, count, digests, ..] = steps.run.numbers(3);
-    let lists = lists_of(steps.run, before.saturating_add(count));
-    if let Some(mut client) = start_client(steps.run, first_body()) {
-        steps.end(0);
-        measure_digests(steps, digests);
-        measure_lists(steps, &mut client, &lists, before);
-        steps.run.clear_text();
-        measure_digests(steps, digests);
+/// The client takes these lists. Returns the epoch of its head.
+fn update_all(client: &mut Following, lists: &[Vec<u8>]) -> Result<u64> {
+    let mut hash = Sha256Hash::new();
+    let verifier = provider();
+    for list in lists {
+        client.update(&mut hash, &verifier, list)?;
     }
+    Ok(client.chain().head().body.epoch)
+}
+
+/// The steps of digests: of bodies, and of what is signed of them.
+fn measure_digests(rt: &(impl Print + Input), alloc: Global, digests: usize) -> Result<()> {
+    let mut room = [0; SIGNED_BYTES];
+    for length in [BODY_BYTES, SIGNED_BYTES] {
+        end_step(rt, alloc, take_all(&mut room, &[length], digests)?)?;
+    }
+    Ok(())
+}
+
+/// The steps of updates: the first lists taken; the further lists taken; and these once more.
+fn measure_updates(
+    rt: &(impl Print + Input),
+    alloc: Global,
+    client: &mut Following,
+    before: &[Vec<u8>],
+    more: &[Vec<u8>],
+) -> Result<()> {
+    for part in [before, more, more] {
+        end_step(rt, alloc, update_all(client, part)?)?;
+    }
+    Ok(())
+}
+
+/// The steps: digests; updates of a client that has the first of these roots; digests again.
+fn measure_lists(
+    rt: &(impl Print + Input),
+    alloc: Global,
+    lists: &[Vec<u8>],
+    wanted: &Updates,
+) -> Result<()> {
+    let (before, more) = lists.split_at(wanted.before.min(lists.len()));
+    let verifier = provider();
+    let first = signed(first_body()).write();
+    let mut client = Client::start(alloc, &verifier, verifier.public(), first.bytes())?;
+    end_step(rt, alloc, 0)?;
+    measure_digests(rt, alloc, wanted.digests)?;
+    measure_updates(rt, alloc, &mut client, before, more)?;
+    measure_digests(rt, alloc, wanted.digests)
+}
+
+/// The steps of `measure_lists`.
+pub(crate) fn measure(rt: &(impl Print + Input), alloc: Global, wanted: &Updates) -> Result<()> {
+    let count = wanted.before.saturating_add(wanted.lists);
+    let bodies = bodies(alloc, first_body(), count.saturating_mul(MAX_ROOTS))?;
+    let lists = lists(alloc, &bodies)?;
+    measure_lists(rt, alloc, &lists, wanted)
 }

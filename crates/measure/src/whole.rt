@@ -1,84 +1,51 @@
-ghost use Rattle.std.specs.Prelude.{◌≡◌};
-ghost use Rattle.prefixtree.specs.Placement.{IsPlacement};
-
-use crate::run::Run;
-use crate::steps::Steps;
-use crate::tree::{LEAF_BYTES, items_of};
-use anyhow::{Error, anyhow};
+use crate::digests::take_digests;
+use crate::steps::end_step;
+use crate::tree::{LEAF_BYTES, indices};
+use anyhow::{Context, Result};
 use encoding::Hash32;
 use nodehash::{NodeHash, Sha256Hash};
 use prefixtree::{Item, Tree, placed};
-use std::marker::Model;
+use std::alloc::{AllocError, Global};
 
-/// Items in the order of their indices, none of which stands twice.
-#[derive(Drop)]
-pub(crate) struct Placed {
-    items: Vec<Item>,
+/// What is measured of trees that are made of a list.
+#[derive(Clone, Copy)]
+pub(crate) struct Lists {
+    /// The items of each list.
+    pub(crate) items: usize,
+    /// How often the tree is made.
+    pub(crate) times: usize,
+    /// The digests that are timed before and after.
+    pub(crate) digests: usize,
 }
 
-impl Model for Placed {
-    ghost use Rattle.prefixtree.specs.Placement.{IsPlacement, Items};
-
-    ghost Value = { Items };
-
-    ghost view = { λ placed. placed.items.items };
-
-    ghost invariant = { λ placed. IsPlacement placed.items.items };
+/// The items at the digests of so many numbers from `first` on, not sorted.
+pub(crate) fn items_from(
+    alloc: Global,
+    first: usize,
+    count: usize,
+) -> Result<Vec<Item>, AllocError> {
+    let commitment = Hash32::default();
+    let mut items = Vec::with_capacity(alloc, count)?;
+    for index in indices(alloc, first, count)? {
+        items.push((index, commitment))?;
+    }
+    Ok(items)
 }
 
-impl Placed {
-    /// These items in order.
-    pub(crate) fn new(run: &Run<'_>, items: &[Item]) -> Option<Placed> {
-        let why = match placed(run.alloc, items) {
-            Ok(Some(items)) => return Some(Placed { items }),
-            Ok(None) => anyhow!("an index stands twice"),
-            Err(why) => Error::from(why),
-        };
-        run.fail(why);
-        None
-    }
-
-    /// The items at the digests of so many numbers from `first` on.
-    pub(crate) fn of_numbers(run: &Run<'_>, first: usize, count: usize) -> Option<Placed> {
-        let items = items_of(run, first, count);
-        Placed::new(run, &items)
-    }
-
-    pub(crate) fn items(&self) -> &[Item]
-        ensures value { result.now ≡ self.now }
-        ensures placement { IsPlacement self.now }
-    {
-        &self.items
-    }
-
-    /// The tree of these items.
-    pub(crate) fn tree(
-        &self,
-        run: &Run<'_>,
-        hash: &mut Sha256Hash,
-    ) -> Option<Tree<Sha256Hash>> {
-        let tree = Tree::from_items(run.alloc, hash, Hash32::default(), self.items());
-        run.keep(tree)
-    }
-}
-
-/// The step of the tree made so often. Its number is the digests that it took.
-fn measure_tree(steps: &Steps<'_, impl Print + Input>, items: &Placed, times: usize) {
+/// The steps: digests; the tree of one list made so often; digests again. The number of the middle
+/// step is the digests that it took.
+pub(crate) fn measure(rt: &(impl Print + Input), alloc: Global, lists: &Lists) -> Result<()> {
+    let items = items_from(alloc, 0, lists.items)?;
+    let items = placed(alloc, &items)?.context("an index stands twice")?;
+    let mut text = [0; LEAF_BYTES];
     let mut hash = Sha256Hash::new();
-    for _ in 0..times {
-        items.tree(steps.run, &mut hash);
-    }
-    steps.end(hash.count());
-}
 
-/// `whole ITEMS TIMES DIGESTS`. The steps: digests; the tree of one list of items made so often; digests
-/// again.
-pub(crate) fn measure(steps: &Steps<'_, impl Print + Input>) {
-    let [count, times, digests, ..] = steps.run.numbers(3);
-    if let Some(items) = Placed::of_numbers(steps.run, 0, count) {
-        steps.end(0);
-        steps.digest(LEAF_BYTES, digests);
-        measure_tree(steps, &items, times);
-        steps.digest(LEAF_BYTES, digests);
+    end_step(rt, alloc, hash.count())?;
+    end_step(rt, alloc, take_digests(&mut text, lists.digests))?;
+    for _ in 0..lists.times {
+        let _ = Tree::from_items(alloc, &mut hash, Hash32::default(), &items)?;
     }
+    end_step(rt, alloc, hash.count())?;
+    end_step(rt, alloc, take_digests(&mut text, lists.digests))?;
+    Ok(())
 }

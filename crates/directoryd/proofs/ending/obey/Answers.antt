@@ -1,37 +1,52 @@
-use Rattle.std.proofs.Common.{◌≡◌}
+use Rattle.std.proofs.Common.{rules, ◌≡◌, ℕ, Err, refl}
 use Rattle.std.proofs.KnownBytes.{Keeps-refl}
-use Rattle.textio.specs.declared.program_fault.ProgramFault.TheVariants.{BadHex}
-use Rattle.directoryd.proofs.Faults.{ends_at, fault_is}
+use Rattle.directoryd.proofs.Faults.{no_fault, same_fault}
 use Rattle.directoryd.proofs.ending.obey.Goals as goal
 
-pub returns-in-Root : goal.returns-in-Root
-returns-in-Root g c =
-    let zero = c.with_zero-in-Root.ensures in
-    rw c.in-Root.is (ends_at _ _ _ _ _ _ zero.zero zero.same c.root.ensures.ends, Keeps-refl _)
+pub returns-in_err-root-in-Root : goal.returns-in_err-root-in-Root
+returns-in_err-root-in-Root g c =
+    let passed : c.from_residual.result ≡ Err c.in_err-root-in-Root.field-0.0 = search rules in
+    rw (passed, c.in-Root.is) (c.in_err-root-in-Root.ensures.ends, Keeps-refl _)
 
-pub returns-in-Prove : goal.returns-in-Prove
-returns-in-Prove g c =
-    let zero = c.with_zero-in-Prove.ensures in
-    rw c.in-Prove.is (ends_at _ _ _ _ _ _ zero.zero zero.same c.prove.ensures.ends, Keeps-refl _)
+pub returns-in_err-prove-in-Prove : goal.returns-in_err-prove-in-Prove
+returns-in_err-prove-in-Prove g c =
+    let passed : c.from_residual-in_err-prove-in-Prove.result ≡ Err c.in_err-prove-in-Prove.field-0.0 = search rules in
+    rw (passed, c.in-Prove.is) (c.in_err-prove-in-Prove.ensures.ends, Keeps-refl _)
 
-pub returns-in-Audit : goal.returns-in-Audit
-returns-in-Audit g c =
-    let zero = c.with_zero-in-Audit.ensures in
-    rw (c.in-Audit.is, zero.same) (zero.zero, Keeps-refl _, c.audit.ensures.audits)
+pub returns-in_err-audit-in-Audit : goal.returns-in_err-audit-in-Audit
+returns-in_err-audit-in-Audit g c =
+    let passed : c.from_residual-in_err-audit-in-Audit.result ≡ Err c.in_err-audit-in-Audit.field-0.0 = search rules in
+    rw (passed, c.in-Audit.is) (tt, Keeps-refl _, c.in_err-audit-in-Audit.ensures.audits)
 
 pub returns-in-Judge : goal.returns-in-Judge
 returns-in-Judge g c =
     let told = c.judge.ensures in
     rw c.in-Judge.is (Keeps-refl _, told.0, told.1, told.2)
 
-pub returns-in-Serve : goal.returns-in-Serve
-returns-in-Serve g c =
-    let zero = c.with_zero-in-Serve.ensures in
-    rw (c.in-Serve.is, zero.same) (zero.zero, Keeps-refl _, _, c.serve_directory.ensures.serves)
+pub returns-in_err-serve_directory-in-Serve : goal.returns-in_err-serve_directory-in-Serve
+returns-in_err-serve_directory-in-Serve g c =
+    let passed : c.from_residual-in_err-serve_directory-in-Serve.result ≡ Err c.in_err-serve_directory-in-Serve.field-0.0 = search rules in
+    rw (passed, c.in-Serve.is) (tt, Keeps-refl _, _, c.in_err-serve_directory-in-Serve.ensures.serves)
 
-pub returns-in-Listen : goal.returns-in-Listen
-returns-in-Listen g c =
-    let zero = c.with_zero-in-Listen.ensures in
-    let hex = c.listen.ensures.bad_hex in
-    let same = fault_is _ _ BadHex zero.same in
-    rw (c.in-Listen.is, zero.same) (zero.zero, Keeps-refl _, (λ e. hex.0 (same.0 e), λ e. same.1 (hex.1 e)), c.listen.ensures.tells)
+pub returns-in_err-listen-in-Listen : goal.returns-in_err-listen-in-Listen
+returns-in_err-listen-in-Listen g c =
+    let passed : c.from_residual-in_err-listen-in-Listen.result ≡ Err c.in_err-listen-in-Listen.field-0.0 = search rules in
+    let hex = c.in_err-listen-in-Listen.ensures.bad_hex in
+    rw (passed, c.in-Listen.is) (tt, Keeps-refl _, (λ e. hex.0 (same_fault ℕ (Unit {0}) _ _ e), λ e. same_fault (Unit {0}) ℕ _ _ (hex.1 e)), c.in_err-listen-in-Listen.ensures.tells)
+
+pub returns-in_ok-root-in-Root : goal.returns-in_ok-root-in-Root
+returns-in_ok-root-in-Root g c = rw c.in-Root.is ((refl, c.in_ok-root-in-Root.ensures.ends), Keeps-refl _)
+
+pub returns-in_ok-prove-in-Prove : goal.returns-in_ok-prove-in-Prove
+returns-in_ok-prove-in-Prove g c = rw c.in-Prove.is ((refl, c.in_ok-prove-in-Prove.ensures.ends), Keeps-refl _)
+
+pub returns-in_ok-audit-in-Audit : goal.returns-in_ok-audit-in-Audit
+returns-in_ok-audit-in-Audit g c = rw c.in-Audit.is (refl, Keeps-refl _, c.in_ok-audit-in-Audit.ensures.audits)
+
+pub returns-in_ok-serve_directory-in-Serve : goal.returns-in_ok-serve_directory-in-Serve
+returns-in_ok-serve_directory-in-Serve g c = rw c.in-Serve.is (refl, Keeps-refl _, _, c.in_ok-serve_directory-in-Serve.ensures.serves)
+
+pub returns-in_ok-listen-in-Listen : goal.returns-in_ok-listen-in-Listen
+returns-in_ok-listen-in-Listen g c =
+    let hex = c.in_ok-listen-in-Listen.ensures.bad_hex in
+    rw c.in-Listen.is (refl, Keeps-refl _, (λ e. hex.0 (no_fault ℕ (Unit {0}) _ _ _ _ e), λ e. no_fault (Unit {0}) ℕ _ _ _ _ (hex.1 e)), c.in_ok-listen-in-Listen.ensures.tells)

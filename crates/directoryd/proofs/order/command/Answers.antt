@@ -1,9 +1,7 @@
-use Rattle.std.proofs.Common.{ap, ◌≡◌, ◌∙◌, ◌×◌, true}
-use Rattle.std.proofs.lemmas.Result.{IfOk-weaker}
-use Rattle.clap.specs.Words.{App, app_of}
+use Rattle.std.proofs.Common.{ap, ap₂, true, ◌≡◌, ◌∙◌}
+use Rattle.clap.specs.Words.{App, app_of, with_subcommand}
 use Rattle.clap.specs.Simple.{app_of_fields}
-use Rattle.directoryd.specs.CommandLine.{bare_app}
-use Rattle.directoryd.proofs.Commands.{with_below}
+use Rattle.directoryd.specs.CommandLine.{bare_app, prove_app, root_app}
 use Rattle.directoryd.proofs.order.command.Goals as goal
 
 -- `Command::subcommand_required`
@@ -13,12 +11,18 @@ requiring a = record a { top = record a.top { subcommand_required = true } }
 pub returns : goal.returns
 returns c =
     let names = c.hash_names-names.result in
-    let bare : app_of c.subcommand_required-bare.result ≡ bare_app
-    = ap app_of_fields c.subcommand_required-bare.ensures ∙ ap requiring (ap app_of_fields c.about.ensures ∙ c.new.ensures.app) in
-    let root = with_below _ _ _ _ _ c.with_command-with_root.ensures bare c.root_command.ensures.app c.root_command.ensures.local in
-    let prove = with_below _ _ _ _ _ c.with_command-with_prove.ensures root c.prove_command.ensures.app c.prove_command.ensures.local in
-    let audit = with_below _ _ _ _ _ c.with_command-with_audit.ensures prove c.audit_command.ensures.app c.audit_command.ensures.local in
-    let judge = with_below _ _ _ _ _ c.with_command-with_judge.ensures audit c.judge_command.ensures.app c.judge_command.ensures.local in
-    let serve = with_below _ _ _ _ _ c.with_command-with_serve.ensures judge c.serve_command.ensures.app c.serve_command.ensures.local in
-    let listen = with_below _ _ _ _ _ c.with_command.ensures serve c.listen_command.ensures.app c.listen_command.ensures.local in
-    IfOk-weaker c.with_command.result _ _ (λ made is. (names, c.hash_names-names.ensures, is)) listen
+    let top_of = λ (a : App). a.top in
+    let top_is : app_of c.subcommand_required.result ≡ bare_app
+    = ap app_of_fields c.subcommand_required.ensures ∙ ap requiring (ap app_of_fields c.about.ensures ∙ c.new.ensures.app) in
+    let with_root : app_of c.in_ok-subcommand.field-0 ≡ with_subcommand bare_app (root_app names).top
+    = c.in_ok-subcommand.ensures.shape c.in_ok-root_command.ensures.local ∙ ap₂ with_subcommand top_is (ap top_of c.in_ok-root_command.ensures.app) in
+    let with_prove : app_of c.in_ok-subcommand-2.field-0 ≡ with_subcommand (with_subcommand bare_app (root_app names).top) (prove_app names).top
+    = c.in_ok-subcommand-2.ensures.shape c.in_ok-prove_command.ensures.local ∙ ap₂ with_subcommand with_root (ap top_of c.in_ok-prove_command.ensures.app) in
+    let with_audit = c.in_ok-subcommand-3.ensures.shape c.in_ok-audit_command.ensures.local ∙ ap₂ with_subcommand with_prove (ap top_of c.in_ok-audit_command.ensures.app) in
+    let with_judge = c.in_ok-subcommand-4.ensures.shape c.in_ok-judge_command.ensures.local ∙ ap₂ with_subcommand with_audit (ap top_of c.in_ok-judge_command.ensures.app) in
+    let with_serve = c.in_ok-subcommand-5.ensures.shape c.in_ok-serve_command.ensures.local ∙ ap₂ with_subcommand with_judge (ap top_of c.in_ok-serve_command.ensures.app) in (
+      names,
+      c.hash_names-names.ensures,
+      c.in_ok-directoryd.ensures.shape c.in_ok-listen_command.ensures.local
+          ∙ ap₂ with_subcommand with_serve (ap top_of c.in_ok-listen_command.ensures.app),
+    )
