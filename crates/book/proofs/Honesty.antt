@@ -1,4 +1,4 @@
--- A run from a fresh book is honest.
+-- A run from a sound book is honest.
 use Rattle.std.proofs.Common.{◌≡◌, ℕ, suc, ◌+◌, ◌-◌, ◌<◌, List, [], ◌∷◌, ◌++◌, length, length-append, get_or, map, replicate, Option, Some, None, All, Contains, refl, sym, ap, subst, ◌∙◌, arith, inl, inr, ◌⊎◌}
 use Rattle.std.specs.Prelude.{Bool, true, false, option_map}
 use Rattle.std.specs.Str.{bytes_eq}
@@ -7,7 +7,6 @@ use Rattle.std.proofs.lemmas.List.Elements.{All-contains, All-contains_itself, A
 use Rattle.std.proofs.lemmas.List.{get_or-append_right, get_or_append_left}
 use Rattle.std.proofs.lemmas.Option.{slice_get-get_or}
 use Rattle.std.proofs.lemmas.Slice.Eq.{bytes_eq-Decides}
-use Rattle.rand_core.specs.Stream.{Stream}
 use Rattle.encoding.specs.Bytes.{Is32Bytes}
 use Rattle.encoding.proofs.ByteLists.{IsBytes-zeros}
 use Rattle.rootchain.specs.Chains.{IsChain, IsHead, Links, Verifies}
@@ -27,12 +26,14 @@ use Rattle.book.specs.declared.reply.Reply.TheVariants as reply
 use Rattle.book.specs.Asked.{Asked, Lookup}
 use Rattle.book.specs.Books.{Binding, Book, Page, pages}
 use Rattle.proofs.specs.BrokenPromises.{IsBrokenPromise}
-use Rattle.book.specs.Fresh.{HasSalts, IsCommand, IsEpoch, KeepsLaws, fresh}
+use Rattle.book.specs.Fresh.{IsCommand, KeepsLaws}
 use Rattle.book.specs.Honest.{key_at, IsAbout, IsAnswer, IsDouble, IsHonest, IsKept, IsSaid, IsSaidAt, ListsInOrder, Tells, UsersDiffer}
 use Rattle.book.specs.Maps.{Map, at}
 use Rattle.book.specs.Shows.{Provider, Sealed, index_of, promise, roots, sealed_behind, sealed_pages, IsRootOf}
 use Rattle.book.specs.Turns.{Run}
 use Rattle.proofs.specs.Watches.{expected}
+use Rattle.book.specs.Sound.{IsSound as IsSoundBook}
+use Rattle.book.proofs.Begun.{begins-apart, begins-named, climbs, has-salts}
 use Rattle.book.proofs.Carried.{carried}
 use Rattle.book.proofs.Distinct.{AreApart, HasName, IsApart, apart-after, entry-named, named-or-not}
 use Rattle.book.proofs.Doubled.{doubled}
@@ -46,17 +47,13 @@ use Rattle.book.proofs.Stretches.{consecutive-there}
 use Rattle.book.proofs.Turning.{IsSound}
 use Rattle.book.proofs.Users.{said-asked, users-apart}
 
-is-fresh : (epoch : ℕ) (nonce : List ℕ) (salts : Stream) → IsEpoch epoch → Is32Bytes nonce → IsSound (fresh epoch nonce salts)
-is-fresh epoch nonce salts is size = record {
-  climb = (is.0, tt);
-  pages = (record { epoch = is.1; nonce = size; ascends = ascends_none Binding; bindings = tt }, tt);
-  ascends = ascends_none Binding;
-  pending = tt;
-}
-
 some-key : (found : Option Binding) (key : List ℕ) → option_map (λ (binding : Binding). binding.key) found ≡ Some key → (binding : Binding) × (found ≡ Some binding)
 some-key None key e = absurd cc
 some-key (Some binding) key e = (binding, refl)
+
+-- each salt of the pages has 32 bytes
+abbrev AreSaltedAll : Book → Type 0
+AreSaltedAll book = All (λ (page : Page). All (λ (entry : List ℕ × Binding). Is32Bytes entry.1.salt) page.bindings) (pages book)
 
 -- ---- a part of a chain
 
@@ -77,20 +74,20 @@ module _ (hash : List ℕ → List ℕ) (verified : List ℕ → List ℕ → Li
   back-chain [] back some chain = chain
   back-chain (first ∷ front) back some chain = back-chain front back some (without-first first (front ++ back) (omega (arith, some, length-append front back)) chain)
 
-module _ (hash : List ℕ → List ℕ) (verified : List ℕ → List ℕ → List ℕ → Type 0) (key : List ℕ) (front : List SignedRoot) (root : SignedRoot) (back : List SignedRoot)
-    (chain : IsChain hash verified (record { key = key; roots = front ++ root ∷ back })) (more : 0 < length front) where
-  pub front-chain : IsChain hash verified (record { key = key; roots = front })
-  front-chain = record {
+module _ (hash : List ℕ → List ℕ) (verified : List ℕ → List ℕ → List ℕ → Type 0) (key : List ℕ) (front : List SignedRoot) (more : 0 < length front) where
+  pub front-chain : (back : List SignedRoot) → IsChain hash verified (record { key = key; roots = front ++ back }) → IsChain hash verified (record { key = key; roots = front })
+  front-chain back chain = record {
     first = more;
-    signed = λ k d p. subst (Verifies verified key) (get_or_append_left front (root ∷ back) d k p) (chain.signed k d (omega (arith, p, length-append front (root ∷ back))));
+    signed = λ k d p. subst (Verifies verified key) (get_or_append_left front back d k p) (chain.signed k d (omega (arith, p, length-append front back)));
     linked = λ k d p.
-        subst (λ (x : SignedRoot). Links hash x (get_or front (k + 1) d)) (get_or_append_left front (root ∷ back) d k (omega (arith, p)))
-        (subst (Links hash (get_or (front ++ root ∷ back) k d)) (get_or_append_left front (root ∷ back) d (k + 1) p)
-        (chain.linked k d (omega (arith, p, length-append front (root ∷ back)))));
+        subst (λ (x : SignedRoot). Links hash x (get_or front (k + 1) d)) (get_or_append_left front back d k (omega (arith, p)))
+        (subst (Links hash (get_or (front ++ back) k d)) (get_or_append_left front back d (k + 1) p)
+        (chain.linked k d (omega (arith, p, length-append front back))));
   }
 
-  pub next-root : (head : SignedRoot) × IsHead (record { key = key; roots = front }) head × Verifies verified key root × Links hash head root
-  next-root = (
+  pub next-root : (root : SignedRoot) (back : List SignedRoot) → IsChain hash verified (record { key = key; roots = front ++ root ∷ back })
+      → (head : SignedRoot) × IsHead (record { key = key; roots = front }) head × Verifies verified key root × Links hash head root
+  next-root root back chain = (
     get_or front (length front - 1) root,
     slice_get-get_or front (length front - 1) root (omega arith),
     subst (Verifies verified key) here (chain.signed (length front) root (omega (arith, length-append front (root ∷ back)))),
@@ -109,25 +106,6 @@ module _ (hash : List ℕ → List ℕ) (verified : List ℕ → List ℕ → Li
       here = get_or-append_right front (root ∷ back) (length front) (length front) root refl (omega arith) ∙ ap (λ (i : ℕ). get_or (root ∷ back) i root) none
 
 module _ (provider : Provider) where
-  fresh-apart : (epoch : ℕ) (nonce : List ℕ) (salts : Stream) → IsApart provider (fresh epoch nonce salts)
-  fresh-apart epoch nonce salts = record { now = λ one other a b same. absurd (nobody one a); pages = (λ one other a b same. absurd (no-name one a), tt) }
-    where
-      no-name : (name : List ℕ) → HasName [] name → ⊥
-      no-name name has = never has.1
-        where
-          never : {x : Binding} → None ≡ Some x → ⊥
-          never e = absurd cc
-
-      nobody : (name : List ℕ) → HasName [] name ⊎ HasName [] name → ⊥
-      nobody name (inl has) = no-name name has
-      nobody name (inr has) = no-name name has
-
-  apart-run : {K : Type 0} (kept failed : K → Record → K → Type 0) (epoch : ℕ) (nonce : List ℕ) (salts : Stream) (before later : K) (after : Book) (commands : List Asked) (replies : List Reply)
-      → Run provider kept failed (fresh epoch nonce salts) before commands replies after later → IsApart provider after
-  apart-run kept failed epoch nonce salts before later after commands replies run =
-      carried provider kept failed (IsApart provider) commands replies (fresh epoch nonce salts) after before later
-      (λ command there book next given holds none does. apart-after provider book next command given holds none does) (fresh-apart epoch nonce salts) run
-
   -- two names of a page of the book
   page-apart : (after : Book) → IsApart provider after → (page : Page) (root : SignedRoot) → IsRootOf provider after page root → AreApart provider (HasName page.bindings)
   page-apart after apart page root is =
@@ -157,7 +135,7 @@ module _ (provider : Provider) where
   alone-named : (name : List ℕ) (bindings : Map Binding) → AreApart provider (HasName bindings) → HasName bindings name → Alone provider name bindings
   alone-named name bindings apart has = alone-of name bindings (λ entry there same. apart entry.0 name (entry-named bindings entry there) has same)
 
-  module _ (accepted verified : List ℕ → List ℕ → List ℕ → Type 0) (key : List ℕ) (laws : KeepsLaws accepted verified key provider) (after : Book) (sound : IsSound after) (salts : HasSalts after) where
+  module _ (accepted verified : List ℕ → List ℕ → List ℕ → Type 0) (key : List ℕ) (laws : KeepsLaws accepted verified key provider) (after : Book) (sound : IsSound after) (salts : AreSaltedAll after) where
     zeros : Is32Bytes (replicate 32 0)
     zeros = (refl, IsBytes-zeros 32)
 
@@ -295,18 +273,20 @@ module _ (provider : Provider) where
     never-accepted latest name epoch text d body other statement accepts =
         d.refused.fails ((accepts-passed provider.hash accepted body other text d.reply d.spelled statement accepts).1 SameIndex)
 
-    pub honest-sound : (first : ℕ) (commands : List Asked) (replies : List Reply) → ((latest : ℕ) (asked : Asked) (said : Reply) → IsSaidAt first commands replies latest asked said → Seen provider latest after asked said)
+    pub honest-sound : (before : Book) (commands : List Asked) (replies : List Reply) → ((latest : ℕ) (asked : Asked) (said : Reply) → IsSaidAt before.last.epoch commands replies latest asked said → Seen provider latest after asked said)
         → IsApart provider after
-        → (UsersDiffer provider commands → (asked : Asked) → Contains commands asked → (name : List ℕ) → IsAbout asked name → (page : Page) (root : SignedRoot) → IsRootOf provider after page root → Alone provider name page.bindings)
-        → IsHonest provider accepted verified key after first commands replies
-    honest-sound first commands replies shown apart users = record {
+        → (UsersDiffer provider before commands → (asked : Asked) → Contains commands asked → (name : List ℕ) → IsAbout asked name → (page : Page) (root : SignedRoot) → IsRootOf provider after page root → Alone provider name page.bindings)
+        → IsHonest provider accepted verified key before after commands replies
+    honest-sound before commands replies shown apart users = record {
       chain = whole;
       forms = All-from_recursion IsSignedRoot (roots provider after) (signed-form (sealed_pages provider after) are-sealed);
       told = λ command said root is tells. let s = seen command said is in told s.0 command said root s.1 tells;
       listed = λ command said is. let s = seen command said is in listed s.0 command said s.1;
-      followed = λ front taken back root is some.
-          let chain = back-chain provider.hash verified key front (taken ++ root ∷ back) (omega (arith, some, length-append taken (root ∷ back))) (subst (IsRoots provider.hash verified key) is whole) in
-          (front-chain provider.hash verified key taken root back chain some, next-root provider.hash verified key taken root back chain some);
+      followed = λ front taken back is some.
+          let chain = back-chain provider.hash verified key front (taken ++ back) (omega (arith, some, length-append taken back)) (subst (IsRoots provider.hash verified key) is whole) in (
+            front-chain provider.hash verified key taken some back chain,
+            λ root more behind. next-root provider.hash verified key taken some root more (subst (λ (rest : List SignedRoot). IsRoots provider.hash verified key (taken ++ rest)) behind chain),
+          );
       linear = λ one other is also evidence. no-clash provider 0 (replicate 32 0) (pages after) sound.climb one other is also evidence.2;
       found = λ latest name epoch text is. elim (either latest name epoch text (looked latest name epoch text is)) [
         | inl alone ↦ inl (answer latest name epoch text (looked latest name epoch text is) alone)
@@ -314,17 +294,17 @@ module _ (provider : Provider) where
       ];
       apart = λ differ latest name epoch text is.
           let s = looked latest name epoch text is in
-          answer latest name epoch text s (users differ (Lookup name epoch) (said-asked commands replies (Lookup name epoch) (reply.Found text) (said-at first commands replies latest (Lookup name epoch) (reply.Found text) is)) name refl s.page s.root s.is);
+          answer latest name epoch text s (users differ (Lookup name epoch) (said-asked commands replies (Lookup name epoch) (reply.Found text) (said-at before.last.epoch commands replies latest (Lookup name epoch) (reply.Found text) is)) name refl s.page s.root s.is);
       kept = λ command promised is. holds command promised is;
       due = λ command promised epoch text root statement is also behind accepts.
-          let t = at-said first commands replies (Lookup promised.promise.name epoch) (reply.Found text) also in
+          let t = at-said before.last.epoch commands replies (Lookup promised.promise.name epoch) (reply.Found text) also in
           let s = looked t.0 promised.promise.name epoch text t.1 in
           elim (either t.0 promised.promise.name epoch text s) [
             | inl alone ↦ is-due command promised t.0 epoch text root statement (holds command promised is) s alone behind accepts
             | inr doubles ↦ absurd (never-accepted t.0 promised.promise.name epoch text doubles root.body promised.promise.name statement accepts)
           ];
       unbroken = λ command promised name epoch text root is also broken.
-          let t = at-said first commands replies (Lookup name epoch) (reply.Found text) also in
+          let t = at-said before.last.epoch commands replies (Lookup name epoch) (reply.Found text) also in
           let s = looked t.0 name epoch text t.1 in
           elim (either t.0 name epoch text s) [
             | inl alone ↦ unbroken command promised t.0 name epoch text root (holds command promised is) s alone broken
@@ -336,9 +316,9 @@ module _ (provider : Provider) where
         whole = chain-of after.earlier after.last sound.climb are-sealed
 
         seen : (asked : Asked) (said : Reply) → IsSaid commands replies asked said → (latest : ℕ) × Seen provider latest after asked said
-        seen asked said is = let t = at-said first commands replies asked said is in (t.0, shown t.0 asked said t.1)
+        seen asked said is = let t = at-said before.last.epoch commands replies asked said is in (t.0, shown t.0 asked said t.1)
 
-        looked : (latest : ℕ) (name : List ℕ) (epoch : ℕ) (text : List ℕ) → IsSaidAt first commands replies latest (Lookup name epoch) (reply.Found text) → SeenFound provider latest after name epoch text
+        looked : (latest : ℕ) (name : List ℕ) (epoch : ℕ) (text : List ℕ) → IsSaidAt before.last.epoch commands replies latest (Lookup name epoch) (reply.Found text) → SeenFound provider latest after name epoch text
         looked latest name epoch text is = shown latest (Lookup name epoch) (reply.Found text) is name epoch refl
 
         holds : (command : Asked) (promised : SignedPromise) → IsSaid commands replies command (reply.Promised promised) → IsKept provider accepted verified key after command promised
@@ -354,11 +334,13 @@ module _ (provider : Provider) where
         ]
 
   pub honest : {K : Type 0} (accepted verified : List ℕ → List ℕ → List ℕ → Type 0) (key : List ℕ) → KeepsLaws accepted verified key provider → (kept failed : K → Record → K → Type 0)
-      (epoch : ℕ) (nonce : List ℕ) (salts : Stream) (before later : K) (after : Book) (commands : List Asked) (replies : List Reply)
-      → IsEpoch epoch → Is32Bytes nonce → All IsCommand commands → Run provider kept failed (fresh epoch nonce salts) before commands replies after later
-      → HasSalts after → IsHonest provider accepted verified key after epoch commands replies
-  honest accepted verified key laws kept failed epoch nonce salts before later after commands replies is size are run salted =
-      let r = ran provider kept failed commands replies (fresh epoch nonce salts) after before later (is-fresh epoch nonce salts is size) (recursion_from_All IsCommand commands are) run in
-      honest-sound accepted verified key laws after r.goes.sound salted epoch commands replies r.shown (apart-run kept failed epoch nonce salts before later after commands replies run)
+      (book after : Book) (before later : K) (commands : List Asked) (replies : List Reply)
+      → IsSoundBook (index_of provider) book → IsSoundBook (index_of provider) after → All IsCommand commands → Run provider kept failed book before commands replies after later
+      → IsHonest provider accepted verified key book after commands replies
+  honest accepted verified key laws kept failed book after before later commands replies sound sound_after are run =
+      let r = ran provider kept failed commands replies book after before later (climbs (index_of provider) book sound) (recursion_from_All IsCommand commands are) run in
+      let apart = carried provider kept failed (IsApart provider) commands replies book after before later
+      (λ command there one next given holds none does. apart-after provider one next command given holds none does) (begins-apart provider book sound) run in
+      honest-sound accepted verified key laws after r.goes.sound (has-salts (index_of provider) after sound_after) book commands replies r.shown apart
       (λ differ asked there name about page root rooted. alone-of name page.bindings
-      (users-apart provider kept failed epoch nonce salts before later after commands replies run differ asked there name about page root rooted))
+      (users-apart provider kept failed book after before later commands replies (begins-named provider book sound commands) run differ asked there name about page root rooted))

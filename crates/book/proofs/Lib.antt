@@ -1,4 +1,5 @@
 pub mod Answering
+pub mod Begun
 pub mod Calls
 pub mod Carried
 pub mod Distinct

@@ -3,15 +3,13 @@ use Rattle.std.proofs.Common.{◌≡◌, ℕ, List, [], ◌∷◌, Contains, ref
 use Rattle.std.specs.Bool.{⊤}
 use Rattle.std.specs.List.{AllByRecursion}
 use Rattle.std.proofs.lemmas.List.Elements.{All-contains, All-from_recursion}
-use Rattle.rand_core.specs.Stream.{Stream}
 use Rattle.rootchain.specs.declared.signed_root.SignedRoot.{SignedRoot}
 use Rattle.book.specs.declared.record.Record.{Record}
 use Rattle.book.specs.declared.reply.Reply.{Reply}
 use Rattle.book.specs.Answers.{Answer, with_pending, next_page, with_page}
 use Rattle.book.specs.Asked.{Asked, Register, Change, Promise, Lookup, History, Head, Close}
 use Rattle.book.specs.Books.{Binding, Book, Page, pages}
-use Rattle.book.specs.Fresh.{fresh}
-use Rattle.book.specs.Honest.{IsAbout, IsSaid, UsersDiffer}
+use Rattle.book.specs.Honest.{IsAbout, IsSaid, IsUsed, UsersDiffer}
 use Rattle.book.specs.Maps.{Map}
 use Rattle.book.specs.Shows.{index_of, Provider, IsRootOf}
 use Rattle.book.specs.Turns.{Run}
@@ -23,7 +21,7 @@ use Rattle.book.proofs.Stepping.{Does}
 use Rattle.book.proofs.Turning.{all-push, the-last}
 
 -- names of which something holds
-abbrev AreNamed : (List ℕ → Type 0) → Map Binding → Type 0
+abbrev pub AreNamed : (List ℕ → Type 0) → Map Binding → Type 0
 AreNamed P = AllByRecursion (λ entry. P entry.0 × ⊤)
 
 pub record IsNamed (P : List ℕ → Type 0) (book : Book) : Type 0 where
@@ -57,18 +55,14 @@ said-asked (command ∷ commands) (answer ∷ replies) asked said (inl here) = s
 said-asked (command ∷ commands) (answer ∷ replies) asked said (inr later) = later-there command commands asked (said-asked commands replies asked said later)
 
 module _ (provider : Provider) where
-  -- some command is about the name
-  abbrev IsUser : List Asked → List ℕ → Type 0
-  IsUser commands name = (command : Asked) × Contains commands command × IsAbout command name
-
-  pub users-apart : {K : Type 0} (kept failed : K → Record → K → Type 0) (epoch : ℕ) (nonce : List ℕ) (salts : Stream) (before later : K) (after : Book) (commands : List Asked) (replies : List Reply)
-      → Run provider kept failed (fresh epoch nonce salts) before commands replies after later → UsersDiffer provider commands
+  pub users-apart : {K : Type 0} (kept failed : K → Record → K → Type 0) (book after : Book) (before later : K) (commands : List Asked) (replies : List Reply)
+      → IsNamed (IsUsed book commands) book → Run provider kept failed book before commands replies after later → UsersDiffer provider book commands
       → (asked : Asked) → Contains commands asked → (name : List ℕ) → IsAbout asked name → (page : Page) (root : SignedRoot) → IsRootOf provider after page root
       → (entry : List ℕ × Binding) → Contains page.bindings entry → index_of provider entry.0 ≡ index_of provider name → entry.0 ≡ name
-  users-apart kept failed epoch nonce salts before later after commands replies run differ asked there name about page root rooted entry held same =
-      let named = carried provider kept failed (IsNamed (IsUser commands)) commands replies (fresh epoch nonce salts) after before later
-      (λ command there book next given holds none does. named-after (IsUser commands) book next command given holds (λ user about. (command, there, about)) does) (record { pages = (tt, tt); pending = tt }) run in
-      let bound : AreNamed (IsUser commands) page.bindings = All-contains (λ (each : Page). AreNamed (IsUser commands) each.bindings) (pages after) page
-      (All-from_recursion (λ (each : Page). AreNamed (IsUser commands) each.bindings) (pages after) named.pages) (sealed-page provider 0 _ (pages after) (record { page = page; root = root }) rooted) in
-      let user : IsUser commands entry.0 = (All-contains (λ (each : List ℕ × Binding). IsUser commands each.0 × ⊤) page.bindings entry (All-from_recursion (λ (each : List ℕ × Binding). IsUser commands each.0 × ⊤) page.bindings bound) held).0 in
-      differ user.0 asked entry.0 name user.1 there user.2 about same
+  users-apart kept failed book after before later commands replies begins run differ asked there name about page root rooted entry held same =
+      let named = carried provider kept failed (IsNamed (IsUsed book commands)) commands replies book after before later
+      (λ command there one next given holds none does. named-after (IsUsed book commands) one next command given holds (λ user about. inr (command, there, about)) does) begins run in
+      let bound : AreNamed (IsUsed book commands) page.bindings = All-contains (λ (each : Page). AreNamed (IsUsed book commands) each.bindings) (pages after) page
+      (All-from_recursion (λ (each : Page). AreNamed (IsUsed book commands) each.bindings) (pages after) named.pages) (sealed-page provider 0 _ (pages after) (record { page = page; root = root }) rooted) in
+      let user : IsUsed book commands entry.0 = (All-contains (λ (each : List ℕ × Binding). IsUsed book commands each.0 × ⊤) page.bindings entry (All-from_recursion (λ (each : List ℕ × Binding). IsUsed book commands each.0 × ⊤) page.bindings bound) held).0 in
+      differ entry.0 name user (inr (asked, there, about)) same

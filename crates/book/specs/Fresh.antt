@@ -1,11 +1,11 @@
 -- A book as a directory begins it, and what is handed in: the provider's functions keep their laws, names,
 -- keys and salts are bytes, and numbers fit in their bytes.
-use Rattle.std.specs.Prelude.{ℕ, ◌<◌, ◌^◌, List, [], All, ⊤}
+use Rattle.std.specs.Prelude.{ℕ, ◌<◌, ◌^◌, List, [], ⊤}
 use Rattle.encoding.specs.Bytes.{IsBytes, Is32Bytes}
 use Rattle.encoding.specs.Limits.{IsName, IsSmall}
 use Rattle.rand_core.specs.Stream.{Stream, fill_bytes}
 use Rattle.book.specs.Asked.{Asked, Register, Change, Promise, Lookup, History, Head, Close}
-use Rattle.book.specs.Books.{Binding, Book, Page, pages}
+use Rattle.book.specs.Books.{Book}
 use Rattle.book.specs.Shows.{Provider}
 
 -- one page without a name, and the first salt of the stream
@@ -17,10 +17,6 @@ fresh epoch nonce salts = record {
   salt = (fill_bytes 32 salts).0;
   left = (fill_bytes 32 salts).1;
 }
-
--- each salt of the pages has 32 bytes
-abbrev pub HasSalts : Book → Type 0
-HasSalts book = All (λ (page : Page). All (λ (entry : List ℕ × Binding). Is32Bytes entry.1.salt) page.bindings) (pages book)
 
 -- the epoch is at least 1 and fits in eight bytes
 abbrev pub IsEpoch : ℕ → Type 0

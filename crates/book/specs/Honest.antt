@@ -19,6 +19,7 @@ use Rattle.rootchain.specs.Evidence.{AreEvidence}
 use Rattle.proofs.specs.BrokenPromises.{IsBrokenPromise}
 use Rattle.book.specs.Maps.{at}
 use Rattle.book.specs.Shows.{Provider, index_of, roots, IsReplyOf, IsRootOf}
+use Rattle.book.specs.Sound.{IsHeld}
 use Rattle.proofs.specs.Watches.{Watch, expected}
 
 -- this reply came to this command
@@ -102,10 +103,14 @@ IsPromisedBy (History from count) for bound = ⊥
 IsPromisedBy Head for bound = ⊥
 IsPromisedBy (Close epoch) for bound = ⊥
 
+-- the book holds the name, or a command is about it
+abbrev pub IsUsed : Book → List Asked → List ℕ → Type 0
+IsUsed book commands name = IsHeld book name ⊎ ((command : Asked) × Contains commands command × IsAbout command name)
+
 module _ (provider : Provider) where
-  -- two names that are asked about and have one index are one name
-  abbrev pub UsersDiffer : List Asked → Type 0
-  UsersDiffer commands = (one two : Asked) (name other : List ℕ) → Contains commands one → Contains commands two → IsAbout one name → IsAbout two other
+  -- two names that are held or asked about, and have one index, are one name
+  abbrev pub UsersDiffer : Book → List Asked → Type 0
+  UsersDiffer book commands = (name other : List ℕ) → IsUsed book commands name → IsUsed book commands other
       → index_of provider name ≡ index_of provider other → name ≡ other
 
   module _ (accepted verified : List ℕ → List ℕ → List ℕ → Type 0) (key : List ℕ) (after : Book) where
@@ -150,8 +155,9 @@ module _ (provider : Provider) where
       pub next : (next_page : Page) (next_root : SignedRoot) → IsRootOf provider after next_page next_root → next_root.body.previous_epoch ≡ promised.promise.epoch
           → key_at next_page promised.promise.name ≡ Some promised.promise.key
 
-    -- what the users see of the commands and replies of a run from a first page of this epoch
-    pub record IsHonest (first : ℕ) (commands : List Asked) (replies : List Reply) : Type 0 where
+  module _ (accepted verified : List ℕ → List ℕ → List ℕ → Type 0) (key : List ℕ) where
+    -- what the users see of the commands and replies of a run from one book to another
+    pub record IsHonest (before after : Book) (commands : List Asked) (replies : List Reply) : Type 0 where
       -- the signed roots of all pages are a chain
       pub chain : IsChain provider.hash verified (record { key = key; roots = roots provider after })
       -- each has a spelling
@@ -160,20 +166,22 @@ module _ (provider : Provider) where
       pub told : (command : Asked) (said : Reply) (root : SignedRoot) → IsSaid commands replies command said → Tells said root → Contains (roots provider after) root
       -- the roots of a list that is told are consecutive
       pub listed : (command : Asked) (said : Reply) → IsSaid commands replies command said → ListsInOrder (roots provider after) said
-      -- who took some that are consecutive, from whichever on, takes the next one behind the last that was taken
-      pub followed : (front taken back : List SignedRoot) (root : SignedRoot) → roots provider after ≡ front ++ (taken ++ root ∷ back) → 0 < length taken
+      -- who took some that are consecutive, from whichever on, has a chain, and takes the next one, if there is
+      -- one, behind the last that was taken
+      pub followed : (front taken back : List SignedRoot) → roots provider after ≡ front ++ (taken ++ back) → 0 < length taken
           → IsChain provider.hash verified (record { key = key; roots = taken })
-          × ((head : SignedRoot) × IsHead (record { key = key; roots = taken }) head × Verifies verified key root × Links provider.hash head root)
+          × ((root : SignedRoot) (more : List SignedRoot) → back ≡ root ∷ more
+          → (head : SignedRoot) × IsHead (record { key = key; roots = taken }) head × Verifies verified key root × Links provider.hash head root)
       -- no two of its roots are evidence
       pub linear : (one other : SignedRoot) → Contains (roots provider after) one → Contains (roots provider after) other → ¬ AreEvidence provider.hash verified key one other
       -- each reply to a look-up is accepted, with what the page has, or it is of a double index
-      pub found : (latest : ℕ) (name : List ℕ) (epoch : ℕ) (text : List ℕ) → IsSaidAt first commands replies latest (Lookup name epoch) (reply.Found text)
-          → IsAnswer latest name epoch text ⊎ IsDouble latest name epoch text
+      pub found : (latest : ℕ) (name : List ℕ) (epoch : ℕ) (text : List ℕ) → IsSaidAt before.last.epoch commands replies latest (Lookup name epoch) (reply.Found text)
+          → IsAnswer accepted verified key after latest name epoch text ⊎ IsDouble accepted verified key after latest name epoch text
       -- where the users' indices differ, each is accepted
-      pub apart : UsersDiffer commands → (latest : ℕ) (name : List ℕ) (epoch : ℕ) (text : List ℕ) → IsSaidAt first commands replies latest (Lookup name epoch) (reply.Found text)
-          → IsAnswer latest name epoch text
+      pub apart : UsersDiffer before commands → (latest : ℕ) (name : List ℕ) (epoch : ℕ) (text : List ℕ) → IsSaidAt before.last.epoch commands replies latest (Lookup name epoch) (reply.Found text)
+          → IsAnswer accepted verified key after latest name epoch text
       -- each promise is kept
-      pub kept : (command : Asked) (promised : SignedPromise) → IsSaid commands replies command (reply.Promised promised) → IsKept command promised
+      pub kept : (command : Asked) (promised : SignedPromise) → IsSaid commands replies command (reply.Promised promised) → IsKept accepted verified key after command promised
       -- what is found for its name under the next root states its key, at its index
       pub due : (command : Asked) (promised : SignedPromise) (epoch : ℕ) (text : List ℕ) (root : SignedRoot) (statement : Option (List ℕ))
           → IsSaid commands replies command (reply.Promised promised) → IsSaid commands replies (Lookup promised.promise.name epoch) (reply.Found text)

@@ -7,7 +7,6 @@ pub mod Honest
 pub mod Keeps
 pub mod Maps
 pub mod Refusals
-pub mod Runs
 pub mod Salted
 pub mod Seen
 pub mod Shows

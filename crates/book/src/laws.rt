@@ -7,7 +7,7 @@ ghost use Rattle.book.specs.Asked.{Asked, Close};
 ghost use Rattle.rootchain.specs.declared.body.Body.{Body};
 ghost use Rattle.book.specs.Books.{Book, Page, pages};
 ghost use Rattle.book.specs.Folds.{Fate, Tells, folded};
-ghost use Rattle.book.specs.Fresh.{fresh, provider_of, HasSalts, IsCommand, IsEpoch};
+ghost use Rattle.book.specs.Fresh.{IsCommand, KeepsLaws};
 ghost use Rattle.book.specs.Honest.{IsHonest};
 ghost use Rattle.book.specs.Keeps.{fails_next, keeps_next};
 ghost use Rattle.book.specs.Maps.{at, overwritten};
@@ -16,25 +16,24 @@ ghost use Rattle.book.specs.Seen.{seen, FailAlike};
 ghost use Rattle.book.specs.Shows.{index_of, IsReplyOf, Provider};
 ghost use Rattle.book.specs.Sound.{IsSound};
 ghost use Rattle.book.specs.Steps.{Answers, step};
-ghost use Rattle.book.specs.Runs.{IsFirstRun};
 ghost use Rattle.book.specs.Turns.{Run};
 ghost use Rattle.book.specs.declared.reply.Reply.{Reply};
 
 use crate::Keeper;
-use nodehash::NodeHash;
-use sigiface::Signer;
-use vrfiface::Vuf;
+use sigiface::Verifier;
+use vrfiface::VufCheck;
 
-/// Whatever is asked of a directory, from its first page on, and whatever is kept of it: the users
-/// of an honest provider see one chain of roots, accept each reply with what the pages have, and
-/// have each promise kept. Only the reply to a look-up that meets another name with its index is not
-/// accepted: checking refuses it for just that.
-pub fn honest<H: NodeHash, V: Vuf, S: Signer>()
-    ensures { (vuf : V) (signer : S) (provider : Provider) (commands : List Asked) (replies : List Reply) (after : Book)
-        → provider ≡ provider_of H.digest_of V.value_of (V.public_key vuf) S.signature_of (S.public_key signer)
-        → Is32Bytes (V.public_key vuf)
-        → (began : IsFirstRun provider commands replies after)
-        → IsHonest provider V.accepted S.verified (S.public_key signer) after began.epoch commands replies }
+/// Whatever is asked of a directory, and whatever is kept of it: the users of an honest provider see
+/// one chain of roots, accept each reply with what the pages have, and have each promise kept. Only
+/// the reply to a look-up that meets another name with its index is not accepted: checking refuses it
+/// for just that.
+pub fn honest<V: VufCheck, S: Verifier, K: Keeper>()
+    ensures { (provider : Provider) (key : List ℕ) (book after : Book) (keeper keeper_after : K) (commands : List Asked) (replies : List Reply)
+        → KeepsLaws V.accepted S.verified key provider
+        → IsSound (index_of provider) book → IsSound (index_of provider) after
+        → All IsCommand commands
+        → Run provider K.kept K.failed book keeper commands replies after keeper_after
+        → IsHonest provider V.accepted S.verified key book after commands replies }
 {}
 
 /// A run with any keeper is one with a list that says of each record whether it was kept.

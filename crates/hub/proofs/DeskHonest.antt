@@ -9,8 +9,8 @@ use Rattle.book.specs.Asked.{Asked, Register, Change, Promise, Lookup, History, 
 use Rattle.book.specs.Fresh.{IsCommand}
 use Rattle.book.specs.Shows.{Provider, index_of}
 use Rattle.book.specs.Sound.{IsSound}
+use Rattle.book.proofs.Honesty.{honest}
 use Rattle.epochs.specs.Kept.{book, provider}
-use Rattle.epochs.proofs.Honest.{seen_honest}
 use Rattle.epochs.proofs.Running.{same_provider}
 use Rattle.wire.specs.Requests as request
 use Rattle.wire.specs.Streams.{Message, Whole, BadFrame}
@@ -57,18 +57,15 @@ module _ {R K : Type 0} (digest_of : List ℕ → List ℕ) (value_of signature_
       subst (λ (p : Provider). IsSound (index_of p) (book stream after.directory)) (same_provider digest_of value_of signature_of stream kept failed before.directory after.directory keys) well_after.sound
       in
       let are : All IsCommand commands = commands_are before.token lines commands replies shown in
+      let seen = honest by accepted verified before.directory.key well.laws kept failed (book stream before.directory) (book stream after.directory) before.keeper after.keeper commands replies well.sound sound_after are run in
       record {
         commands = commands;
         replies = replies;
         shown = shown;
         run = run;
-        honest = λ epoch nonce salts is.
-            let seen = seen_honest by kept failed accepted verified before.directory.key well.laws (book stream before.directory) (book stream after.directory) before.keeper after.keeper commands replies
-            well.sound sound_after are run epoch nonce salts is in (
-              lines_read by accepted verified before.directory.key (book stream after.directory) epoch commands replies seen before.token lines commands replies shown
-                  (run_for by kept failed commands replies (book stream before.directory) (book stream after.directory) before.keeper after.keeper run) (λ asked told said. said),
-              seen,
-            );
+        read = lines_read by accepted verified before.directory.key (book stream before.directory) (book stream after.directory) commands replies seen before.token lines commands replies shown
+            (run_for by kept failed commands replies (book stream before.directory) (book stream after.directory) before.keeper after.keeper run) (λ asked told said. said);
+        honest = seen;
         keys = keys;
         token = token;
       }

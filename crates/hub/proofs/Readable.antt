@@ -116,8 +116,8 @@ away_small token BadFrame code is = omega (arith, is)
 away_small token (Whole frame) code (inl (refusal, read, is)) = omega (arith, is, read_small refusal)
 away_small token (Whole frame) code (inr (requested, read, none, is)) = omega (arith, is)
 
-module _ (provider : Provider) (accepted verified : List ℕ → List ℕ → List ℕ → Type 0) (key : List ℕ) (after : Book) (first : ℕ) (all : List Asked) (said : List Reply)
-    (honest : IsHonest provider accepted verified key after first all said) where
+module _ (provider : Provider) (accepted verified : List ℕ → List ℕ → List ℕ → Type 0) (key : List ℕ) (before after : Book) (all : List Asked) (said : List Reply)
+    (honest : IsHonest provider accepted verified key before after all said) where
   told_form : (root : SignedRoot) → Contains (roots provider after) root → IsSignedRoot root
   told_form root (k, within, is) = subst IsSignedRoot is (honest.forms k root within)
 
@@ -135,7 +135,7 @@ module _ (provider : Provider) (accepted verified : List ℕ → List ℕ → Li
   reply_read : (asked : Asked) (told : Reply) → IsSaid all said asked told → IsFor asked told → ReadsBack told
   reply_read asked (reply.Promised signed) is for = reads_back (reply.Promised signed) (response.Promise signed) refl (honest.kept asked signed is).form refl
   reply_read asked (reply.Found text) is (name, epoch, same) =
-      let t = at-said first all said (Lookup name epoch) (reply.Found text) (subst (λ (a : Asked). IsSaid all said a (reply.Found text)) same is) in
+      let t = at-said before.last.epoch all said (Lookup name epoch) (reply.Found text) (subst (λ (a : Asked). IsSaid all said a (reply.Found text)) same is) in
       let (read, spells) = spelled name epoch text (honest.found t.0 name epoch text t.1) in
       reads_back (reply.Found text) (response.Proof read) (read, spells, refl) spells.1 (ap proof_frame spells.0)
     where

@@ -5,7 +5,7 @@ use Rattle.rand_core.specs.Stream.{Stream}
 use Rattle.book.specs.declared.record.Record.{Record}
 use Rattle.book.specs.declared.reply.Reply.{Reply}
 use Rattle.book.specs.Asked.{Asked}
-use Rattle.book.specs.Fresh.{fresh, KeepsLaws}
+use Rattle.book.specs.Fresh.{KeepsLaws}
 use Rattle.book.specs.Honest.{IsHonest}
 use Rattle.book.specs.Shows.{index_of}
 use Rattle.book.specs.Sound.{IsSound}
@@ -62,16 +62,15 @@ pub record IsWell {R K : Type 0} (digest_of : List ℕ → List ℕ) (value_of s
   pub laws : KeepsLaws accepted verified desk.directory.key (provider digest_of value_of signature_of desk.directory)
 
 -- What the lines show: a run of the directory, in which each message is answered as the book stands after
--- the commands of all messages before it. If the book was new, each frame is read as a response, and the users
--- see of this very run what those of an honest provider see.
+-- the commands of all messages before it. Each frame is read as its response, and the users see of this very run
+-- what those of an honest provider see.
 pub record ShowHonestRun {R K : Type 0} (digest_of : List ℕ → List ℕ) (value_of signature_of : List ℕ → List ℕ → List ℕ) (stream : R → Stream) (kept failed : K → Record → K → Type 0)
     (accepted verified : List ℕ → List ℕ → List ℕ → Type 0) (before : Desked R K) (lines : List Line) (after : Desked R K) : Type 0 where
   pub commands : List Asked
   pub replies : List Reply
   pub shown : ShowReplies before.token lines commands replies
   pub run : Run (provider digest_of value_of signature_of before.directory) kept failed (book stream before.directory) before.keeper commands replies (book stream after.directory) after.keeper
-  pub honest : (epoch : ℕ) (nonce : List ℕ) (salts : Stream) → book stream before.directory ≡ fresh epoch nonce salts
-      → AreRead before.token lines commands replies shown
-      × IsHonest (provider digest_of value_of signature_of before.directory) accepted verified before.directory.key (book stream after.directory) epoch commands replies
+  pub read : AreRead before.token lines commands replies shown
+  pub honest : IsHonest (provider digest_of value_of signature_of before.directory) accepted verified before.directory.key (book stream before.directory) (book stream after.directory) commands replies
   pub keys : HasKeysOf before.directory after.directory
   pub token : after.token ≡ before.token

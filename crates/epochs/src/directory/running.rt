@@ -1,9 +1,8 @@
 ghost use Rattle.std.specs.Prelude.{◌≡◌, ◌<◌, ◌^◌, ℕ, List, IfOk, OnErr, OnOk, map, take};
 ghost use Rattle.encoding.specs.Bytes.{IsBytes};
-ghost use Rattle.rand_core.specs.Stream.{Stream};
 ghost use Rattle.book.specs.declared.reply.Reply.{Reply};
 ghost use Rattle.book.specs.Asked.{asked};
-ghost use Rattle.book.specs.Fresh.{fresh, IsCommand};
+ghost use Rattle.book.specs.Fresh.{IsCommand};
 ghost use Rattle.book.specs.Honest.{IsHonest};
 ghost use Rattle.book.specs.Turns.{Run, Turn};
 ghost use Rattle.epochs.specs.Kept.{book, provider, HasKeysOf};
@@ -37,8 +36,8 @@ impl<H: NodeHash, V: Vuf, S: Signer, R: Rng> Directory<H, V, S, R> {
             (book R.stream self.old) keeper.old (map asked commands.now) replies.items (book R.stream self.new) keeper.new) }
         ensures err { OnErr result ((replies : List Reply) × (n : ℕ) × Run (provider H.digest_of V.value_of S.signature_of self.old) K.kept K.failed
             (book R.stream self.old) keeper.old (map asked (take n commands.now)) replies (book R.stream self.new) keeper.new) }
-        ensures honest { IfOk result (λ replies. (epoch : ℕ) (nonce : List ℕ) (salts : Stream) → book R.stream self.old ≡ fresh epoch nonce salts
-            → IsHonest (provider H.digest_of V.value_of S.signature_of self.old) V.accepted S.verified (self.old).key (book R.stream self.new) epoch (map asked commands.now) replies.items) }
+        ensures honest { IfOk result (λ replies. IsHonest (provider H.digest_of V.value_of S.signature_of self.old) V.accepted S.verified (self.old).key
+            (book R.stream self.old) (book R.stream self.new) (map asked commands.now) replies.items) }
         ensures keys { HasKeysOf self.old self.new }
     {
         let mut replies = Vec::new(self.alloc);

@@ -4,7 +4,7 @@ use Rattle.book.specs.Shows.{IsRootOf}
 use Rattle.epochs.specs.Directories.{parts_of}
 use Rattle.epochs.specs.Kept.{book, provider}
 use Rattle.epochs.proofs.Changing.{last_shown}
-use Rattle.epochs.proofs.Honest.{root_key}
+use Rattle.epochs.proofs.RootKeys.{root_key}
 use Rattle.epochs.proofs.directory.Directory.head.Goals as goal
 
 pub returns-clause-head : goal.returns-clause-head

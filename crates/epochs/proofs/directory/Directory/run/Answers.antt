@@ -5,8 +5,8 @@ use Rattle.book.specs.Asked.{asked}
 use Rattle.book.specs.Fresh.{IsCommand, KeepsLaws}
 use Rattle.book.specs.Shows.{Provider, index_of}
 use Rattle.book.specs.Sound.{IsSound}
+use Rattle.book.proofs.Honesty.{honest}
 use Rattle.epochs.specs.Kept.{book, provider}
-use Rattle.epochs.proofs.Honest.{seen_honest}
 use Rattle.epochs.proofs.Running.{run_next, run_stays, same_provider, so_anyway}
 use Rattle.epochs.proofs.directory.Directory.run.Goals as goal
 
@@ -51,8 +51,8 @@ returns-clause-keys g c = c.loop-command.invariant.0.1
 
 pub returns-clause-honest : goal.returns-clause-honest
 returns-clause-honest g c =
-    seen_honest (provider g.H.NodeHash.digest_of g.V.Vuf.value_of g.S.Signer.signature_of c.args.self.now) g.K.Keeper.kept g.K.Keeper.failed
-    g.V.VufCheck.accepted g.S.Verifier.verified c.args.self.now.key laws (book g.R.Rng.stream c.args.self.now) (book g.R.Rng.stream c.loop-command.self) c.args.keeper.now c.loop-command.keeper
+    honest (provider g.H.NodeHash.digest_of g.V.Vuf.value_of g.S.Signer.signature_of c.args.self.now) g.V.VufCheck.accepted g.S.Verifier.verified c.args.self.now.key laws
+    g.K.Keeper.kept g.K.Keeper.failed (book g.R.Rng.stream c.args.self.now) (book g.R.Rng.stream c.loop-command.self) c.args.keeper.now c.loop-command.keeper
     (map asked c.args.commands.now) c.loop-command.replies.items (rw (← c.self.view_is) c.self.invariant.sound) sound
     (All-map IsCommand asked c.args.commands.now (rw (take_all _ _ c.loop-command-test.false) at c.loop-command.invariant.1))
     (rw (take_all _ _ c.loop-command-test.false) at c.loop-command.invariant.0.0)
