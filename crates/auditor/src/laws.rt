@@ -12,8 +12,8 @@ use sigiface::Verifier;
 
 /// An auditor that observes the roots of an honest provider, which are a chain, from whichever of them
 /// on: it answers `Started` on the first, `Extended` on each next one, and `Known` on each that came
-/// before. What it answers on one root follows: `Extended` exactly if the root links to the head of its
-/// chain, `Known` exactly if the chain has it.
+/// before. What it answers on one root follows: on one that links to the head of its chain `Extended`
+/// and nothing else, on one that the chain has `Known` and nothing else.
 pub fn honest_roots_are_followed<H: NodeHash, S: Verifier>()
     ensures all { (key : List ℕ) (roots observed : List SignedRoot) (answers : List Observed) (before after : Chains)
         → IsChain H.digest_of S.verified (record { key = key; roots = roots }) → chain_of before key ≡ None

@@ -14,8 +14,8 @@ use sigiface::Signer;
 use vrfiface::Vuf;
 
 /// The messages that a desk answered one after another, of whichever sessions, show a run of its
-/// directory: each reply shows the book as the commands of all messages before it leave it. From a new
-/// directory on, the users see of it what those of an honest provider see.
+/// directory: each reply shows the book as the commands of all messages before it leave it. The users
+/// see of it what those of an honest provider see.
 pub fn replies_are_honest<H: NodeHash, V: Vuf, S: Signer, R: Rng, K: Keeper>()
     ensures { (before after : Desked R K) (lines : List Line)
         → IsWell H.digest_of V.value_of S.signature_of R.stream V.accepted S.verified before

@@ -2,7 +2,9 @@
 //!
 //! Callers can rely on this: each message of a session is answered once, in its own session, as the
 //! directory stands after all messages before it, of all sessions. Which messages a session sends does
-//! not depend on where its stream is cut; a message takes its place when its last byte comes.
+//! not depend on where its stream is cut; a message takes its place when its last byte comes. The replies
+//! to all sessions show one run of the directory, and users see of it what those of an honest provider
+//! see (`ShowHonestRun`).
 //!
 //! ```
 //! let mut hub = Hub::new(alloc, directory, keeper, token);
@@ -24,7 +26,7 @@ mod sessions;
 
 pub use desk::Desk;
 pub use event::Event;
-pub use laws::sessions_hear_their_own;
+pub use laws::{events_join, sessions_hear_their_own};
 pub use laws_desk::{cuts_do_not_matter, replies_are_honest};
 pub use refusal::HubRefusal;
 pub use service::Service;

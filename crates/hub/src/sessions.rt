@@ -74,8 +74,8 @@ where
 
     /// Handles events in order, of which a refused one does nothing. Returns the output of each
     /// session that was open or is opened, by their numbers: the replies to its own messages, which
-    /// show one run of the directory on the messages of all sessions. From a new directory on, the
-    /// client accepts each, where no look-up meets another name with its index.
+    /// show one run of the directory on the messages of all sessions. The client accepts each, where no
+    /// look-up meets another name with its index.
     ///
     /// # Errors
     ///

@@ -2,4 +2,5 @@ pub mod Conversing
 pub mod Ending
 pub mod Heard
 pub mod Joined
+pub mod Listened
 pub mod Opened

@@ -7,7 +7,8 @@ use Rattle.vrfiface.specs.StandIns.{keyed_value}
 use Rattle.sigiface.specs.StandIn.{keyed_signature}
 use Rattle.book.specs.declared.keeper.NoKeeper.{NoKeeper}
 use Rattle.book.specs.declared.record.Record.{Record}
-use Rattle.hub.specs.Desks.{Desked}
+use Rattle.hub.specs.DeskRuns.{ShowHonestRun}
+use Rattle.hub.specs.Desks.{Desked, DeskAnswers}
 use Rattle.hub.specs.Exchanges.{Exchange}
 use Rattle.textio.specs.declared.program_fault.ProgramFault.{ProgramFault}
 use Rattle.textio.specs.declared.program_fault.ProgramFault.TheVariants.{BadHex, BadItem, IndexRepeated, NotEvidence, CannotRead, CannotWrite, CannotListen, OutOfMemory}
@@ -15,7 +16,7 @@ use Rattle.server.specs.declared.fault.ServeFault.{ServeFault}
 use Rattle.server.specs.declared.fault.ServeFault.TheVariants as fault
 use Rattle.server.specs.Asked.{Asked}
 use Rattle.server.specs.Directories.{keys_of, salts, Begins, Keyed}
-use Rattle.server.specs.Serving.{RepliedHonestly, Serves}
+use Rattle.server.specs.Serving.{all_lines, AllServed, RepliedHonestly, Serves}
 
 -- nothing is kept, and that never fails
 abbrev pub KeepsNothing : NoKeeper → Record → NoKeeper → Type 0
@@ -34,6 +35,11 @@ IsKeyedSignature key message signature = signature ≡ keyed_signature key messa
 -- what the desk of a served directory replies to the messages of its one session
 abbrev pub ServedReplied : Desked ChaCha NoKeeper → List Exchange → Desked ChaCha NoKeeper → Type 0
 ServedReplied = RepliedHonestly sha256 keyed_value keyed_signature salts KeepsNothing NeverFails IsKeyedValue IsKeyedSignature 1
+
+-- its desk serves these sessions, one after another, and their messages show one run of its directory
+abbrev pub AllServedBy : Desked ChaCha NoKeeper → List (ℕ × List Exchange) → Desked ChaCha NoKeeper → Type 0
+AllServedBy before served after = AllServed (DeskAnswers sha256 keyed_value keyed_signature salts KeepsNothing NeverFails) before served after
+    × ShowHonestRun sha256 keyed_value keyed_signature salts KeepsNothing NeverFails IsKeyedValue IsKeyedSignature before (all_lines served) after
 
 -- the directory of these keys is begun, and one session is served
 abbrev pub ServesFrom : Asked → Option (List ℕ) → Option (List ℕ) → Result (Unit {0}) ServeFault → Option (List ℕ) → Option (List ℕ) → Type 0

@@ -11,8 +11,8 @@ use sigiface::Signer;
 use vrfiface::Vuf;
 
 /// Sessions that are served one after another, each as `serve` ensures and as `listen` has them served,
-/// are sessions of one hub: their messages show one run of its directory. From a new directory on, the
-/// users behind all of them see of it what those of an honest provider see.
+/// are sessions of one hub: their messages show one run of its directory. The users behind all of them
+/// see of it what those of an honest provider see.
 pub fn sessions_show_one_run<H: NodeHash, V: Vuf, S: Signer, G: Rng, K: Keeper>()
     ensures { (before after : Desked G K) (served : List (ℕ × List Exchange))
         → IsWell H.digest_of V.value_of S.signature_of G.stream V.accepted S.verified before

@@ -1,10 +1,13 @@
-// Connections over TCP, one after another. Contracts do not know what a socket carries, so the clauses
-// speak of the keys and of the line with the address; `scripts/listen.sh` covers the rest.
-ghost use Rattle.std.specs.Prelude.{◌≡◌, ◌≢◌, ◌↔◌, [], Err, IfErr, None};
+// Connections over TCP, one after another, each a session of one hub. Contracts do not know what a socket
+// carries, so the clauses say what the directory does: it answers the messages of whole sessions and nothing
+// else. `scripts/listen.sh` covers the rest.
+ghost use Rattle.std.specs.Prelude.{◌≡◌, ◌≢◌, ◌↔◌, ℕ, List, [], Err, IfErr, None};
+ghost use Rattle.hub.specs.Exchanges.{Exchange};
 ghost use Rattle.textio.specs.declared.program_fault.ProgramFault.TheVariants.{BadHex};
 ghost use Rattle.server.specs.Asked.{values_of};
 ghost use Rattle.server.specs.Directories.{keys_of};
 ghost use Rattle.server.specs.Listening.{TellsAddress};
+ghost use Rattle.server.specs.Programs.{AllServedBy, ServedReplied};
 
 use crate::input::SESSION;
 use crate::keys::{Keys, ServedDesk};
@@ -17,9 +20,11 @@ use std::net::{Net, SocketAddr, TcpListener, TcpStream};
 use textio::{ProgramFault, write_text};
 
 /// Answers a connection, and closes it.
+#[tactic(auto, using(crate::proofs::Listened::has_exchanges))]
 fn answer(alloc: Global, hub: &mut Hub<ServedDesk>, stream: &TcpStream) -> Result<(), ServeFault>
     requires { hub.old.sessions ≡ [] }
-    ensures { hub.new.sessions ≡ [] }
+    ensures ended { hub.new.sessions ≡ [] }
+    ensures replied { (exchanges : List Exchange) × ServedReplied hub.old.service exchanges hub.new.service }
 {
     // A reply is sent at once. If this fails, it only comes later.
     let _set = stream.set_nodelay(true);
@@ -27,7 +32,8 @@ fn answer(alloc: Global, hub: &mut Hub<ServedDesk>, stream: &TcpStream) -> Resul
 }
 
 /// Answers so many connections, one after another; 0 for no end. One that fails is closed, and the
-/// next is taken.
+/// next is taken. All of them are sessions of the one hub, whose messages show one run of its
+/// directory.
 pub(crate) fn answer_all(
     alloc: Global,
     hub: &mut Hub<ServedDesk>,
@@ -35,13 +41,19 @@ pub(crate) fn answer_all(
     count: u64,
 )
     requires { hub.old.sessions ≡ [] }
+    ensures ended { hub.new.sessions ≡ [] }
+    ensures shown { (served : List (ℕ × List Exchange)) × AllServedBy hub.old.service served hub.new.service }
 {
+    // What the two calls of `head` ensure: the book is sound before and after, and the provider's
+    // functions keep their laws.
+    hub.head();
     let most = if count == 0 { u64::MAX } else { count };
     for _ in 0..most {
         if let Ok((stream, _)) = listener.accept() {
             let _outcome = answer(alloc, hub, &stream);
         }
     }
+    hub.head();
 }
 
 /// Writes the line that says where a server listens.

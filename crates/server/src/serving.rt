@@ -71,8 +71,8 @@ fn converse<S: Service + Drop, R: Read, W: Write>(
 }
 
 /// Opens the session, answers all that the reader gives, in pieces of at most 4,096 bytes, and ends
-/// the session, whatever comes. The replies show a run of the directory; from a new directory on, the
-/// client accepts each, where no look-up meets another name with its index.
+/// the session, whatever comes. The replies show a run of the directory; the client accepts each, where
+/// no look-up meets another name with its index.
 ///
 /// # Errors
 ///
