@@ -1,5 +1,5 @@
 -- Sessions that are served one after another, one more.
-use Rattle.std.proofs.Common.{◌≡◌, ℕ, List, [], ◌∷◌, ◌++◌, refl, subst}
+use Rattle.std.proofs.Common.{◌≡◌, ◌⊎◌, ℕ, List, [], ◌∷◌, ◌++◌, refl, sym, subst, inl, inr}
 use Rattle.std.specs.Prelude.{Option, Result, Ok, Err}
 use Rattle.wire.specs.Frames.{Frame}
 use Rattle.hub.specs.Exchanges.{Exchange}
@@ -19,3 +19,12 @@ pub one_more : {S : Type 0} (answers : S → Frame → List ℕ → S → Type 0
     → AllServed answers before served middle → AllReplied answers session middle exchanges after → AllServed answers before (served ++ (session, exchanges) ∷ []) after
 one_more {S} answers session exchanges before middle after [] same replied = (after, subst (λ (s : S). AllReplied answers session s exchanges after) same replied, refl)
 one_more answers session exchanges before middle after (one ∷ more) (between, first, rest) replied = (between, first, one_more answers session exchanges between middle after more rest replied)
+
+-- the same after the next connection, which is answered or is none
+pub after_next : {S : Type 0} (answers : S → Frame → List ℕ → S → Type 0) (session : ℕ) (before middle after : S) (Shown : List Exchange → Type 0)
+    → ((served : List (ℕ × List Exchange)) × AllServed answers before served middle)
+    → (after ≡ middle) ⊎ ((exchanges : List Exchange) × (AllReplied answers session middle exchanges after × Shown exchanges))
+    → (served : List (ℕ × List Exchange)) × AllServed answers before served after
+after_next answers session before middle after Shown (served, all) (inl same) = (served, subst (AllServed answers before served) (sym same) all)
+after_next answers session before middle after Shown (served, all) (inr (exchanges, both)) =
+    (served ++ (session, exchanges) ∷ [], one_more answers session exchanges before middle after served all both.0)

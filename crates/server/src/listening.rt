@@ -1,7 +1,7 @@
 // Connections over TCP, one after another, each a session of one hub. Contracts do not know what a socket
 // carries, so the clauses say what the directory does: it answers the messages of whole sessions and nothing
 // else. `scripts/listen.sh` covers the rest.
-ghost use Rattle.std.specs.Prelude.{◌≡◌, ◌≢◌, ◌↔◌, ℕ, List, [], Err, IfErr, None};
+ghost use Rattle.std.specs.Prelude.{◌≡◌, ◌≢◌, ◌↔◌, ◌⊎◌, ℕ, List, [], Err, IfErr, None};
 ghost use Rattle.hub.specs.Exchanges.{Exchange};
 ghost use Rattle.textio.specs.declared.program_fault.ProgramFault.TheVariants.{BadHex};
 ghost use Rattle.server.specs.Asked.{values_of};
@@ -31,9 +31,21 @@ fn answer(alloc: Global, hub: &mut Hub<ServedDesk>, stream: &TcpStream) -> Resul
     serve(alloc, hub, SESSION, &mut &*stream, &mut &*stream)
 }
 
-/// Answers so many connections, one after another; 0 for no end. One that fails is closed, and the
-/// next is taken. All of them are sessions of the one hub, whose messages show one run of its
-/// directory.
+/// Takes the next connection and answers it. One that fails is closed, or was none.
+fn answer_next(alloc: Global, hub: &mut Hub<ServedDesk>, listener: &TcpListener)
+    requires { hub.old.sessions ≡ [] }
+    ensures ended { hub.new.sessions ≡ [] }
+    ensures replied { (hub.new.service ≡ hub.old.service)
+        ⊎ ((exchanges : List Exchange) × ServedReplied hub.old.service exchanges hub.new.service) }
+{
+    let Ok((stream, _)) = listener.accept() else {
+        return;
+    };
+    let _outcome = answer(alloc, hub, &stream);
+}
+
+/// Answers so many connections, one after another; 0 for no end. All of them are sessions of the one
+/// hub, whose messages show one run of its directory.
 pub(crate) fn answer_all(
     alloc: Global,
     hub: &mut Hub<ServedDesk>,
@@ -49,9 +61,7 @@ pub(crate) fn answer_all(
     hub.head();
     let most = if count == 0 { u64::MAX } else { count };
     for _ in 0..most {
-        if let Ok((stream, _)) = listener.accept() {
-            let _outcome = answer(alloc, hub, &stream);
-        }
+        answer_next(alloc, hub, listener);
     }
     hub.head();
 }

@@ -12,4 +12,4 @@ use Rattle.server.proofs.listening.answer_all.Given as goal
 -- no session is open between two connections, and those that ended were served one after another
 abbrev pub invariant-loop : goal.invariant-loop
 invariant-loop l = (l.hub.sessions ≡ []) × (served : List (ℕ × List Exchange))
-    × AllServed (DeskAnswers sha256 keyed_value keyed_signature salts KeepsNothing NeverFails) l.args.hub.now.service served l.hub.service
+    × AllServed (DeskAnswers sha256 keyed_value keyed_signature salts KeepsNothing NeverFails) l.initial.hub.service served l.hub.service
