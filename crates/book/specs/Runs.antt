@@ -3,9 +3,9 @@ use Rattle.std.specs.Prelude.{ℕ, List, [], All, Bool}
 use Rattle.encoding.specs.Bytes.{Is32Bytes}
 use Rattle.rand_core.specs.Stream.{Stream}
 use Rattle.book.specs.declared.reply.Reply.{Reply}
-use Rattle.book.specs.Asked.{Asked}
+use Rattle.commands.specs.Asked.{Asked, IsCommand}
 use Rattle.book.specs.Books.{Book}
-use Rattle.book.specs.Fresh.{fresh, HasSalts, IsCommand, IsEpoch}
+use Rattle.book.specs.Fresh.{fresh, HasSalts, IsEpoch}
 use Rattle.book.specs.Keeps.{fails_next, keeps_next}
 use Rattle.book.specs.Shows.{Provider}
 use Rattle.book.specs.Turns.{Run}
