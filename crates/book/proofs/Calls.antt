@@ -6,7 +6,7 @@ use Rattle.book.specs.declared.refusal.Refusal.TheVariants.{Memory, KeepFailed}
 use Rattle.book.specs.declared.reply.Reply.{Reply}
 use Rattle.book.specs.declared.reply.Reply.TheVariants as reply
 use Rattle.book.specs.Answers.{Answer, refusal}
-use Rattle.book.specs.Asked.{Asked}
+use Rattle.commands.specs.Asked.{Asked}
 use Rattle.book.specs.Books.{Book}
 use Rattle.book.specs.Shows.{Provider, index_of}
 use Rattle.book.specs.Steps.{Outcome, Answers, Refuses, step}

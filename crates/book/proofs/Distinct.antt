@@ -7,16 +7,17 @@ use Rattle.std.specs.Str.{bytes_eq}
 use Rattle.std.proofs.lemmas.Bool.{not-false}
 use Rattle.std.proofs.lemmas.Cmp.{nat_list_eq_equiv}
 use Rattle.std.proofs.lemmas.Slice.Eq.{bytes_eq-Decides}
-use Rattle.book.specs.declared.refusal.Refusal.TheVariants.{BadName, BadKey, NameTaken, NoSuchName, PendingExists, IndexTaken}
-use Rattle.book.specs.Answers.{Answer, has_its_index, is_within, next_page, refusal, with_page, with_pending}
-use Rattle.book.specs.Asked.{Asked, Register, Change, Promise, Lookup, History, Head, Close}
+use Rattle.book.specs.Answers.{Answer, bad_index, bad_verb, has_its_index, next_page, refusal, with_page, with_pending}
+use Rattle.commands.specs.declared.edit.Verb.{Verb}
+use Rattle.commands.specs.declared.edit.Verb.TheVariants.{Register, Change}
+use Rattle.commands.specs.Asked.{Asked, Query, Edit, Put, Turn}
 use Rattle.book.specs.Books.{Binding, Book, pages}
 use Rattle.book.specs.Maps.{Map, at, name_cmp, overwritten, put}
 use Rattle.book.specs.Shows.{Provider, index_of}
 use Rattle.book.proofs.Entries.{at_put_other, found-entry, is_name, is_no_name, same_name, stays}
 use Rattle.book.proofs.Members.{first-or-later, none-there}
-use Rattle.book.proofs.Stepping.{Does}
-use Rattle.book.proofs.Turning.{all-push, passed, two-passed}
+use Rattle.book.proofs.Stepping.{Does, put_passed}
+use Rattle.book.proofs.Turning.{all-push}
 
 -- the map has the name
 abbrev pub HasName : Map Binding → List ℕ → Type 0
@@ -126,33 +127,19 @@ module _ (provider : Provider) where
       now : AreApart (Holds (with_page book (next_page book epoch)))
       now one other a b same = page one other (shown one a) (shown other b) same
 
-  abbrev taken : Book → List ℕ → Bool
-  taken book name = has_its_index (index_of provider) name book.last.bindings || has_its_index (index_of provider) name book.pending
-
   pub apart-after : (book after : Book) (asked : Asked) (answer : Answer) → IsApart book → refusal (index_of provider) book asked ≡ None → Does book asked answer after → IsApart after
-  apart-after book after (Register name key) answer apart none does =
-      let one = two-passed (not (is_within 1 255 name)) (not (is_within 1 2048 key)) BadName BadKey
-      ((is_some (at book.last.bindings name), NameTaken) ∷ (is_some (at book.pending name), PendingExists) ∷ (taken book name, IndexTaken) ∷ []) none in
-      let two = two-passed (is_some (at book.last.bindings name)) (is_some (at book.pending name)) NameTaken PendingExists ((taken book name, IndexTaken) ∷ []) one.2 in
-      let three = passed (taken book name, IndexTaken) [] two.2 in
-      let both = neither (has_its_index (index_of provider) name book.last.bindings) (has_its_index (index_of provider) name book.pending) three.0 in
-      subst IsApart (sym does.1) (apart-pending book name key apart (free name both.0 both.1))
-    where
-      free : (name : List ℕ) → has_its_index (index_of provider) name book.last.bindings ≡ false → has_its_index (index_of provider) name book.pending ≡ false
-          → (other : List ℕ) → Holds book other → index_of provider other ≡ index_of provider name → other ≡ name
-      free name a b other (inl last) same = untaken name book.last.bindings a other last same
-      free name a b other (inr waits) same = untaken name book.pending b other waits same
-  apart-after book after (Change name key) answer apart none does =
-      let one = two-passed (not (is_within 1 255 name)) (not (is_within 1 2048 key)) BadName BadKey
-      ((is_none (at book.last.bindings name), NoSuchName) ∷ (is_some (at book.pending name), PendingExists) ∷ []) none in
-      let two = two-passed (is_none (at book.last.bindings name)) (is_some (at book.pending name)) NoSuchName PendingExists [] one.2 in
-      subst IsApart (sym does.1) (apart-pending book name key apart (λ other held same. apart.now other name held (inl (there (at book.last.bindings name) two.0)) same))
+  apart-after book after (Query question) answer apart none does = subst IsApart (sym does.1) apart
+  apart-after book after (Edit (Put verb name key)) answer apart none does =
+      let has = put_passed (index_of provider) book verb name key none in
+      subst IsApart (sym does.1) (apart-pending book name key apart (free verb has.page has.index))
     where
       there : (found : Option Binding) → is_none found ≡ false → (binding : Binding) × (found ≡ Some binding)
       there None e = absurd cc
       there (Some binding) e = (binding, refl)
-  apart-after book after (Promise name) answer apart none does = subst IsApart (sym does.3) apart
-  apart-after book after (Lookup name epoch) answer apart none does = subst IsApart (sym does.3) apart
-  apart-after book after (History from count) answer apart none does = subst IsApart (sym does.1) apart
-  apart-after book after Head answer apart none does = subst IsApart (sym does.1) apart
-  apart-after book after (Close epoch) answer apart none does = subst IsApart (sym does.1) (apart-page book epoch apart)
+
+      free : (verb : Verb) → (bad_verb verb (at book.last.bindings name)).0 ≡ false → (bad_index (index_of provider) verb book name).0 ≡ false
+          → (other : List ℕ) → Holds book other → index_of provider other ≡ index_of provider name → other ≡ name
+      free Register new none other (inl last) same = untaken name book.last.bindings (neither _ (has_its_index (index_of provider) name book.pending) none).0 other last same
+      free Register new none other (inr waits) same = untaken name book.pending (neither (has_its_index (index_of provider) name book.last.bindings) _ none).1 other waits same
+      free Change shown none other held same = apart.now other name held (inl (there (at book.last.bindings name) shown)) same
+  apart-after book after (Edit (Turn epoch)) answer apart none does = subst IsApart (sym does.1) (apart-page book epoch apart)

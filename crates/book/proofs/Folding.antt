@@ -6,7 +6,7 @@ use Rattle.book.specs.declared.refusal.Refusal.{Refusal}
 use Rattle.book.specs.declared.reply.Reply.{Reply}
 use Rattle.book.specs.declared.reply.Reply.TheVariants as reply
 use Rattle.book.specs.Answers.{Answer}
-use Rattle.book.specs.Asked.{Asked}
+use Rattle.commands.specs.Asked.{Asked}
 use Rattle.book.specs.Books.{Book}
 use Rattle.book.specs.Folds.{Fate, Done, Wanting, Lost, Tells, fated, fated_step, folded}
 use Rattle.book.specs.Shows.{Provider, index_of}

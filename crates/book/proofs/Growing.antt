@@ -6,7 +6,7 @@ use Rattle.book.specs.declared.record.Record.{Record}
 use Rattle.book.specs.declared.refusal.Refusal.TheVariants.{EpochNotLater}
 use Rattle.book.specs.declared.reply.Reply.{Reply}
 use Rattle.book.specs.Answers.{Answer, next_page, refusal, with_page}
-use Rattle.book.specs.Asked.{Asked, Register, Change, Promise, Lookup, History, Head, Close}
+use Rattle.commands.specs.Asked.{Asked, Query, Edit, Put, Turn}
 use Rattle.book.specs.Books.{Book, Page, pages}
 use Rattle.book.specs.Maps.{overwritten}
 use Rattle.book.specs.Shows.{Provider, index_of}
@@ -17,10 +17,10 @@ use Rattle.book.proofs.Soundness.{IsBefore, ascend-push}
 use Rattle.book.proofs.Stepping.{Does, stepped}
 use Rattle.book.proofs.Turning.{above-last, passed}
 
-pub closing : (index_of : List ℕ → List ℕ) (book after : Book) (epoch : ℕ) (answer : Answer) → step index_of book (Close epoch) ≡ (Answers answer, after)
+pub closing : (index_of : List ℕ → List ℕ) (book after : Book) (epoch : ℕ) (answer : Answer) → step index_of book (Edit (Turn epoch)) ≡ (Answers answer, after)
     → (after.last.epoch ≡ epoch) × (after.last.bindings ≡ overwritten book.last.bindings book.pending) × (after.earlier ≡ pages book) × (after.pending ≡ [])
 closing index_of book after epoch answer is =
-    let e = (stepped index_of book (Close epoch) answer after is).does.1 in
+    let e = (stepped index_of book (Edit (Turn epoch)) answer after is).does.1 in
     (ap (λ (b : Book). b.last.epoch) e, ap (λ (b : Book). b.last.bindings) e, ap (λ (b : Book). b.earlier) e, ap (λ (b : Book). b.pending) e)
 
 module _ (first : Book) where
@@ -41,13 +41,9 @@ module _ (first : Book) where
   same-pages book after grown same = record { more = grown.more; is = same ∙ grown.is; ascend = subst (AllPairs IsBefore) (sym same) grown.ascend }
 
   grown-after : (index_of : List ℕ → List ℕ) (book after : Book) (asked : Asked) (answer : Answer) → HasGrown book → refusal index_of book asked ≡ None → Does book asked answer after → HasGrown after
-  grown-after index_of book after (Register name key) answer grown none does = same-pages book after grown (ap pages does.1)
-  grown-after index_of book after (Change name key) answer grown none does = same-pages book after grown (ap pages does.1)
-  grown-after index_of book after (Promise name) answer grown none does = same-pages book after grown (ap pages does.3)
-  grown-after index_of book after (Lookup name epoch) answer grown none does = same-pages book after grown (ap pages does.3)
-  grown-after index_of book after (History from count) answer grown none does = same-pages book after grown (ap pages does.1)
-  grown-after index_of book after Head answer grown none does = same-pages book after grown (ap pages does.1)
-  grown-after index_of book after (Close epoch) answer grown none does =
+  grown-after index_of book after (Query question) answer grown none does = same-pages book after grown (ap pages does.1)
+  grown-after index_of book after (Edit (Put verb name key)) answer grown none does = same-pages book after grown (ap pages does.1)
+  grown-after index_of book after (Edit (Turn epoch)) answer grown none does =
       subst HasGrown (sym does.1) (grown-page book epoch grown (above-last epoch book.last.epoch (passed (nat_le epoch book.last.epoch, EpochNotLater) [] none).0))
 
 pub run-grows : (provider : Provider) {K : Type 0} (kept failed : K → Record → K → Type 0) (commands : List Asked) (replies : List Reply) (book after : Book) (before later : K)

@@ -23,10 +23,10 @@ use Rattle.proofs.proofs.Passing.{accepts-passed, one_reply}
 use Rattle.book.specs.declared.record.Record.{Record}
 use Rattle.book.specs.declared.reply.Reply.{Reply}
 use Rattle.book.specs.declared.reply.Reply.TheVariants as reply
-use Rattle.book.specs.Asked.{Asked, Lookup}
+use Rattle.commands.specs.Asked.{Asked, IsCommand, Query, Lookup}
 use Rattle.book.specs.Books.{Binding, Book, Page, pages}
 use Rattle.proofs.specs.BrokenPromises.{IsBrokenPromise}
-use Rattle.book.specs.Fresh.{IsCommand, KeepsLaws}
+use Rattle.book.specs.Fresh.{KeepsLaws}
 use Rattle.book.specs.Honest.{key_at, IsAbout, IsAnswer, IsDouble, IsHonest, IsKept, IsSaid, IsSaidAt, ListsInOrder, Tells, UsersDiffer}
 use Rattle.book.specs.Maps.{Map, at}
 use Rattle.book.specs.Shows.{Provider, Sealed, index_of, promise, roots, sealed_behind, sealed_pages, IsRootOf}
@@ -294,17 +294,17 @@ module _ (provider : Provider) where
       ];
       apart = λ differ latest name epoch text is.
           let s = looked latest name epoch text is in
-          answer latest name epoch text s (users differ (Lookup name epoch) (said-asked commands replies (Lookup name epoch) (reply.Found text) (said-at before.last.epoch commands replies latest (Lookup name epoch) (reply.Found text) is)) name refl s.page s.root s.is);
+          answer latest name epoch text s (users differ (Query (Lookup name epoch)) (said-asked commands replies (Query (Lookup name epoch)) (reply.Found text) (said-at before.last.epoch commands replies latest (Query (Lookup name epoch)) (reply.Found text) is)) name refl s.page s.root s.is);
       kept = λ command promised is. holds command promised is;
       due = λ command promised epoch text root statement is also behind accepts.
-          let t = at-said before.last.epoch commands replies (Lookup promised.promise.name epoch) (reply.Found text) also in
+          let t = at-said before.last.epoch commands replies (Query (Lookup promised.promise.name epoch)) (reply.Found text) also in
           let s = looked t.0 promised.promise.name epoch text t.1 in
           elim (either t.0 promised.promise.name epoch text s) [
             | inl alone ↦ is-due command promised t.0 epoch text root statement (holds command promised is) s alone behind accepts
             | inr doubles ↦ absurd (never-accepted t.0 promised.promise.name epoch text doubles root.body promised.promise.name statement accepts)
           ];
       unbroken = λ command promised name epoch text root is also broken.
-          let t = at-said before.last.epoch commands replies (Lookup name epoch) (reply.Found text) also in
+          let t = at-said before.last.epoch commands replies (Query (Lookup name epoch)) (reply.Found text) also in
           let s = looked t.0 name epoch text t.1 in
           elim (either t.0 name epoch text s) [
             | inl alone ↦ unbroken command promised t.0 name epoch text root (holds command promised is) s alone broken
@@ -318,8 +318,8 @@ module _ (provider : Provider) where
         seen : (asked : Asked) (said : Reply) → IsSaid commands replies asked said → (latest : ℕ) × Seen provider latest after asked said
         seen asked said is = let t = at-said before.last.epoch commands replies asked said is in (t.0, shown t.0 asked said t.1)
 
-        looked : (latest : ℕ) (name : List ℕ) (epoch : ℕ) (text : List ℕ) → IsSaidAt before.last.epoch commands replies latest (Lookup name epoch) (reply.Found text) → SeenFound provider latest after name epoch text
-        looked latest name epoch text is = shown latest (Lookup name epoch) (reply.Found text) is name epoch refl
+        looked : (latest : ℕ) (name : List ℕ) (epoch : ℕ) (text : List ℕ) → IsSaidAt before.last.epoch commands replies latest (Query (Lookup name epoch)) (reply.Found text) → SeenFound provider latest after name epoch text
+        looked latest name epoch text is = shown latest (Query (Lookup name epoch)) (reply.Found text) is name epoch refl
 
         holds : (command : Asked) (promised : SignedPromise) → IsSaid commands replies command (reply.Promised promised) → IsKept provider accepted verified key after command promised
         holds command promised is = kept command promised (seen command (reply.Promised promised) is).1

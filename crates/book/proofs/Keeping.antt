@@ -4,7 +4,7 @@ use Rattle.book.specs.declared.record.Record.{Record}
 use Rattle.book.specs.declared.refusal.Refusal.{Refusal}
 use Rattle.book.specs.declared.reply.Reply.{Reply}
 use Rattle.book.specs.declared.reply.Reply.TheVariants as reply
-use Rattle.book.specs.Asked.{Asked}
+use Rattle.commands.specs.Asked.{Asked}
 use Rattle.book.specs.Books.{Book}
 use Rattle.book.specs.Keeps.{fails_next, keeps_next}
 use Rattle.book.specs.Shows.{Provider, index_of}

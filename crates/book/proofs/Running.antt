@@ -1,9 +1,10 @@
 -- What commands, one after another, do to a sound book, and what their replies show of it in the end.
 use Rattle.std.proofs.Common.{◌≡◌, ℕ, List, [], ◌∷◌, map, Option, Some, None, Contains, refl, sym, ap, subst, inl, inr, ◌∙◌}
 use Rattle.std.specs.Bool.{⊤}
-use Rattle.std.specs.Prelude.{Bool, not, ◌||◌, is_some, is_none, nat_le}
+use Rattle.std.specs.Prelude.{not, is_none, nat_le}
 use Rattle.std.specs.List.{AllByRecursion, AllZip}
 use Rattle.std.proofs.lemmas.List.{map-append}
+use Rattle.encoding.specs.Bytes.{IsBytes}
 use Rattle.encoding.specs.Limits.{IsName, IsKeyData}
 use Rattle.rootchain.specs.declared.signed_promise.SignedPromise.{SignedPromise}
 use Rattle.rootchain.specs.declared.signed_root.SignedRoot.{SignedRoot}
@@ -11,11 +12,11 @@ use Rattle.book.specs.declared.record.Record.{Record}
 use Rattle.book.specs.declared.reply.Reply.{Reply}
 use Rattle.book.specs.declared.reply.Reply.TheVariants as reply
 use Rattle.book.specs.declared.refusal.Refusal.{Refusal}
-use Rattle.book.specs.declared.refusal.Refusal.TheVariants.{BadName, BadKey, NameTaken, NoSuchName, PendingExists, IndexTaken, NoSuchEpoch, EpochNotLater}
-use Rattle.book.specs.Answers.{Answer, has_its_index, is_within, next_page, Promised, Found, Told, Last, refusal, told, with_pending}
-use Rattle.book.specs.Asked.{Asked, Register, Change, Promise, Lookup, History, Head, Close}
+use Rattle.book.specs.declared.refusal.Refusal.TheVariants.{BadName, NoSuchEpoch, EpochNotLater}
+use Rattle.book.specs.Answers.{Answer, is_within, Promised, Found, Told, refusal, told, with_pending}
+use Rattle.commands.specs.Asked.{Asked, IsCommand, Question, Query, Edit, Put, Promise, Lookup, History, Head, MayRead, IsAny}
+use Rattle.commands.specs.Asked as ask
 use Rattle.book.specs.Books.{Binding, Book, Page, page_at, pages}
-use Rattle.book.specs.Fresh.{IsCommand}
 use Rattle.book.specs.Honest.{latest_after, AreConsecutive, IsAskedBy, IsPromisedBy, IsSaid, IsSaidAt}
 use Rattle.book.specs.Maps.{at}
 use Rattle.book.specs.Shows.{Provider, Sealed, index_of, promise, roots, sealed_behind, sealed_pages, signed_promise, IsReplyOf, IsRootOf}
@@ -24,7 +25,7 @@ use Rattle.book.specs.Turns.{Shows, Turn, Run}
 use Rattle.book.proofs.Entries.{at_put_same, found-entry}
 use Rattle.book.proofs.Found.{IsBinding}
 use Rattle.book.proofs.Members.{first-or-later, none-there}
-use Rattle.book.proofs.Stepping.{Does, stepped}
+use Rattle.book.proofs.Stepping.{Does, Finds, finds, put_passed, stepped}
 use Rattle.book.proofs.Stretches.{consecutive-more, told-consecutive}
 use Rattle.book.proofs.Turning.{Goes, Holds, IsSound, above-last, asked-page, goes-nowhere, goes-on, goes-page, goes-pending, holds-now, is-key, is-name, later, not-there, passed, two-passed}
 
@@ -37,13 +38,9 @@ root-epoch provider epoch before (page ∷ pages) each is = elim (first-or-later
 
 -- a closing that is refused makes no page
 refused-latest : (latest : ℕ) (asked : Asked) (why : Refusal) → latest_after latest asked (reply.Refused why) ≡ latest
-refused-latest latest (Register name key) why = refl
-refused-latest latest (Change name key) why = refl
-refused-latest latest (Promise name) why = refl
-refused-latest latest (Lookup name epoch) why = refl
-refused-latest latest (History from count) why = refl
-refused-latest latest Head why = refl
-refused-latest latest (Close epoch) why = refl
+refused-latest latest (Query question) why = refl
+refused-latest latest (Edit (Put verb name key)) why = refl
+refused-latest latest (Edit (ask.Turn epoch)) why = refl
 
 -- which command a reply came to, and when
 pub at-said : (now : ℕ) (commands : List Asked) (replies : List Reply) (asked : Asked) (said : Reply) → IsSaid commands replies asked said → (latest : ℕ) × IsSaidAt now commands replies latest asked said
@@ -69,11 +66,8 @@ module _ (provider : Provider) where
   record Answered (book after : Book) (asked : Asked) (answer : Answer) : Type 0 where
     pub goes : Goes provider book after
     pub promised : (name : List ℕ) (binding : Binding) → answer ≡ Promised name binding → IsPromisedIn after name binding × IsPromisedBy asked name binding.key
-    pub found : (name : List ℕ) (epoch : ℕ) → asked ≡ Lookup name epoch → (page : Page) (other : List ℕ) (binding : Option Binding) → answer ≡ Found page other binding → (other ≡ name) × IsName name × IsAskedBy book.last.epoch epoch page × (binding ≡ at page.bindings name)
+    pub found : (name : List ℕ) (epoch : ℕ) → asked ≡ Query (Lookup name epoch) → (page : Page) (other : List ℕ) (binding : Option Binding) → answer ≡ Found page other binding → (other ≡ name) × IsName name × IsAskedBy book.last.epoch epoch page × (binding ≡ at page.bindings name)
     pub told : (some : List Page) → answer ≡ Told some → (from : ℕ) × (count : ℕ) × (some ≡ told after from count)
-
-  abbrev taken : Book → List ℕ → Bool
-  taken book name = has_its_index (index_of provider) name book.last.bindings || has_its_index (index_of provider) name book.pending
 
   promised-now : (book : Book) (name : List ℕ) (binding : Binding) → IsSound book → at book.pending name ≡ Some binding → IsPromisedIn book name binding
   promised-now book name binding sound found =
@@ -104,66 +98,58 @@ module _ (provider : Provider) where
             subst (IsPromisedBy asked other) (ap (λ (x : Binding). x.key) b) (subst (λ (x : List ℕ). IsPromisedBy asked x key) n by),
           )
 
+  queried : (book : Book) (question : Question) (answer : Answer) → IsSound book → MayRead IsBytes IsAny question → refusal (index_of provider) book (Query question) ≡ None → Finds book question answer
+      → Answered book book (Query question) answer
+  queried book (Promise name) answer sound are none finds = record {
+    goes = goes-nowhere provider book sound;
+    promised = λ other binding same.
+        let e : Promised name finds.0 ≡ Promised other binding = sym finds.2 ∙ same in
+        let n : name ≡ other = cc in
+        let b : finds.0 ≡ binding = cc in
+        (promised-now book other binding sound (ap (at book.pending) (sym n) ∙ finds.1 ∙ ap (λ (x : Binding). Some x) b), sym n);
+    found = λ other epoch is page named binding same. absurd cc;
+    told = λ some same. let e = sym finds.2 ∙ same in absurd cc;
+  }
+  queried book (Lookup name epoch) answer sound are none finds = record {
+    goes = goes-nowhere provider book sound;
+    promised = λ other binding same. let e = sym finds.2 ∙ same in absurd cc;
+    found = λ other also is page named binding same.
+        let e = sym finds.2 ∙ same in
+        let n : name ≡ other = cc in
+        let m : name ≡ named = cc in
+        let p : finds.0 ≡ page = cc in
+        let at_epoch : epoch ≡ also = cc in
+        let b : at (finds.0).bindings name ≡ binding = cc in (
+          sym m ∙ n,
+          subst IsName n (is-name name (two-passed (not (is_within 1 255 name)) (is_none (page_at book epoch)) BadName NoSuchEpoch [] none).0 are.1),
+          subst (λ (x : Page). IsAskedBy book.last.epoch also x) p (subst (λ (k : ℕ). IsAskedBy book.last.epoch k finds.0) at_epoch (asked-page book epoch finds.0 finds.1)),
+          sym b ∙ ap (λ (x : Page). at x.bindings name) p ∙ ap (at page.bindings) n,
+        );
+    told = λ some same. let e = sym finds.2 ∙ same in absurd cc;
+  }
+  queried book (History from count) answer sound are none finds = record {
+    goes = goes-nowhere provider book sound;
+    promised = λ other binding same. let e = sym finds ∙ same in absurd cc;
+    found = λ other also is page named binding same. let e = sym finds ∙ same in absurd cc;
+    told = λ some same. let e : Told (told book from count) ≡ Told some = sym finds ∙ same in let f : told book from count ≡ some = cc in (from, count, sym f);
+  }
+  queried book Head answer sound are none finds = record {
+    goes = goes-nowhere provider book sound;
+    promised = λ other binding same. let e = sym finds ∙ same in absurd cc;
+    found = λ other also is page named binding same. let e = sym finds ∙ same in absurd cc;
+    told = λ some same. let e = sym finds ∙ same in absurd cc;
+  }
+
   answered : (book after : Book) (asked : Asked) (answer : Answer) → IsSound book → IsCommand asked → refusal (index_of provider) book asked ≡ None → Does book asked answer after → Answered book after asked answer
-  answered book after (Register name key) answer sound are none does =
-      let one = two-passed (not (is_within 1 255 name)) (not (is_within 1 2048 key)) BadName BadKey
-      ((is_some (at book.last.bindings name), NameTaken) ∷ (is_some (at book.pending name), PendingExists) ∷ (taken book name, IndexTaken) ∷ []) none in
-      let two = two-passed (is_some (at book.last.bindings name)) (is_some (at book.pending name)) NameTaken PendingExists ((taken book name, IndexTaken) ∷ []) one.2 in
-      subst (λ (b : Book). Answered book b (Register name key) answer) (sym does.1) (subst (Answered book (with_pending book name key) (Register name key)) (sym does.0)
-      (pends book (Register name key) name key (refl, refl) sound (is-name name one.0 are.0) (is-key key one.1 are.1) (not-there (at book.pending name) two.1)))
-  answered book after (Change name key) answer sound are none does =
-      let one = two-passed (not (is_within 1 255 name)) (not (is_within 1 2048 key)) BadName BadKey
-      ((is_none (at book.last.bindings name), NoSuchName) ∷ (is_some (at book.pending name), PendingExists) ∷ []) none in
-      let two = two-passed (is_none (at book.last.bindings name)) (is_some (at book.pending name)) NoSuchName PendingExists [] one.2 in
-      subst (λ (b : Book). Answered book b (Change name key) answer) (sym does.1) (subst (Answered book (with_pending book name key) (Change name key)) (sym does.0)
-      (pends book (Change name key) name key (refl, refl) sound (is-name name one.0 are.0) (is-key key one.1 are.1) (not-there (at book.pending name) two.1)))
-  answered book after (Promise name) answer sound are none does =
-      subst (λ (b : Book). Answered book b (Promise name) answer) (sym does.3) (record {
-        goes = goes-nowhere provider book sound;
-        promised = λ other binding same.
-            let e : Promised name does.0 ≡ Promised other binding = sym does.2 ∙ same in
-            let n : name ≡ other = cc in
-            let b : does.0 ≡ binding = cc in
-            (promised-now book other binding sound (ap (at book.pending) (sym n) ∙ does.1 ∙ ap (λ (x : Binding). Some x) b), sym n);
-        found = λ other epoch is page named binding same. absurd cc;
-        told = λ some same. let e = sym does.2 ∙ same in absurd cc;
-      })
-  answered book after (Lookup name epoch) answer sound are none does =
-      let one = two-passed (not (is_within 1 255 name)) (is_none (page_at book epoch)) BadName NoSuchEpoch [] none in
-      subst (λ (b : Book). Answered book b (Lookup name epoch) answer) (sym does.3) (record {
-        goes = goes-nowhere provider book sound;
-        promised = λ other binding same. let e = sym does.2 ∙ same in absurd cc;
-        found = λ other also is page named binding same.
-            let e = sym does.2 ∙ same in
-            let n : name ≡ other = cc in
-            let m : name ≡ named = cc in
-            let p : does.0 ≡ page = cc in
-            let at_epoch : epoch ≡ also = cc in
-            let b : at (does.0).bindings name ≡ binding = cc in (
-              sym m ∙ n,
-              subst IsName n (is-name name one.0 are),
-              subst (λ (x : Page). IsAskedBy book.last.epoch also x) p (subst (λ (k : ℕ). IsAskedBy book.last.epoch k does.0) at_epoch (asked-page book epoch does.0 does.1)),
-              sym b ∙ ap (λ (x : Page). at x.bindings name) p ∙ ap (at page.bindings) n,
-            );
-        told = λ some same. let e = sym does.2 ∙ same in absurd cc;
-      })
-  answered book after (History from count) answer sound are none does =
-      subst (λ (b : Book). Answered book b (History from count) answer) (sym does.1) (record {
-        goes = goes-nowhere provider book sound;
-        promised = λ other binding same. let e = sym does.0 ∙ same in absurd cc;
-        found = λ other also is page named binding same. let e = sym does.0 ∙ same in absurd cc;
-        told = λ some same. let e : Told (told book from count) ≡ Told some = sym does.0 ∙ same in let f : told book from count ≡ some = cc in (from, count, sym f);
-      })
-  answered book after Head answer sound are none does =
-      subst (λ (b : Book). Answered book b Head answer) (sym does.1) (record {
-        goes = goes-nowhere provider book sound;
-        promised = λ other binding same. let e = sym does.0 ∙ same in absurd cc;
-        found = λ other also is page named binding same. let e = sym does.0 ∙ same in absurd cc;
-        told = λ some same. let e = sym does.0 ∙ same in absurd cc;
-      })
-  answered book after (Close epoch) answer sound are none does =
+  answered book after (Query question) answer sound are none does =
+      subst (λ (b : Book). Answered book b (Query question) answer) (sym does.1) (queried book question answer sound are none (finds book question answer does.0))
+  answered book after (Edit (Put verb name key)) answer sound are none does =
+      let has = put_passed (index_of provider) book verb name key none in
+      subst (λ (b : Book). Answered book b (Edit (Put verb name key)) answer) (sym does.1) (subst (Answered book (with_pending book name key) (Edit (Put verb name key))) (sym does.0)
+      (pends book (Edit (Put verb name key)) name key (refl, refl) sound (is-name name has.named are.0) (is-key key has.keyed are.1) (not-there (at book.pending name) has.pending)))
+  answered book after (Edit (ask.Turn epoch)) answer sound are none does =
       let one = passed (nat_le epoch book.last.epoch, EpochNotLater) [] none in
-      subst (λ (b : Book). Answered book b (Close epoch) answer) (sym does.1) (record {
+      subst (λ (b : Book). Answered book b (Edit (ask.Turn epoch)) answer) (sym does.1) (record {
         goes = goes-page provider book epoch sound are (above-last epoch book.last.epoch one.0);
         promised = λ other binding same. let e = sym does.0 ∙ same in absurd cc;
         found = λ other also is page named binding same. let e = sym does.0 ∙ same in absurd cc;
@@ -194,7 +180,7 @@ module _ (provider : Provider) where
 
   abbrev pub Seen : ℕ → Book → Asked → Reply → Type 0
   Seen latest after asked (reply.Promised promised) = SeenPromise after asked promised
-  Seen latest after asked (reply.Found text) = (name : List ℕ) (epoch : ℕ) → asked ≡ Lookup name epoch → SeenFound latest after name epoch text
+  Seen latest after asked (reply.Found text) = (name : List ℕ) (epoch : ℕ) → asked ≡ Query (Lookup name epoch) → SeenFound latest after name epoch text
   Seen latest after asked (reply.Told told) = AreConsecutive (roots provider after) told.items
   Seen latest after asked (reply.Last root) = (page : Page) × IsRootOf provider after page root
   Seen latest after asked (reply.Refused why) = ⊤
@@ -246,17 +232,13 @@ module _ (provider : Provider) where
 
   -- the last page after a command that was answered so
   last-now : (book after : Book) (asked : Asked) (answer : Answer) (said : Reply) → Does book asked answer after → Shows provider after answer said → after.last.epoch ≡ latest_after book.last.epoch asked said
-  last-now book after (Register name key) answer said does shows = ap (λ (b : Book). b.last.epoch) does.1
-  last-now book after (Change name key) answer said does shows = ap (λ (b : Book). b.last.epoch) does.1
-  last-now book after (Promise name) answer said does shows = ap (λ (b : Book). b.last.epoch) does.3
-  last-now book after (Lookup name epoch) answer said does shows = ap (λ (b : Book). b.last.epoch) does.3
-  last-now book after (History from count) answer said does shows = ap (λ (b : Book). b.last.epoch) does.1
-  last-now book after Head answer said does shows = ap (λ (b : Book). b.last.epoch) does.1
-  last-now book after (Close epoch) answer (reply.Promised promised) does shows = let e = sym does.0 ∙ shows.3 in absurd cc
-  last-now book after (Close epoch) answer (reply.Found text) does shows = let e = sym does.0 ∙ shows.4 in absurd cc
-  last-now book after (Close epoch) answer (reply.Told told_roots) does shows = let e = sym does.0 ∙ shows.1 in absurd cc
-  last-now book after (Close epoch) answer (reply.Last root) does shows = ap (λ (b : Book). b.last.epoch) does.1
-  last-now book after (Close epoch) answer (reply.Refused why) does shows = absurd shows
+  last-now book after (Query question) answer said does shows = ap (λ (b : Book). b.last.epoch) does.1
+  last-now book after (Edit (Put verb name key)) answer said does shows = ap (λ (b : Book). b.last.epoch) does.1
+  last-now book after (Edit (ask.Turn epoch)) answer (reply.Promised promised) does shows = let e = sym does.0 ∙ shows.3 in absurd cc
+  last-now book after (Edit (ask.Turn epoch)) answer (reply.Found text) does shows = let e = sym does.0 ∙ shows.4 in absurd cc
+  last-now book after (Edit (ask.Turn epoch)) answer (reply.Told told_roots) does shows = let e = sym does.0 ∙ shows.1 in absurd cc
+  last-now book after (Edit (ask.Turn epoch)) answer (reply.Last root) does shows = ap (λ (b : Book). b.last.epoch) does.1
+  last-now book after (Edit (ask.Turn epoch)) answer (reply.Refused why) does shows = absurd shows
 
   module _ {K : Type 0} (kept failed : K → Record → K → Type 0) where
     pub record Turned (book after : Book) (asked : Asked) (said : Reply) : Type 0 where

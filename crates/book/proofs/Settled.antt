@@ -12,7 +12,7 @@ use Rattle.book.specs.declared.refusal.Refusal.TheVariants.{Memory, KeepFailed}
 use Rattle.book.specs.declared.reply.Reply.{Reply}
 use Rattle.book.specs.declared.reply.Reply.TheVariants as reply
 use Rattle.book.specs.Answers.{Answer, Promised, Found, Told, Last}
-use Rattle.book.specs.Asked.{Asked}
+use Rattle.commands.specs.Asked.{Asked}
 use Rattle.book.specs.Books.{Binding, Book, Page, pages}
 use Rattle.book.specs.Seen as seen
 use Rattle.book.specs.Seen.{Seen, FailAlike, seen as seen_of}

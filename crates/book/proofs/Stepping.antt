@@ -1,24 +1,28 @@
 -- What a step that answers is, command by command, and when a step refuses.
-use Rattle.std.proofs.Common.{◌≡◌, List, ℕ, [], false, Option, Some, None, not, refl, sym, ap, ◌∙◌}
-use Rattle.std.specs.Prelude.{is_none}
+use Rattle.std.proofs.Common.{◌≡◌, List, ℕ, [], ◌∷◌, false, Option, Some, None, not, refl, sym, ap, ◌∙◌}
+use Rattle.std.specs.Prelude.{is_none, is_some}
 use Rattle.book.specs.declared.refusal.Refusal.{Refusal}
-use Rattle.book.specs.declared.refusal.Refusal.TheVariants.{BadName, NoSuchEpoch, NoPromise}
-use Rattle.book.specs.Answers.{Answer, Promised, Found, Told, Last, is_within, next_page, refusal, told, with_page, with_pending}
-use Rattle.book.specs.Asked.{Asked, Register, Change, Promise, Lookup, History, Head, Close}
+use Rattle.book.specs.declared.refusal.Refusal.TheVariants.{BadName, BadKey, PendingExists, NoSuchEpoch, NoPromise}
+use Rattle.book.specs.Answers.{Answer, Promised, Found, Told, Last, bad_index, bad_verb, is_within, next_page, refusal, told, with_page, with_pending}
+use Rattle.commands.specs.declared.edit.Verb.{Verb}
+use Rattle.commands.specs.Asked.{Asked, Question, Query, Edit, Put, Turn, Promise, Lookup, History, Head}
 use Rattle.book.specs.Books.{Binding, Book, Page, page_at}
 use Rattle.book.specs.Maps.{at}
-use Rattle.book.specs.Steps.{Outcome, Answers, Refuses, done, found_in, promise_of, step, unless_refused}
-use Rattle.book.proofs.Turning.{two-passed}
+use Rattle.book.specs.Steps.{Outcome, Answers, Refuses, done, found_in, promise_of, read, step, unless_refused}
+use Rattle.book.proofs.Turning.{passed, two-passed}
 
 -- what a book that does not refuse answers, and the book after it
 abbrev pub Does : Book → Asked → Answer → Book → Type 0
-Does book (Register name key) answer after = (answer ≡ Promised name (record { key = key; salt = book.salt })) × (after ≡ with_pending book name key)
-Does book (Change name key) answer after = (answer ≡ Promised name (record { key = key; salt = book.salt })) × (after ≡ with_pending book name key)
-Does book (Promise name) answer after = (binding : Binding) × (at book.pending name ≡ Some binding) × (answer ≡ Promised name binding) × (after ≡ book)
-Does book (Lookup name epoch) answer after = (page : Page) × (page_at book epoch ≡ Some page) × (answer ≡ Found page name (at page.bindings name)) × (after ≡ book)
-Does book (History from count) answer after = (answer ≡ Told (told book from count)) × (after ≡ book)
-Does book Head answer after = (answer ≡ Last book.last) × (after ≡ book)
-Does book (Close epoch) answer after = (answer ≡ Last (next_page book epoch)) × (after ≡ with_page book (next_page book epoch))
+Does book (Query question) answer after = (read book question ≡ Answers answer) × (after ≡ book)
+Does book (Edit (Put verb name key)) answer after = (answer ≡ Promised name (record { key = key; salt = book.salt })) × (after ≡ with_pending book name key)
+Does book (Edit (Turn epoch)) answer after = (answer ≡ Last (next_page book epoch)) × (after ≡ with_page book (next_page book epoch))
+
+-- what a query finds
+abbrev pub Finds : Book → Question → Answer → Type 0
+Finds book (Promise name) answer = (binding : Binding) × (at book.pending name ≡ Some binding) × (answer ≡ Promised name binding)
+Finds book (Lookup name epoch) answer = (page : Page) × (page_at book epoch ≡ Some page) × (answer ≡ Found page name (at page.bindings name))
+Finds book (History from count) answer = answer ≡ Told (told book from count)
+Finds book Head answer = answer ≡ Last book.last
 
 abbrev made : Outcome → Book → Outcome × Book
 made outcome book = (outcome, book)
@@ -41,30 +45,31 @@ never why answer p q e = by (ap (λ (x : Outcome × Book). x.0) e)
     by f = absurd cc
 
 does_done : (book : Book) (asked : Asked) (answer : Answer) (after : Book) → Does book asked answer after → done book asked ≡ (Answers answer, after)
-does_done book (Register name key) answer after does = both_same answer _ _ after does.0 does.1
-does_done book (Change name key) answer after does = both_same answer _ _ after does.0 does.1
-does_done book (Promise name) answer after does = ap (λ (found : Option Binding). made (promise_of name found) book) does.1 ∙ both_same answer _ _ after does.2 does.3
-does_done book (Lookup name epoch) answer after does = ap (λ (found : Option Page). made (found_in name found) book) does.1 ∙ both_same answer _ _ after does.2 does.3
-does_done book (History from count) answer after does = both_same answer _ _ after does.0 does.1
-does_done book Head answer after does = both_same answer _ _ after does.0 does.1
-does_done book (Close epoch) answer after does = both_same answer _ _ after does.0 does.1
+does_done book (Query question) answer after does = ap (λ (outcome : Outcome). made outcome book) does.0 ∙ ap (made (Answers answer)) (sym does.1)
+does_done book (Edit (Put verb name key)) answer after does = both_same answer _ _ after does.0 does.1
+does_done book (Edit (Turn epoch)) answer after does = both_same answer _ _ after does.0 does.1
 
 done_does : (book : Book) (asked : Asked) (answer : Answer) (after : Book) → done book asked ≡ (Answers answer, after) → Does book asked answer after
-done_does book (Register name key) answer after e = same_both answer _ _ after e
-done_does book (Change name key) answer after e = same_both answer _ _ after e
-done_does book (Promise name) answer after e = by (at book.pending name) refl e
+done_does book (Query question) answer after e = (ap (λ (x : Outcome × Book). x.0) e, sym (ap (λ (x : Outcome × Book). x.1) e))
+done_does book (Edit (Put verb name key)) answer after e = same_both answer _ _ after e
+done_does book (Edit (Turn epoch)) answer after e = same_both answer _ _ after e
+
+answers_same : (a b : Answer) → Answers b ≡ Answers a → a ≡ b
+answers_same a b e = cc
+
+pub finds : (book : Book) (question : Question) (answer : Answer) → read book question ≡ Answers answer → Finds book question answer
+finds book (Promise name) answer e = by (at book.pending name) refl e
   where
-    by : (found : Option Binding) → at book.pending name ≡ found → made (promise_of name found) book ≡ made (Answers answer) after → Does book (Promise name) answer after
-    by None is f = absurd (never NoPromise answer book after f)
-    by (Some binding) is f = let s = same_both answer (Promised name binding) book after f in (binding, is, s.0, s.1)
-done_does book (Lookup name epoch) answer after e = by (page_at book epoch) refl e
+    by : (found : Option Binding) → at book.pending name ≡ found → promise_of name found ≡ Answers answer → Finds book (Promise name) answer
+    by None is f = absurd cc
+    by (Some binding) is f = (binding, is, answers_same answer (Promised name binding) f)
+finds book (Lookup name epoch) answer e = by (page_at book epoch) refl e
   where
-    by : (found : Option Page) → page_at book epoch ≡ found → made (found_in name found) book ≡ made (Answers answer) after → Does book (Lookup name epoch) answer after
-    by None is f = absurd (never NoSuchEpoch answer book after f)
-    by (Some page) is f = let s = same_both answer (Found page name (at page.bindings name)) book after f in (page, is, s.0, s.1)
-done_does book (History from count) answer after e = same_both answer _ _ after e
-done_does book Head answer after e = same_both answer _ _ after e
-done_does book (Close epoch) answer after e = same_both answer _ _ after e
+    by : (found : Option Page) → page_at book epoch ≡ found → found_in name found ≡ Answers answer → Finds book (Lookup name epoch) answer
+    by None is f = absurd cc
+    by (Some page) is f = (page, is, answers_same answer (Found page name (at page.bindings name)) f)
+finds book (History from count) answer e = answers_same answer (Told (told book from count)) e
+finds book Head answer e = answers_same answer (Last book.last) e
 
 -- ---- what is refused
 
@@ -94,19 +99,34 @@ module _ (index_of : List ℕ → List ℕ) where
       by None is f = record { none = is; does = done_does book asked answer after f }
       by (Some why) is f = absurd (never why answer book after f)
 
+  -- what a put that is not refused has passed
+  pub record HasPassed (book : Book) (verb : Verb) (name key : List ℕ) : Type 0 where
+    pub named : not (is_within 1 255 name) ≡ false
+    pub keyed : not (is_within 1 2048 key) ≡ false
+    pub page : (bad_verb verb (at book.last.bindings name)).0 ≡ false
+    pub pending : is_some (at book.pending name) ≡ false
+    pub index : (bad_index index_of verb book name).0 ≡ false
+
+  pub put_passed : (book : Book) (verb : Verb) (name key : List ℕ) → refusal index_of book (Edit (Put verb name key)) ≡ None → HasPassed book verb name key
+  put_passed book verb name key none =
+      let late = (is_some (at book.pending name), PendingExists) ∷ bad_index index_of verb book name ∷ [] in
+      let one = two-passed (not (is_within 1 255 name)) (not (is_within 1 2048 key)) BadName BadKey (bad_verb verb (at book.last.bindings name) ∷ late) none in
+      let two = passed (bad_verb verb (at book.last.bindings name)) late one.2 in
+      let three = passed (is_some (at book.pending name), PendingExists) (bad_index index_of verb book name ∷ []) two.1 in
+      record { named = one.0; keyed = one.1; page = two.0; pending = three.0; index = (passed (bad_index index_of verb book name) [] three.1).0 }
+
   -- what is not refused is answered
   pub answer_of : (book : Book) (asked : Asked) → refusal index_of book asked ≡ None → (answer : Answer) × ((done book asked).0 ≡ Answers answer)
-  answer_of book (Register name key) none = (Promised name (record { key = key; salt = book.salt }), refl)
-  answer_of book (Change name key) none = (Promised name (record { key = key; salt = book.salt }), refl)
-  answer_of book (Promise name) none =
+  answer_of book (Query (Promise name)) none =
       let t = there (at book.pending name) (two-passed (not (is_within 1 255 name)) (is_none (at book.pending name)) BadName NoPromise [] none).1 in
       (Promised name t.0, ap (promise_of name) t.1)
-  answer_of book (Lookup name epoch) none =
+  answer_of book (Query (Lookup name epoch)) none =
       let t = there (page_at book epoch) (two-passed (not (is_within 1 255 name)) (is_none (page_at book epoch)) BadName NoSuchEpoch [] none).1 in
       (Found t.0 name (at (t.0).bindings name), ap (found_in name) t.1)
-  answer_of book (History from count) none = (Told (told book from count), refl)
-  answer_of book Head none = (Last book.last, refl)
-  answer_of book (Close epoch) none = (Last (next_page book epoch), refl)
+  answer_of book (Query (History from count)) none = (Told (told book from count), refl)
+  answer_of book (Query Head) none = (Last book.last, refl)
+  answer_of book (Edit (Put verb name key)) none = (Promised name (record { key = key; salt = book.salt }), refl)
+  answer_of book (Edit (Turn epoch)) none = (Last (next_page book epoch), refl)
 
   pub refused_due : (book : Book) (asked : Asked) (why : Refusal) → (step index_of book asked).0 ≡ Refuses why → refusal index_of book asked ≡ Some why
   refused_due book asked why e = by (refusal index_of book asked) refl e

@@ -1,5 +1,5 @@
 -- The roots of a list that a book tells stand one behind another.
-use Rattle.std.proofs.Common.{◌≡◌, ℕ, suc, ◌≤◌, ◌<◌, List, [], ◌∷◌, ◌++◌, take, drop, filter, Bool, true, false, cond, AllPairs, Contains, refl, sym, ap, subst, ◌∙◌, arith, leb, take-append-drop, append_assoc}
+use Rattle.std.proofs.Common.{◌≡◌, ℕ, suc, ◌≤◌, ◌<◌, List, [], ◌∷◌, ◌++◌, take, drop, filter, Bool, true, false, cond, AllPairs, Contains, refl, sym, ap, subst, ◌∙◌, arith, take-append-drop, append_assoc}
 use Rattle.std.specs.Prelude.{nat_le}
 use Rattle.std.specs.List.{AllByRecursion, AllZip}
 use Rattle.std.proofs.lemmas.Bool.{leb-true, le-leb}

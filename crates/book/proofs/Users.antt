@@ -7,7 +7,7 @@ use Rattle.rootchain.specs.declared.signed_root.SignedRoot.{SignedRoot}
 use Rattle.book.specs.declared.record.Record.{Record}
 use Rattle.book.specs.declared.reply.Reply.{Reply}
 use Rattle.book.specs.Answers.{Answer, with_pending, next_page, with_page}
-use Rattle.book.specs.Asked.{Asked, Register, Change, Promise, Lookup, History, Head, Close}
+use Rattle.commands.specs.Asked.{Asked, Query, Edit, Put, Turn}
 use Rattle.book.specs.Books.{Binding, Book, Page, pages}
 use Rattle.book.specs.Honest.{IsAbout, IsSaid, IsUsed, UsersDiffer}
 use Rattle.book.specs.Maps.{Map}
@@ -40,13 +40,9 @@ module _ (P : List ℕ → Type 0) where
   }
 
   named-after : (book after : Book) (asked : Asked) (answer : Answer) → IsNamed P book → ((name : List ℕ) → IsAbout asked name → P name) → Does book asked answer after → IsNamed P after
-  named-after book after (Register name key) answer named about does = subst (IsNamed P) (sym does.1) (named-pending book name key named (about name refl))
-  named-after book after (Change name key) answer named about does = subst (IsNamed P) (sym does.1) (named-pending book name key named (about name refl))
-  named-after book after (Promise name) answer named about does = subst (IsNamed P) (sym does.3) named
-  named-after book after (Lookup name epoch) answer named about does = subst (IsNamed P) (sym does.3) named
-  named-after book after (History from count) answer named about does = subst (IsNamed P) (sym does.1) named
-  named-after book after Head answer named about does = subst (IsNamed P) (sym does.1) named
-  named-after book after (Close epoch) answer named about does = subst (IsNamed P) (sym does.1) (named-page book epoch named)
+  named-after book after (Query question) answer named about does = subst (IsNamed P) (sym does.1) named
+  named-after book after (Edit (Put verb name key)) answer named about does = subst (IsNamed P) (sym does.1) (named-pending book name key named (about name refl))
+  named-after book after (Edit (Turn epoch)) answer named about does = subst (IsNamed P) (sym does.1) (named-page book epoch named)
 
 pub said-asked : (commands : List Asked) (replies : List Reply) (asked : Asked) (said : Reply) → IsSaid commands replies asked said → Contains commands asked
 said-asked [] replies asked said is = absurd is

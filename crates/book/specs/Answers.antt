@@ -1,10 +1,12 @@
 -- What a book answers to a command, and the first refusal that applies.
-use Rattle.std.specs.Prelude.{ℕ, ◌&&◌, ◌||◌, not, nat_le, Bool, if◌then◌else◌, List, [], ◌∷◌, length, filter, take, find, Option, Some, None, is_some, is_none}
+use Rattle.std.specs.Prelude.{ℕ, ◌&&◌, ◌||◌, not, nat_le, Bool, false, if◌then◌else◌, List, [], ◌∷◌, length, filter, take, find, Option, Some, None, is_some, is_none}
 use Rattle.std.specs.Str.{bytes_eq}
 use Rattle.rand_core.specs.Stream.{fill_bytes}
 use Rattle.book.specs.declared.refusal.Refusal.{Refusal}
 use Rattle.book.specs.declared.refusal.Refusal.TheVariants.{BadName, BadKey, NameTaken, NoSuchName, PendingExists, IndexTaken, NoSuchEpoch, EpochNotLater, NoPromise, BadRange}
-use Rattle.book.specs.Asked.{Asked, Register, Change, Promise, Lookup, History, Head, Close}
+use Rattle.commands.specs.declared.edit.Verb.{Verb}
+use Rattle.commands.specs.declared.edit.Verb.TheVariants.{Register, Change}
+use Rattle.commands.specs.Asked.{Asked, Question, Revision, Query, Edit, Put, Turn, Promise, Lookup, History, Head}
 use Rattle.book.specs.Books.{Binding, Book, Page, page_at, pages}
 use Rattle.book.specs.Maps.{Map, at, overwritten, put}
 
@@ -52,20 +54,35 @@ with_page book page = record book { earlier = pages book; last = page; pending =
 abbrev pub told : Book → ℕ → ℕ → List Page
 told book from count = take count (filter (λ page. nat_le from page.epoch) (pages book))
 
+-- the last page already has a name that is to be registered, or lacks one whose key is to be changed
+abbrev pub bad_verb : Verb → Option Binding → Bool × Refusal
+bad_verb Register found = (is_some found, NameTaken)
+bad_verb Change found = (is_none found, NoSuchName)
+
 module _ (index_of : List ℕ → List ℕ) where
   -- another name of these has the index of this one
   abbrev pub has_its_index : List ℕ → Map Binding → Bool
   has_its_index name bindings = is_some (find (λ entry. not (bytes_eq entry.0 name) && bytes_eq (index_of entry.0) (index_of name)) bindings)
 
-  -- the first refusal that applies, if one does, but for want of memory and what is not kept
+  -- another name has the index of one that is to be registered
+  abbrev pub bad_index : Verb → Book → List ℕ → Bool × Refusal
+  bad_index Register book name = (has_its_index name book.last.bindings || has_its_index name book.pending, IndexTaken)
+  bad_index Change book name = (false, IndexTaken)
+
+  -- the first refusal of a query that applies, if one does
+  abbrev pub query_refusal : Book → Question → Option Refusal
+  query_refusal book (Promise name) = first (bad_name name ∷ (is_none (at book.pending name), NoPromise) ∷ [])
+  query_refusal book (Lookup name epoch) = first (bad_name name ∷ (is_none (page_at book epoch), NoSuchEpoch) ∷ [])
+  query_refusal book (History from count) = first ((not (nat_le 1 count && nat_le count 64), BadRange) ∷ [])
+  query_refusal book Head = None
+
+  -- the first refusal of an edit that applies, if one does, but for want of memory and what is not kept
+  abbrev pub edit_refusal : Book → Revision → Option Refusal
+  edit_refusal book (Put verb name key) = first (
+      bad_name name ∷ bad_key key ∷ bad_verb verb (at book.last.bindings name) ∷ (is_some (at book.pending name), PendingExists) ∷ bad_index verb book name ∷ [])
+  edit_refusal book (Turn epoch) = first ((nat_le epoch book.last.epoch, EpochNotLater) ∷ [])
+
+  -- the first refusal of a command
   abbrev pub refusal : Book → Asked → Option Refusal
-  refusal book (Register name key) = first (
-      bad_name name ∷ bad_key key ∷ (is_some (at book.last.bindings name), NameTaken) ∷ (is_some (at book.pending name), PendingExists)
-      ∷ (has_its_index name book.last.bindings || has_its_index name book.pending, IndexTaken) ∷ [])
-  refusal book (Change name key) = first (
-      bad_name name ∷ bad_key key ∷ (is_none (at book.last.bindings name), NoSuchName) ∷ (is_some (at book.pending name), PendingExists) ∷ [])
-  refusal book (Promise name) = first (bad_name name ∷ (is_none (at book.pending name), NoPromise) ∷ [])
-  refusal book (Lookup name epoch) = first (bad_name name ∷ (is_none (page_at book epoch), NoSuchEpoch) ∷ [])
-  refusal book (History from count) = first ((not (nat_le 1 count && nat_le count 64), BadRange) ∷ [])
-  refusal book Head = None
-  refusal book (Close epoch) = first ((nat_le epoch book.last.epoch, EpochNotLater) ∷ [])
+  refusal book (Query question) = query_refusal book question
+  refusal book (Edit revision) = edit_refusal book revision

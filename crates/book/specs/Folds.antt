@@ -5,7 +5,7 @@ use Rattle.book.specs.declared.refusal.Refusal.TheVariants.{Memory, KeepFailed}
 use Rattle.book.specs.declared.reply.Reply.{Reply}
 use Rattle.book.specs.declared.reply.Reply.TheVariants as reply
 use Rattle.book.specs.Answers.{Promised, Found, Told, Last}
-use Rattle.book.specs.Asked.{Asked}
+use Rattle.commands.specs.Asked.{Asked}
 use Rattle.book.specs.Books.{Book}
 use Rattle.book.specs.Steps.{Outcome, Answers, Refuses, step}
 use Rattle.book.specs.Turns.{kept_of}

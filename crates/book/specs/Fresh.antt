@@ -1,10 +1,9 @@
--- A book as a directory begins it, and what is handed in: the provider's functions keep their laws, names,
--- keys and salts are bytes, and numbers fit in their bytes.
-use Rattle.std.specs.Prelude.{ℕ, ◌<◌, ◌^◌, List, [], ⊤}
-use Rattle.encoding.specs.Bytes.{IsBytes, Is32Bytes}
+-- A book as a directory begins it, and what is handed in: the provider's functions keep their laws, salts
+-- have their size, and the first epoch fits in its bytes.
+use Rattle.std.specs.Prelude.{ℕ, ◌<◌, ◌^◌, List, []}
+use Rattle.encoding.specs.Bytes.{Is32Bytes}
 use Rattle.encoding.specs.Limits.{IsName, IsSmall}
 use Rattle.rand_core.specs.Stream.{Stream, fill_bytes}
-use Rattle.book.specs.Asked.{Asked, Register, Change, Promise, Lookup, History, Head, Close}
 use Rattle.book.specs.Books.{Book}
 use Rattle.book.specs.Shows.{Provider}
 
@@ -21,16 +20,6 @@ fresh epoch nonce salts = record {
 -- the epoch is at least 1 and fits in eight bytes
 abbrev pub IsEpoch : ℕ → Type 0
 IsEpoch epoch = (0 < epoch) × (epoch < 2 ^ 64)
-
--- names and keys are bytes, of any length, and the epoch of a new page fits in eight bytes
-abbrev pub IsCommand : Asked → Type 0
-IsCommand (Register name key) = IsBytes name × IsBytes key
-IsCommand (Change name key) = IsBytes name × IsBytes key
-IsCommand (Promise name) = IsBytes name
-IsCommand (Lookup name epoch) = IsBytes name
-IsCommand (History from count) = ⊤
-IsCommand Head = ⊤
-IsCommand (Close epoch) = epoch < 2 ^ 64
 
 -- the laws of the hash function, of the verifiable function and of the signatures, at the provider's keys
 pub record KeepsLaws (accepted verified : List ℕ → List ℕ → List ℕ → Type 0) (key : List ℕ) (provider : Provider) : Type 0 where

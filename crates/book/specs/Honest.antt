@@ -1,6 +1,6 @@
 -- What an honest provider's users see of a run: one chain of roots, replies that are accepted and state
 -- what the pages have, promises that are kept, and nothing that is evidence (CONIKS, sections 3 and 4).
-use Rattle.std.specs.Prelude.{◌≡◌, ◌≢◌, ◌↔◌, ◌⊎◌, ◌==◌, ℕ, ◌<◌, if◌then◌else◌, List, [], ◌∷◌, ◌++◌, length, Option, Some, None, All, Contains, option_map, ⊤}
+use Rattle.std.specs.Prelude.{◌≡◌, ◌↔◌, ◌⊎◌, ◌==◌, ℕ, ◌<◌, if◌then◌else◌, List, [], ◌∷◌, ◌++◌, length, Option, Some, None, All, Contains, option_map, ⊤}
 use Rattle.rootchain.specs.Bodies.{body_bytes}
 use Rattle.rootchain.specs.Chains.{IsChain, IsHead, Links, Verifies}
 use Rattle.rootchain.specs.Promises.{promise_bytes, IsSignedPromise}
@@ -13,12 +13,12 @@ use Rattle.proofs.specs.Replies.{Reply as ReplyRead, Spells}
 use Rattle.proofs.specs.declared.refusal.Refusal.TheVariants.{SameIndex}
 use Rattle.book.specs.declared.reply.Reply.{Reply}
 use Rattle.book.specs.declared.reply.Reply.TheVariants as reply
-use Rattle.book.specs.Asked.{Asked, Register, Change, Promise, Lookup, History, Head, Close}
+use Rattle.commands.specs.Asked.{Asked, Query, Edit, Put, Turn, Promise, Lookup, History, Head}
 use Rattle.book.specs.Books.{Binding, Book, Page}
 use Rattle.rootchain.specs.Evidence.{AreEvidence}
 use Rattle.proofs.specs.BrokenPromises.{IsBrokenPromise}
 use Rattle.book.specs.Maps.{at}
-use Rattle.book.specs.Shows.{Provider, index_of, roots, IsReplyOf, IsRootOf}
+use Rattle.book.specs.Shows.{Provider, index_of, roots, IsRootOf}
 use Rattle.book.specs.Sound.{IsHeld}
 use Rattle.proofs.specs.Watches.{Watch, expected}
 
@@ -31,13 +31,9 @@ IsSaid (asked ∷ more) (said ∷ replies) command answered = ((asked ≡ comman
 -- the epoch of the last page after a command that was answered so, by that of the last page before it: a
 -- closing that is answered with a root makes a page
 abbrev pub latest_after : ℕ → Asked → Reply → ℕ
-latest_after latest (Register name key) said = latest
-latest_after latest (Change name key) said = latest
-latest_after latest (Promise name) said = latest
-latest_after latest (Lookup name epoch) said = latest
-latest_after latest (History from count) said = latest
-latest_after latest Head said = latest
-latest_after latest (Close epoch) said = closed said
+latest_after latest (Query question) said = latest
+latest_after latest (Edit (Put verb name key)) said = latest
+latest_after latest (Edit (Turn epoch)) said = closed said
   where
     closed : Reply → ℕ
     closed (reply.Promised signed) = latest
@@ -84,24 +80,22 @@ ListsInOrder all (reply.Refused why) = ⊤
 
 -- the command is about this name
 abbrev pub IsAbout : Asked → List ℕ → Type 0
-IsAbout (Register name key) other = name ≡ other
-IsAbout (Change name key) other = name ≡ other
-IsAbout (Promise name) other = name ≡ other
-IsAbout (Lookup name epoch) other = name ≡ other
-IsAbout (History from count) other = ⊥
-IsAbout Head other = ⊥
-IsAbout (Close epoch) other = ⊥
+IsAbout (Query (Promise name)) other = name ≡ other
+IsAbout (Query (Lookup name epoch)) other = name ≡ other
+IsAbout (Query (History from count)) other = ⊥
+IsAbout (Query Head) other = ⊥
+IsAbout (Edit (Put verb name key)) other = name ≡ other
+IsAbout (Edit (Turn epoch)) other = ⊥
 
 -- a promise that answers the command is for this name and key: the command's name, and its key where it
 -- brings one
 abbrev pub IsPromisedBy : Asked → List ℕ → List ℕ → Type 0
-IsPromisedBy (Register name key) for bound = (for ≡ name) × (bound ≡ key)
-IsPromisedBy (Change name key) for bound = (for ≡ name) × (bound ≡ key)
-IsPromisedBy (Promise name) for bound = for ≡ name
-IsPromisedBy (Lookup name epoch) for bound = ⊥
-IsPromisedBy (History from count) for bound = ⊥
-IsPromisedBy Head for bound = ⊥
-IsPromisedBy (Close epoch) for bound = ⊥
+IsPromisedBy (Query (Promise name)) for bound = for ≡ name
+IsPromisedBy (Query (Lookup name epoch)) for bound = ⊥
+IsPromisedBy (Query (History from count)) for bound = ⊥
+IsPromisedBy (Query Head) for bound = ⊥
+IsPromisedBy (Edit (Put verb name key)) for bound = (for ≡ name) × (bound ≡ key)
+IsPromisedBy (Edit (Turn epoch)) for bound = ⊥
 
 -- the book holds the name, or a command is about it
 abbrev pub IsUsed : Book → List Asked → List ℕ → Type 0
@@ -175,19 +169,19 @@ module _ (provider : Provider) where
       -- no two of its roots are evidence
       pub linear : (one other : SignedRoot) → Contains (roots provider after) one → Contains (roots provider after) other → ¬ AreEvidence provider.hash verified key one other
       -- each reply to a look-up is accepted, with what the page has, or it is of a double index
-      pub found : (latest : ℕ) (name : List ℕ) (epoch : ℕ) (text : List ℕ) → IsSaidAt before.last.epoch commands replies latest (Lookup name epoch) (reply.Found text)
+      pub found : (latest : ℕ) (name : List ℕ) (epoch : ℕ) (text : List ℕ) → IsSaidAt before.last.epoch commands replies latest (Query (Lookup name epoch)) (reply.Found text)
           → IsAnswer accepted verified key after latest name epoch text ⊎ IsDouble accepted verified key after latest name epoch text
       -- where the users' indices differ, each is accepted
-      pub apart : UsersDiffer before commands → (latest : ℕ) (name : List ℕ) (epoch : ℕ) (text : List ℕ) → IsSaidAt before.last.epoch commands replies latest (Lookup name epoch) (reply.Found text)
+      pub apart : UsersDiffer before commands → (latest : ℕ) (name : List ℕ) (epoch : ℕ) (text : List ℕ) → IsSaidAt before.last.epoch commands replies latest (Query (Lookup name epoch)) (reply.Found text)
           → IsAnswer accepted verified key after latest name epoch text
       -- each promise is kept
       pub kept : (command : Asked) (promised : SignedPromise) → IsSaid commands replies command (reply.Promised promised) → IsKept accepted verified key after command promised
       -- what is found for its name under the next root states its key, at its index
       pub due : (command : Asked) (promised : SignedPromise) (epoch : ℕ) (text : List ℕ) (root : SignedRoot) (statement : Option (List ℕ))
-          → IsSaid commands replies command (reply.Promised promised) → IsSaid commands replies (Lookup promised.promise.name epoch) (reply.Found text)
+          → IsSaid commands replies command (reply.Promised promised) → IsSaid commands replies (Query (Lookup promised.promise.name epoch)) (reply.Found text)
           → root.body.previous_epoch ≡ promised.promise.epoch → Accepts provider.hash accepted root.body promised.promise.name text statement
           → (statement ≡ Some promised.promise.key) × HasIndex provider.hash text promised.promise.index
       -- and no promise is shown broken, by whatever reply and root
       pub unbroken : (command : Asked) (promised : SignedPromise) (name : List ℕ) (epoch : ℕ) (text : List ℕ) (root : SignedRoot)
-          → IsSaid commands replies command (reply.Promised promised) → IsSaid commands replies (Lookup name epoch) (reply.Found text)
+          → IsSaid commands replies command (reply.Promised promised) → IsSaid commands replies (Query (Lookup name epoch)) (reply.Found text)
           → ¬ IsBrokenPromise provider.hash accepted verified key promised root text

@@ -1,5 +1,4 @@
 pub mod Answers
-pub mod Asked
 pub mod Books
 pub mod Folds
 pub mod Fresh

@@ -3,7 +3,7 @@ use Rattle.std.specs.Prelude.{ℕ, List, Option, Some, None}
 use Rattle.book.specs.declared.refusal.Refusal.{Refusal}
 use Rattle.book.specs.declared.refusal.Refusal.TheVariants.{NoSuchEpoch, NoPromise}
 use Rattle.book.specs.Answers.{Answer, Promised, Found, Told, Last, refusal, with_pending, next_page, with_page, told}
-use Rattle.book.specs.Asked.{Asked, Register, Change, Promise, Lookup, History, Head, Close}
+use Rattle.commands.specs.Asked.{Asked, Question, Revision, Query, Edit, Put, Turn, Promise, Lookup, History, Head}
 use Rattle.book.specs.Books.{Binding, Book, Page, page_at}
 use Rattle.book.specs.Maps.{at}
 
@@ -22,15 +22,22 @@ abbrev pub found_in : List ℕ → Option Page → Outcome
 found_in name None = Refuses NoSuchEpoch
 found_in name (Some page) = Answers (Found page name (at page.bindings name))
 
--- what a command does to a book that does not refuse it
+-- what comes of a query that is not refused
+abbrev pub read : Book → Question → Outcome
+read book (Promise name) = promise_of name (at book.pending name)
+read book (Lookup name epoch) = found_in name (page_at book epoch)
+read book (History from count) = Answers (Told (told book from count))
+read book Head = Answers (Last book.last)
+
+-- what an edit that is not refused does to a book
+abbrev pub edited : Book → Revision → Outcome × Book
+edited book (Put verb name key) = (Answers (Promised name (record { key = key; salt = book.salt })), with_pending book name key)
+edited book (Turn epoch) = (Answers (Last (next_page book epoch)), with_page book (next_page book epoch))
+
+-- what a command does to a book that does not refuse it: a query leaves it
 abbrev pub done : Book → Asked → Outcome × Book
-done book (Register name key) = (Answers (Promised name (record { key = key; salt = book.salt })), with_pending book name key)
-done book (Change name key) = (Answers (Promised name (record { key = key; salt = book.salt })), with_pending book name key)
-done book (Promise name) = (promise_of name (at book.pending name), book)
-done book (Lookup name epoch) = (found_in name (page_at book epoch), book)
-done book (History from count) = (Answers (Told (told book from count)), book)
-done book Head = (Answers (Last book.last), book)
-done book (Close epoch) = (Answers (Last (next_page book epoch)), with_page book (next_page book epoch))
+done book (Query question) = (read book question, book)
+done book (Edit revision) = edited book revision
 
 -- a refusal leaves the book
 abbrev pub unless_refused : Option Refusal → Book → Asked → Outcome × Book

@@ -10,20 +10,17 @@ use Rattle.book.specs.declared.refusal.Refusal.TheVariants.{Memory, KeepFailed}
 use Rattle.book.specs.declared.reply.Reply.{Reply}
 use Rattle.book.specs.declared.reply.Reply.TheVariants as reply
 use Rattle.book.specs.Answers.{Answer, Promised, Found, Told, Last}
-use Rattle.book.specs.Asked.{Asked, Register, Change, Promise, Lookup, History, Head, Close}
+use Rattle.commands.specs.Asked.{Asked, Query, Edit, Put}
+use Rattle.commands.specs.Asked as ask
 use Rattle.book.specs.Books.{Binding, Book, Page}
 use Rattle.book.specs.Steps.{Outcome, Answers, Refuses, step}
 use Rattle.book.specs.Shows.{Provider, index_of, promise, signed_promise, IsReplyOf, IsRootOf}
 
 -- what is kept of a command before it changes the book
 abbrev pub kept_of : Book → Asked → Option Record
-kept_of book (Register name key) = Some (record_of_a.Register book.salt name key)
-kept_of book (Change name key) = Some (record_of_a.Change book.salt name key)
-kept_of book (Promise name) = None
-kept_of book (Lookup name epoch) = None
-kept_of book (History from count) = None
-kept_of book Head = None
-kept_of book (Close epoch) = Some (record_of_a.Close epoch)
+kept_of book (Query question) = None
+kept_of book (Edit (Put verb name key)) = Some (record_of_a.Bound verb book.salt name key)
+kept_of book (Edit (ask.Turn epoch)) = Some (record_of_a.Turned epoch)
 
 module _ (provider : Provider) where
   -- the reply shows the answer of a book, as the book is after it

@@ -3,11 +3,11 @@ ghost use Rattle.std.specs.List.{AllZip};
 ghost use Rattle.encoding.specs.Bytes.{Is32Bytes};
 ghost use Rattle.rand_core.specs.Stream.{fill_bytes, Stream};
 ghost use Rattle.book.specs.Answers.{Answer};
-ghost use Rattle.book.specs.Asked.{Asked, Close};
+ghost use Rattle.commands.specs.Asked.{Asked, Edit, IsCommand, Turn};
 ghost use Rattle.rootchain.specs.declared.body.Body.{Body};
 ghost use Rattle.book.specs.Books.{Book, Page, pages};
 ghost use Rattle.book.specs.Folds.{Fate, Tells, folded};
-ghost use Rattle.book.specs.Fresh.{IsCommand, KeepsLaws};
+ghost use Rattle.book.specs.Fresh.{KeepsLaws};
 ghost use Rattle.book.specs.Honest.{IsHonest};
 ghost use Rattle.book.specs.Keeps.{fails_next, keeps_next};
 ghost use Rattle.book.specs.Maps.{at, overwritten};
@@ -78,7 +78,7 @@ pub fn runs_are_folds<K: Keeper>()
 /// what waited. Every earlier page stays as it was, and nothing waits.
 pub fn closing_overwrites()
     ensures { (index_of : List ℕ → List ℕ) (book after : Book) (epoch : ℕ) (answer : Answer)
-        → step index_of book (Close epoch) ≡ (Answers answer, after)
+        → step index_of book (Edit (Turn epoch)) ≡ (Answers answer, after)
         → (after.last.epoch ≡ epoch)
         × (after.last.bindings ≡ overwritten book.last.bindings book.pending)
         × (after.earlier ≡ pages book) × (after.pending ≡ []) }

@@ -6,21 +6,20 @@
 //! ```
 //! fn keep(&mut self, what: &Record) -> Result<(), KeepFailed> {
 //!     match what {
-//!         Record::Register { salt, name, key } => ..,
-//!         Record::Close { epoch } => ..,
+//!         Record::Bound { verb, salt, name, key } => ..,
+//!         Record::Turned { epoch } => ..,
+//!         Record::Start { .. } => Ok(()),
 //!     }
 //! }
 //! ```
 #![tactic(auto)]
 
-mod command;
 mod keeper;
 pub mod laws;
 mod record;
 mod refusal;
 mod reply;
 
-pub use command::Command;
 pub use keeper::{KeepFailed, Keeper, NoKeeper};
 pub use record::Record;
 pub use refusal::Refusal;

@@ -1,3 +1,4 @@
+use commands::Verb;
 use encoding::{Hash32, KeyData, Name};
 
 /// What is kept of a directory: how it began, which the code that begins it keeps, and each accepted
@@ -11,20 +12,15 @@ pub enum Record {
         signature_key: Hash32,
         vuf_key: Hash32,
     },
-    /// A name that had no key, its key, and the salt of the commitment.
-    Register {
+    /// A key that is put to a name, with the salt of the commitment.
+    Bound {
+        verb: Verb,
         salt: Hash32,
         name: Name,
         key: KeyData,
     },
-    /// A name, its new key, and the salt of the commitment.
-    Change {
-        salt: Hash32,
-        name: Name,
-        key: KeyData,
-    },
-    /// The epoch of the new page.
-    Close {
+    /// A new page, of this epoch.
+    Turned {
         epoch: u64,
     },
 }

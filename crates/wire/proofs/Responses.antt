@@ -36,10 +36,7 @@ no_promise kind body is none = ((Promise some_promise, sym is), no)
   where
     no : (responded : Responded) → ¬ Responds kind body responded
     no (Promise x) r = none x r.1
-    no (Proof x) r = absurd (omega (arith, is, r.0))
-    no (Roots x) r = absurd (omega (arith, is, r.0))
-    no (Root x) r = absurd (omega (arith, is, r.0))
-    no (Refused x) r = absurd (omega (arith, is, r.0))
+    no _ r = absurd (omega (arith, is, r.0))
 
 -- a proof that is refused is none, also where a proof stands in front
 not_spelled : (body : List ℕ) (refusal : ReplyRefusal) → ReadsReply body (Err refusal) → (x : Reply) → ¬ Spells reply_bytes IsReply body x
@@ -57,41 +54,29 @@ pub no_proof : (kind : ℕ) (body : List ℕ) (refusal : ReplyRefusal) → kind 
 no_proof kind body refusal is refused = ((Proof (record { body = some_body; value = []; end = Empty; siblings = [] }), sym is), no)
   where
     no : (responded : Responded) → ¬ Responds kind body responded
-    no (Promise x) r = absurd (omega (arith, is, r.0))
     no (Proof x) r = not_spelled body refusal refused x r.1
-    no (Roots x) r = absurd (omega (arith, is, r.0))
-    no (Root x) r = absurd (omega (arith, is, r.0))
-    no (Refused x) r = absurd (omega (arith, is, r.0))
+    no _ r = absurd (omega (arith, is, r.0))
 
 pub no_roots : (kind : ℕ) (body : List ℕ) → kind ≡ 131 → ((x : List SignedRoot) → ¬ Spells root_list_bytes IsRootList body x) → IsNone kind body
 no_roots kind body is none = ((Roots [], sym is), no)
   where
     no : (responded : Responded) → ¬ Responds kind body responded
-    no (Promise x) r = absurd (omega (arith, is, r.0))
-    no (Proof x) r = absurd (omega (arith, is, r.0))
     no (Roots x) r = none x r.1
-    no (Root x) r = absurd (omega (arith, is, r.0))
-    no (Refused x) r = absurd (omega (arith, is, r.0))
+    no _ r = absurd (omega (arith, is, r.0))
 
 pub no_root : (kind : ℕ) (body : List ℕ) → kind ≡ 132 → ((x : SignedRoot) → ¬ Spells signed_root_bytes IsSignedRoot body x) → IsNone kind body
 no_root kind body is none = ((Root (record { body = some_body; signature = [] }), sym is), no)
   where
     no : (responded : Responded) → ¬ Responds kind body responded
-    no (Promise x) r = absurd (omega (arith, is, r.0))
-    no (Proof x) r = absurd (omega (arith, is, r.0))
-    no (Roots x) r = absurd (omega (arith, is, r.0))
     no (Root x) r = none x r.1
-    no (Refused x) r = absurd (omega (arith, is, r.0))
+    no _ r = absurd (omega (arith, is, r.0))
 
 pub no_code : (kind : ℕ) (body : List ℕ) → kind ≡ 255 → ((code : ℕ) → body ≢ code ∷ []) → IsNone kind body
 no_code kind body is none = ((Refused 0, sym is), no)
   where
     no : (responded : Responded) → ¬ Responds kind body responded
-    no (Promise x) r = absurd (omega (arith, is, r.0))
-    no (Proof x) r = absurd (omega (arith, is, r.0))
-    no (Roots x) r = absurd (omega (arith, is, r.0))
-    no (Root x) r = absurd (omega (arith, is, r.0))
     no (Refused x) r = none x r.1.0
+    no _ r = absurd (omega (arith, is, r.0))
 
 -- ---- one response
 

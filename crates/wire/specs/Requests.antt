@@ -1,87 +1,84 @@
 -- What is asked of a directory, and how it is spelled in a frame (the bytes are this directory's own).
-use Rattle.std.specs.Prelude.{◌≡◌, ℕ, ◌^◌, ◌<◌, ◌==◌, if◌then◌else◌, List, [], ◌++◌, Option, Some, None, Result, Ok, Err, ⊤}
+use Rattle.std.specs.Prelude.{◌≡◌, ℕ, ◌==◌, if◌then◌else◌, List, [], ◌∷◌, ◌++◌, Option, Some, None, Result, Ok, Err}
 use Rattle.encoding.specs.Bytes.{Is32Bytes}
 use Rattle.encoding.specs.Endian.{big_bytes}
 use Rattle.encoding.specs.Fields.{Spells}
 use Rattle.encoding.specs.Forms.{counted_bytes}
 use Rattle.encoding.specs.Limits.{IsWithin}
 use Rattle.encoding.specs.Reading.{Reading, read_as, read_both, read_bytes, read_counted, read_nothing, read_number}
+use Rattle.commands.specs.declared.edit.Verb.{Verb}
+use Rattle.commands.specs.declared.edit.Verb.TheVariants.{Register, Change}
+use Rattle.commands.specs.Asked as ask
+use Rattle.commands.specs.Asked.{Question, Promise, Lookup, History, Head, question, FitsIn, MayChange, MayRead}
 use Rattle.wire.specs.Frames.{Frame}
+use Rattle.wire.specs.declared.kind_bytes.TheConstants.{REGISTER, CHANGE, PROMISE, LOOKUP, HISTORY, HEAD, CLOSE}
 use Rattle.wire.specs.declared.request.Request.{Request}
 use Rattle.wire.specs.declared.request.Request.TheVariants as request
 use Rattle.wire.specs.declared.refusal.ReadRefusal.{ReadRefusal}
 use Rattle.wire.specs.declared.refusal.ReadRefusal.TheVariants.{BadKind, BadBody}
 
--- a request, regardless of where its bytes lie
-pub data Asked : Type 0 where
-  Register : List ℕ → List ℕ → Asked
-  Change : List ℕ → List ℕ → Asked
-  Promise : List ℕ → Asked
-  Lookup : ℕ → List ℕ → Asked
-  History : ℕ → ℕ → Asked
-  Head : Asked
-  Close : List ℕ → ℕ → Asked
+-- a request, regardless of where its bytes lie: a command, where a new page has the operator's token beside it
+pub data Requested : Type 0 where
+  Query : Question → Requested
+  Put : Verb → List ℕ → List ℕ → Requested
+  Turn : List ℕ → ℕ → Requested
 
-abbrev pub request_seen : Request → Asked
-request_seen (request.Register name key) = Register name.now key.now
-request_seen (request.Change name key) = Change name.now key.now
-request_seen (request.Promise name) = Promise name.now
-request_seen (request.Lookup epoch name) = Lookup epoch name.now
-request_seen (request.History from count) = History from count
-request_seen request.Head = Head
-request_seen (request.Close token epoch) = Close token epoch
+abbrev pub request_seen : Request → Requested
+request_seen (request.Query query) = Query (question query)
+request_seen (request.Put put) = Put put.verb put.name.now put.key.now
+request_seen (request.Turn token epoch) = Turn token epoch
 
-abbrev pub request_kind : Asked → ℕ
-request_kind (Register name key) = 1
-request_kind (Change name key) = 2
-request_kind (Promise name) = 3
-request_kind (Lookup epoch name) = 4
-request_kind (History from count) = 5
-request_kind Head = 6
-request_kind (Close token epoch) = 7
+-- ---- kinds and bodies
 
--- names and keys stand behind their lengths in two bytes
-abbrev pub request_body : Asked → List ℕ
-request_body (Register name key) = counted_bytes name ++ counted_bytes key
-request_body (Change name key) = counted_bytes name ++ counted_bytes key
-request_body (Promise name) = counted_bytes name
-request_body (Lookup epoch name) = big_bytes 8 epoch ++ counted_bytes name
-request_body (History from count) = big_bytes 8 from ++ big_bytes 2 count
-request_body Head = []
-request_body (Close token epoch) = token ++ big_bytes 8 epoch
+abbrev pub put_kind : Verb → ℕ
+put_kind Register = REGISTER
+put_kind Change = CHANGE
+
+-- a request as a frame. Names and keys stand behind their lengths in two bytes
+abbrev pub request_frame : Requested → Frame
+request_frame (Query (Promise name)) = record { kind = PROMISE; body = counted_bytes name }
+request_frame (Query (Lookup name epoch)) = record { kind = LOOKUP; body = big_bytes 8 epoch ++ counted_bytes name }
+request_frame (Query (History from count)) = record { kind = HISTORY; body = big_bytes 8 from ++ big_bytes 2 count }
+request_frame (Query Head) = record { kind = HEAD; body = [] }
+request_frame (Put verb name key) = record { kind = put_kind verb; body = counted_bytes name ++ counted_bytes key }
+request_frame (Turn token epoch) = record { kind = CLOSE; body = token ++ big_bytes 8 epoch }
+
+abbrev pub request_kind : Requested → ℕ
+request_kind requested = (request_frame requested).kind
+
+abbrev pub request_body : Requested → List ℕ
+request_body requested = (request_frame requested).body
+
+-- ---- what is allowed
 
 -- bytes of any length that fits in two bytes
 abbrev pub IsCounted : List ℕ → Type 0
 IsCounted = IsWithin 0 65535
 
--- what a request may hold. Whether a name or a key is allowed is the directory's answer
-abbrev pub IsAsked : Asked → Type 0
-IsAsked (Register name key) = IsCounted name × IsCounted key
-IsAsked (Change name key) = IsCounted name × IsCounted key
-IsAsked (Promise name) = IsCounted name
-IsAsked (Lookup epoch name) = (epoch < 2 ^ 64) × IsCounted name
-IsAsked (History from count) = (from < 2 ^ 64) × (count < 2 ^ 16)
-IsAsked Head = ⊤
-IsAsked (Close token epoch) = Is32Bytes token × (epoch < 2 ^ 64)
+-- a request whose names and keys are such texts, whose numbers fit in their bytes, and whose token has 32
+abbrev pub MayRequest : (List ℕ → Type 0) → Requested → Type 0
+MayRequest OfText (Query question) = MayRead OfText FitsIn question
+MayRequest OfText (Put verb name key) = MayChange OfText FitsIn (ask.Put verb name key)
+MayRequest OfText (Turn token epoch) = Is32Bytes token × FitsIn 64 epoch
 
--- a request as a frame
-abbrev pub request_frame : Asked → Frame
-request_frame asked = record { kind = request_kind asked; body = request_body asked }
+-- what a request may hold. Whether a name or a key is allowed is the directory's answer
+abbrev pub IsAsked : Requested → Type 0
+IsAsked = MayRequest IsCounted
 
 -- the body spells this request, which is of the kind
-abbrev pub Asks : ℕ → List ℕ → Asked → Type 0
-Asks kind body asked = (request_kind asked ≡ kind) × Spells request_body IsAsked body asked
+abbrev pub Asks : ℕ → List ℕ → Requested → Type 0
+Asks kind body requested = (request_kind requested ≡ kind) × Spells request_body IsAsked body requested
 
 -- some request is of the kind
 abbrev pub IsRequestKind : ℕ → Type 0
-IsRequestKind kind = (asked : Asked) × (request_kind asked ≡ kind)
+IsRequestKind kind = (requested : Requested) × (request_kind requested ≡ kind)
 
 -- What reading answers: the request that the body spells; BadKind where no request is of the kind, and
 -- BadBody where some is, but the body spells none of them.
 abbrev pub ReadsRequest : ℕ → List ℕ → Result Request ReadRefusal → Type 0
 ReadsRequest kind body (Ok read) = Asks kind body (request_seen read)
 ReadsRequest kind body (Err BadKind) = ¬ IsRequestKind kind
-ReadsRequest kind body (Err BadBody) = IsRequestKind kind × ((asked : Asked) → ¬ Asks kind body asked)
+ReadsRequest kind body (Err BadBody) = IsRequestKind kind × ((requested : Requested) → ¬ Asks kind body requested)
 
 -- ---- reading
 
@@ -93,33 +90,41 @@ read_text = read_counted 0 65535
 abbrev pub read_binding : List ℕ → Reading (List ℕ × List ℕ)
 read_binding = read_both read_text read_text
 
--- how the body of each kind is read
-abbrev pub body_reader : ℕ → Option (List ℕ → Reading Asked)
-body_reader kind =
-    if kind == 1 then Some (read_as (λ parts. Register parts.0 parts.1) read_binding)
-    else (if kind == 2 then Some (read_as (λ parts. Change parts.0 parts.1) read_binding)
-    else (if kind == 3 then Some (read_as Promise read_text)
-    else (if kind == 4 then Some (read_as (λ parts. Lookup parts.0 parts.1) (read_both (read_number 8) read_text))
-    else (if kind == 5 then Some (read_as (λ parts. History parts.0 parts.1) (read_both (read_number 8) (read_number 2)))
-    else (if kind == 6 then Some (read_nothing Head)
-    else (if kind == 7 then Some (read_as (λ parts. Close parts.0 parts.1) (read_both (read_bytes 32) (read_number 8)))
-    else None))))))
+-- the kinds of requests, each with its byte and with how its body is read
+abbrev pub kinds : List (ℕ × (List ℕ → Reading Requested))
+kinds =
+    (REGISTER, read_as (λ parts. Put Register parts.0 parts.1) read_binding)
+    ∷ (CHANGE, read_as (λ parts. Put Change parts.0 parts.1) read_binding)
+    ∷ (PROMISE, read_as (λ name. Query (Promise name)) read_text)
+    ∷ (LOOKUP, read_as (λ parts. Query (Lookup parts.1 parts.0)) (read_both (read_number 8) read_text))
+    ∷ (HISTORY, read_as (λ parts. Query (History parts.0 parts.1)) (read_both (read_number 8) (read_number 2)))
+    ∷ (HEAD, read_nothing (Query Head))
+    ∷ (CLOSE, read_as (λ parts. Turn parts.0 parts.1) (read_both (read_bytes 32) (read_number 8)))
+    ∷ []
+
+-- how the body of a kind is read, if it is one of these
+abbrev pub reader_among : List (ℕ × (List ℕ → Reading Requested)) → ℕ → Option (List ℕ → Reading Requested)
+reader_among [] kind = None
+reader_among (known ∷ more) kind = if kind == known.0 then Some known.1 else reader_among more kind
+
+abbrev pub body_reader : ℕ → Option (List ℕ → Reading Requested)
+body_reader kind = reader_among kinds kind
 
 -- any fault in the body is BadBody
-abbrev pub or_bad_body : Reading Asked → Result (Asked × List ℕ) ReadRefusal
+abbrev pub or_bad_body : Reading Requested → Result (Requested × List ℕ) ReadRefusal
 or_bad_body (Ok read) = Ok read
 or_bad_body (Err fault) = Err BadBody
 
 -- by the reader of its kind, or BadKind where there is none
-abbrev pub read_by : Option (List ℕ → Reading Asked) → List ℕ → Result (Asked × List ℕ) ReadRefusal
+abbrev pub read_by : Option (List ℕ → Reading Requested) → List ℕ → Result (Requested × List ℕ) ReadRefusal
 read_by (Some read) bytes = or_bad_body (read bytes)
 read_by None bytes = Err BadKind
 
 -- the request of a kind at the front of the bytes, with the bytes that are left, or the refusal
-unfoldable pub read_request : ℕ → List ℕ → Result (Asked × List ℕ) ReadRefusal
+unfoldable pub read_request : ℕ → List ℕ → Result (Requested × List ℕ) ReadRefusal
 read_request kind bytes = read_by (body_reader kind) bytes
 
 -- what a call returned, and the bytes that it left, are what was read
-abbrev pub GivesRequest : Result Request ReadRefusal → List ℕ → Result (Asked × List ℕ) ReadRefusal → Type 0
+abbrev pub GivesRequest : Result Request ReadRefusal → List ℕ → Result (Requested × List ℕ) ReadRefusal → Type 0
 GivesRequest (Ok request) rest reading = reading ≡ Ok (request_seen request, rest)
 GivesRequest (Err refusal) rest reading = reading ≡ Err refusal

@@ -10,6 +10,7 @@ use Rattle.rootchain.specs.SignedRoots.{signed_root_bytes, IsSignedRoot}
 use Rattle.wire.specs.Frames.{Frame}
 use Rattle.wire.specs.declared.answer.Answer.{Answer}
 use Rattle.wire.specs.declared.answer.Answer.TheVariants as answer
+use Rattle.wire.specs.declared.kind_bytes.TheConstants.{PROMISED, PROOF, ROOTS, ROOT, REFUSED}
 use Rattle.wire.specs.declared.refusal.ReadRefusal.{ReadRefusal}
 use Rattle.wire.specs.declared.refusal.ReadRefusal.TheVariants.{BadKind, BadBody}
 use Rattle.wire.specs.declared.response.Response.{Response}
@@ -32,15 +33,15 @@ response_seen (response.Refused code) = Refused code
 
 -- the frame of a reply to a look-up, by its bytes
 abbrev pub proof_frame : List ℕ → Frame
-proof_frame text = record { kind = 130; body = text }
+proof_frame text = record { kind = PROOF; body = text }
 
 -- a response as a frame
 abbrev pub response_frame : Responded → Frame
-response_frame (Promise promise) = record { kind = 129; body = signed_promise_bytes promise }
+response_frame (Promise promise) = record { kind = PROMISED; body = signed_promise_bytes promise }
 response_frame (Proof proof) = proof_frame (reply_bytes proof)
-response_frame (Roots roots) = record { kind = 131; body = root_list_bytes roots }
-response_frame (Root root) = record { kind = 132; body = signed_root_bytes root }
-response_frame (Refused code) = record { kind = 255; body = code ∷ [] }
+response_frame (Roots roots) = record { kind = ROOTS; body = root_list_bytes roots }
+response_frame (Root root) = record { kind = ROOT; body = signed_root_bytes root }
+response_frame (Refused code) = record { kind = REFUSED; body = code ∷ [] }
 
 abbrev pub response_kind : Responded → ℕ
 response_kind responded = (response_frame responded).kind

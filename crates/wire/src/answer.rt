@@ -5,6 +5,7 @@ ghost use Rattle.rootchain.specs.SignedRoots.{signed_root_bytes};
 ghost use Rattle.wire.specs.Frames.{frame_bytes, frame_size};
 ghost use Rattle.wire.specs.Responses.{answer_frame, HasFewRoots};
 
+use crate::kind_bytes::{PROMISED, PROOF, REFUSED, ROOT, ROOTS};
 use crate::writing::{append_frame, begin_frame, length_bytes};
 use encoding::ProofText;
 use rootchain::{SignedPromise, SignedRoot, list_len, write_list};
@@ -12,17 +13,6 @@ use std::alloc::AllocError;
 
 /// The most bytes that the frame of an answer has: 64 roots with the longest signatures.
 pub const MAX_ANSWER_LEN: usize = 25863;
-
-/// The kind bytes of responses.
-pub(crate) const PROMISE: u8 = 129;
-
-pub(crate) const PROOF: u8 = 130;
-
-pub(crate) const ROOTS: u8 = 131;
-
-pub(crate) const ROOT: u8 = 132;
-
-pub(crate) const REFUSED: u8 = 255;
 
 /// A response that is to be written, whose parts lie where the directory has them.
 #[derive(Debug, Drop)]
@@ -83,7 +73,7 @@ fn append_promise(output: &mut Vec<u8>, promise: &SignedPromise) -> Result<(), A
     let signature = promise.signature.bytes();
     append_frame(
         output,
-        PROMISE,
+        PROMISED,
         text.bytes(),
         &length_bytes(signature),
         signature,

@@ -8,7 +8,7 @@
 //! feed.feed(piece)?;
 //! while let Next::Frame(kind, body) = feed.next() {
 //!     match Request::read(kind, body) {
-//!         Ok(Request::Head) => Answer::Root(directory.head()).write(&mut output)?,
+//!         Ok(Request::Query(Query::Head)) => Answer::Root(directory.head()).write(&mut output)?,
 //!         // .. the other requests
 //!         Err(why) => Answer::Refused(why.number()).write(&mut output)?,
 //!     }
@@ -19,6 +19,7 @@
 mod answer;
 mod feed;
 mod frame;
+mod kind_bytes;
 mod laws;
 mod refusal;
 mod request;

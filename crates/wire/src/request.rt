@@ -1,49 +1,29 @@
 ghost use Rattle.std.specs.Prelude.{◌≡◌, ◌↔◌, ◌+◌, ◌<◌, ◌≤◌, ◌++◌, length, OnOk, OnErr, IsOk, IsTrue, vec_len, vec_capacity};
+ghost use Rattle.commands.specs.Asked.{question};
 ghost use Rattle.wire.specs.Frames.{frame_bytes, frame_size, IsFrame};
+ghost use Rattle.wire.specs.Requests as asks;
 ghost use Rattle.wire.specs.Requests.{read_request, request_frame, request_seen, GivesRequest, IsAsked, ReadsRequest};
 
 use crate::ReadRefusal;
 use crate::frame::MAX_FRAME_LEN;
+use crate::kind_bytes::{CHANGE, CLOSE, HEAD, HISTORY, LOOKUP, PROMISE, REGISTER};
 use crate::writing::{append_frame, length_bytes};
+use commands::{Put, Query, Verb};
 use encoding::{Cursor, FixedText, Hash32};
 use std::alloc::AllocError;
 
 /// The most bytes that stand behind a length in two bytes.
 const MAX_COUNTED_LEN: usize = 65535;
 
-/// The kind bytes of requests.
-const REGISTER: u8 = 1;
-
-const CHANGE: u8 = 2;
-
-const PROMISE: u8 = 3;
-
-const LOOKUP: u8 = 4;
-
-const HISTORY: u8 = 5;
-
-const HEAD: u8 = 6;
-
-const CLOSE: u8 = 7;
-
-/// What a session asks of a directory. Names and keys may have any length that a frame holds; the
-/// directory tells whether it allows them.
+/// What a session asks of a directory: a command, where a new page has the operator's token beside it.
 #[derive(Debug, Drop)]
 pub enum Request<'a> {
-    /// Binds a key to a name that has none.
-    Register { name: &'a [u8], key: &'a [u8] },
-    /// Binds another key to a name.
-    Change { name: &'a [u8], key: &'a [u8] },
-    /// Asks for the promise that waits for a name.
-    Promise { name: &'a [u8] },
-    /// Asks what an epoch has at a name. Epoch 0 asks for the latest.
-    Lookup { epoch: u64, name: &'a [u8] },
-    /// Asks for the first `count` roots of at least this epoch.
-    History { from: u64, count: u16 },
-    /// Asks for the latest root.
-    Head,
-    /// Ends the epoch; the next has this number. Only the operator has the token.
-    Close { token: Hash32, epoch: u64 },
+    /// To read it.
+    Query(Query<'a>),
+    /// To put a key to a name.
+    Put(Put<'a>),
+    /// To end the epoch; the next has this number. Only the operator has the token.
+    Turn { token: Hash32, epoch: u64 },
 }
 
 impl<'a> Request<'a> {
@@ -71,14 +51,14 @@ impl<'a> Request<'a> {
         ensures { IsTrue result ↔ (frame_size (request_frame (request_seen self.now)) ≤ 65536) }
     {
         match self {
-            Request::Register { name, key } | Request::Change { name, key } => {
-                name.len().saturating_add(key.len()) < MAX_FRAME_LEN - 4
+            Request::Query(Query::Promise { name }) => name.len() < MAX_FRAME_LEN - 2,
+            Request::Query(Query::Lookup { name, .. }) => name.len() < MAX_FRAME_LEN - 10,
+            Request::Query(Query::History { .. } | Query::Head) => true,
+            Request::Put(put) => {
+                put.name.len().saturating_add(put.key.len()) < MAX_FRAME_LEN - 4
             }
-            Request::Promise { name } => name.len() < MAX_FRAME_LEN - 2,
-            Request::Lookup { name, .. } => name.len() < MAX_FRAME_LEN - 10,
-            Request::History { .. } | Request::Head => true,
             // Always so: a token has 32 bytes, which its `bytes` ensures.
-            Request::Close { token, .. } => token.bytes().len() < MAX_FRAME_LEN - 8,
+            Request::Turn { token, .. } => token.bytes().len() < MAX_FRAME_LEN - 8,
         }
     }
 
@@ -92,44 +72,16 @@ impl<'a> Request<'a> {
         ensures form { IsAsked (request_seen self.now) × IsFrame (request_frame (request_seen self.now)) }
     {
         match self {
-            Request::Register { name, key } => append_frame(
+            Request::Query(query) => write_query(query, output),
+            Request::Put(put) => append_frame(
                 output,
-                REGISTER,
-                &length_bytes(name),
-                name,
-                &length_bytes(key),
-                key,
+                put_kind(put.verb),
+                &length_bytes(put.name),
+                put.name,
+                &length_bytes(put.key),
+                put.key,
             ),
-            Request::Change { name, key } => append_frame(
-                output,
-                CHANGE,
-                &length_bytes(name),
-                name,
-                &length_bytes(key),
-                key,
-            ),
-            Request::Promise { name } => append_frame(
-                output,
-                PROMISE,
-                &length_bytes(name),
-                name,
-                &[],
-                &[],
-            ),
-            Request::Lookup { epoch, name } => {
-                let mut front = FixedText::<10>::new();
-                front.push_u64(*epoch);
-                front.push_slice(&length_bytes(name));
-                append_frame(output, LOOKUP, front.bytes(), name, &[], &[])
-            }
-            Request::History { from, count } => {
-                let mut front = FixedText::<10>::new();
-                front.push_u64(*from);
-                front.push_u16(*count);
-                append_frame(output, HISTORY, front.bytes(), &[], &[], &[])
-            }
-            Request::Head => append_frame(output, HEAD, &[], &[], &[], &[]),
-            Request::Close { token, epoch } => {
+            Request::Turn { token, epoch } => {
                 let mut front = FixedText::<40>::new();
                 front.push_slice(token.bytes());
                 front.push_u64(*epoch);
@@ -139,33 +91,79 @@ impl<'a> Request<'a> {
     }
 }
 
+/// Appends the frame of a query.
+fn write_query(query: &Query<'_>, output: &mut Vec<u8>) -> Result<(), AllocError>
+    requires { frame_size (request_frame (asks.Query (question query.now))) ≤ 65536 }
+    ensures ok { OnOk result (output.new.items ≡ output.old.items ++ frame_bytes (request_frame (asks.Query (question query.now)))) }
+    ensures err { OnErr result (output.new.items ≡ output.old.items) }
+    ensures room { vec_len output.old + 4 + frame_size (request_frame (asks.Query (question query.now))) ≤ vec_capacity output.old → IsOk result }
+    ensures form { IsAsked (asks.Query (question query.now)) × IsFrame (request_frame (asks.Query (question query.now))) }
+{
+    match query {
+        Query::Promise { name } => append_frame(
+            output,
+            PROMISE,
+            &length_bytes(name),
+            name,
+            &[],
+            &[],
+        ),
+        Query::Lookup { name, epoch } => {
+            let mut front = FixedText::<10>::new();
+            front.push_u64(*epoch);
+            front.push_slice(&length_bytes(name));
+            append_frame(output, LOOKUP, front.bytes(), name, &[], &[])
+        }
+        Query::History { from, count } => {
+            let mut front = FixedText::<10>::new();
+            front.push_u64(*from);
+            front.push_u16(*count);
+            append_frame(output, HISTORY, front.bytes(), &[], &[], &[])
+        }
+        Query::Head => append_frame(output, HEAD, &[], &[], &[], &[]),
+    }
+}
+
+/// The kind byte of a key that is put to a name.
+fn put_kind(verb: Verb) -> u8
+    ensures { result ≡ asks.put_kind verb }
+{
+    match verb {
+        Verb::Register => REGISTER,
+        Verb::Change => CHANGE,
+    }
+}
+
 /// The parts of a request of this kind, from the front of a body.
 #[tactic(auto, unfolding(crate::specs::Requests::read_request))]
 fn read_parts<'a>(kind: u8, cursor: &mut Cursor<'a>) -> Result<Request<'a>, ReadRefusal>
     ensures { GivesRequest result cursor.new (read_request kind cursor.old) }
 {
     Ok(match kind {
-        REGISTER => Request::Register {
+        REGISTER => Request::Put(Put {
+            verb: Verb::Register,
             name: cursor.counted(0, MAX_COUNTED_LEN)?,
             key: cursor.counted(0, MAX_COUNTED_LEN)?,
-        },
-        CHANGE => Request::Change {
+        }),
+        CHANGE => Request::Put(Put {
+            verb: Verb::Change,
             name: cursor.counted(0, MAX_COUNTED_LEN)?,
             key: cursor.counted(0, MAX_COUNTED_LEN)?,
-        },
-        PROMISE => Request::Promise {
+        }),
+        PROMISE => Request::Query(Query::Promise {
             name: cursor.counted(0, MAX_COUNTED_LEN)?,
-        },
-        LOOKUP => Request::Lookup {
-            epoch: cursor.u64()?,
-            name: cursor.counted(0, MAX_COUNTED_LEN)?,
-        },
-        HISTORY => Request::History {
+        }),
+        LOOKUP => {
+            let epoch = cursor.u64()?;
+            let name = cursor.counted(0, MAX_COUNTED_LEN)?;
+            Request::Query(Query::Lookup { name, epoch })
+        }
+        HISTORY => Request::Query(Query::History {
             from: cursor.u64()?,
             count: cursor.u16()?,
-        },
-        HEAD => Request::Head,
-        CLOSE => Request::Close {
+        }),
+        HEAD => Request::Query(Query::Head),
+        CLOSE => Request::Turn {
             token: cursor.hash32()?,
             epoch: cursor.u64()?,
         },

@@ -2,7 +2,7 @@ ghost use Rattle.std.specs.Prelude.{◌≡◌, ◌≢◌, ℕ, ◌∷◌, [], Ma
 ghost use Rattle.wire.specs.Responses.{ReadsResponse};
 
 use crate::ReadRefusal;
-use crate::answer::{PROMISE, PROOF, REFUSED, ROOT, ROOTS};
+use crate::kind_bytes::{PROMISED, PROOF, REFUSED, ROOT, ROOTS};
 use proofs::ReplyView;
 use rootchain::{RootList, SignedPromise, SignedRoot};
 
@@ -31,7 +31,7 @@ impl<'a> Response<'a> {
         ensures { ReadsResponse kind body.entry.now result }
     {
         match kind {
-            PROMISE => match SignedPromise::read(body) {
+            PROMISED => match SignedPromise::read(body) {
                 Ok(promise) => Ok(Response::Promise(promise)),
                 Err(_) => Err(ReadRefusal::BadBody),
             },
