@@ -3,9 +3,9 @@ use Rattle.std.proofs.Common.{◌≡◌, ℕ, List, [], ◌∷◌, All, Contains
 use Rattle.rand_core.specs.Stream.{Stream}
 use Rattle.book.specs.declared.record.Record.{Record}
 use Rattle.book.specs.declared.reply.Reply.{Reply}
-use Rattle.book.specs.Asked.{Asked}
+use Rattle.commands.specs.Asked.{Asked, IsCommand}
 use Rattle.book.specs.Books.{Book, Page, pages}
-use Rattle.book.specs.Fresh.{fresh, HasSalts, IsCommand, KeepsLaws}
+use Rattle.book.specs.Fresh.{fresh, HasSalts, KeepsLaws}
 use Rattle.book.specs.Honest.{IsHonest}
 use Rattle.book.specs.Shows.{Provider, Sealed, index_of, sealed_behind, IsRootOf}
 use Rattle.book.specs.Sound.{IsPage, IsSound}
