@@ -24,10 +24,11 @@ use Rattle.book.specs.declared.refusal.Refusal.{Refusal}
 use Rattle.book.specs.declared.refusal.Refusal.TheVariants.{BadName, NoPromise, NoSuchEpoch}
 use Rattle.book.specs.declared.reply.Reply.TheVariants as reply
 use Rattle.book.specs.Answers.{Found, Promised, Told, first, is_within, refusal, told}
-use Rattle.book.specs.Asked.{History, Lookup, Promise}
+use Rattle.commands.specs.Asked.{History, Lookup, Promise, Query}
 use Rattle.book.specs.Books.{Binding, Book, Page, page_at, pages}
 use Rattle.book.specs.Maps.{at}
 use Rattle.book.specs.Shows.{Provider, index_of, roots, shown_end, IsRootOf}
+use Rattle.book.specs.Steps.{found_in, promise_of}
 use Rattle.book.specs.Turns.{IsRead, Reads, Shows}
 use Rattle.book.proofs.Rooted.{rooted-part}
 use Rattle.book.proofs.Stepping.{does_steps}
@@ -44,17 +45,17 @@ name-passes name is = rw (le-leb 1 (length name) is.0, le-leb (length name) 255 
 
 -- the promise of the key that waits is one to read
 pub promise_reads : (provider : Provider) (book : Book) (name key : List ℕ) (signed : SignedPromise) → IsName name → Some key ≡ option_map (λ (binding : Binding). binding.key) (at book.pending name)
-    → ((salt : List ℕ) → Shows provider book (Promised name (record { key = key; salt = salt })) (reply.Promised signed)) → Reads provider book (Promise name) (reply.Promised signed)
+    → ((salt : List ℕ) → Shows provider book (Promised name (record { key = key; salt = salt })) (reply.Promised signed)) → Reads provider book (Query (Promise name)) (reply.Promised signed)
 promise_reads provider book name key signed named waits shows = by (at book.pending name) refl waits
   where
-    by : (found : Option Binding) → at book.pending name ≡ found → Some key ≡ option_map (λ (binding : Binding). binding.key) found → Reads provider book (Promise name) (reply.Promised signed)
+    by : (found : Option Binding) → at book.pending name ≡ found → Some key ≡ option_map (λ (binding : Binding). binding.key) found → Reads provider book (Query (Promise name)) (reply.Promised signed)
     by None is e = absurd cc
     by (Some binding) is e =
         let same : key ≡ binding.key = cc in
-        let none : refusal (index_of provider) book (Promise name) ≡ None =
+        let none : refusal (index_of provider) book (Query (Promise name)) ≡ None =
         two-pass (not (is_within 1 255 name)) (is_none (at book.pending name)) BadName NoPromise (name-passes name named) (ap (λ (o : Option Binding). is_none o) is) in (
           Promised name binding,
-          does_steps (index_of provider) book (Promise name) (Promised name binding) book none (binding, is, refl, refl),
+          does_steps (index_of provider) book (Query (Promise name)) (Promised name binding) book none (ap (promise_of name) is, refl),
           subst (λ (k : List ℕ). Shows provider book (Promised name (record { key = k; salt = binding.salt })) (reply.Promised signed)) same (shows binding.salt),
         )
 
@@ -115,10 +116,10 @@ module _ (provider : Provider) (parts : Parts) (salt : List ℕ) (left : Stream)
       → IsName name → page_at the_book epoch ≡ slice_get (pages the_book) place → place < length (pages the_book) → root ≡ get_or parts.roots place root → tree ≡ get_or parts.trees place tree
       → value ≡ provider.value name → index ≡ provider.hash value → IsPath provider.hash tree.nonce tree.items index siblings end → found ≡ at (chosen (shown place) parts.names) name
       → text ≡ reply_bytes (record { body = root.body; value = value; end = shown_end index found end; siblings = siblings })
-      → Reads provider the_book (Lookup name epoch) (reply.Found text)
+      → Reads provider the_book (Query (Lookup name epoch)) (reply.Found text)
   lookup_reads name epoch place root tree value index siblings end found text named is below there tree_there value_is index_is path found_is spelled = (
     Found page name (at page.bindings name),
-    does_steps (index_of provider) the_book (Lookup name epoch) (Found page name (at page.bindings name)) the_book none (page, the_page, refl, refl),
+    does_steps (index_of provider) the_book (Query (Lookup name epoch)) (Found page name (at page.bindings name)) the_book none (ap (found_in name) the_page, refl),
     (
       page,
       name,
@@ -146,7 +147,7 @@ module _ (provider : Provider) (parts : Parts) (salt : List ℕ) (left : Stream)
       the_page : page_at the_book epoch ≡ Some page
       the_page = is ∙ page_kept parts keeps.begun salt left place root at_place
 
-      none : refusal (index_of provider) the_book (Lookup name epoch) ≡ None
+      none : refusal (index_of provider) the_book (Query (Lookup name epoch)) ≡ None
       none =
           two-pass (not (is_within 1 255 name)) (is_none (page_at the_book epoch)) BadName NoSuchEpoch (name-passes name named) (ap (λ (o : Option Page). is_none o) the_page)
 
@@ -176,14 +177,14 @@ module _ (provider : Provider) (parts : Parts) (salt : List ℕ) (left : Stream)
   pub history_reads : (from count start end : ℕ) (later given : List SignedRoot) → count ≢ 0 → count ≤ 64
       → IsPartitionPoint (λ (root : SignedRoot). ltb root.body.epoch from ≡ true) (λ (root : SignedRoot). ltb root.body.epoch from ≡ false) parts.roots start
       → later ≡ drop start parts.roots → end ≡ min (length later) count → given ≡ take end later
-      → (told_pages : List Page) × IsRead provider the_book (History from count) (Told told_pages) × AllZip (IsRootOf provider the_book) told_pages given
+      → (told_pages : List Page) × IsRead provider the_book (Query (History from count)) (Told told_pages) × AllZip (IsRootOf provider the_book) told_pages given
   history_reads from count start end later given some few point later_is end_is given_is = (
     told the_book from count,
-    does_steps (index_of provider) the_book (History from count) (Told (told the_book from count)) the_book none (refl, refl),
+    does_steps (index_of provider) the_book (Query (History from count)) (Told (told the_book from count)) the_book none (refl, refl),
     subst₂ (λ (told_pages : List Page) (told_roots : List SignedRoot). AllZip (IsRootOf provider the_book) told_pages told_roots) (sym pages_are) (sym roots_are) (rooted-part provider the_book start count),
   )
     where
-      none : refusal (index_of provider) the_book (History from count) ≡ None
+      none : refusal (index_of provider) the_book (Query (History from count)) ≡ None
       none = rw (le-leb 1 count (omega (arith, some)), le-leb count 64 few) refl
 
       pages_are : told the_book from count ≡ take count (drop start (pages the_book))

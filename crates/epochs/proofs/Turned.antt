@@ -8,7 +8,8 @@ use Rattle.book.specs.declared.refusal.Refusal.{Refusal}
 use Rattle.book.specs.declared.reply.Reply.{Reply}
 use Rattle.book.specs.declared.reply.Reply.TheVariants as reply
 use Rattle.book.specs.Answers.{Answer, refusal, with_pending, Promised}
-use Rattle.book.specs.Asked.{Asked, Change, Register}
+use Rattle.commands.specs.declared.edit.Verb.{Verb}
+use Rattle.commands.specs.Asked.{Asked, Edit, Put}
 use Rattle.book.specs.Books.{Book}
 use Rattle.book.specs.Shows.{Provider, index_of}
 use Rattle.book.specs.Turns.{Keeps, Shows, Turn, kept_of}
@@ -70,24 +71,13 @@ module _ (provider : Provider) {K : Type 0} (kept failed : K → Record → K �
 
   module _ (by : Provider) (middle : Book) (the_name the_key the_salt : List ℕ) (same_by : by ≡ provider) (same_book : middle ≡ book) (same_name : the_name ≡ name) (same_key : the_key ≡ key) (same_salt : the_salt ≡ book.salt)
       (r : Result SignedPromise Refusal) (after : Book) (keeper_after : K) where
-    pub registered_turn : refusal (index_of provider) book (Register name key) ≡ None
-        → Made (record { by = by; book = middle; name = the_name; key = the_key; what = record_of_a.Register the_salt the_name the_key }) r after keeper_after
-        → Turn provider kept failed book keeper (Register name key) (promised r) after keeper_after
-    registered_turn none made =
-        promised_turn provider kept failed book (with_pending book name key) keeper (Register name key) (Promised name (record { key = key; salt = book.salt })) (record_of_a.Register book.salt name key)
+    pub put_turn : (verb : Verb) → refusal (index_of provider) book (Edit (Put verb name key)) ≡ None
+        → Made (record { by = by; book = middle; name = the_name; key = the_key; what = record_of_a.Bound verb the_salt the_name the_key }) r after keeper_after
+        → Turn provider kept failed book keeper (Edit (Put verb name key)) (promised r) after keeper_after
+    put_turn verb none made =
+        promised_turn provider kept failed book (with_pending book name key) keeper (Edit (Put verb name key)) (Promised name (record { key = key; salt = book.salt })) (record_of_a.Bound verb book.salt name key)
         none (refl, refl) refl r after keeper_after (subst (λ (handed : Handed). Made handed r after keeper_after) all made)
       where
-        all : ◌≡◌ {A = Handed} (record { by = by; book = middle; name = the_name; key = the_key; what = record_of_a.Register the_salt the_name the_key })
-            (record { by = provider; book = book; name = name; key = key; what = record_of_a.Register book.salt name key })
-        all = λ i. record { by = same_by i; book = same_book i; name = same_name i; key = same_key i; what = record_of_a.Register (same_salt i) (same_name i) (same_key i) }
-
-    pub changed_turn : refusal (index_of provider) book (Change name key) ≡ None
-        → Made (record { by = by; book = middle; name = the_name; key = the_key; what = record_of_a.Change the_salt the_name the_key }) r after keeper_after
-        → Turn provider kept failed book keeper (Change name key) (promised r) after keeper_after
-    changed_turn none made =
-        promised_turn provider kept failed book (with_pending book name key) keeper (Change name key) (Promised name (record { key = key; salt = book.salt })) (record_of_a.Change book.salt name key)
-        none (refl, refl) refl r after keeper_after (subst (λ (handed : Handed). Made handed r after keeper_after) all made)
-      where
-        all : ◌≡◌ {A = Handed} (record { by = by; book = middle; name = the_name; key = the_key; what = record_of_a.Change the_salt the_name the_key })
-            (record { by = provider; book = book; name = name; key = key; what = record_of_a.Change book.salt name key })
-        all = λ i. record { by = same_by i; book = same_book i; name = same_name i; key = same_key i; what = record_of_a.Change (same_salt i) (same_name i) (same_key i) }
+        all : ◌≡◌ {A = Handed} (record { by = by; book = middle; name = the_name; key = the_key; what = record_of_a.Bound verb the_salt the_name the_key })
+            (record { by = provider; book = book; name = name; key = key; what = record_of_a.Bound verb book.salt name key })
+        all = λ i. record { by = same_by i; book = same_book i; name = same_name i; key = same_key i; what = record_of_a.Bound verb (same_salt i) (same_name i) (same_key i) }

@@ -1,11 +1,13 @@
 ghost use Rattle.std.specs.Prelude.{◌≡◌, ◌||◌, ℕ, ◌+◌, ◌<◌, ◌≤◌, ◌++◌, ◌∷◌, [], false, List, None, IfOk, MatchResult, Ok, is_some};
 ghost use Rattle.encoding.specs.Limits.{IsKeyData, IsName};
+ghost use Rattle.commands.specs.Asked as asks;
+ghost use Rattle.commands.specs.Asked.{Edit, Put};
+ghost use Rattle.commands.specs.declared.edit.Verb.TheVariants.{Change, Register};
 ghost use Rattle.nodehash.specs.Digests.{one_more};
 ghost use Rattle.prefixtree.specs.Changes.{made_count};
 ghost use Rattle.prefixtree.specs.Placement.{commitment_of, put as put_item};
 ghost use Rattle.book.specs.declared.record.Record.TheVariants as kept_as;
 ghost use Rattle.book.specs.Answers.{has_its_index, next_page, with_page, with_pending, Last, Promised};
-ghost use Rattle.book.specs.Asked.{Change, Close, Register};
 ghost use Rattle.book.specs.Maps.{at, overwritten};
 ghost use Rattle.book.specs.Shows.{index_of as index_by, placement};
 ghost use Rattle.book.specs.Sound.{IsHeld};
@@ -19,6 +21,7 @@ use crate::history::Version;
 use crate::names::Names;
 use crate::signing::{hash_of, next_salt, signed_promise, signed_root};
 use book::{Keeper, Record, Refusal};
+use commands::Verb;
 use commit::commit;
 use encoding::{Hash32, Index, KeyData, Name};
 use nodehash::NodeHash;
@@ -45,7 +48,7 @@ impl<H: NodeHash, V: Vuf, S: Signer, R: Rng> Directory<H, V, S, R> {
         key: &[u8],
     ) -> Result<SignedPromise, Refusal>
         ensures turn { Turn (provider H.digest_of V.value_of S.signature_of self.old) K.kept K.failed (book R.stream self.old) keeper.old
-            (Register name.now key.now) (promised result) (book R.stream self.new) keeper.new }
+            (Edit (Put Register name.now key.now)) (promised result) (book R.stream self.new) keeper.new }
         ensures keys { HasKeysOf self.old self.new }
         ensures work { self.new.digests ≤ self.old.digests + 2 }
     {
@@ -65,7 +68,8 @@ impl<H: NodeHash, V: Vuf, S: Signer, R: Rng> Directory<H, V, S, R> {
         if self.is_taken(&name, &index) {
             return Err(Refusal::IndexTaken);
         }
-        let what = Record::Register {
+        let what = Record::Bound {
+            verb: Verb::Register,
             salt: self.salt,
             name: name.copied(),
             key: key.copied(),
@@ -86,7 +90,7 @@ impl<H: NodeHash, V: Vuf, S: Signer, R: Rng> Directory<H, V, S, R> {
         key: &[u8],
     ) -> Result<SignedPromise, Refusal>
         ensures turn { Turn (provider H.digest_of V.value_of S.signature_of self.old) K.kept K.failed (book R.stream self.old) keeper.old
-            (Change name.now key.now) (promised result) (book R.stream self.new) keeper.new }
+            (Edit (Put Change name.now key.now)) (promised result) (book R.stream self.new) keeper.new }
         ensures keys { HasKeysOf self.old self.new }
         ensures work { self.new.digests ≤ self.old.digests + 2 }
     {
@@ -103,7 +107,8 @@ impl<H: NodeHash, V: Vuf, S: Signer, R: Rng> Directory<H, V, S, R> {
             return Err(Refusal::PendingExists);
         }
         let index = self.index(&name);
-        let what = Record::Change {
+        let what = Record::Bound {
+            verb: Verb::Change,
             salt: self.salt,
             name: name.copied(),
             key: key.copied(),
@@ -118,7 +123,7 @@ impl<H: NodeHash, V: Vuf, S: Signer, R: Rng> Directory<H, V, S, R> {
     /// `EpochNotLater`, `Memory`, `KeepFailed`: the first that applies.
     pub fn close<K: Keeper>(&mut self, keeper: &mut K, epoch: u64) -> Result<SignedRoot, Refusal>
         ensures turn { Turn (provider H.digest_of V.value_of S.signature_of self.old) K.kept K.failed (book R.stream self.old) keeper.old
-            (Close epoch) (last result) (book R.stream self.new) keeper.new }
+            (Edit (asks.Turn epoch)) (last result) (book R.stream self.new) keeper.new }
         ensures keys { HasKeysOf self.old self.new }
         ensures work { let by = provider H.digest_of V.value_of S.signature_of self.old in
             self.new.digests ≤ self.old.digests + made_count 256 (placement by self.old.last.bindings) (placement by self.old.pending) + 1 }
@@ -140,10 +145,10 @@ impl<H: NodeHash, V: Vuf, S: Signer, R: Rng> Directory<H, V, S, R> {
     fn turn_page<K: Keeper>(&mut self, keeper: &mut K, epoch: u64) -> Result<SignedRoot, Refusal>
         requires { self.old.last.epoch < epoch }
         ensures made { MatchResult result
-            (λ root. K.kept keeper.old (kept_as.Close epoch) keeper.new
+            (λ root. K.kept keeper.old (kept_as.Turned epoch) keeper.new
             × (book R.stream self.new ≡ with_page (book R.stream self.old) (next_page (book R.stream self.old) epoch))
             × Shows (provider H.digest_of V.value_of S.signature_of self.old) (book R.stream self.new) (Last (next_page (book R.stream self.old) epoch)) (last (Ok root)))
-            (λ why. (book R.stream self.new ≡ book R.stream self.old) × IsUnkept K.failed keeper.old (kept_as.Close epoch) why keeper.new) }
+            (λ why. (book R.stream self.new ≡ book R.stream self.old) × IsUnkept K.failed keeper.old (kept_as.Turned epoch) why keeper.new) }
         ensures keys { HasKeysOf self.old self.new }
         ensures work { let by = provider H.digest_of V.value_of S.signature_of self.old in
             self.new.digests ≤ self.old.digests + made_count 256 (placement by self.old.last.bindings) (placement by self.old.pending) + 1 }
@@ -290,14 +295,14 @@ fn add_page<H: NodeHash, K: Keeper>(
     tree: Tree<H>,
 ) -> Result<(), Refusal>
     ensures { MatchResult result
-        (λ _. K.kept keeper.old (kept_as.Close root.body.epoch) keeper.new
+        (λ _. K.kept keeper.old (kept_as.Turned root.body.epoch) keeper.new
         × (roots.new.items ≡ roots.old.items ++ root ∷ []) × (trees.new.items ≡ trees.old.items ++ tree ∷ []))
-        (λ why. (roots.new.items ≡ roots.old.items) × (trees.new.items ≡ trees.old.items) × IsUnkept K.failed keeper.old (kept_as.Close root.body.epoch) why keeper.new) }
+        (λ why. (roots.new.items ≡ roots.old.items) × (trees.new.items ≡ trees.old.items) × IsUnkept K.failed keeper.old (kept_as.Turned root.body.epoch) why keeper.new) }
 {
     roots.reserve(1)?;
     trees.reserve(1)?;
     let epoch = root.body.epoch;
-    if keeper.keep(&Record::Close { epoch }).is_err() {
+    if keeper.keep(&Record::Turned { epoch }).is_err() {
         return Err(Refusal::KeepFailed);
     }
     roots.push_reserved(root);

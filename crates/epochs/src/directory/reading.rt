@@ -1,9 +1,9 @@
 ghost use Rattle.std.specs.Prelude.{◌≡◌, ℕ, ◌+◌, ◌<◌, ◌≤◌, List, Option, Some, None, IfSome, MatchResult, length, option_and_then, option_map, slice_get};
 ghost use Rattle.std.specs.List.{AllZip};
+ghost use Rattle.commands.specs.Asked.{History, Lookup, Promise as PromiseOf, Query};
 ghost use Rattle.proofs.specs.Replies.{reply_bytes};
 ghost use Rattle.proofs.specs.Views.{end_given};
 ghost use Rattle.book.specs.Answers.{Told};
-ghost use Rattle.book.specs.Asked.{History, Lookup, Promise as PromiseOf};
 ghost use Rattle.book.specs.Books.{Page, page_at, pages};
 ghost use Rattle.book.specs.Maps.{at};
 ghost use Rattle.book.specs.Shows.{shown_end, IsRootOf};
@@ -30,7 +30,7 @@ impl<H: NodeHash, V: Vuf, S: Signer, R: Rng> Directory<H, V, S, R> {
     ///
     /// `BadName`, `NoPromise`: the first that applies.
     pub fn promise(&mut self, name: &[u8]) -> Result<SignedPromise, Refusal>
-        ensures reads { Reads (provider H.digest_of V.value_of S.signature_of self.old) (book R.stream self.old) (PromiseOf name.now) (promised result) }
+        ensures reads { Reads (provider H.digest_of V.value_of S.signature_of self.old) (book R.stream self.old) (Query (PromiseOf name.now)) (promised result) }
         ensures stays { book R.stream self.new ≡ book R.stream self.old }
         ensures keys { HasKeysOf self.old self.new }
         ensures work { self.new.digests ≤ self.old.digests + 1 }
@@ -55,7 +55,7 @@ impl<H: NodeHash, V: Vuf, S: Signer, R: Rng> Directory<H, V, S, R> {
     ///
     /// `BadName`, `NoSuchEpoch`: the first that applies.
     pub fn lookup(&mut self, name: &[u8], epoch: u64) -> Result<ProofText, Refusal>
-        ensures reads { Reads (provider H.digest_of V.value_of S.signature_of self.old) (book R.stream self.old) (Lookup name.now epoch) (found result) }
+        ensures reads { Reads (provider H.digest_of V.value_of S.signature_of self.old) (book R.stream self.old) (Query (Lookup name.now epoch)) (found result) }
         ensures stays { book R.stream self.new ≡ book R.stream self.old }
         ensures keys { HasKeysOf self.old self.new }
         ensures work { self.new.digests ≤ self.old.digests + 1 }
@@ -81,9 +81,9 @@ impl<H: NodeHash, V: Vuf, S: Signer, R: Rng> Directory<H, V, S, R> {
     /// `BadRange` if `count` is 0 or above 64.
     pub fn history(&self, from: u64, count: u16) -> Result<&[SignedRoot], Refusal>
         ensures reads { MatchResult result
-            (λ roots. (pages : List Page) × IsRead (provider H.digest_of V.value_of S.signature_of self.now) (book R.stream self.now) (History from count) (Told pages)
+            (λ roots. (pages : List Page) × IsRead (provider H.digest_of V.value_of S.signature_of self.now) (book R.stream self.now) (Query (History from count)) (Told pages)
             × AllZip (IsRootOf (provider H.digest_of V.value_of S.signature_of self.now) (book R.stream self.now)) pages roots.now)
-            (λ why. IsRefused (provider H.digest_of V.value_of S.signature_of self.now) (book R.stream self.now) (History from count) why) }
+            (λ why. IsRefused (provider H.digest_of V.value_of S.signature_of self.now) (book R.stream self.now) (Query (History from count)) why) }
     {
         if count == 0 || MAX_ROOTS < count as usize {
             return Err(Refusal::BadRange);

@@ -1,16 +1,16 @@
 ghost use Rattle.std.specs.Prelude.{◌≡◌, ◌<◌, ◌^◌, ℕ, List, IfOk, OnErr, OnOk, map, take};
 ghost use Rattle.encoding.specs.Bytes.{IsBytes};
+ghost use Rattle.commands.specs.Asked.{asked, question, revision, IsAny, IsCommand, MayChange, MayRead, Edit as EditOf, Put as PutOf, Query as QueryOf};
 ghost use Rattle.book.specs.declared.reply.Reply.{Reply};
-ghost use Rattle.book.specs.Asked.{asked};
-ghost use Rattle.book.specs.Fresh.{IsCommand};
 ghost use Rattle.book.specs.Honest.{IsHonest};
-ghost use Rattle.book.specs.Turns.{Run, Turn};
+ghost use Rattle.book.specs.Turns.{Reads, Run, Turn};
 ghost use Rattle.epochs.specs.Kept.{book, provider, HasKeysOf};
 ghost use Rattle.epochs.specs.Replied.{IsTold};
 ghost use Rattle.epochs.specs.Replied as replied;
 
 use super::Directory;
-use book::{Command, Keeper, Refusal, Reply};
+use book::{Keeper, Refusal, Reply};
+use commands::{Command, Edit, Put, Query, Verb};
 use encoding::ProofText;
 use nodehash::NodeHash;
 use rand_core::Rng;
@@ -63,14 +63,47 @@ impl<H: NodeHash, V: Vuf, S: Signer, R: Rng> Directory<H, V, S, R> {
         ensures err { OnErr result ((book R.stream self.new ≡ book R.stream self.old) × (keeper.new ≡ keeper.old)) }
         ensures keys { HasKeysOf self.old self.new }
     {
-        match *command {
-            Command::Register { name, key } => Ok(promised(self.register(keeper, name, key))),
-            Command::Change { name, key } => Ok(promised(self.change(keeper, name, key))),
-            Command::Promise { name } => Ok(promised(self.promise(name))),
-            Command::Lookup { name, epoch } => Ok(found(self.lookup(name, epoch))),
-            Command::History { from, count } => told(self.alloc, self.history(from, count)),
-            Command::Head => Ok(Reply::Last(self.head().copied())),
-            Command::Close { epoch } => Ok(last(self.close(keeper, epoch))),
+        match command {
+            Command::Query(query) => self.read(query),
+            Command::Edit(edit) => Ok(self.edit(keeper, edit)),
+        }
+    }
+
+    /// Answers a query.
+    fn read(&mut self, query: &Query<'_>) -> Result<Reply, AllocError>
+        ensures ok { IfOk result (Reads (provider H.digest_of V.value_of S.signature_of self.old) (book R.stream self.old) (QueryOf (question query.now))) }
+        ensures stays { book R.stream self.new ≡ book R.stream self.old }
+        ensures keys { HasKeysOf self.old self.new }
+    {
+        match *query {
+            Query::Promise { name } => Ok(promised(self.promise(name))),
+            Query::Lookup { name, epoch } => Ok(found(self.lookup(name, epoch))),
+            Query::History { from, count } => told(self.alloc, self.history(from, count)),
+            Query::Head => Ok(Reply::Last(self.head().copied())),
+        }
+    }
+
+    /// Makes an edit.
+    fn edit<K: Keeper>(&mut self, keeper: &mut K, edit: &Edit<'_>) -> Reply
+        ensures turn { Turn (provider H.digest_of V.value_of S.signature_of self.old) K.kept K.failed
+            (book R.stream self.old) keeper.old (EditOf (revision edit.now)) result (book R.stream self.new) keeper.new }
+        ensures keys { HasKeysOf self.old self.new }
+    {
+        match *edit {
+            Edit::Put(put) => promised(self.put(keeper, put)),
+            Edit::Turn { epoch } => last(self.close(keeper, epoch)),
+        }
+    }
+
+    /// Puts a key to a name.
+    fn put<K: Keeper>(&mut self, keeper: &mut K, put: Put<'_>) -> Result<SignedPromise, Refusal>
+        ensures turn { Turn (provider H.digest_of V.value_of S.signature_of self.old) K.kept K.failed (book R.stream self.old) keeper.old
+            (EditOf (PutOf put.entry.verb put.entry.name.now put.entry.key.now)) (replied.promised result) (book R.stream self.new) keeper.new }
+        ensures keys { HasKeysOf self.old self.new }
+    {
+        match put.verb {
+            Verb::Register => self.register(keeper, put.name, put.key),
+            Verb::Change => self.change(keeper, put.name, put.key),
         }
     }
 }
@@ -79,14 +112,32 @@ impl<H: NodeHash, V: Vuf, S: Signer, R: Rng> Directory<H, V, S, R> {
 fn is_command(command: &Command<'_>)
     ensures { IsCommand (asked command.now) }
 {
-    match *command {
-        Command::Register { name, key } | Command::Change { name, key } => {
+    match command {
+        Command::Query(query) => is_query(query),
+        Command::Edit(edit) => is_edit(edit),
+    }
+}
+
+/// What the type of a query says of it.
+fn is_query(query: &Query<'_>)
+    ensures { MayRead IsBytes IsAny (question query.now) }
+{
+    match *query {
+        Query::Promise { name } | Query::Lookup { name, .. } => are_bytes(name),
+        Query::History { .. } | Query::Head => {}
+    }
+}
+
+/// What the type of an edit says of it.
+fn is_edit(edit: &Edit<'_>)
+    ensures { MayChange IsBytes IsAny (revision edit.now) }
+{
+    match *edit {
+        Edit::Put(Put { name, key, .. }) => {
             are_bytes(name);
             are_bytes(key);
         }
-        Command::Promise { name } | Command::Lookup { name, .. } => are_bytes(name),
-        Command::History { .. } | Command::Head => {}
-        Command::Close { epoch } => is_epoch(epoch),
+        Edit::Turn { epoch } => is_epoch(epoch),
     }
 }
 

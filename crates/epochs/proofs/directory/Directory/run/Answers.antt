@@ -1,8 +1,8 @@
 use Rattle.std.proofs.Common.{◌≡◌, ◌∙◌, map, take, refl, subst, subst₂}
 use Rattle.std.proofs.lemmas.List.{take_all}
 use Rattle.std.proofs.lemmas.List.Elements.{All-map, All-more, All-nil}
-use Rattle.book.specs.Asked.{asked}
-use Rattle.book.specs.Fresh.{IsCommand, KeepsLaws}
+use Rattle.commands.specs.Asked.{asked, IsCommand}
+use Rattle.book.specs.Fresh.{KeepsLaws}
 use Rattle.book.specs.Shows.{Provider, index_of}
 use Rattle.book.specs.Sound.{IsSound}
 use Rattle.book.proofs.Honesty.{honest}

@@ -1,6 +1,5 @@
 use Rattle.std.proofs.Common.{All, map, take}
-use Rattle.book.specs.Asked.{asked}
-use Rattle.book.specs.Fresh.{IsCommand}
+use Rattle.commands.specs.Asked.{asked, IsCommand}
 use Rattle.epochs.proofs.Running.{RunsTo}
 use Rattle.epochs.proofs.directory.Directory.run.Given as goal
 
