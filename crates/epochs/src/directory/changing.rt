@@ -160,7 +160,8 @@ impl<H: NodeHash, V: Vuf, S: Signer, R: Rng> Directory<H, V, S, R> {
             nonce: last.nonce,
             vuf_key: self.vuf.public(),
         };
-        let root = signed_root(&self.signer, body);
+        let text = body.write();
+        let root = signed_root(&self.signer, body, &text);
         // A `?` would hide the refusal behind its conversion, and the proof needs it.
         match add_page(
             &mut self.roots,
@@ -170,7 +171,7 @@ impl<H: NodeHash, V: Vuf, S: Signer, R: Rng> Directory<H, V, S, R> {
             tree,
         ) {
             Ok(()) => {
-                self.root_hash = hash_of(&mut self.hash, &body);
+                self.root_hash = hash_of(&mut self.hash, &text);
                 self.waiting.clear();
                 Ok(root)
             }
