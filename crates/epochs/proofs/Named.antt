@@ -1,50 +1,73 @@
 -- A map of std at keys of bytes, and the names with their histories that it holds.
-use Rattle.std.proofs.Common.{◌≡◌, ℕ, List, [], ◌∷◌, ◌++◌, Option, Some, None, Bool, cond, refl, sym, ap, ◌∙◌, subst, MatchResult, Result, Ok, Err}
+use Rattle.std.proofs.Common.{◌≡◌, ℕ, List, [], ◌∷◌, ◌++◌, Option, Some, None, Bool, true, false, Bor, cond, refl, sym, ap, ◌∙◌, subst, MatchResult, Result, Ok, Err}
 use Rattle.std.specs.BTreeMap.{insert_entry, is_at}
-use Rattle.std.specs.Map.{lookup, remove_entry, set_value}
-use Rattle.std.specs.Option.{option_and_then, unwrap_or}
+use Rattle.std.specs.List.Sorted.{IsStrictlySortedBy}
+use Rattle.std.specs.Map.{keys_of, lookup, remove_entry, set_value}
+use Rattle.std.specs.Option.{option_copied, option_map, unwrap_or}
 use Rattle.std.specs.Ordering.{is_eq, match_ordering}
 use Rattle.std.specs.declared.cmp.Ordering.{Ordering}
 use Rattle.std.specs.declared.cmp.Ordering.TheVariants.{Less, Equal, Greater}
-use Rattle.epochs.specs.Histories.{Version, chosen}
 use Rattle.book.specs.Maps.{Map, at, name_cmp, put}
-use Rattle.epochs.specs.Versions.{AllBefore, AreHistories, at_bytes, versions_of, with_version}
 use Rattle.book.proofs.Entries.{Ascends as NamesAscend, rest_ascends, same_name}
-use Rattle.epochs.proofs.Versions.{at-chosen, histories_with, none_below}
+use Rattle.epochs.specs.declared.address.Address.{Address}
+use Rattle.epochs.specs.Addresses.{History, Names, named, with_history, with_name}
+use Rattle.epochs.specs.Histories.{Version}
+use Rattle.epochs.specs.Versions.{AllBefore, AreHistories, at_bytes, versions_of}
+use Rattle.epochs.proofs.Versions.{histories_with, none_below}
 
 -- whether a key has these bytes
 abbrev test : {K : Type 0} → (K → List ℕ) → List ℕ → K → Bool
 test bytes name = is_at (λ key. name_cmp name (bytes key))
 
-module _ {K X : Type 0} (bytes : K → List ℕ) where
-  pub lookup-bytes : (name : List ℕ) (es : List (K × X)) → lookup (test bytes name) es ≡ at (at_bytes bytes es) name
-  lookup-bytes name [] = refl
-  lookup-bytes name (e ∷ es) = ap (cond (test bytes name e.0) (Some e.1)) (lookup-bytes name es)
+-- of what a borrow shows
+pub borrowed : {X Y : Type 0} (of : X → Y) (found : Option (Bor X)) (o : Option X) → option_copied found ≡ o → option_map (λ x. of x.now) found ≡ option_map of o
+borrowed of None o is = ap (option_map of) is
+borrowed of (Some x) o is = ap (option_map of) is
 
-  pub bytes-insert : (key : K) (x : X) (es : List (K × X)) → at_bytes bytes (insert_entry (λ a b. name_cmp (bytes a) (bytes b)) es key x) ≡ put (at_bytes bytes es) (bytes key) x
+module _ {K X Y : Type 0} (bytes : K → List ℕ) (of : X → Y) where
+  pub lookup-bytes : (name : List ℕ) (es : List (K × X)) → option_map of (lookup (test bytes name) es) ≡ at (at_bytes bytes of es) name
+  lookup-bytes name [] = refl
+  lookup-bytes name (e ∷ es) = by (test bytes name e.0) (lookup-bytes name es)
+    where
+      by : (t : Bool) → option_map of (lookup (test bytes name) es) ≡ at (at_bytes bytes of es) name
+          → option_map of (cond t (Some e.1) (lookup (test bytes name) es)) ≡ cond t (Some (of e.1)) (at (at_bytes bytes of es) name)
+      by true more = refl
+      by false more = more
+
+  bytes-insert : (key : K) (x : X) (es : List (K × X)) → at_bytes bytes of (insert_entry (λ a b. name_cmp (bytes a) (bytes b)) es key x) ≡ put (at_bytes bytes of es) (bytes key) (of x)
   bytes-insert key x [] = refl
   bytes-insert key x (e ∷ es) = by (name_cmp (bytes key) (bytes e.0)) (bytes-insert key x es)
     where
-      by : (r : Ordering) → at_bytes bytes (insert_entry (λ a b. name_cmp (bytes a) (bytes b)) es key x) ≡ put (at_bytes bytes es) (bytes key) x
-          → at_bytes bytes (match_ordering r ((key, x) ∷ e ∷ es) ((e.0, x) ∷ es) (e ∷ insert_entry (λ a b. name_cmp (bytes a) (bytes b)) es key x))
-          ≡ match_ordering r ((bytes key, x) ∷ (bytes e.0, e.1) ∷ at_bytes bytes es) ((bytes e.0, x) ∷ at_bytes bytes es) ((bytes e.0, e.1) ∷ put (at_bytes bytes es) (bytes key) x)
+      by : (r : Ordering) → at_bytes bytes of (insert_entry (λ a b. name_cmp (bytes a) (bytes b)) es key x) ≡ put (at_bytes bytes of es) (bytes key) (of x)
+          → at_bytes bytes of (match_ordering r ((key, x) ∷ e ∷ es) ((e.0, x) ∷ es) (e ∷ insert_entry (λ a b. name_cmp (bytes a) (bytes b)) es key x))
+          ≡ match_ordering r ((bytes key, of x) ∷ (bytes e.0, of e.1) ∷ at_bytes bytes of es) ((bytes e.0, of x) ∷ at_bytes bytes of es) ((bytes e.0, of e.1) ∷ put (at_bytes bytes of es) (bytes key) (of x))
       by Less more = refl
       by Equal more = refl
-      by Greater more = ap (λ (m : Map X). (bytes e.0, e.1) ∷ m) more
+      by Greater more = ap (λ (m : Map Y). (bytes e.0, of e.1) ∷ m) more
 
-  pub bytes-set : (name : List ℕ) (old new : X) (es : List (K × X)) → NamesAscend (at_bytes bytes es) → lookup (test bytes name) es ≡ Some old → at_bytes bytes (set_value (test bytes name) es new) ≡ put (at_bytes bytes es) name new
+  bytes-set : (name : List ℕ) (old new : X) (es : List (K × X)) → NamesAscend (at_bytes bytes of es) → lookup (test bytes name) es ≡ Some old
+      → at_bytes bytes of (set_value (test bytes name) es new) ≡ put (at_bytes bytes of es) name (of new)
   bytes-set name old new [] up found = absurd cc
-  bytes-set name old new (e ∷ es) up found = by (name_cmp name (bytes e.0)) refl (bytes-set name old new es (rest_ascends (bytes e.0, e.1) (at_bytes bytes es) up))
+  bytes-set name old new (e ∷ es) up found = by (name_cmp name (bytes e.0)) refl (bytes-set name old new es (rest_ascends (bytes e.0, of e.1) (at_bytes bytes of es) up))
     where
-      by : (r : Ordering) → name_cmp name (bytes e.0) ≡ r → (lookup (test bytes name) es ≡ Some old → at_bytes bytes (set_value (test bytes name) es new) ≡ put (at_bytes bytes es) name new)
-          → at_bytes bytes (cond (is_eq r) ((e.0, new) ∷ es) (e ∷ set_value (test bytes name) es new))
-          ≡ match_ordering r ((name, new) ∷ (bytes e.0, e.1) ∷ at_bytes bytes es) ((bytes e.0, new) ∷ at_bytes bytes es) ((bytes e.0, e.1) ∷ put (at_bytes bytes es) name new)
+      by : (r : Ordering) → name_cmp name (bytes e.0) ≡ r → (lookup (test bytes name) es ≡ Some old → at_bytes bytes of (set_value (test bytes name) es new) ≡ put (at_bytes bytes of es) name (of new))
+          → at_bytes bytes of (cond (is_eq r) ((e.0, new) ∷ es) (e ∷ set_value (test bytes name) es new))
+          ≡ match_ordering r ((name, of new) ∷ (bytes e.0, of e.1) ∷ at_bytes bytes of es) ((bytes e.0, of new) ∷ at_bytes bytes of es) ((bytes e.0, of e.1) ∷ put (at_bytes bytes of es) name (of new))
       by Less is more =
-          let none : lookup (test bytes name) (e ∷ es) ≡ None = lookup-bytes name (e ∷ es) ∙ none_below (λ (x : X). Some x) name (bytes e.0, e.1) (at_bytes bytes es) up is in
-          absurd (cc (none, found))
+          let none : option_map of (lookup (test bytes name) (e ∷ es)) ≡ None = lookup-bytes name (e ∷ es) ∙ none_below (λ (x : Y). Some x) name (bytes e.0, of e.1) (at_bytes bytes of es) up is in
+          absurd (cc (none, ap (option_map of) found))
       by Equal is more = refl
-      by Greater is more = ap (λ (m : Map X). (bytes e.0, e.1) ∷ m) (more (ap (λ (r : Ordering). cond (is_eq r) (Some e.1) (lookup (test bytes name) es)) (sym is) ∙ found))
+      by Greater is more = ap (λ (m : Map Y). (bytes e.0, of e.1) ∷ m) (more (ap (λ (r : Ordering). cond (is_eq r) (Some e.1) (lookup (test bytes name) es)) (sym is) ∙ found))
 
+-- names stand in one order, whatever is seen of their entries
+names-alike : {K X Y Z : Type 0} (bytes : K → List ℕ) (f : X → Y) (g : X → Z) (es : List (K × X)) → keys_of (at_bytes bytes f es) ≡ keys_of (at_bytes bytes g es)
+names-alike bytes f g [] = refl
+names-alike bytes f g (e ∷ es) = ap (λ (names : List (List ℕ)). bytes e.0 ∷ names) (names-alike bytes f g es)
+
+also-ascend : {K X Y Z : Type 0} (bytes : K → List ℕ) (f : X → Y) (g : X → Z) (es : List (K × X)) → NamesAscend (at_bytes bytes f es) → NamesAscend (at_bytes bytes g es)
+also-ascend bytes f g es up = subst (IsStrictlySortedBy name_cmp) (names-alike bytes f g es) up
+
+module _ {K X : Type 0} (bytes : K → List ℕ) where
   -- what was put in, taken out again
   remove-same : (key : K) (x : X) (es : List (K × X)) → lookup (test bytes (bytes key)) es ≡ None
       → remove_entry (test bytes (bytes key)) (insert_entry (λ a b. name_cmp (bytes a) (bytes b)) es key x) ≡ es
@@ -76,46 +99,79 @@ put-same {X = X} name x (e ∷ es) up found = by (name_cmp name e.0) refl (put-s
         ap (λ (y : X). (e.0, y) ∷ es) (sym same)
     by Greater is more = ap (λ (m : Map X). e ∷ m) (more (ap (λ (r : Ordering). cond (is_eq r) (Some e.1) (at es name)) (sym is) ∙ found))
 
--- ---- what a call leaves
-module _ (A : Type 0) {E : Type 0} (B : E → Type 0) (name : List ℕ) (version : Version) where
-  -- the names after a version was added, or not
-  abbrev pub Added : Result (Unit {0}) E → Map (List Version) → Map (List Version) → Type 0
-  Added result names after = MatchResult result (λ _. A × (after ≡ with_version names name version)) (λ why. (after ≡ names) × B why)
+-- ---- of the histories of names
+abbrev Versions : History → List Version
+Versions history = history.versions
 
-  pub histories_after : (result : Result (Unit {0}) E) (names after : Map (List Version)) → AreHistories names → AllBefore version.number (versions_of names name) → Added result names after → AreHistories after
-  histories_after (Ok done) names after are before added = subst AreHistories (sym added.1) (histories_with names name version are before)
-  histories_after (Err why) names after are before added = subst AreHistories (sym added.0) are
+abbrev At : History → Address
+At history = history.address
+
+module _ {K : Type 0} (bytes : K → List ℕ) where
+  pub named-insert : (key : K) (history : History) (es : List (K × History)) → named bytes (insert_entry (λ a b. name_cmp (bytes a) (bytes b)) es key history) ≡ with_history (named bytes es) (bytes key) history
+  named-insert key history es = λ i. record { versions = bytes-insert bytes Versions key history es i; addresses = bytes-insert bytes At key history es i }
+
+  -- a history that is there
+  module _ (name : List ℕ) (es : List (K × History)) (earlier : History) (found : lookup (test bytes name) es ≡ Some earlier) where
+    versions-at : Some earlier.versions ≡ at (named bytes es).versions name
+    versions-at = ap (option_map Versions) (sym found) ∙ lookup-bytes bytes Versions name es
+
+    address-at : Some earlier.address ≡ at (named bytes es).addresses name
+    address-at = ap (option_map At) (sym found) ∙ lookup-bytes bytes At name es
+
+    pub versions-there : versions_of (named bytes es).versions name ≡ earlier.versions
+    versions-there = ap (λ (o : Option (List Version)). unwrap_or o []) (sym versions-at)
+
+    named-set : (later : History) → NamesAscend (named bytes es).versions → named bytes (set_value (test bytes name) es later) ≡ with_history (named bytes es) name later
+    named-set later up = λ i. record {
+      versions = bytes-set bytes Versions name earlier later es up found i;
+      addresses = bytes-set bytes At name earlier later es (also-ascend bytes Versions At es up) found i;
+    }
+
+    named-same : NamesAscend (named bytes es).versions → with_history (named bytes es) name earlier ≡ named bytes es
+    named-same up = λ i. record {
+      versions = put-same name earlier.versions (named bytes es).versions up (sym versions-at) i;
+      addresses = put-same name earlier.address (named bytes es).addresses (also-ascend bytes Versions At es up) (sym address-at) i;
+    }
+
+-- ---- what a call leaves
+module _ (A : Type 0) {E : Type 0} (B : E → Type 0) (name : List ℕ) (address : Address) (version : Version) where
+  -- the names after a version was added, or not
+  abbrev pub Added : Result (Unit {0}) E → Names → Names → Type 0
+  Added result names after = MatchResult result (λ _. A × (after ≡ with_name names name address version)) (λ why. (after ≡ names) × B why)
+
+  pub histories_after : (result : Result (Unit {0}) E) (names after : Names) → AreHistories names.versions → AllBefore version.number (versions_of names.versions name) → Added result names after
+      → AreHistories after.versions
+  histories_after (Ok done) names after are before added = subst (λ (n : Names). AreHistories n.versions) (sym added.1) (histories_with names.versions name version are before)
+  histories_after (Err why) names after are before added = subst (λ (n : Names). AreHistories n.versions) (sym added.0) are
 
   -- from what became of the history of a name that is there
-  pub added-there : {K : Type 0} (bytes : K → List ℕ) (result : Result (Unit {0}) E) (es es_after : List (K × List Version)) (earlier versions : List Version)
-      → NamesAscend (at_bytes bytes es) → lookup (is_at (λ key. name_cmp name (bytes key))) es ≡ Some earlier → es_after ≡ set_value (is_at (λ key. name_cmp name (bytes key))) es versions
-      → MatchResult result (λ _. A × (versions ≡ earlier ++ version ∷ [])) (λ why. (versions ≡ earlier) × B why)
-      → Added result (at_bytes bytes es) (at_bytes bytes es_after)
-  added-there bytes (Ok done) es es_after earlier versions up found set added = (
+  pub added-there : {K : Type 0} (bytes : K → List ℕ) (result : Result (Unit {0}) E) (es es_after : List (K × History)) (earlier later : History)
+      → NamesAscend (named bytes es).versions → lookup (is_at (λ key. name_cmp name (bytes key))) es ≡ Some earlier → es_after ≡ set_value (is_at (λ key. name_cmp name (bytes key))) es later
+      → MatchResult result (λ _. A × (later ≡ record earlier { versions = earlier.versions ++ version ∷ [] })) (λ why. (later ≡ earlier) × B why)
+      → Added result (named bytes es) (named bytes es_after)
+  added-there bytes (Ok done) es es_after earlier later up found set added = (
     added.0,
-    ap (at_bytes bytes) set ∙ bytes-set bytes name earlier versions es up found
-        ∙ ap (put (at_bytes bytes es) name) (added.1 ∙ ap (λ (o : Option (List Version)). unwrap_or o [] ++ version ∷ []) (sym found ∙ lookup-bytes bytes name es)),
+    ap (named bytes) set ∙ named-set bytes name es earlier found later up ∙ ap (with_history (named bytes es) name) added.1
+        ∙ (λ i. with_history (named bytes es) name (record { address = unwrap_or (address-at bytes name es earlier found i) address; versions = unwrap_or (versions-at bytes name es earlier found i) [] ++ version ∷ [] })),
   )
-  added-there bytes (Err why) es es_after earlier versions up found set added = (
-    ap (at_bytes bytes) set ∙ bytes-set bytes name earlier versions es up found ∙ ap (put (at_bytes bytes es) name) added.0
-        ∙ put-same name earlier (at_bytes bytes es) up (sym (lookup-bytes bytes name es) ∙ found),
+  added-there bytes (Err why) es es_after earlier later up found set added = (
+    ap (named bytes) set ∙ named-set bytes name es earlier found later up ∙ ap (with_history (named bytes es) name) added.0 ∙ named-same bytes name es earlier found up,
     added.1,
   )
 
   -- from what became of the map where it lacked the name
-  pub added-new : {K : Type 0} (bytes : K → List ℕ) (result : Result (Unit {0}) E) (es es_after : List (K × List Version))
+  pub added-new : {K : Type 0} (bytes : K → List ℕ) (result : Result (Unit {0}) E) (es es_after : List (K × History))
       → lookup (is_at (λ key. name_cmp name (bytes key))) es ≡ None
-      → MatchResult result (λ _. A × (at_bytes bytes es_after ≡ put (at_bytes bytes es) name (version ∷ []))) (λ why. (es_after ≡ es) × B why)
-      → Added result (at_bytes bytes es) (at_bytes bytes es_after)
-  added-new bytes (Ok done) es es_after none added =
-      (added.0, added.1 ∙ ap (λ (o : Option (List Version)). put (at_bytes bytes es) name (unwrap_or o [] ++ version ∷ [])) (sym none ∙ lookup-bytes bytes name es))
-  added-new bytes (Err why) es es_after none added = (ap (at_bytes bytes) added.0, added.1)
+      → MatchResult result (λ _. A × (named bytes es_after ≡ with_history (named bytes es) name (record { address = address; versions = version ∷ [] }))) (λ why. (es_after ≡ es) × B why)
+      → Added result (named bytes es) (named bytes es_after)
+  added-new bytes (Ok done) es es_after none added = (
+    added.0,
+    added.1 ∙ (λ i. with_history (named bytes es) name (record { address = unwrap_or (no-address i) address; versions = unwrap_or (no-version i) [] ++ version ∷ [] })),
+  )
+    where
+      no-address : None ≡ at (named bytes es).addresses name
+      no-address = ap (option_map At) (sym none) ∙ lookup-bytes bytes At name es
 
--- the versions of a name that is there
-pub versions-there : {K : Type 0} (bytes : K → List ℕ) (name : List ℕ) (es : List (K × List Version)) (earlier : List Version) → lookup (is_at (λ key. name_cmp name (bytes key))) es ≡ Some earlier → versions_of (at_bytes bytes es) name ≡ earlier
-versions-there bytes name es earlier found = ap (λ (o : Option (List Version)). unwrap_or o []) (sym (lookup-bytes bytes name es) ∙ found)
-
--- what is chosen of a name
-pub chosen-bytes : {K X : Type 0} (bytes : K → List ℕ) (f : List Version → Option X) (name : List ℕ) (es : List (K × List Version)) (o : Option (List Version))
-    → AreHistories (at_bytes bytes es) → o ≡ lookup (is_at (λ key. name_cmp name (bytes key))) es → option_and_then f o ≡ at (chosen f (at_bytes bytes es)) name
-chosen-bytes bytes f name es o are found = ap (option_and_then f) (found ∙ lookup-bytes bytes name es) ∙ sym (at-chosen f (at_bytes bytes es) name are.names_ascend)
+      no-version : None ≡ at (named bytes es).versions name
+      no-version = ap (option_map Versions) (sym none) ∙ lookup-bytes bytes Versions name es
+  added-new bytes (Err why) es es_after none added = (ap (named bytes) added.0, added.1)

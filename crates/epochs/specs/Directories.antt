@@ -2,13 +2,14 @@
 use Rattle.std.specs.Prelude.{ℕ, List}
 use Rattle.rand_core.specs.Stream.{Stream}
 use Rattle.epochs.specs.declared.directory.Directory.TheInside.{Inside}
+use Rattle.epochs.specs.Addresses.{AreAddresses}
 use Rattle.epochs.specs.Kept.{Kept, book, provider}
 use Rattle.epochs.specs.Parts.{Keeps, Parts, earlier_of, last_of, pending_of}
 
 module _ {H V S R : Type 0} where
   abbrev pub parts_of : Inside H V S R → Parts
   parts_of inside = record {
-    names = inside.names;
+    names = inside.names.versions;
     roots = inside.roots.items;
     trees = inside.trees.items;
     waiting = inside.waiting.entries;
@@ -27,7 +28,9 @@ module _ {H V S R : Type 0} where
     digests = digests inside.hash;
   }
 
-  -- the fields keep the book
+  -- the fields keep the book, and each name has its own address
   abbrev pub IsKept : (List ℕ → List ℕ) → (List ℕ → List ℕ → List ℕ) → (List ℕ → List ℕ → List ℕ) → (V → List ℕ) → (S → List ℕ) → (H → ℕ) → (R → Stream) → Inside H V S R → Type 0
   IsKept digest_of value_of signature_of vuf_key key digests stream inside =
-      let kept = kept_of vuf_key key digests inside in Keeps (provider digest_of value_of signature_of kept) (parts_of inside) (book stream kept)
+      let kept = kept_of vuf_key key digests inside in
+      Keeps (provider digest_of value_of signature_of kept) (parts_of inside) (book stream kept)
+      × AreAddresses (provider digest_of value_of signature_of kept) inside.names.addresses

@@ -40,10 +40,10 @@ versions_of names name = unwrap_or (at names name) []
 abbrev pub with_version : Map (List Version) → List ℕ → Version → Map (List Version)
 with_version names name version = put names name (versions_of names name ++ version ∷ [])
 
--- the entries of a map, each at the bytes of its key
-abbrev pub at_bytes : {K X : Type 0} → (K → List ℕ) → List (K × X) → Map X
-at_bytes bytes [] = []
-at_bytes bytes (entry ∷ entries) = (bytes entry.0, entry.1) ∷ at_bytes bytes entries
+-- what the entries of a map have, each at the bytes of its key
+abbrev pub at_bytes : {K X Y : Type 0} → (K → List ℕ) → (X → Y) → List (K × X) → Map Y
+at_bytes bytes of [] = []
+at_bytes bytes of (entry ∷ entries) = (bytes entry.0, of entry.1) ∷ at_bytes bytes of entries
 
 -- why a change is not made: memory is wanting, or the keeper failed to keep its record
 abbrev pub IsUnkept : {K : Type 0} → (K → Record → K → Type 0) → K → Record → Refusal → K → Type 0

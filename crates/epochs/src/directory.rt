@@ -6,7 +6,7 @@ ghost use Rattle.epochs.specs.Beginnings.{IsBeginRefusal};
 ghost use Rattle.epochs.specs.Kept.{book, provider};
 
 use crate::names::Names;
-use crate::signing::{next_salt, signed_root};
+use crate::signing::{hash_of, next_salt, signed_root};
 use book::Refusal;
 use encoding::{Hash32, Index};
 use nodehash::NodeHash;
@@ -93,11 +93,12 @@ impl<H: NodeHash, V: Vuf, S: Signer, R: Rng> Directory<H, V, S, R> {
             nonce,
             vuf_key: vuf.public(),
         };
+        let text = body.write();
         let mut roots = Vec::new(alloc);
-        roots.push(signed_root(&signer, body))?;
+        roots.push(signed_root(&signer, body, &text))?;
         let mut trees = Vec::new(alloc);
         trees.push(tree)?;
-        let root_hash = hash.digest(body.write().bytes());
+        let root_hash = hash_of(&mut hash, &text);
         let salt = next_salt(&mut salts);
         Ok(Directory {
             alloc,

@@ -1,13 +1,17 @@
-ghost use Rattle.std.specs.Prelude.{◌≡◌, ◌<◌, ◌≤◌, ◌++◌, ◌∷◌, [], length, IfOk, MatchResult};
+ghost use Rattle.std.specs.Prelude.{◌≡◌, ◌<◌, ◌≤◌, ◌++◌, ◌∷◌, [], length, IfOk, MatchOption, MatchResult, option_and_then};
 ghost use Rattle.std.specs.List.Sorted.{IsPartitionPoint};
 ghost use Rattle.std.specs.Option.{option_map};
+ghost use Rattle.nodehash.specs.Digests.{one_more};
 ghost use Rattle.epochs.specs.Histories.{shown, waiting};
 ghost use Rattle.epochs.specs.Versions.{AllBefore, Ascends, IsUnkept};
 
+use crate::address::Address;
 use book::{Keeper, Record, Refusal};
-use encoding::{Hash32, KeyData};
+use encoding::{Hash32, Index, KeyData, Name, Small};
+use nodehash::NodeHash;
 use std::alloc::{AllocError, Global};
 use std::marker::Model;
+use vrfiface::Vuf;
 
 /// A key that is bound to a name from one page on.
 #[derive(Drop)]
@@ -73,37 +77,71 @@ impl Version {
     }
 }
 
-/// The versions of one name, ascending by their first pages.
+/// The versions of one name, ascending by their first pages, behind the name's address.
 #[derive(Drop)]
 pub(crate) struct History {
+    /// The value of the address, in its own length.
+    value: Vec<u8>,
+    index: Index,
     versions: Vec<Version>,
 }
 
 impl Model for History {
-    ghost use Rattle.std.specs.Prelude.{List};
-    ghost use Rattle.epochs.specs.Histories as histories;
+    ghost use Rattle.encoding.specs.Limits.{IsSmall};
+    ghost use Rattle.epochs.specs.Addresses as addresses;
     ghost use Rattle.epochs.specs.Versions.{Ascends};
 
-    ghost Value = { List histories.Version };
+    ghost Value = { addresses.History };
 
-    ghost view = { λ history. history.versions.items };
+    ghost view = { λ history. record { address = record { value = history.value.items; index = history.index }; versions = history.versions.items } };
 
-    ghost invariant = { λ history. Ascends history.versions.items };
+    ghost invariant = { λ history. IsSmall history.value.items × Ascends history.versions.items };
 }
 
 impl History {
     /// A history of one version.
-    pub(crate) fn new(alloc: Global, version: Version) -> Result<History, AllocError>
-        ensures { IfOk result (λ history. history ≡ version ∷ []) }
+    pub(crate) fn new(
+        alloc: Global,
+        address: &Address,
+        version: Version,
+    ) -> Result<History, AllocError>
+        ensures { IfOk result (λ history. history ≡ record { address = address.now; versions = version ∷ [] }) }
     {
+        let bytes = address.value.bytes();
+        let mut value = Vec::with_capacity(alloc, bytes.len())?;
+        value.extend_from_slice(bytes)?;
         let mut versions = Vec::with_capacity(alloc, 1)?;
         versions.push_reserved(version);
-        Ok(History { versions })
+        Ok(History {
+            value,
+            index: address.index,
+            versions,
+        })
+    }
+
+    /// The address of the name.
+    pub(crate) fn address(&self) -> Address
+        ensures { result ≡ self.now.address }
+    {
+        match Small::new(self.value.as_slice()) {
+            Ok(value) => Address {
+                value,
+                index: self.index,
+            },
+            Err(_) => unreachable!(),
+        }
+    }
+
+    /// The index of the name.
+    pub(crate) fn index(&self) -> Index
+        ensures { result ≡ self.now.address.index }
+    {
+        self.index
     }
 
     /// What a page shows: the last version whose first page is at most this one.
     pub(crate) fn shown(&self, page: usize) -> Option<&Version>
-        ensures { option_map (λ version. version.now.binding) result ≡ shown page self.now }
+        ensures { option_map (λ version. version.now.binding) result ≡ shown page self.now.versions }
     {
         let place = self.place_after(page);
         if place == 0 {
@@ -114,7 +152,7 @@ impl History {
 
     /// The version that waits for a page.
     pub(crate) fn waiting(&self, page: usize) -> Option<&Version>
-        ensures { option_map (λ version. version.now.binding) result ≡ waiting page self.now }
+        ensures { option_map (λ version. version.now.binding) result ≡ waiting page self.now.versions }
     {
         let place = self.place_after(page);
         if place == 0 {
@@ -129,8 +167,8 @@ impl History {
 
     // How many versions are of this page or earlier ones.
     fn place_after(&self, page: usize) -> usize
-        ensures bound { result ≤ length self.now }
-        ensures place { IsPartitionPoint (λ version. version.number ≤ page) (λ version. page < version.number) self.now result }
+        ensures bound { result ≤ length self.now.versions }
+        ensures place { IsPartitionPoint (λ version. version.number ≤ page) (λ version. page < version.number) self.now.versions result }
     {
         self.versions
             .partition_point(|version| version.first_page() <= page)
@@ -148,14 +186,41 @@ impl History {
         what: &Record,
         version: Version,
     ) -> Result<(), Refusal>
-        requires later { AllBefore version.number self.old }
+        requires later { AllBefore version.number self.old.versions }
         ensures { MatchResult result
-            (λ _. K.kept keeper.old what.now keeper.new × (self.new ≡ self.old ++ version ∷ []))
+            (λ _. K.kept keeper.old what.now keeper.new × (self.new ≡ record self.old { versions = self.old.versions ++ version ∷ [] }))
             (λ why. (self.new ≡ self.old) × IsUnkept K.failed keeper.old what.now why keeper.new) }
     {
         self.versions.reserve(1)?;
         keeper.keep(what)?;
         self.versions.push_reserved(version);
         Ok(())
+    }
+}
+
+/// The address of a name: that of its history, or else computed, which takes one digest.
+pub(crate) fn address_in<H: NodeHash, V: Vuf>(
+    history: Option<&History>,
+    hash: &mut H,
+    vuf: &V,
+    name: &Name,
+) -> Address
+    ensures { MatchOption history.entry
+        (let value = V.value_of (V.public_key vuf.now) name.now in (result ≡ record { value = value; index = H.digest_of value }) × (H.digests hash.new ≡ one_more (H.digests hash.old)))
+        (λ history. (result ≡ history.now.address) × (hash.new ≡ hash.old)) }
+{
+    match history {
+        Some(history) => history.address(),
+        None => Address::computed(hash, vuf, name),
+    }
+}
+
+/// What a page shows of a name.
+pub(crate) fn shown_in(history: Option<&History>, page: usize) -> Option<&Version>
+    ensures { option_map (λ version. version.now.binding) result ≡ option_and_then (λ history. shown page history.now.versions) history.entry }
+{
+    match history {
+        Some(history) => history.shown(page),
+        None => None,
     }
 }

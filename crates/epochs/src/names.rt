@@ -1,10 +1,11 @@
 ghost use Rattle.std.specs.Prelude.{◌≡◌, [], IfOk, MatchResult, None};
 ghost use Rattle.std.specs.BTreeMap.{get_by};
 ghost use Rattle.std.specs.Option.{option_map};
-ghost use Rattle.epochs.specs.Histories.{chosen, shown, waiting};
-ghost use Rattle.book.specs.Maps.{at, name_cmp, put};
-ghost use Rattle.epochs.specs.Versions.{AllBefore, AreHistories, IsUnkept, at_bytes, versions_of, with_version};
+ghost use Rattle.book.specs.Maps.{at, name_cmp};
+ghost use Rattle.epochs.specs.Addresses.{named, with_history, with_name};
+ghost use Rattle.epochs.specs.Versions.{AllBefore, AreHistories, IsUnkept, versions_of};
 
+use crate::address::Address;
 use crate::history::{History, Version};
 use book::{Keeper, Record, Refusal};
 use encoding::Name;
@@ -20,22 +21,21 @@ pub(crate) struct Names {
 }
 
 impl Model for Names {
-    ghost use Rattle.std.specs.Prelude.{List};
-    ghost use Rattle.epochs.specs.Histories as versions;
-    ghost use Rattle.book.specs.Maps.{Map};
-    ghost use Rattle.epochs.specs.Versions.{AreHistories, at_bytes};
+    ghost use Rattle.epochs.specs.Addresses as addresses;
+    ghost use Rattle.epochs.specs.Addresses.{named};
+    ghost use Rattle.epochs.specs.Versions.{AreHistories};
 
-    ghost Value = { Map (List versions.Version) };
+    ghost Value = { addresses.Names };
 
-    ghost view = { λ names. at_bytes (λ key. key.items) names.histories.entries };
+    ghost view = { λ names. named (λ key. key.items) names.histories.entries };
 
-    ghost invariant = { λ names. AreHistories (at_bytes (λ key. key.items) names.histories.entries) };
+    ghost invariant = { λ names. AreHistories (named (λ key. key.items) names.histories.entries).versions };
 }
 
 impl Names {
     /// No names.
     pub(crate) fn new(alloc: Global) -> Names
-        ensures { result ≡ [] }
+        ensures { result ≡ record { versions = []; addresses = [] } }
     {
         Names {
             alloc,
@@ -43,29 +43,17 @@ impl Names {
         }
     }
 
-    /// The version of a name that a page shows.
-    pub(crate) fn shown(&self, name: &[u8], page: usize) -> Option<&Version>
-        ensures shown { option_map (λ version. version.now.binding) result ≡ at (chosen (shown page) self.now) name.now }
-        ensures sound { AreHistories self.now }
+    /// The history of a name.
+    pub(crate) fn find(&self, name: &[u8]) -> Option<&History>
+        ensures versions { option_map (λ history. history.now.versions) result ≡ at self.now.versions name.now }
+        ensures address { option_map (λ history. history.now.address) result ≡ at self.now.addresses name.now }
+        ensures sound { AreHistories self.now.versions }
     {
-        match self.histories.get(name) {
-            Some(history) => history.shown(page),
-            None => None,
-        }
+        self.histories.get(name)
     }
 
-    /// The version of a name that waits for a page.
-    pub(crate) fn waiting(&self, name: &[u8], page: usize) -> Option<&Version>
-        ensures waits { option_map (λ version. version.now.binding) result ≡ at (chosen (waiting page) self.now) name.now }
-        ensures sound { AreHistories self.now }
-    {
-        match self.histories.get(name) {
-            Some(history) => history.waiting(page),
-            None => None,
-        }
-    }
-
-    /// Adds a version of a name after its others, once its record is kept.
+    /// Adds a version of a name after its others, once its record is kept. A name that is new is put
+    /// at this address; one that is there has its own.
     ///
     /// # Errors
     ///
@@ -76,17 +64,18 @@ impl Names {
         keeper: &mut K,
         what: &Record,
         name: &Name,
+        address: &Address,
         version: Version,
     ) -> Result<(), Refusal>
-        requires later { AllBefore version.number (versions_of self.old name.now) }
+        requires later { AllBefore version.number (versions_of self.old.versions name.now) }
         ensures { MatchResult result
-            (λ _. K.kept keeper.old what.now keeper.new × (self.new ≡ with_version self.old name.now version))
+            (λ _. K.kept keeper.old what.now keeper.new × (self.new ≡ with_name self.old name.now address.now version))
             (λ why. (self.new ≡ self.old) × IsUnkept K.failed keeper.old what.now why keeper.new) }
     {
         if let Some(history) = self.histories.get_mut(name.bytes()) {
             return history.add(keeper, what, version);
         }
-        let history = History::new(self.alloc, version)?;
+        let history = History::new(self.alloc, address, version)?;
         put_kept(self.alloc, &mut self.histories, name, history, keeper, what)
     }
 }
@@ -102,7 +91,7 @@ fn put_kept<K: Keeper>(
 ) -> Result<(), Refusal>
     requires lacks { get_by (λ key. name_cmp name.now key.items) histories.old ≡ None }
     ensures { MatchResult result
-        (λ _. K.kept keeper.old what.now keeper.new × (at_bytes (λ key. key.items) histories.new.entries ≡ put (at_bytes (λ key. key.items) histories.old.entries) name.now history))
+        (λ _. K.kept keeper.old what.now keeper.new × (named (λ key. key.items) histories.new.entries ≡ with_history (named (λ key. key.items) histories.old.entries) name.now history))
         (λ why. (histories.new.entries ≡ histories.old.entries) × IsUnkept K.failed keeper.old what.now why keeper.new) }
 {
     // The history is put in first, since memory may run out for it, and taken out again if the

@@ -8,13 +8,15 @@ ghost use Rattle.rootchain.specs.Promises.{promise_bytes};
 use encoding::Hash32;
 use nodehash::NodeHash;
 use rand_core::Rng;
-use rootchain::{Body, Promise, SignedPromise, SignedRoot};
+use rootchain::{Body, BodyText, Promise, SignedPromise, SignedRoot};
 use sigiface::Signer;
 
-pub(crate) fn signed_root<S: Signer>(signer: &S, body: Body) -> SignedRoot
+/// The signed root of a body, whose bytes are these.
+pub(crate) fn signed_root<S: Signer>(signer: &S, body: Body, text: &BodyText) -> SignedRoot
+    requires { text.now ≡ body_bytes body }
     ensures { result ≡ record { body = body; signature = S.signature_of (S.public_key signer.now) (body_bytes body) } }
 {
-    let signature = signer.sign(body.write().bytes());
+    let signature = signer.sign(text.bytes());
     SignedRoot { body, signature }
 }
 
@@ -38,10 +40,10 @@ pub(crate) fn next_salt<R: Rng>(salts: &mut R) -> Hash32
     salt
 }
 
-/// The hash of a body, which the next root names and which promises are over. Takes one digest.
-pub(crate) fn hash_of<H: NodeHash>(hash: &mut H, body: &Body) -> Hash32
-    ensures value { result ≡ H.digest_of (body_bytes body.now) }
+/// The hash of a body's bytes, which the next root names and which promises are over. Takes one digest.
+pub(crate) fn hash_of<H: NodeHash>(hash: &mut H, text: &BodyText) -> Hash32
+    ensures value { result ≡ H.digest_of text.now }
     ensures count { H.digests hash.new ≡ one_more (H.digests hash.old) }
 {
-    hash.digest(body.write().bytes())
+    hash.digest(text.bytes())
 }

@@ -1,4 +1,4 @@
-ghost use Rattle.std.specs.Prelude.{◌≡◌, ◌||◌, ℕ, ◌+◌, ◌<◌, ◌≤◌, ◌++◌, ◌∷◌, [], false, List, None, IfOk, MatchResult, Ok, is_some};
+ghost use Rattle.std.specs.Prelude.{◌≡◌, ◌||◌, ℕ, ◌+◌, ◌<◌, ◌≤◌, ◌++◌, ◌∷◌, [], false, List, None, IfOk, IfSome, MatchResult, Ok, is_some};
 ghost use Rattle.encoding.specs.Limits.{IsKeyData, IsName};
 ghost use Rattle.commands.specs.Asked as asks;
 ghost use Rattle.commands.specs.Asked.{Edit, Put};
@@ -12,11 +12,13 @@ ghost use Rattle.book.specs.Maps.{at, overwritten};
 ghost use Rattle.book.specs.Shows.{index_of as index_by, placement};
 ghost use Rattle.book.specs.Sound.{IsHeld};
 ghost use Rattle.book.specs.Turns.{Shows, Turn};
+ghost use Rattle.epochs.specs.Addresses.{address_of, with_name};
 ghost use Rattle.epochs.specs.Kept.{book, provider, HasKeysOf};
 ghost use Rattle.epochs.specs.Replied.{last, promised};
-ghost use Rattle.epochs.specs.Versions.{AllBefore, IsUnkept, versions_of, with_version};
+ghost use Rattle.epochs.specs.Versions.{AllBefore, IsUnkept, versions_of};
 
 use super::Directory;
+use crate::address::Address;
 use crate::history::Version;
 use crate::names::Names;
 use crate::signing::{hash_of, next_salt, signed_promise, signed_root};
@@ -32,7 +34,7 @@ use sigiface::Signer;
 use std::alloc::{AllocError, Global};
 use std::collections::BTreeMap;
 use std::collections::btree_map::Entry;
-use vrfiface::{Vuf, index_of};
+use vrfiface::Vuf;
 
 impl<H: NodeHash, V: Vuf, S: Signer, R: Rng> Directory<H, V, S, R> {
     /// Promises to bind a key to a name that has none, from the next epoch on.
@@ -58,14 +60,15 @@ impl<H: NodeHash, V: Vuf, S: Signer, R: Rng> Directory<H, V, S, R> {
         let Ok(key) = KeyData::new(key) else {
             return Err(Refusal::BadKey);
         };
-        if self.is_shown(&name) {
+        let (shown, waits) = self.standing(&name);
+        if shown {
             return Err(Refusal::NameTaken);
         }
-        if self.is_waiting(&name) {
+        if waits {
             return Err(Refusal::PendingExists);
         }
-        let index = self.index(&name);
-        if self.is_taken(&name, &index) {
+        let address = self.address(&name);
+        if self.is_taken(&name, &address.index) {
             return Err(Refusal::IndexTaken);
         }
         let what = Record::Bound {
@@ -74,7 +77,7 @@ impl<H: NodeHash, V: Vuf, S: Signer, R: Rng> Directory<H, V, S, R> {
             name: name.copied(),
             key: key.copied(),
         };
-        self.accept(keeper, &what, index, name, key)
+        self.accept(keeper, &what, &address, name, key)
     }
 
     /// Promises to bind another key to a name, from the next epoch on.
@@ -92,7 +95,7 @@ impl<H: NodeHash, V: Vuf, S: Signer, R: Rng> Directory<H, V, S, R> {
         ensures turn { Turn (provider H.digest_of V.value_of S.signature_of self.old) K.kept K.failed (book R.stream self.old) keeper.old
             (Edit (Put Change name.now key.now)) (promised result) (book R.stream self.new) keeper.new }
         ensures keys { HasKeysOf self.old self.new }
-        ensures work { self.new.digests ≤ self.old.digests + 2 }
+        ensures work { self.new.digests ≤ self.old.digests + 1 }
     {
         let Ok(name) = Name::new(name) else {
             return Err(Refusal::BadName);
@@ -100,20 +103,19 @@ impl<H: NodeHash, V: Vuf, S: Signer, R: Rng> Directory<H, V, S, R> {
         let Ok(key) = KeyData::new(key) else {
             return Err(Refusal::BadKey);
         };
-        if !self.is_shown(&name) {
+        let Some((address, waits)) = self.shown(&name) else {
             return Err(Refusal::NoSuchName);
-        }
-        if self.is_waiting(&name) {
+        };
+        if waits {
             return Err(Refusal::PendingExists);
         }
-        let index = self.index(&name);
         let what = Record::Bound {
             verb: Verb::Change,
             salt: self.salt,
             name: name.copied(),
             key: key.copied(),
         };
-        self.accept(keeper, &what, index, name, key)
+        self.accept(keeper, &what, &address, name, key)
     }
 
     /// Ends the epoch: what waits goes into the page of a new one, whose root is signed.
@@ -163,7 +165,8 @@ impl<H: NodeHash, V: Vuf, S: Signer, R: Rng> Directory<H, V, S, R> {
             nonce: last.nonce,
             vuf_key: self.vuf.public(),
         };
-        let root = signed_root(&self.signer, body);
+        let text = body.write();
+        let root = signed_root(&self.signer, body, &text);
         // A `?` would hide the refusal behind its conversion, and the proof needs it.
         match add_page(
             &mut self.roots,
@@ -173,7 +176,7 @@ impl<H: NodeHash, V: Vuf, S: Signer, R: Rng> Directory<H, V, S, R> {
             tree,
         ) {
             Ok(()) => {
-                self.root_hash = hash_of(&mut self.hash, &body);
+                self.root_hash = hash_of(&mut self.hash, &text);
                 self.waiting.clear();
                 Ok(root)
             }
@@ -195,28 +198,42 @@ impl<H: NodeHash, V: Vuf, S: Signer, R: Rng> Directory<H, V, S, R> {
         self.trees[self.trees.len() - 1].with_all(self.alloc, &mut self.hash, &changes)
     }
 
-    /// Whether the last page has the name.
-    fn is_shown(&self, name: &Name) -> bool
-        ensures { result ≡ is_some (at self.now.last.bindings name.now) }
+    /// Whether the last page has the name, and whether an operation on it waits.
+    fn standing(&self, name: &Name) -> (bool, bool)
+        ensures shown { result.0 ≡ is_some (at self.now.last.bindings name.now) }
+        ensures waits { result.1 ≡ is_some (at self.now.pending name.now) }
     {
-        self.names
-            .shown(name.bytes(), self.roots.len() - 1)
-            .is_some()
+        match self.names.find(name.bytes()) {
+            Some(history) => (
+                history.shown(self.roots.len() - 1).is_some(),
+                history.waiting(self.roots.len()).is_some(),
+            ),
+            None => (false, false),
+        }
     }
 
-    /// Whether an operation on the name waits.
-    fn is_waiting(&self, name: &Name) -> bool
-        ensures { result ≡ is_some (at self.now.pending name.now) }
+    /// The address of a name that the last page has, and whether an operation on it waits.
+    fn shown(&self, name: &Name) -> Option<(Address, bool)>
+        ensures shown { is_some result ≡ is_some (at self.now.last.bindings name.now) }
+        ensures waits { IfSome result (λ found. found.1 ≡ is_some (at self.now.pending name.now)) }
+        ensures address { IfSome result (λ found. found.0 ≡ address_of (provider H.digest_of V.value_of S.signature_of self.now) name.now) }
     {
-        self.names.waiting(name.bytes(), self.roots.len()).is_some()
+        let Some(history) = self.names.find(name.bytes()) else {
+            return None;
+        };
+        if history.shown(self.roots.len() - 1).is_none() {
+            return None;
+        }
+        let waits = history.waiting(self.roots.len()).is_some();
+        Some((history.address(), waits))
     }
 
-    /// The index of a name. Takes one digest.
-    pub(super) fn index(&mut self, name: &Name) -> Index
-        ensures value { result ≡ index_by (provider H.digest_of V.value_of S.signature_of self.old) name.now }
+    /// The address of a name that is new. Takes one digest.
+    fn address(&mut self, name: &Name) -> Address
+        ensures value { result ≡ address_of (provider H.digest_of V.value_of S.signature_of self.old) name.now }
         ensures stays { self.new ≡ record self.old { digests = one_more self.old.digests } }
     {
-        index_of(&mut self.hash, self.vuf.value(name).bytes())
+        Address::computed(&mut self.hash, &self.vuf, name)
     }
 
     /// Whether another name of the last page, or one that waits, has the index of this name, which
@@ -238,13 +255,13 @@ impl<H: NodeHash, V: Vuf, S: Signer, R: Rng> Directory<H, V, S, R> {
         &mut self,
         keeper: &mut K,
         what: &Record,
-        index: Index,
+        address: &Address,
         name: Name,
         key: KeyData,
     ) -> Result<SignedPromise, Refusal>
         requires limits { IsName name × IsKeyData key }
         requires waits { at self.old.pending name ≡ None }
-        requires indexed { index ≡ index_by (provider H.digest_of V.value_of S.signature_of self.old) name }
+        requires addressed { address.now ≡ address_of (provider H.digest_of V.value_of S.signature_of self.old) name }
         requires free { let by = index_by (provider H.digest_of V.value_of S.signature_of self.old) in
             (other : List ℕ) → IsHeld (book R.stream self.old) other → by other ≡ by name → other ≡ name }
         ensures made { MatchResult result
@@ -263,11 +280,12 @@ impl<H: NodeHash, V: Vuf, S: Signer, R: Rng> Directory<H, V, S, R> {
             keeper,
             what,
             &name,
+            address,
             version,
-            (index, commitment),
+            commitment,
         )?;
         self.salt = next_salt(&mut self.salts);
-        Ok(self.promised(index, name, key))
+        Ok(self.promised(address.index, name, key))
     }
 
     /// The promise, over the last root, to bind the key to the name.
@@ -321,28 +339,29 @@ fn listed(alloc: Global, waiting: &BTreeMap<Index, Hash32>) -> Result<Vec<Item>,
     Ok(items)
 }
 
-/// Adds a version to a name, and its item to what waits, once the record is kept.
+/// Adds a version to a name, and its commitment to what waits, once the record is kept.
 fn let_wait<K: Keeper>(
     names: &mut Names,
     waiting: &mut BTreeMap<Index, Hash32>,
     keeper: &mut K,
     what: &Record,
     name: &Name,
+    address: &Address,
     version: Version,
-    item: Item,
+    commitment: Hash32,
 ) -> Result<(), Refusal>
-    requires later { AllBefore version.number (versions_of names.old name.now) }
-    requires free { commitment_of waiting.old.entries item.0 ≡ None }
+    requires later { AllBefore version.number (versions_of names.old.versions name.now) }
+    requires free { commitment_of waiting.old.entries (address.now).index ≡ None }
     ensures { MatchResult result
         (λ _. K.kept keeper.old what.now keeper.new
-        × (names.new ≡ with_version names.old name.now version)
-        × (waiting.new.entries ≡ put_item waiting.old.entries item.0 item.1))
+        × (names.new ≡ with_name names.old name.now address.now version)
+        × (waiting.new.entries ≡ put_item waiting.old.entries (address.now).index commitment))
         (λ why. (names.new ≡ names.old) × (waiting.new.entries ≡ waiting.old.entries) × IsUnkept K.failed keeper.old what.now why keeper.new) }
 {
-    match waiting.entry(item.0)? {
+    match waiting.entry(address.index)? {
         Entry::Vacant(place) => {
-            names.add(keeper, what, name, version)?;
-            place.insert(item.1);
+            names.add(keeper, what, name, address, version)?;
+            place.insert(commitment);
             Ok(())
         }
         Entry::Occupied(_) => unreachable!(),

@@ -6,13 +6,14 @@ ghost use Rattle.proofs.specs.Views.{end_given};
 ghost use Rattle.book.specs.Answers.{Told};
 ghost use Rattle.book.specs.Books.{Page, page_at, pages};
 ghost use Rattle.book.specs.Maps.{at};
-ghost use Rattle.book.specs.Shows.{shown_end, IsRootOf};
+ghost use Rattle.book.specs.Shows.{index_of as index_by, shown_end, IsRootOf};
+ghost use Rattle.book.specs.Sound.{IsHeld};
 ghost use Rattle.book.specs.Turns.{IsRead, IsRefused, Reads};
 ghost use Rattle.epochs.specs.Kept.{book, provider, HasKeysOf};
 ghost use Rattle.epochs.specs.Replied.{found, promised};
 
 use super::Directory;
-use crate::history::Version;
+use crate::history::{Version, address_in, shown_in};
 use book::Refusal;
 use encoding::{Index, KeyData, Name, ProofText, Small};
 use nodehash::NodeHash;
@@ -21,7 +22,7 @@ use proofs::{End, make};
 use rand_core::Rng;
 use rootchain::{Body, MAX_ROOTS, SignedPromise, SignedRoot};
 use sigiface::Signer;
-use vrfiface::{Vuf, index_of};
+use vrfiface::Vuf;
 
 impl<H: NodeHash, V: Vuf, S: Signer, R: Rng> Directory<H, V, S, R> {
     /// The promise that waits for a name: the same bytes as when it was made.
@@ -33,15 +34,14 @@ impl<H: NodeHash, V: Vuf, S: Signer, R: Rng> Directory<H, V, S, R> {
         ensures reads { Reads (provider H.digest_of V.value_of S.signature_of self.old) (book R.stream self.old) (Query (PromiseOf name.now)) (promised result) }
         ensures stays { book R.stream self.new ≡ book R.stream self.old }
         ensures keys { HasKeysOf self.old self.new }
-        ensures work { self.new.digests ≤ self.old.digests + 1 }
+        ensures work { self.new.digests ≡ self.old.digests }
     {
         let Ok(name) = Name::new(name) else {
             return Err(Refusal::BadName);
         };
-        let Some(key) = self.waiting_key(&name) else {
+        let Some((index, key)) = self.waiting(&name) else {
             return Err(Refusal::NoPromise);
         };
-        let index = self.index(&name);
         Ok(self.promised(index, name, key))
     }
 
@@ -59,6 +59,7 @@ impl<H: NodeHash, V: Vuf, S: Signer, R: Rng> Directory<H, V, S, R> {
         ensures stays { book R.stream self.new ≡ book R.stream self.old }
         ensures keys { HasKeysOf self.old self.new }
         ensures work { self.new.digests ≤ self.old.digests + 1 }
+        ensures spared { IsHeld (book R.stream self.old) name.now → self.new.digests ≡ self.old.digests }
     {
         let Ok(name) = Name::new(name) else {
             return Err(Refusal::BadName);
@@ -66,11 +67,17 @@ impl<H: NodeHash, V: Vuf, S: Signer, R: Rng> Directory<H, V, S, R> {
         let Some(page) = self.page(epoch) else {
             return Err(Refusal::NoSuchEpoch);
         };
-        let value = self.vuf.value(&name);
-        let index = index_of(&mut self.hash, value.bytes());
-        let path = self.trees[page].path(&index);
-        let found = self.names.shown(name.bytes(), page);
-        Ok(reply_of(&self.roots[page].body, &value, &index, &path, found))
+        let history = self.names.find(name.bytes());
+        let address = address_in(history, &mut self.hash, &self.vuf, &name);
+        let path = self.trees[page].path(&address.index);
+        let found = shown_in(history, page);
+        Ok(reply_of(
+            &self.roots[page].body,
+            &address.value,
+            &address.index,
+            &path,
+            found,
+        ))
     }
 
     /// The first `count` roots of at least the epoch `from`, ascending; fewer, or none, only where
@@ -94,12 +101,16 @@ impl<H: NodeHash, V: Vuf, S: Signer, R: Rng> Directory<H, V, S, R> {
         Ok(later.split_at(end).0)
     }
 
-    /// The key that waits for a name.
-    fn waiting_key(&self, name: &Name) -> Option<KeyData>
-        ensures { result ≡ option_map (λ binding. binding.key) (at self.now.pending name.now) }
+    /// The index of a name, and the key that waits for it.
+    fn waiting(&self, name: &Name) -> Option<(Index, KeyData)>
+        ensures key { option_map (λ found. found.1) result ≡ option_map (λ binding. binding.key) (at self.now.pending name.now) }
+        ensures index { IfSome result (λ found. found.0 ≡ index_by (provider H.digest_of V.value_of S.signature_of self.now) name.now) }
     {
-        match self.names.waiting(name.bytes(), self.roots.len()) {
-            Some(version) => Some(version.key()),
+        let Some(history) = self.names.find(name.bytes()) else {
+            return None;
+        };
+        match history.waiting(self.roots.len()) {
+            Some(version) => Some((history.index(), version.key())),
             None => None,
         }
     }

@@ -1,7 +1,6 @@
 use Rattle.std.proofs.Common.{ℕ, List, ap, ◌∙◌, refl, inr}
-use Rattle.book.specs.Maps.{put}
-use Rattle.epochs.specs.Versions.{at_bytes}
-use Rattle.epochs.proofs.Named.{bytes-insert, remove-inserted}
+use Rattle.epochs.specs.Addresses.{named, with_history}
+use Rattle.epochs.proofs.Named.{named-insert, remove-inserted}
 use Rattle.epochs.proofs.names.put_kept.Goals as goal
 
 pub returns-in_default : goal.returns-in_default
@@ -14,4 +13,4 @@ returns-in_default g c = (
 pub returns : goal.returns
 returns g c =
     let es = c.args.histories.now.entries in
-    (c.in-Ok.ensures, rw c.in_ok-insert.ensures.entries (bytes-insert (λ key. key.items) c.in_ok-owned.field-0 c.args.history es ∙ ap (λ (n : List ℕ). put (at_bytes (λ key. key.items) es) n c.args.history) c.in_ok-owned.ensures))
+    (c.in-Ok.ensures, rw c.in_ok-insert.ensures.entries (named-insert (λ key. key.items) c.in_ok-owned.field-0 c.args.history es ∙ ap (λ (n : List ℕ). with_history (named (λ key. key.items) es) n c.args.history) c.in_ok-owned.ensures))

@@ -8,7 +8,7 @@ use Rattle.epochs.proofs.RootKeys.{root_key}
 use Rattle.epochs.proofs.directory.Directory.head.Goals as goal
 
 pub returns-clause-head : goal.returns-clause-head
-returns-clause-head g c = rw (← c.self.view_is) (last_shown _ (parts_of c.self.inside) _ _ c.self.invariant c.len.result (search rules) c.index-root.result.now c.index-root.ensures)
+returns-clause-head g c = rw (← c.self.view_is) (last_shown _ (parts_of c.self.inside) _ _ c.self.invariant.0 c.len.result (search rules) c.index-root.result.now c.index-root.ensures)
 
 pub returns-clause-laws : goal.returns-clause-laws
 returns-clause-laws g c = record {
@@ -21,4 +21,4 @@ returns-clause-laws g c = record {
 }
   where
     is : IsRootOf (provider g.H.NodeHash.digest_of g.V.Vuf.value_of g.S.Signer.signature_of c.args.self.now) (book g.R.Rng.stream c.args.self.now) c.args.self.now.last c.index-root.result.now
-    is = rw (← c.self.view_is) (last_shown _ (parts_of c.self.inside) _ _ c.self.invariant c.len.result (search rules) c.index-root.result.now c.index-root.ensures)
+    is = rw (← c.self.view_is) (last_shown _ (parts_of c.self.inside) _ _ c.self.invariant.0 c.len.result (search rules) c.index-root.result.now c.index-root.ensures)

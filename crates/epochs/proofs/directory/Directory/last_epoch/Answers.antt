@@ -6,4 +6,4 @@ use Rattle.epochs.proofs.directory.Directory.last_epoch.Goals as goal
 
 pub returns : goal.returns
 returns g c =
-    rw (← c.self.view_is) (ap (λ (root : SignedRoot). root.body.epoch) (last_is _ (parts_of c.self.inside) _ _ c.self.invariant c.len.result (search rules) c.index.result.now c.index.ensures))
+    rw (← c.self.view_is) (ap (λ (root : SignedRoot). root.body.epoch) (last_is _ (parts_of c.self.inside) _ _ c.self.invariant.0 c.len.result (search rules) c.index.result.now c.index.ensures))

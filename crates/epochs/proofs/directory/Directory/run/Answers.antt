@@ -53,7 +53,7 @@ pub returns-clause-honest : goal.returns-clause-honest
 returns-clause-honest g c =
     honest (provider g.H.NodeHash.digest_of g.V.Vuf.value_of g.S.Signer.signature_of c.args.self.now) g.V.VufCheck.accepted g.S.Verifier.verified c.args.self.now.key laws
     g.K.Keeper.kept g.K.Keeper.failed (book g.R.Rng.stream c.args.self.now) (book g.R.Rng.stream c.loop-command.self) c.args.keeper.now c.loop-command.keeper
-    (map asked c.args.commands.now) c.loop-command.replies.items (rw (← c.self.view_is) c.self.invariant.sound) sound
+    (map asked c.args.commands.now) c.loop-command.replies.items (rw (← c.self.view_is) c.self.invariant.0.sound) sound
     (All-map IsCommand asked c.args.commands.now (rw (take_all _ _ c.loop-command-test.false) at c.loop-command.invariant.1))
     (rw (take_all _ _ c.loop-command-test.false) at c.loop-command.invariant.0.0)
   where

@@ -25,15 +25,17 @@ invariant_of-self g c =
       previous_hash = c.self.inside.root_hash;
       nonce = c.index.result.now.body.nonce;
       vuf_key = c.public.result;
-    } in
-    keeps_closed _ (parts_of c.self.inside) _ _ c.self.invariant c.args.epoch c.in_ok-tree.tree (c.in_ok-tree.ensures.tree ∙ ap in_page (sym stands)) c.len.result (search rules) c.index.result.now c.index.ensures
-    (subst (λ (kept : Kept g.row.R.Denot). kept.last.epoch < c.args.epoch) (sym stands) c.requires) c.ranges.epoch.fits
-    the_body (λ i. record { epoch = c.args.epoch; previous_epoch = c.index.result.now.body.epoch; root = c.root.ensures i; previous_hash = c.self.inside.root_hash; nonce = c.index.result.now.body.nonce; vuf_key = c.public.ensures i })
-    c.signed_root-root.result c.signed_root-root.ensures c.hash_of-self-inside.result c.hash_of-self-inside.ensures.value c.copied.result c.copied.ensures
-    c.add_page.new.roots.items c.in-Ok.ensures.1 c.add_page.new.trees.items c.in-Ok.ensures.2 c.clear.new.self.entries c.clear.ensures.empty
+    } in (
+      keeps_closed _ (parts_of c.self.inside) _ _ c.self.invariant.0 c.args.epoch c.in_ok-tree.tree (c.in_ok-tree.ensures.tree ∙ ap in_page (sym stands)) c.len.result (search rules) c.index.result.now c.index.ensures
+          (subst (λ (kept : Kept g.row.R.Denot). kept.last.epoch < c.args.epoch) (sym stands) c.requires) c.ranges.epoch.fits
+          the_body (λ i. record { epoch = c.args.epoch; previous_epoch = c.index.result.now.body.epoch; root = c.root.ensures i; previous_hash = c.self.inside.root_hash; nonce = c.index.result.now.body.nonce; vuf_key = c.public.ensures i })
+          c.signed_root-root.result c.signed_root-root.ensures c.hash_of-self-inside.result (c.hash_of-self-inside.ensures.value ∙ ap g.H.NodeHash.digest_of c.write-text.ensures.value) c.copied.result c.copied.ensures
+          c.add_page.new.roots.items c.in-Ok.ensures.1 c.add_page.new.trees.items c.in-Ok.ensures.2 c.clear.new.self.entries c.clear.ensures.empty,
+      c.self.invariant.1,
+    )
 
 pub invariant_of-self-in-Err : goal.invariant_of-self-in-Err
-invariant_of-self-in-Err g c = keeps_same _ (parts_of c.self.inside) _ _ c.self.invariant c.add_page.new.roots.items c.add_page.new.trees.items c.in-Err.ensures.0 c.in-Err.ensures.1
+invariant_of-self-in-Err g c = (keeps_same _ (parts_of c.self.inside) _ _ c.self.invariant.0 c.add_page.new.roots.items c.add_page.new.trees.items c.in-Err.ensures.0 c.in-Err.ensures.1, c.self.invariant.1)
 
 pub returns-in-Ok-clause-made : goal.returns-in-Ok-clause-made
 returns-in-Ok-clause-made g c =
@@ -49,10 +51,10 @@ returns-in-Ok-clause-made g c =
       nonce = c.index.result.now.body.nonce;
       vuf_key = c.public.result;
     } in
-    let made = closed_made _ (parts_of c.self.inside) _ _ c.self.invariant c.args.epoch c.in_ok-tree.tree (c.in_ok-tree.ensures.tree ∙ ap in_page (sym stands)) c.len.result (search rules) c.index.result.now c.index.ensures
+    let made = closed_made _ (parts_of c.self.inside) _ _ c.self.invariant.0 c.args.epoch c.in_ok-tree.tree (c.in_ok-tree.ensures.tree ∙ ap in_page (sym stands)) c.len.result (search rules) c.index.result.now c.index.ensures
     (subst (λ (kept : Kept g.row.R.Denot). kept.last.epoch < c.args.epoch) (sym stands) c.requires) c.ranges.epoch.fits
     the_body (λ i. record { epoch = c.args.epoch; previous_epoch = c.index.result.now.body.epoch; root = c.root.ensures i; previous_hash = c.self.inside.root_hash; nonce = c.index.result.now.body.nonce; vuf_key = c.public.ensures i })
-    c.signed_root-root.result c.signed_root-root.ensures c.hash_of-self-inside.result c.hash_of-self-inside.ensures.value c.copied.result c.copied.ensures
+    c.signed_root-root.result c.signed_root-root.ensures c.hash_of-self-inside.result (c.hash_of-self-inside.ensures.value ∙ ap g.H.NodeHash.digest_of c.write-text.ensures.value) c.copied.result c.copied.ensures
     c.add_page.new.roots.items c.in-Ok.ensures.1 c.add_page.new.trees.items c.in-Ok.ensures.2 c.clear.new.self.entries c.clear.ensures.empty
     (by c.args.self.now) (the_book c.args.self.now) (ap by stands) (ap the_book stands) in
     (rw (c.copied.ensures, c.signed_root-root.ensures) at c.in-Ok.ensures.0, made.0, made.1)
@@ -60,6 +62,6 @@ returns-in-Ok-clause-made g c =
 pub returns-in-Err-clause-made : goal.returns-in-Err-clause-made
 returns-in-Err-clause-made g c =
     let the_book = book {R = g.row.R.Denot} g.R.Rng.stream in (
-      book_same _ (parts_of c.self.inside) _ _ c.self.invariant c.add_page.new.roots.items c.add_page.new.trees.items c.in-Err.ensures.0 c.in-Err.ensures.1 ∙ ap the_book (c.self.view_is ∙ c.next_tree.ensures.stays),
+      book_same _ (parts_of c.self.inside) _ _ c.self.invariant.0 c.add_page.new.roots.items c.add_page.new.trees.items c.in-Err.ensures.0 c.in-Err.ensures.1 ∙ ap the_book (c.self.view_is ∙ c.next_tree.ensures.stays),
       rw (c.copied.ensures, c.signed_root-root.ensures) at c.in-Err.ensures.2,
     )

@@ -19,8 +19,8 @@ invariant_of-self g c =
     let kept = g.K.Keeper.kept c.args.keeper.now c.args.what.now c.add.new.keeper in
     let unkept = λ (why : Refusal). IsUnkept g.K.Keeper.failed c.args.keeper.now c.args.what.now why c.add.new.keeper in
     let found : lookup (is_at (λ key. name_cmp c.args.name.now key.items)) es ≡ Some c.in-Some.history.now = rw c.bytes.ensures.value at (sym c.in-Some.ensures.value) in
-    histories_after kept unkept c.args.name.now c.args.version c.add.result _ _ c.self.invariant (rw (← c.self.view_is) at c.requires.later)
-    (added-there kept unkept c.args.name.now c.args.version (λ key. key.items) c.add.result es (c.get_mut.follows.lender c.add.new.self).entries c.in-Some.history.now c.add.new.self c.self.invariant.names_ascend found
+    histories_after kept unkept c.args.name.now c.args.address.now c.args.version c.add.result _ _ c.self.invariant (rw (← c.self.view_is) at c.requires.later)
+    (added-there kept unkept c.args.name.now c.args.address.now c.args.version (λ key. key.items) c.add.result es (c.get_mut.follows.lender c.add.new.self).entries c.in-Some.history.now c.add.new.self c.self.invariant.names_ascend found
     (rw c.bytes.ensures.value at (c.get_mut.follows.holds c.add.new.self).0) c.add.ensures)
 
 pub returns-in-Some : goal.returns-in-Some
@@ -30,7 +30,7 @@ returns-in-Some g c =
     let unkept = λ (why : Refusal). IsUnkept g.K.Keeper.failed c.args.keeper.now c.args.what.now why c.add.new.keeper in
     let found : lookup (is_at (λ key. name_cmp c.args.name.now key.items)) es ≡ Some c.in-Some.history.now = rw c.bytes.ensures.value at (sym c.in-Some.ensures.value) in
     rw (← c.self.view_is)
-    (added-there kept unkept c.args.name.now c.args.version (λ key. key.items) c.add.result es (c.get_mut.follows.lender c.add.new.self).entries c.in-Some.history.now c.add.new.self c.self.invariant.names_ascend found
+    (added-there kept unkept c.args.name.now c.args.address.now c.args.version (λ key. key.items) c.add.result es (c.get_mut.follows.lender c.add.new.self).entries c.in-Some.history.now c.add.new.self c.self.invariant.names_ascend found
     (rw c.bytes.ensures.value at (c.get_mut.follows.holds c.add.new.self).0) c.add.ensures)
 
 pub invariant_of-self-2 : goal.invariant_of-self-2
@@ -39,8 +39,8 @@ invariant_of-self-2 g c =
     let kept = g.K.Keeper.kept c.args.keeper.now c.args.what.now c.put_kept.new.keeper in
     let unkept = λ (why : Refusal). IsUnkept g.K.Keeper.failed c.args.keeper.now c.args.what.now why c.put_kept.new.keeper in
     let none : lookup (is_at (λ key. name_cmp c.args.name.now key.items)) es ≡ None = rw c.bytes.ensures.value at (sym c.in_default.ensures.value) in
-    histories_after kept unkept c.args.name.now c.args.version c.put_kept.result _ _ c.self.invariant (rw (← c.self.view_is) at c.requires.later)
-    (added-new kept unkept c.args.name.now c.args.version (λ key. key.items) c.put_kept.result es c.put_kept.new.histories.entries none
+    histories_after kept unkept c.args.name.now c.args.address.now c.args.version c.put_kept.result _ _ c.self.invariant (rw (← c.self.view_is) at c.requires.later)
+    (added-new kept unkept c.args.name.now c.args.address.now c.args.version (λ key. key.items) c.put_kept.result es c.put_kept.new.histories.entries none
     (rw (c.in_ok-history.ensures, c.get_mut.follows.holds-at-none) at c.put_kept.ensures))
 
 pub returns : goal.returns
@@ -50,5 +50,5 @@ returns g c =
     let unkept = λ (why : Refusal). IsUnkept g.K.Keeper.failed c.args.keeper.now c.args.what.now why c.put_kept.new.keeper in
     let none : lookup (is_at (λ key. name_cmp c.args.name.now key.items)) es ≡ None = rw c.bytes.ensures.value at (sym c.in_default.ensures.value) in
     rw (← c.self.view_is)
-    (added-new kept unkept c.args.name.now c.args.version (λ key. key.items) c.put_kept.result es c.put_kept.new.histories.entries none
+    (added-new kept unkept c.args.name.now c.args.address.now c.args.version (λ key. key.items) c.put_kept.result es c.put_kept.new.histories.entries none
     (rw (c.in_ok-history.ensures, c.get_mut.follows.holds-at-none) at c.put_kept.ensures))
