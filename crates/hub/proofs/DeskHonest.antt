@@ -5,8 +5,8 @@ use Rattle.std.specs.Str.{bytes_eq}
 use Rattle.rand_core.specs.Stream.{Stream}
 use Rattle.book.specs.declared.record.Record.{Record}
 use Rattle.book.specs.declared.reply.Reply.{Reply}
-use Rattle.book.specs.Asked.{Asked, Register, Change, Promise, Lookup, History, Head, Close}
-use Rattle.book.specs.Fresh.{IsCommand}
+use Rattle.encoding.specs.Bytes.{IsBytes}
+use Rattle.commands.specs.Asked.{Asked, Question, Query, Edit, Put, Turn, Promise, Lookup, History, Head, FitsIn, IsAny, IsCommand, MayRead}
 use Rattle.book.specs.Shows.{Provider, index_of}
 use Rattle.book.specs.Sound.{IsSound}
 use Rattle.book.proofs.Honesty.{honest}
@@ -21,17 +21,19 @@ use Rattle.hub.proofs.DeskRunning.{lines_show_run}
 use Rattle.hub.proofs.Readable.{lines_read, run_for}
 
 -- a request that is a command holds names, keys and epochs within their limits
-request_is : (token : List ℕ) (requested : request.Asked) (asked : Asked) → request.IsAsked requested → command token requested ≡ Some asked → IsCommand asked
-request_is token (request.Register name key) asked (of_name, of_key) e = subst IsCommand (let same : Register name key ≡ asked = cc in same) (of_name.2, of_key.2)
-request_is token (request.Change name key) asked (of_name, of_key) e = subst IsCommand (let same : Change name key ≡ asked = cc in same) (of_name.2, of_key.2)
-request_is token (request.Promise name) asked of_name e = subst IsCommand (let same : Promise name ≡ asked = cc in same) of_name.2
-request_is token (request.Lookup epoch name) asked (of_epoch, of_name) e = subst IsCommand (let same : Lookup name epoch ≡ asked = cc in same) of_name.2
-request_is token (request.History from count) asked are e = subst IsCommand (let same : History from count ≡ asked = cc in same) tt
-request_is token request.Head asked is e = subst IsCommand (let same : Head ≡ asked = cc in same) tt
-request_is token (request.Close given epoch) asked (of_token, of_epoch) e = by_token (bytes_eq given token) e
+question_is : (question : Question) → MayRead request.IsCounted FitsIn question → MayRead IsBytes IsAny question
+question_is (Promise name) of_name = of_name.2
+question_is (Lookup name epoch) (of_epoch, of_name) = (tt, of_name.2)
+question_is (History from count) are = (tt, tt)
+question_is Head are = tt
+
+request_is : (token : List ℕ) (requested : request.Requested) (asked : Asked) → request.IsAsked requested → command token requested ≡ Some asked → IsCommand asked
+request_is token (request.Query question) asked are e = subst IsCommand (let same : Query question ≡ asked = cc in same) (question_is question are)
+request_is token (request.Put verb name key) asked (of_name, of_key) e = subst IsCommand (let same : Edit (Put verb name key) ≡ asked = cc in same) (of_name.2, of_key.2)
+request_is token (request.Turn given epoch) asked (of_token, of_epoch) e = by_token (bytes_eq given token) e
   where
-    by_token : (b : Bool) → cond b (Some (Close epoch)) None ≡ Some asked → IsCommand asked
-    by_token true same = subst IsCommand (let is : Close epoch ≡ asked = cc in is) of_epoch
+    by_token : (b : Bool) → cond b (Some (Edit (Turn epoch))) None ≡ Some asked → IsCommand asked
+    by_token true same = subst IsCommand (let is : Edit (Turn epoch) ≡ asked = cc in is) of_epoch
     by_token false same = absurd cc
 
 reached_is : (token : List ℕ) (message : Message) (asked : Asked) → Reaches token message asked → IsCommand asked

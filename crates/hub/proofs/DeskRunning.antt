@@ -3,7 +3,7 @@ use Rattle.std.proofs.Common.{◌≡◌, ℕ, List, [], ◌∷◌, Option, Some,
 use Rattle.rand_core.specs.Stream.{Stream}
 use Rattle.book.specs.declared.record.Record.{Record}
 use Rattle.book.specs.declared.reply.Reply.{Reply}
-use Rattle.book.specs.Asked.{Asked}
+use Rattle.commands.specs.Asked.{Asked}
 use Rattle.book.specs.Fresh.{provider_of}
 use Rattle.book.specs.Shows.{Provider}
 use Rattle.book.specs.Turns.{Run}

@@ -14,15 +14,16 @@ use Rattle.book.specs.declared.refusal.Refusal.TheVariants.{BadRange}
 use Rattle.book.specs.declared.reply.Reply.{Reply}
 use Rattle.book.specs.declared.reply.Reply.TheVariants as reply
 use Rattle.book.specs.Answers.{Told as ToldPages, told}
-use Rattle.book.specs.Asked.{Asked, Close, Head, History}
+use Rattle.commands.specs.Asked.{Asked, Question, Query, Edit, Head, History}
+use Rattle.commands.specs.Asked as ask
 use Rattle.book.specs.Books.{Book, Page}
 use Rattle.book.specs.Books.{pages as pages_of}
 use Rattle.book.specs.Shows.{Provider, IsRootOf, index_of}
 use Rattle.book.specs.Steps.{Outcome, Answers, Refuses, unless_refused, step}
-use Rattle.book.specs.Turns.{IsRead as IsAnswered, IsRefused, Reads, Turn, kept_of}
+use Rattle.book.specs.Turns.{IsRead as IsAnswered, IsRefused, Reads, Turn}
 use Rattle.epochs.specs.Kept.{Kept, HasKeysOf, book as book_kept, provider as provider_kept}
 use Rattle.epochs.specs.Replied.{IsTold}
-use Rattle.epochs.proofs.Running.{head_turn, reads_turn, tells_turn}
+use Rattle.epochs.proofs.Running.{head_reads, reads_turn, tells_reads}
 use Rattle.wire.specs.declared.refusal.ReadRefusal.{ReadRefusal}
 use Rattle.wire.specs.declared.refusal.ReadRefusal.TheVariants.{BadKind, BadBody}
 use Rattle.wire.specs.Frames.{frame_bytes}
@@ -36,14 +37,14 @@ read_refused kind body BadBody h = h
 -- ---- the roots of a history
 
 same_pages : (by : List ℕ → List ℕ) (book : Book) (from count : ℕ) (pages : List Page) (b : Bool)
-    → unless_refused (cond (not b) (Some BadRange) None) book (History from count) ≡ (Answers (ToldPages pages), book) → (b ≡ true) × (pages ≡ told book from count)
+    → unless_refused (cond (not b) (Some BadRange) None) book (Query (History from count)) ≡ (Answers (ToldPages pages), book) → (b ≡ true) × (pages ≡ told book from count)
 same_pages by book from count pages true e =
     let one : Answers (ToldPages (told book from count)) ≡ Answers (ToldPages pages) = ap (λ (x : Outcome × Book). x.0) e in
     let same : told book from count ≡ pages = cc in
     (refl, sym same)
 same_pages by book from count pages false e = absurd (let wrong : Refuses BadRange ≡ Answers (ToldPages pages) = ap (λ (x : Outcome × Book). x.0) e in cc)
 
-pub few_pages : (by : List ℕ → List ℕ) (book : Book) (from count : ℕ) (pages : List Page) → step by book (History from count) ≡ (Answers (ToldPages pages), book) → length pages ≤ 64
+pub few_pages : (by : List ℕ → List ℕ) (book : Book) (from count : ℕ) (pages : List Page) → step by book (Query (History from count)) ≡ (Answers (ToldPages pages), book) → length pages ≤ 64
 few_pages by book from count pages e =
     let t = same_pages by book from count pages (nat_le 1 count && nat_le count 64) e in
     let below : count ≤ 64 = leb-true count 64 (and_parts (nat_le 1 count) (nat_le count 64) t.0).1 in
@@ -53,8 +54,8 @@ few_pages by book from count pages e =
 
 pub few_roots : (provider : Provider) (book : Book) (from count : ℕ) (answer : Result (Bor (List SignedRoot)) Refusal)
     → MatchResult answer
-    (λ roots. (pages : List Page) × IsAnswered provider book (History from count) (ToldPages pages) × AllZip (IsRootOf provider book) pages roots.now)
-    (λ why. IsRefused provider book (History from count) why)
+    (λ roots. (pages : List Page) × IsAnswered provider book (Query (History from count)) (ToldPages pages) × AllZip (IsRootOf provider book) pages roots.now)
+    (λ why. IsRefused provider book (Query (History from count)) why)
     → IfOk answer (λ roots. length roots.now ≤ 64)
 few_roots provider book from count (Err why) reads = tt
 few_roots provider book from count (Ok roots) (pages, is, zip) =
@@ -81,24 +82,24 @@ module _ {R K : Type 0} (digest_of : List ℕ → List ℕ) (value_of signature_
       → grown ≡ output ++ frame_bytes (reply_frame said) → Serving directory keeper token (Some asked) output later keeper_after grown
   turned directory keeper token asked output later keeper_after grown said turn keys wrote = (frame_bytes (reply_frame said), (said, turn, refl, keys, refl), wrote)
 
-  -- a call that only reads
-  pub read_turned : (directory : Kept R) (keeper : K) (token : List ℕ) (asked : Asked) (output : List ℕ) (later : Kept R) (grown : List ℕ) (said : Reply) → kept_of (book_kept stream directory) asked ≡ None
-      → Reads (provider_of directory) (book_kept stream directory) asked said → book_kept stream later ≡ book_kept stream directory → HasKeysOf directory later
-      → grown ≡ output ++ frame_bytes (reply_frame said) → Serving directory keeper token (Some asked) output later keeper grown
-  read_turned directory keeper token asked output later grown said none reads stays keys wrote =
-      turned directory keeper token asked output later keeper grown said
-      (subst (λ (b : Book). Turn (provider_of directory) kept failed (book_kept stream directory) keeper asked said b keeper) (sym stays)
-      (reads_turn (provider_of directory) kept failed (book_kept stream directory) asked keeper said none reads)) keys wrote
+  -- a query
+  pub read_turned : (directory : Kept R) (keeper : K) (token : List ℕ) (question : Question) (output : List ℕ) (later : Kept R) (grown : List ℕ) (said : Reply)
+      → Reads (provider_of directory) (book_kept stream directory) (Query question) said → book_kept stream later ≡ book_kept stream directory → HasKeysOf directory later
+      → grown ≡ output ++ frame_bytes (reply_frame said) → Serving directory keeper token (Some (Query question)) output later keeper grown
+  read_turned directory keeper token question output later grown said reads stays keys wrote =
+      turned directory keeper token (Query question) output later keeper grown said
+      (subst (λ (b : Book). Turn (provider_of directory) kept failed (book_kept stream directory) keeper (Query question) said b keeper) (sym stays)
+      (reads_turn (provider_of directory) kept failed (book_kept stream directory) question keeper said reads)) keys wrote
 
   pub roots_turned : (any : Vec ℕ Global) (directory : Kept R) (keeper : K) (token : List ℕ) (from count : ℕ) (output : List ℕ) (grown : List ℕ) (answer : Result (Bor (List SignedRoot)) Refusal)
       → MatchResult answer
-      (λ roots. (pages : List Page) × IsAnswered (provider_of directory) (book_kept stream directory) (History from count) (ToldPages pages) × AllZip (IsRootOf (provider_of directory) (book_kept stream directory)) pages roots.now)
-      (λ why. IsRefused (provider_of directory) (book_kept stream directory) (History from count) why)
-      → ((said : Reply) → IsTold answer said → grown ≡ output ++ frame_bytes (reply_frame said)) → Serving directory keeper token (Some (History from count)) output directory keeper grown
+      (λ roots. (pages : List Page) × IsAnswered (provider_of directory) (book_kept stream directory) (Query (History from count)) (ToldPages pages) × AllZip (IsRootOf (provider_of directory) (book_kept stream directory)) pages roots.now)
+      (λ why. IsRefused (provider_of directory) (book_kept stream directory) (Query (History from count)) why)
+      → ((said : Reply) → IsTold answer said → grown ≡ output ++ frame_bytes (reply_frame said)) → Serving directory keeper token (Some (Query (History from count))) output directory keeper grown
   roots_turned any directory keeper token from count output grown answer reads wrote =
       let said = by answer (few_roots (provider_of directory) (book_kept stream directory) from count answer reads) in
-      turned directory keeper token (History from count) output directory keeper grown said.0
-      (tells_turn (provider_of directory) kept failed (book_kept stream directory) keeper from count answer (the_reply said.0) reads said.1) (refl, refl) (wrote said.0 said.1)
+      read_turned directory keeper token (History from count) output directory grown said.0
+      (tells_reads (provider_of directory) (book_kept stream directory) from count answer (the_reply said.0) reads said.1) refl (refl, refl) (wrote said.0 said.1)
     where
       the_reply : Reply → Result Reply (Unit {0})
       the_reply said = Ok said
@@ -109,12 +110,12 @@ module _ {R K : Type 0} (digest_of : List ℕ → List ℕ) (value_of signature_
 
   pub head_turned : (directory : Kept R) (keeper : K) (token : List ℕ) (output : List ℕ) (grown : List ℕ) (root : SignedRoot)
       → IsRootOf (provider_of directory) (book_kept stream directory) (book_kept stream directory).last root → grown ≡ output ++ frame_bytes (reply_frame (reply.Last root))
-      → Serving directory keeper token (Some Head) output directory keeper grown
+      → Serving directory keeper token (Some (Query Head)) output directory keeper grown
   head_turned directory keeper token output grown root is wrote =
-      turned directory keeper token Head output directory keeper grown (reply.Last root) (head_turn (provider_of directory) kept failed (book_kept stream directory) keeper root root refl is) (refl, refl) wrote
+      read_turned directory keeper token Head output directory grown (reply.Last root) (head_reads (provider_of directory) (book_kept stream directory) root root refl is) refl (refl, refl) wrote
 
   pub close_turned : (directory : Kept R) (keeper : K) (token given : List ℕ) (epoch : ℕ) (output : List ℕ) (later : Kept R) (keeper_after : K) (grown : List ℕ) (said : Reply) → bytes_eq given token ≡ true
-      → Turn (provider_of directory) kept failed (book_kept stream directory) keeper (Close epoch) said (book_kept stream later) keeper_after → HasKeysOf directory later
-      → grown ≡ output ++ frame_bytes (reply_frame said) → Serving directory keeper token (cond (bytes_eq given token) (Some (Close epoch)) None) output later keeper_after grown
+      → Turn (provider_of directory) kept failed (book_kept stream directory) keeper (Edit (ask.Turn epoch)) said (book_kept stream later) keeper_after → HasKeysOf directory later
+      → grown ≡ output ++ frame_bytes (reply_frame said) → Serving directory keeper token (cond (bytes_eq given token) (Some (Edit (ask.Turn epoch))) None) output later keeper_after grown
   close_turned directory keeper token given epoch output later keeper_after grown said same turn keys wrote =
-      rw same (turned directory keeper token (Close epoch) output later keeper_after grown said turn keys wrote)
+      rw same (turned directory keeper token (Edit (ask.Turn epoch)) output later keeper_after grown said turn keys wrote)

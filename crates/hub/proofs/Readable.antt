@@ -13,7 +13,8 @@ use Rattle.book.specs.declared.reply.Reply.{Reply}
 use Rattle.book.specs.declared.reply.Reply.TheVariants as reply
 use Rattle.book.specs.Answers.{Answer}
 use Rattle.book.specs.Answers as answer
-use Rattle.book.specs.Asked.{Asked, Register, Change, Promise, Lookup, History, Head, Close}
+use Rattle.commands.specs.Asked as ask
+use Rattle.commands.specs.Asked.{Asked, Question, Query, Edit, Put, Promise, Lookup, History, Head}
 use Rattle.book.specs.Books.{Book, Page}
 use Rattle.book.specs.Honest.{key_at, IsAnswer, IsDouble, IsHonest, IsSaid}
 use Rattle.book.specs.Refusals.{refusal_number}
@@ -22,7 +23,7 @@ use Rattle.book.specs.Steps.{Answers, step}
 use Rattle.book.specs.Turns.{Run, Turn}
 use Rattle.book.proofs.Members.{first-there, later-there}
 use Rattle.book.proofs.Running.{at-said}
-use Rattle.book.proofs.Stepping.{Does, stepped}
+use Rattle.book.proofs.Stepping.{Does, Finds, finds, stepped}
 use Rattle.wire.specs.declared.refusal.ReadRefusal.{ReadRefusal}
 use Rattle.wire.specs.declared.refusal.ReadRefusal.TheVariants.{BadKind, BadBody}
 use Rattle.wire.specs.Frames.{Frame}
@@ -42,7 +43,7 @@ use Rattle.hub.proofs.Desking.{few_pages}
 -- a text answers a look-up, and a list of roots is short
 abbrev IsFor : Asked → Reply → Type 0
 IsFor asked (reply.Promised signed) = ⊤
-IsFor asked (reply.Found text) = (name : List ℕ) × (epoch : ℕ) × (asked ≡ Lookup name epoch)
+IsFor asked (reply.Found text) = (name : List ℕ) × (epoch : ℕ) × (asked ≡ Query (Lookup name epoch))
 IsFor asked (reply.Told told) = length told.items ≤ 64
 IsFor asked (reply.Last root) = ⊤
 IsFor asked (reply.Refused why) = ⊤
@@ -54,23 +55,28 @@ sort (answer.Told pages) = 2
 sort (answer.Last page) = 3
 
 module _ (provider : Provider) where
-  found_for : (book after : Book) (asked : Asked) (said : Answer) → Does book asked said after → sort said ≡ 1 → (name : List ℕ) × (epoch : ℕ) × (asked ≡ Lookup name epoch)
-  found_for book after (Register name key) said does is = absurd (let wrong : 0 ≡ 1 = sym (ap sort does.0) ∙ is in cc)
-  found_for book after (Change name key) said does is = absurd (let wrong : 0 ≡ 1 = sym (ap sort does.0) ∙ is in cc)
-  found_for book after (Promise name) said does is = absurd (let wrong : 0 ≡ 1 = sym (ap sort does.2) ∙ is in cc)
-  found_for book after (Lookup name epoch) said does is = (name, epoch, refl)
-  found_for book after (History from count) said does is = absurd (let wrong : 2 ≡ 1 = sym (ap sort does.0) ∙ is in cc)
-  found_for book after Head said does is = absurd (let wrong : 3 ≡ 1 = sym (ap sort does.0) ∙ is in cc)
-  found_for book after (Close epoch) said does is = absurd (let wrong : 3 ≡ 1 = sym (ap sort does.0) ∙ is in cc)
+  finds_for : (book : Book) (question : Question) (said : Answer) → Finds book question said → sort said ≡ 1 → (name : List ℕ) × (epoch : ℕ) × (Query question ≡ Query (Lookup name epoch))
+  finds_for book (Promise name) said finds is = absurd (let wrong : 0 ≡ 1 = sym (ap sort finds.2) ∙ is in cc)
+  finds_for book (Lookup name epoch) said finds is = (name, epoch, refl)
+  finds_for book (History from count) said finds is = absurd (let wrong : 2 ≡ 1 = sym (ap sort finds) ∙ is in cc)
+  finds_for book Head said finds is = absurd (let wrong : 3 ≡ 1 = sym (ap sort finds) ∙ is in cc)
+
+  found_for : (book after : Book) (asked : Asked) (said : Answer) → Does book asked said after → sort said ≡ 1 → (name : List ℕ) × (epoch : ℕ) × (asked ≡ Query (Lookup name epoch))
+  found_for book after (Query question) said does is = finds_for book question said (finds book question said does.0) is
+  found_for book after (Edit (Put verb name key)) said does is = absurd (let wrong : 0 ≡ 1 = sym (ap sort does.0) ∙ is in cc)
+  found_for book after (Edit (ask.Turn epoch)) said does is = absurd (let wrong : 3 ≡ 1 = sym (ap sort does.0) ∙ is in cc)
+
+  tells_for : (book : Book) (question : Question) (pages : List Page) → step (index_of provider) book (Query question) ≡ (Answers (answer.Told pages), book) → Finds book question (answer.Told pages) → length pages ≤ 64
+  tells_for book (Promise name) pages steps finds = absurd (let wrong : 2 ≡ 0 = ap sort finds.2 in cc)
+  tells_for book (Lookup name epoch) pages steps finds = absurd (let wrong : 2 ≡ 1 = ap sort finds.2 in cc)
+  tells_for book (History from count) pages steps finds = few_pages (index_of provider) book from count pages steps
+  tells_for book Head pages steps finds = absurd (let wrong : 2 ≡ 3 = ap sort finds in cc)
 
   told_for : (book after : Book) (asked : Asked) (pages : List Page) → step (index_of provider) book asked ≡ (Answers (answer.Told pages), after) → Does book asked (answer.Told pages) after → length pages ≤ 64
-  told_for book after (Register name key) pages steps does = absurd (let wrong : 2 ≡ 0 = ap sort does.0 in cc)
-  told_for book after (Change name key) pages steps does = absurd (let wrong : 2 ≡ 0 = ap sort does.0 in cc)
-  told_for book after (Promise name) pages steps does = absurd (let wrong : 2 ≡ 0 = ap sort does.2 in cc)
-  told_for book after (Lookup name epoch) pages steps does = absurd (let wrong : 2 ≡ 1 = ap sort does.2 in cc)
-  told_for book after (History from count) pages steps does = few_pages (index_of provider) book from count pages (steps ∙ ap (λ (b : Book). (Answers (answer.Told pages), b)) does.1)
-  told_for book after Head pages steps does = absurd (let wrong : 2 ≡ 3 = ap sort does.0 in cc)
-  told_for book after (Close epoch) pages steps does = absurd (let wrong : 2 ≡ 3 = ap sort does.0 in cc)
+  told_for book after (Query question) pages steps does =
+      tells_for book question pages (steps ∙ ap (λ (b : Book). (Answers (answer.Told pages), b)) does.1) (finds book question (answer.Told pages) does.0)
+  told_for book after (Edit (Put verb name key)) pages steps does = absurd (let wrong : 2 ≡ 0 = ap sort does.0 in cc)
+  told_for book after (Edit (ask.Turn epoch)) pages steps does = absurd (let wrong : 2 ≡ 3 = ap sort does.0 in cc)
 
   module _ {K : Type 0} (kept failed : K → Record → K → Type 0) where
     turn_for : (book after : Book) (before later : K) (asked : Asked) (said : Reply) → Turn provider kept failed book before asked said after later → IsFor asked said
@@ -135,7 +141,7 @@ module _ (provider : Provider) (accepted verified : List ℕ → List ℕ → Li
   reply_read : (asked : Asked) (told : Reply) → IsSaid all said asked told → IsFor asked told → ReadsBack told
   reply_read asked (reply.Promised signed) is for = reads_back (reply.Promised signed) (response.Promise signed) refl (honest.kept asked signed is).form refl
   reply_read asked (reply.Found text) is (name, epoch, same) =
-      let t = at-said before.last.epoch all said (Lookup name epoch) (reply.Found text) (subst (λ (a : Asked). IsSaid all said a (reply.Found text)) same is) in
+      let t = at-said before.last.epoch all said (Query (Lookup name epoch)) (reply.Found text) (subst (λ (a : Asked). IsSaid all said a (reply.Found text)) same is) in
       let (read, spells) = spelled name epoch text (honest.found t.0 name epoch text t.1) in
       reads_back (reply.Found text) (response.Proof read) (read, spells, refl) spells.1 (ap proof_frame spells.0)
     where

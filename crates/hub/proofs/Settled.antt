@@ -5,7 +5,7 @@ use Rattle.book.specs.declared.reply.Reply.{Reply}
 use Rattle.book.specs.declared.reply.Reply.TheVariants as reply
 use Rattle.book.specs.declared.refusal.Refusal.{Refusal}
 use Rattle.book.specs.declared.refusal.Refusal.TheVariants.{BadName, BadKey, NameTaken, NoSuchName, PendingExists, IndexTaken, NoSuchEpoch, EpochNotLater, NoPromise, Memory, BadRange, KeepFailed}
-use Rattle.book.specs.Asked.{Asked}
+use Rattle.commands.specs.Asked.{Asked}
 use Rattle.book.specs.Refusals.{refusal_number}
 use Rattle.book.specs.Seen as seen
 use Rattle.book.specs.Seen.{Seen, FailAlike, seen as seen_of}
@@ -25,8 +25,8 @@ use Rattle.hub.specs.Runs.{Line, asked as asked_by}
 
 -- ---- a message means one thing
 
-read_once : (frame : Frame) (read other : Result request.Asked ReadRefusal) → IsRead frame read → IsRead frame other → read ≡ other
-read_once frame (Ok requested) (Ok other) is also = ap (λ (a : request.Asked). Ok a) (one_request frame.kind frame.body requested other is also)
+read_once : (frame : Frame) (read other : Result request.Requested ReadRefusal) → IsRead frame read → IsRead frame other → read ≡ other
+read_once frame (Ok requested) (Ok other) is also = ap (λ (a : request.Requested). Ok a) (one_request frame.kind frame.body requested other is also)
 read_once frame (Ok requested) (Err BadKind) is also = absurd (also (requested, is.0))
 read_once frame (Ok requested) (Err BadBody) is also = absurd (also.1 requested is)
 read_once frame (Err BadKind) (Ok other) is also = absurd (is (other, also.0))
@@ -50,7 +50,7 @@ abbrev unless_none : Option Asked → Meant
 unless_none None = Err 12
 unless_none (Some asked) = Ok asked
 
-abbrev meant : List ℕ → Result request.Asked ReadRefusal → Meant
+abbrev meant : List ℕ → Result request.Requested ReadRefusal → Meant
 meant token (Ok requested) = unless_none (command token requested)
 meant token (Err refusal) = Err (read_refusal_number refusal)
 
@@ -58,7 +58,7 @@ abbrev IsMeant : List ℕ → Message → Meant → Type 0
 IsMeant token message (Ok asked) = Reaches token message asked
 IsMeant token message (Err code) = IsTurnedAway token message code
 
-whole_meant : (token : List ℕ) (frame : Frame) (one : Meant) → IsMeant token (Whole frame) one → (read : Result request.Asked ReadRefusal) × IsRead frame read × (one ≡ meant token read)
+whole_meant : (token : List ℕ) (frame : Frame) (one : Meant) → IsMeant token (Whole frame) one → (read : Result request.Requested ReadRefusal) × IsRead frame read × (one ≡ meant token read)
 whole_meant token frame (Ok asked) (requested, read, is) = (Ok requested, read, sym (ap unless_none is))
 whole_meant token frame (Err code) (inl (refusal, read, is)) = (Err refusal, read, ap (λ (n : ℕ). Err n) is)
 whole_meant token frame (Err code) (inr (requested, read, none, is)) = (Ok requested, read, ap (λ (n : ℕ). Err n) is ∙ sym (ap unless_none none))

@@ -4,7 +4,7 @@ use mathlib.Core.Logic.{inl, inr}
 use Rattle.rand_core.specs.Stream.{Stream}
 use Rattle.book.specs.declared.record.Record.{Record}
 use Rattle.book.specs.declared.reply.Reply.{Reply}
-use Rattle.book.specs.Asked.{Asked}
+use Rattle.commands.specs.Asked.{Asked}
 use Rattle.book.specs.Fresh.{KeepsLaws}
 use Rattle.book.specs.Honest.{IsHonest}
 use Rattle.book.specs.Shows.{index_of}
@@ -25,7 +25,7 @@ use Rattle.hub.specs.Runs.{Line}
 
 -- the message reaches the directory, and asks this of it, where the operator has this token
 abbrev pub Reaches : List ℕ → Message → Asked → Type 0
-Reaches token (Whole frame) asked = (requested : request.Asked) × IsRead frame (Ok requested) × (command token requested ≡ Some asked)
+Reaches token (Whole frame) asked = (requested : request.Requested) × IsRead frame (Ok requested) × (command token requested ≡ Some asked)
 Reaches token BadFrame asked = ⊥
 
 -- the message does not reach the directory, and this is the number of its refusal: it has a length that no
@@ -33,7 +33,7 @@ Reaches token BadFrame asked = ⊥
 abbrev pub IsTurnedAway : List ℕ → Message → ℕ → Type 0
 IsTurnedAway token (Whole frame) code =
     ((refusal : ReadRefusal) × IsRead frame (Err refusal) × (code ≡ read_refusal_number refusal))
-    ⊎ ((requested : request.Asked) × IsRead frame (Ok requested) × (command token requested ≡ None) × (code ≡ 12))
+    ⊎ ((requested : request.Requested) × IsRead frame (Ok requested) × (command token requested ≡ None) × (code ≡ 12))
 IsTurnedAway token BadFrame code = code ≡ 1
 
 -- the messages that reach the directory ask these commands and are told these replies; the others are refused

@@ -6,7 +6,8 @@ use Rattle.proofs.specs.Replies.{Reply as Spelled, Spells}
 use Rattle.book.specs.declared.record.Record.{Record}
 use Rattle.book.specs.declared.reply.Reply.{Reply}
 use Rattle.book.specs.declared.reply.Reply.TheVariants as reply
-use Rattle.book.specs.Asked.{Asked, Register, Change, Promise, Lookup, History, Head, Close}
+use Rattle.commands.specs.Asked.{Asked, Query, Edit, Put}
+use Rattle.commands.specs.Asked as ask
 use Rattle.book.specs.Refusals.{refusal_number}
 use Rattle.book.specs.Turns.{Turn}
 use Rattle.epochs.specs.Kept.{Kept, book, provider, HasKeysOf}
@@ -26,20 +27,16 @@ pub record Desked (R K : Type 0) : Type 0 where
   pub token : List ℕ
 
 -- the request that a frame is, or why it is none
-abbrev pub IsRead : Frame → Result request.Asked ReadRefusal → Type 0
+abbrev pub IsRead : Frame → Result request.Requested ReadRefusal → Type 0
 IsRead frame (Ok requested) = Asks frame.kind frame.body requested
 IsRead frame (Err BadKind) = ¬ IsRequestKind frame.kind
-IsRead frame (Err BadBody) = IsRequestKind frame.kind × ((requested : request.Asked) → ¬ Asks frame.kind frame.body requested)
+IsRead frame (Err BadBody) = IsRequestKind frame.kind × ((requested : request.Requested) → ¬ Asks frame.kind frame.body requested)
 
--- what a request asks of the directory: closing only with the operator's token
-abbrev pub command : List ℕ → request.Asked → Option Asked
-command token (request.Register name key) = Some (Register name key)
-command token (request.Change name key) = Some (Change name key)
-command token (request.Promise name) = Some (Promise name)
-command token (request.Lookup epoch name) = Some (Lookup name epoch)
-command token (request.History from count) = Some (History from count)
-command token request.Head = Some Head
-command token (request.Close given epoch) = if bytes_eq given token then Some (Close epoch) else None
+-- what a request asks of the directory: a new page only with the operator's token
+abbrev pub command : List ℕ → request.Requested → Option Asked
+command token (request.Query question) = Some (Query question)
+command token (request.Put verb name key) = Some (Edit (Put verb name key))
+command token (request.Turn given epoch) = if bytes_eq given token then Some (Edit (ask.Turn epoch)) else None
 
 -- the frame of a reply; that of a look-up has the reply's own bytes
 abbrev pub reply_frame : Reply → Frame
@@ -67,13 +64,13 @@ module _ {R K : Type 0} (digest_of : List ℕ → List ℕ) (value_of signature_
       × (text ≡ frame_bytes (reply_frame told)) × HasKeysOf before.directory after.directory × (after.token ≡ before.token)
 
   -- a request is served
-  abbrev pub Serves : Desked R K → request.Asked → List ℕ → Desked R K → Type 0
+  abbrev pub Serves : Desked R K → request.Requested → List ℕ → Desked R K → Type 0
   Serves before requested text after = Commanded before (command before.token requested) text after
 
   -- what was read is served, or refused
-  abbrev pub Told : Desked R K → Result request.Asked ReadRefusal → List ℕ → Desked R K → Type 0
+  abbrev pub Told : Desked R K → Result request.Requested ReadRefusal → List ℕ → Desked R K → Type 0
   Told before (Ok requested) text after = Serves before requested text after
   Told before (Err refusal) text after = (text ≡ refused_frame (read_refusal_number refusal)) × (after ≡ before)
 
   abbrev pub DeskAnswers : Desked R K → Frame → List ℕ → Desked R K → Type 0
-  DeskAnswers before frame text after = (read : Result request.Asked ReadRefusal) × IsRead frame read × Told before read text after
+  DeskAnswers before frame text after = (read : Result request.Requested ReadRefusal) × IsRead frame read × Told before read text after

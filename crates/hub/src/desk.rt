@@ -1,10 +1,13 @@
 ghost use Rattle.std.specs.Prelude.{◌≡◌, ◌+◌, ◌≤◌, ◌++◌, ℕ, List, length, IfOk, vec_len, vec_capacity};
+ghost use Rattle.commands.specs.declared.edit.Verb.TheVariants.{Change, Register};
+ghost use Rattle.commands.specs.Asked.{question, Lookup, Promise};
 ghost use Rattle.book.specs.declared.reply.Reply.{Reply};
 ghost use Rattle.book.specs.Shows.{IsRootOf};
 ghost use Rattle.epochs.specs.Kept.{book, provider};
 ghost use Rattle.epochs.specs.Replied.{found, last, promised, IsTold};
 ghost use Rattle.wire.specs.Frames.{frame_bytes};
-ghost use Rattle.wire.specs.Requests.{request_seen, Change, Close, Lookup, Promise, Register};
+ghost use Rattle.wire.specs.Requests.{request_seen};
+ghost use Rattle.wire.specs.Requests as asks;
 ghost use Rattle.wire.specs.Responses.{answer_frame, HasFewRoots};
 ghost use Rattle.hub.specs.DeskRuns.{IsWell};
 ghost use Rattle.hub.specs.Desks.{reply_frame, Serves};
@@ -12,6 +15,7 @@ ghost use Rattle.hub.specs.Desks.{reply_frame, Serves};
 use crate::Service;
 use crate::drain::write_refused;
 use book::{Keeper, Refusal};
+use commands::{Put, Query, Verb};
 use encoding::{Hash32, ProofText};
 use epochs::Directory;
 use nodehash::NodeHash;
@@ -65,15 +69,37 @@ impl<H: NodeHash, V: Vuf, S: Signer, R: Rng, K: Keeper> Desk<H, V, S, R, K> {
             × (output.new.items ≡ output.old.items ++ reply) }
     {
         match request {
-            Request::Register { name, key } => self.register(name, key, output),
-            Request::Change { name, key } => self.change(name, key, output),
-            Request::Promise { name } => self.promise(name, output),
-            Request::Lookup { epoch, name } => self.look_up(*epoch, name, output),
-            Request::History { from, count } => {
-                write_roots(self.directory.history(*from, *count), output)
+            Request::Query(query) => self.read(query, output),
+            Request::Put(put) => self.put(put, output),
+            Request::Turn { token, epoch } => self.close(token, *epoch, output),
+        }
+    }
+
+    /// Answers a query.
+    fn read(&mut self, query: &Query<'_>, output: &mut Vec<u8>)
+        requires { vec_len output.old + 25863 ≤ vec_capacity output.old }
+        ensures { (reply : List ℕ) × Serves H.digest_of V.value_of S.signature_of R.stream K.kept K.failed self.old (asks.Query (question query.now)) reply self.new
+            × (output.new.items ≡ output.old.items ++ reply) }
+    {
+        match *query {
+            Query::Promise { name } => self.promise(name, output),
+            Query::Lookup { name, epoch } => self.look_up(name, epoch, output),
+            Query::History { from, count } => {
+                write_roots(self.directory.history(from, count), output)
             }
-            Request::Head => write(&Answer::Root(self.directory.head()), output),
-            Request::Close { token, epoch } => self.close(token, *epoch, output),
+            Query::Head => write(&Answer::Root(self.directory.head()), output),
+        }
+    }
+
+    /// Puts a key to a name.
+    fn put(&mut self, put: &Put<'_>, output: &mut Vec<u8>)
+        requires { vec_len output.old + 25863 ≤ vec_capacity output.old }
+        ensures { (reply : List ℕ) × Serves H.digest_of V.value_of S.signature_of R.stream K.kept K.failed self.old (asks.Put put.now.verb put.now.name.now put.now.key.now) reply self.new
+            × (output.new.items ≡ output.old.items ++ reply) }
+    {
+        match put.verb {
+            Verb::Register => self.register(put.name, put.key, output),
+            Verb::Change => self.change(put.name, put.key, output),
         }
     }
 
@@ -81,7 +107,7 @@ impl<H: NodeHash, V: Vuf, S: Signer, R: Rng, K: Keeper> Desk<H, V, S, R, K> {
     /// replies when it is entered.
     fn register(&mut self, name: &[u8], key: &[u8], output: &mut Vec<u8>)
         requires { vec_len output.old + 25863 ≤ vec_capacity output.old }
-        ensures { (reply : List ℕ) × Serves H.digest_of V.value_of S.signature_of R.stream K.kept K.failed self.old (Register name.now key.now) reply self.new
+        ensures { (reply : List ℕ) × Serves H.digest_of V.value_of S.signature_of R.stream K.kept K.failed self.old (asks.Put Register name.now key.now) reply self.new
             × (output.new.items ≡ output.old.items ++ reply) }
     {
         write_promise(self.directory.register(&mut self.keeper, name, key), output)
@@ -90,7 +116,7 @@ impl<H: NodeHash, V: Vuf, S: Signer, R: Rng, K: Keeper> Desk<H, V, S, R, K> {
     /// Changes the key of a name.
     fn change(&mut self, name: &[u8], key: &[u8], output: &mut Vec<u8>)
         requires { vec_len output.old + 25863 ≤ vec_capacity output.old }
-        ensures { (reply : List ℕ) × Serves H.digest_of V.value_of S.signature_of R.stream K.kept K.failed self.old (Change name.now key.now) reply self.new
+        ensures { (reply : List ℕ) × Serves H.digest_of V.value_of S.signature_of R.stream K.kept K.failed self.old (asks.Put Change name.now key.now) reply self.new
             × (output.new.items ≡ output.old.items ++ reply) }
     {
         write_promise(self.directory.change(&mut self.keeper, name, key), output)
@@ -99,16 +125,16 @@ impl<H: NodeHash, V: Vuf, S: Signer, R: Rng, K: Keeper> Desk<H, V, S, R, K> {
     /// Answers with the promise that waits for a name.
     fn promise(&mut self, name: &[u8], output: &mut Vec<u8>)
         requires { vec_len output.old + 25863 ≤ vec_capacity output.old }
-        ensures { (reply : List ℕ) × Serves H.digest_of V.value_of S.signature_of R.stream K.kept K.failed self.old (Promise name.now) reply self.new
+        ensures { (reply : List ℕ) × Serves H.digest_of V.value_of S.signature_of R.stream K.kept K.failed self.old (asks.Query (Promise name.now)) reply self.new
             × (output.new.items ≡ output.old.items ++ reply) }
     {
         write_promise(self.directory.promise(name), output)
     }
 
     /// Looks a name up.
-    fn look_up(&mut self, epoch: u64, name: &[u8], output: &mut Vec<u8>)
+    fn look_up(&mut self, name: &[u8], epoch: u64, output: &mut Vec<u8>)
         requires { vec_len output.old + 25863 ≤ vec_capacity output.old }
-        ensures { (reply : List ℕ) × Serves H.digest_of V.value_of S.signature_of R.stream K.kept K.failed self.old (Lookup epoch name.now) reply self.new
+        ensures { (reply : List ℕ) × Serves H.digest_of V.value_of S.signature_of R.stream K.kept K.failed self.old (asks.Query (Lookup name.now epoch)) reply self.new
             × (output.new.items ≡ output.old.items ++ reply) }
     {
         write_proof(&self.directory.lookup(name, epoch), output)
@@ -117,7 +143,7 @@ impl<H: NodeHash, V: Vuf, S: Signer, R: Rng, K: Keeper> Desk<H, V, S, R, K> {
     /// Closes the epoch for whoever has the token.
     fn close(&mut self, token: &Hash32, epoch: u64, output: &mut Vec<u8>)
         requires { vec_len output.old + 25863 ≤ vec_capacity output.old }
-        ensures { (reply : List ℕ) × Serves H.digest_of V.value_of S.signature_of R.stream K.kept K.failed self.old (Close token.now epoch) reply self.new
+        ensures { (reply : List ℕ) × Serves H.digest_of V.value_of S.signature_of R.stream K.kept K.failed self.old (asks.Turn token.now epoch) reply self.new
             × (output.new.items ≡ output.old.items ++ reply) }
     {
         if *token != self.token {

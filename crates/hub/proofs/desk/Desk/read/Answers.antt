@@ -1,6 +1,6 @@
 use Rattle.epochs.specs.Kept.{book, provider}
 use Rattle.hub.proofs.Desking.{few_roots, head_turned, roots_turned}
-use Rattle.hub.proofs.desk.Desk.serve.Goals as goal
+use Rattle.hub.proofs.desk.Desk.read.Goals as goal
 
 pub write_roots-requires-clause-few : goal.write_roots-requires-clause-few
 write_roots-requires-clause-few g c =
