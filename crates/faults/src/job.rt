@@ -132,8 +132,9 @@ impl<'a> Job<'a> {
                 Ok(_) => ended(Ok(())),
                 Err(fault) => ended(Err(fault)),
             },
-            Job::Serve => serve_one(alloc, reader, writer),
-            Job::Sessions => serve_two(alloc, reader, writer),
+            // The reader itself, so that it shows how much is asked for at once.
+            Job::Serve => serve_one(alloc, reader.get_mut(), writer),
+            Job::Sessions => serve_two(alloc, reader.get_mut(), writer),
         }
     }
 }
@@ -220,7 +221,7 @@ fn marked(outcome: Outcome, written: &[u8]) -> Outcome {
     marked
 }
 
-fn serve_one(alloc: Global, reader: &mut Input<'_>, writer: &mut CutWriter) -> Outcome {
+fn serve_one(alloc: Global, reader: &mut CutReader<'_>, writer: &mut CutWriter) -> Outcome {
     let order = DirectoryOrder {
         sign_key: ONES,
         vuf_key: TWOS,
@@ -253,7 +254,7 @@ fn told_epoch(frame: &[u8]) -> u64 {
     }
 }
 
-fn serve_two(alloc: Global, reader: &mut Input<'_>, writer: &mut CutWriter) -> Outcome {
+fn serve_two(alloc: Global, reader: &mut CutReader<'_>, writer: &mut CutWriter) -> Outcome {
     let lacking = ended(Err(ProgramFault::OutOfMemory));
     let Ok(mut hub) = provider::hub(alloc, NoKeeper) else {
         return lacking;
