@@ -212,10 +212,10 @@ const TWOS: &str = "020202020202020202020202020202020202020202020202020202020202
 
 const FOURS: &str = "0404040404040404040404040404040404040404040404040404040404040404";
 
-/// Marks an outcome where a reply tells that the directory was out of memory.
-fn marked(outcome: Outcome, written: &[u8]) -> Outcome {
+/// Marks an outcome where a reply tells that the directory was out of memory, also one that was not written.
+fn marked(outcome: Outcome, offered: &[u8]) -> Outcome {
     let mut marked = outcome;
-    if provider::lack_memory(written) {
+    if provider::lack_memory(offered) {
         marked.is_spoiled = true;
     }
     marked
@@ -231,7 +231,7 @@ fn serve_one(alloc: Global, reader: &mut CutReader<'_>, writer: &mut CutWriter) 
         nonce: None,
     };
     let outcome = ended(serve_directory(alloc, order, reader, writer));
-    marked(outcome, writer.taken())
+    marked(outcome, writer.offered())
 }
 
 /// The one session that is open at a time.
@@ -270,5 +270,5 @@ fn serve_two(alloc: Global, reader: &mut CutReader<'_>, writer: &mut CutWriter) 
     if second == Err(ServeFault::OutOfMemory) && first != second {
         outcome.is_spoiled = true;
     }
-    marked(outcome, writer.taken())
+    marked(outcome, writer.offered())
 }
