@@ -313,7 +313,7 @@ class AnyChain(Chain):
     """A chain under a verifier that accepts each signature."""
 
     @staticmethod
-    def verified(_key, _root):
+    def verified(_key, _signed):
         return True
 
 
@@ -346,6 +346,19 @@ class Answers(Lines):
     def bits_order(self, w):
         """`order INDEX INDEX`: whether the first is below the second."""
         return [yes(w.index() < w.index())]
+
+    def bits_order_hash(self, w):
+        """`order-hash HASH HASH`, and so for names, keys and small values: whether the first is below the second."""
+        return [yes(w.hash() < w.hash())]
+
+    def bits_order_name(self, w):
+        return [yes(w.name() < w.name())]
+
+    def bits_order_key(self, w):
+        return [yes(w.key() < w.key())]
+
+    def bits_order_small(self, w):
+        return [yes(w.small() < w.small())]
 
     def bits_hash(self, w):
         """`hash HEX32`: lent, and as an array."""

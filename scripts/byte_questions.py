@@ -37,6 +37,17 @@ def of_bits(q, rng):
         q.ask("bits order", one, other)
         q.ask("bits order", other, one)
         q.ask("bits order", one, one)
+    for one, other in zip(rising[:2], rising[1:]):
+        for words in [(one, other), (other, one), (one, one)]:
+            q.ask("bits order-hash", *words)
+    for verb, most in [("name", 255), ("key", 2048), ("small", 256)]:
+        longest = b"\x80" * most
+        for one, other in [
+            (b"a", b"b"), (b"a", b"aa"), (b"b", b"aa"), (b"\x7f", b"\x80"), (longest[:-1], longest),
+            (longest, longest[:-1] + b"\x81"), (longest, b"\x81"),
+        ]:
+            for words in [(one, other), (other, one), (one, one)]:
+                q.ask(f"bits order-{verb}", *words)
     q.note("both kinds of 32 bytes keep theirs")
     for data in [ZERO32, index(1, last=2), run(0xE8)]:
         q.ask("bits hash", data)

@@ -577,3 +577,47 @@ def of_expectations(q, rng):
     q.ask("monitor expect", key, a.promise(name, key))
     for page in (a, b):
         q.ask("monitor step", page.reply(name).write())
+
+
+# Both, under a verifier that accepts each signature -----------------------------------------------------------
+
+
+@subject("clients and monitors: signatures of other lengths than 32")
+def of_wide_roots(q, rng):
+    name, key = b"a" * 255, b"k" * 2048
+    pages = KEYED.pages(range(1, 66))
+    fork = KEYED.page(2, pages[0], nonce=run(1))
+    lets(q, a=pages[0])
+
+    def wide(page, size):
+        return replace(page.root, signature=b"\7" * size)
+
+    def promised(page, size, name=name, key=key, **changes):
+        return replace(SignedPromise.read(page.promise(name, key, **changes)), signature=b"\7" * size).write()
+
+    for size in [1, 31, 33, 100, 255, 256]:
+        first, promise = wide(pages[0], size).write(), promised(pages[1], size)
+        more = write_list([wide(page, size) for page in pages[1:4]])
+        q.ask("client any", first, more, promise)
+        q.ask("monitor any", name, first, more, key, promise)
+    assert (len(first), len(promise)) == (404, 2639)
+    longest = q.let("longest", write_list([wide(page, 256) for page in pages[1:]]))
+    assert len(longest) == 25858
+    q.ask("client any", first, longest, promised(pages[64], 256))
+    q.ask("client-sum any", first, longest, promise)
+    q.ask("monitor any", name, first, longest, key, promised(pages[64], 256))
+    q.note("Evidence of such roots, and promises that are refused.")
+    for roots_of in [[fork], [pages[1], fork], [pages[2]], [pages[1], pages[3]], [pages[1], KEYED.page(1, nonce=run(1))]]:
+        given = write_list([wide(page, 256) for page in roots_of])
+        q.ask("client any", first, given, promise)
+        q.ask("monitor any", name, first, given, key, promise)
+    given = write_list([wide(pages[1], 256)])
+    for other in [
+        promised(pages[2], 256), promised(pages[1], 256, epoch=1), promised(pages[1], 256, name=b"a" * 254),
+        promised(pages[1], 256, key=b"k" * 2047), promise[:-1], promise + b"\0", promised(pages[1], 257),
+    ]:
+        q.ask("client any", first, given, other)
+        q.ask("monitor any", name, first, given, key, other)
+    q.ask("client any", first[:-1], given, promise)
+    q.ask("client any", wide(pages[0], 257).write(), given, promise)
+    q.ask("client any", first, given[:-1], promise)

@@ -58,12 +58,11 @@ def of_observing(q, rng):
 
 @subject("an auditor of many providers")
 def of_providers(q, rng):
-    keys = [bytes([number]) * 32 for number in range(24)]
+    keys = [bytes([number]) * 32 for number in range(256)]
     q.ask("auditor new")
-    chains = []
-    for number, key in enumerate(keys):
-        pages = KEYED.pages([1, 2 + number % 3], sign_key=key)
-        chains.append(pages)
+    chains = [KEYED.pages([1, 2 + number % 3], sign_key=key) for number, key in enumerate(keys)]
+    lets(q, a=chains[0][0])
+    for number, (key, pages) in enumerate(zip(keys, chains)):
         q.ask("auditor observe", key, written(pages[0]))
         q.ask("auditor chain", key)
         if number < 4:
@@ -71,7 +70,7 @@ def of_providers(q, rng):
             q.ask("auditor observe", key, written(pages[1]))
         if number in (1, 2):
             q.ask("auditor observe", key, written(chains[0][0]))
-    for number in [0, 1, 2, 3, 23]:
+    for number in [0, 1, 2, 3, 23, 255]:
         for page in chains[number]:
             q.ask("auditor observe", keys[number], written(page))
         q.ask("auditor chain", keys[number])
@@ -374,6 +373,11 @@ def of_auditing(q, rng):
     q.note("A chain of 16 roots, each after a line that is refused.")
     text = b"".join(b"\n" + line(page) for page in KEYED.pages(range(1, 17)))
     q.ask("evidence audit", key, text)
+    q.note("A chain of 160 roots.")
+    pages = KEYED.pages(range(1, 161))
+    parts = [q.let(f"part{at}", b"".join(map(line, pages[at : at + 40]))) for at in range(0, 160, 40)]
+    q.ask("evidence audit", key, b"".join(parts))
+    q.ask("evidence audit", key, b"".join(parts[:-1]) + b"x\n" + parts[-1] + parts[0])
     q.note("The key.")
     other = OTHER_KEY.hex().encode()
     for text in [other, key[1:], key + b"0", b"g" + key[1:], b""]:

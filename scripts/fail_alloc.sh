@@ -8,10 +8,11 @@
 # before its first answer. Any other end is a wrong answer in place of a refusal, or shows that a refused call
 # has changed something. A program that is not built counts as failed.
 #
-# The questions of each subject, which stand between empty lines, are a run of their own. First every 4,096th
-# allocation of all runs fails, then the distance is halved. It ends where all were tried, or the most that is
-# given, or where the seconds are over (300 unless given). It takes as many processors as there are. The last
-# line is `N passed, N failed`, and the status is 0 where none failed.
+# The questions of each subject, which stand between empty lines, are a run of their own. First each allocation of
+# the short subjects fails, whose notes begin with `in a few lines`; then every 4,096th one of the others, and the
+# distance is halved. It ends where all were tried, or the most that is given, or where the seconds are over (300
+# unless given). It takes as many processors as there are. The last line is `N passed, N failed`, and the status
+# is 0 where none failed.
 #
 # `rt try --fail-alloc` makes an allocation fail too, but builds for a minute each time, and what it builds is
 # hundreds of times slower. So a library in front of the C library's counts allocations in the built program.
@@ -53,9 +54,10 @@ run() (
 )
 
 # Splits the questions of a program into subjects, answers them, and counts the allocations of each: a line
-# PROGRAM SUBJECT COUNT. Fails if the program does not write the stored answers.
+# PROGRAM SUBJECT COUNT WHEN, where WHEN is `first` for a short subject. Fails if the program does not write the
+# stored answers.
 count() {
-    local part subject
+    local part subject when
     mkdir "$folder/$1"
     cp "$crates/$1/stdin" "$folder/$1/all.questions"
     run "$1" all 0 "$folder/$1/all.answers" /dev/null &&
@@ -64,13 +66,21 @@ count() {
     for part in "$folder/$1"/[0-9]*.questions; do
         subject=$(basename "$part" .questions)
         run "$1" "$subject" 0 "$folder/$1/$subject.answers" "$folder/count" || return 1
-        echo "$1 $subject $(cat "$folder/count")"
+        when=then
+        head -n 1 "$part" | grep -q '^# in a few lines: ' && when=first
+        echo "$1 $subject $(cat "$folder/count") $when"
     done
 }
 
-# All allocations in the order in which they are tried: a line PROGRAM SUBJECT NUMBER each.
+# The allocations of the subjects that come at this time: a line PROGRAM SUBJECT NUMBER each.
+numbers() {
+    awk -v when="$1" '$4 == when { for (number = 1; number <= $3; number++) print $1, $2, number }' "$folder/counts"
+}
+
+# All allocations in the order in which they are tried.
 order() {
-    awk '{ for (number = 1; number <= $3; number++) print $1, $2, number }' |
+    numbers first
+    numbers then |
         awk '{ line[NR] = $0 }
             END {
                 for (step = 4096; step >= 1; step /= 2)
@@ -117,7 +127,7 @@ for program in "${programs[@]}"; do
     fi
 done
 touch "$folder/counts"
-order <"$folder/counts" >"$folder/all"
+order >"$folder/all"
 head -n "$most" "$folder/all" >"$folder/order"
 for ((worker = 0; worker < workers; worker++)); do
     try_part $worker >"$folder/ends.$worker" &

@@ -8,8 +8,9 @@ a read and of a write, and the bytes that the reader gives. VERB and ARGUMENTS a
     root HASH NONCE, prove INDEX HASH NONCE, audit KEY, judge KEY FILE
     serve, sessions                   one session, or one and then another one that asks for the head
 
-and DEVICES one of `never`, `read-fails`, `write-fails`, `write-takes-nothing`, or `interrupted` once or twice. The
-answer is the output of a run without a failure, and then a row for runs that ended alike while the first call
+and DEVICES one of `never`, `read-fails`, `read-interrupted`, `read-interrupted-twice`, `write-fails`,
+`write-takes-nothing`, `write-interrupted` and `write-interrupted-twice`. PIECE is at most 8,192. A session asks for
+4,096 bytes at once, and its reader gives no more; the other verbs read through a buffer of PIECE bytes. The answer is the output of a run without a failure, and then a row for runs that ended alike while the first call
 failed, the second, and so on to a run that ended before that call: COUNT FAULT WRITTEN, and the epoch that the next
 session was told.
 
@@ -185,6 +186,9 @@ def reply_bytes(kind, value):
 
 # Answers -------------------------------------------------------------------------------------------------
 
+MOST_PIECE = 8192
+SESSION_READ = 4096  # the most bytes that a session asks for at once
+
 
 class Sweeps(Lines):
     """Answers questions. The method of a verb takes the words, and gives the program of devices, piece and input."""
@@ -198,7 +202,7 @@ class Sweeps(Lines):
         return lambda words: self.sweep(of(words), words, told if subject in ("serve", "sessions") else told_text)
 
     def sweep(self, of, words, told):
-        how, piece, data = DEVICES.get(words.word()), words.number(4096), words.bytes()
+        how, piece, data = DEVICES.get(words.word()), words.number(MOST_PIECE), words.bytes()
         if how is None:
             raise BadQuestion
         try:
@@ -261,7 +265,7 @@ class Sweeps(Lines):
     def served(self, data, piece, head):
         hub, steps = new_hub(), []
         start = head(hub)
-        for part in cut_up(data, piece):
+        for part in cut_up(data, min(piece, SESSION_READ)):
             output = hub.bytes(1, part)
             steps += [Read(head(hub)), output]
         return Program([*steps, Read(head(hub))], head=start)
@@ -434,6 +438,10 @@ def of_sessions(q):
     q.ask("sessions never 1", times(b"\0\0\0\1\x09", 600))
     q.ask("sessions read-fails 4096", times(HEAD, 3000))
     q.ask("sessions write-fails 4096", times(HEAD, 400))
+    q.note("A session asks for 4,096 bytes at once, whatever its reader could give.")
+    for piece in (4090, 8192):
+        q.ask("sessions read-fails", piece, times(HEAD, 2500))
+    q.ask("serve read-fails 8192", times(HEAD, 820))
     q.ask("serve read-interrupted 1", times(HEAD, 6))
 
 

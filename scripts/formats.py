@@ -707,9 +707,9 @@ class Chain:
         self.digest, self.key, self.roots = digest, key, list(roots)
 
     @staticmethod
-    def verified(key, root):
-        """Whether a root verifies, by the signatures that the chain is of."""
-        return root.verifies(key)
+    def verified(key, signed):
+        """Whether a root or a promise verifies, by the signatures that the chain is of."""
+        return signed.verifies(key)
 
     @classmethod
     def start(cls, digest, key, root):

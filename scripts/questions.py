@@ -1,7 +1,8 @@
 """The questions of the program `vectors`: a subject at a time, each with the reason in a note before it.
 
 They are the same in each run. Cases of few bytes are written out; where many are wanted, they come from a random
-number generator that is seeded by the subject's words. What a question means stands at its verb in answers.py.
+number generator that is seeded by the subject's words. The subject `in a few lines` is short, so that
+scripts/fail_alloc.sh can make each of its allocations fail. What a question means stands at its verb in answers.py.
 """
 
 import random
@@ -11,10 +12,37 @@ from asking import *
 
 # Each of these adds its subjects to SUBJECTS, in this order.
 import byte_questions  # noqa: F401
-import root_questions  # noqa: F401
+import root_questions
 import tree_questions  # noqa: F401
 import reply_questions  # noqa: F401
 import frame_questions  # noqa: F401
+
+
+@subject("in a few lines: trees, chains, frames and items")
+def of_few_lines(q, rng):
+    items = [(index(first), run(first)) for first in (0x40, 0x41, 0xC0)]
+    q.ask("trees new", ZERO32)
+    for item in items:
+        q.ask("trees with", *item)
+    q.ask("trees copy")
+    q.ask("trees from", ZERO32, *joined(items[:2]))
+    q.ask("trees more", *joined(items[1:]))
+    q.ask("trees count")
+    third, seventh, ninth, twelfth = roots = root_questions.chain_of(3, 7, 9, 12)
+    q.ask("chains start", KEY, third.write())
+    q.ask("chains extend", seventh.write())
+    q.ask("chains take", ninth.write())
+    q.ask("chains take-list", write_list(roots))
+    q.ask("chains head")
+    q.ask("chains compare", KEY, write_list(roots[:3]), write_list(roots[1:]))
+    q.ask("frames new")
+    stream = request_frame("lookup", 2, b"a") + request_frame("head")
+    for piece in [stream[:9], stream[9:], b""]:
+        q.ask("frames feed", piece)
+    q.ask("frames answer", ROOTS, write_list(roots[:2]))
+    lines = b"".join(b"%s %s\n" % (i.hex().encode(), commitment.hex().encode()) for i, commitment in items)
+    q.ask("items root", "sha256", "none", lines)
+    q.ask("items prove", "sha256", "none", index(0x42).hex().encode(), lines)
 
 
 @subject("questions that are none")

@@ -320,6 +320,10 @@ def of_long_chains(q, rng):
         roots[0], roots[137], roots[219], epoch_root(138, 137), epoch_root(221, 219), epoch_root(221, 220),
     ]:
         q.ask("chains place", root.write())
+    next_root = root_after(roots[219], 221)
+    q.ask("chains extend", next_root.write())
+    q.ask("chains take", root_after(next_root, 222).write())
+    q.ask("chains head")
 
 
 # Nonces of kinds 1 and 2 have one sum, so roots that follow them name both.

@@ -235,15 +235,22 @@ class SessionAnswers(Lines):
 
     def client_update(self, w):
         """`update LIST`"""
-        return self.updated(self.client(), w.bytes())
+        return self.done(self.client().update, w.bytes())
 
     @staticmethod
-    def updated(taker, roots):
+    def done(call, *words):
+        """`ok`, or the refusal, behind the evidence that it has."""
         try:
-            taker.update(roots)
-        except ClientRefusal as refusal:
-            return [f"{refused(refusal)}:", *place_words(refusal.evidence)]
+            call(*words)
+        except Refusal as refusal:
+            evidence = getattr(refusal, "evidence", None)
+            return [*(place_words(evidence) if evidence else ()), refused(refusal)]
         return ["ok"]
+
+    def client_any(self, w):
+        """`any ROOT LIST PROMISE`: a client of its own, under a verifier that accepts each signature."""
+        client = Client(ZERO32, w.bytes(), self.values.digest, self.values.vuf, AnyChain)
+        return ["ok", *self.done(client.update, w.bytes()), *self.done(client.keep_promise, w.bytes())]
 
     def client_look(self, w):
         """`look NAME EPOCH REPLY`"""
@@ -295,7 +302,13 @@ class SessionAnswers(Lines):
 
     def monitor_update(self, w):
         """`update LIST`"""
-        return self.updated(there(self.monitor), w.bytes())
+        return self.done(there(self.monitor).update, w.bytes())
+
+    def monitor_any(self, w):
+        """`any NAME ROOT LIST KEY PROMISE`: a monitor of its own, under a verifier that accepts each signature."""
+        name, root = w.name(), w.bytes()
+        monitor = Monitor(Client(ZERO32, root, sha256, KeyedVuf, AnyChain), name, None)
+        return ["ok", *self.done(monitor.update, w.bytes()), *self.done(monitor.expect_change, w.key(), w.bytes())]
 
     def monitor_expect(self, w):
         """`expect KEY PROMISE`"""

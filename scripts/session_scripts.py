@@ -290,6 +290,8 @@ STOPS = {
     "watched_name_empty": "watch - 6b",
     "watched_key_too_long": f"watch 61 {'6b' * 2049}",
     "watch_without_key": "watch 61",
+    # Each of the two alone fits into a frame.
+    "name_and_key_too_long": register(b"a", b"k" * 65531),
 }
 
 

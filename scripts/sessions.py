@@ -388,11 +388,12 @@ class Look(NamedTuple):
 
 
 class Client:
-    """A user of the provider that has a key: its chain, the looks that were accepted, the promises to test."""
+    """A user of the provider that has a key: its chain, the looks that were accepted, the promises to test. The kind
+    of the chain says which signatures verify."""
 
-    def __init__(self, key, root, digest, vuf):
+    def __init__(self, key, root, digest, vuf, kind=Chain):
         self.digest, self.vuf = digest, vuf
-        self.chain = Chain.start(digest, key, SignedRoot.read(root))
+        self.chain = kind.start(digest, key, SignedRoot.read(root))
         self.looks, self.promises = [], []
 
     @property
@@ -423,7 +424,7 @@ class Client:
     def read_promise(self, promise):
         """A signed promise over a root of the chain."""
         signed = SignedPromise.read(promise)
-        if not signed.verifies(self.key):
+        if not self.chain.verified(self.key, signed):
             raise RootRefusal(BAD_SIGNATURE)
         root = self.chain.at(signed.promise.epoch)
         if root is None or self.digest(root.body.write()) != signed.promise.root_hash:

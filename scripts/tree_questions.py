@@ -157,6 +157,10 @@ def of_wide_trees(q, rng):
     q.ask("trees count")
     for i, _ in items[5::199]:
         q.ask("trees get", i)
+    for item in [spread_item(1000), spread_item(1001)]:
+        q.ask("trees with", *item)
+        q.ask("trees count")
+    q.ask("trees copy")
 
 
 def near_item(rng):

@@ -86,7 +86,9 @@ impl Read for CutReader<'_> {
 /// Takes bytes in pieces, into room that it has from the start.
 #[derive(Drop)]
 pub(crate) struct CutWriter {
-    taken: Vec<u8>,
+    /// The bytes that were taken, and behind them those that the last call failed to write.
+    offered: Vec<u8>,
+    taken: usize,
     piece: usize,
     calls: Calls,
 }
@@ -95,7 +97,8 @@ impl CutWriter {
     /// Has room for so many bytes.
     pub(crate) fn new(alloc: Global, room: usize) -> Result<Self, AllocError> {
         Ok(CutWriter {
-            taken: Vec::with_capacity(alloc, room)?,
+            offered: Vec::with_capacity(alloc, room)?,
+            taken: 0,
             piece: 0,
             calls: Calls::new(Failing {
                 first: 0,
@@ -107,14 +110,23 @@ impl CutWriter {
 
     /// Begins anew, and takes at most so many bytes a call.
     pub(crate) fn begin(&mut self, piece: usize, failing: Failing) {
-        self.taken.clear();
+        self.offered.clear();
+        self.taken = 0;
         self.piece = piece;
         self.calls = Calls::new(failing);
     }
 
     /// The bytes that were taken.
     pub(crate) fn taken(&self) -> &[u8] {
-        self.taken.as_slice()
+        match self.offered.get(..self.taken) {
+            Some(taken) => taken,
+            None => &[],
+        }
+    }
+
+    /// The same, and the bytes that the last call failed to write.
+    pub(crate) fn offered(&self) -> &[u8] {
+        self.offered.as_slice()
     }
 
     /// Whether a write failed.
@@ -125,11 +137,14 @@ impl CutWriter {
 
 impl Write for CutWriter {
     fn write(&mut self, buf: &[u8]) -> io::Result<usize> {
+        self.offered.truncate(self.taken);
         if let Some(failed) = self.calls.next() {
+            self.offered.extend_from_slice(buf)?;
             return failed;
         }
         let count = buf.len().min(self.piece);
-        self.taken.extend_from_slice(&buf[..count])?;
+        self.offered.extend_from_slice(&buf[..count])?;
+        self.taken = self.offered.len();
         Ok(count)
     }
 

@@ -132,8 +132,9 @@ impl<'a> Job<'a> {
                 Ok(_) => ended(Ok(())),
                 Err(fault) => ended(Err(fault)),
             },
-            Job::Serve => serve_one(alloc, reader, writer),
-            Job::Sessions => serve_two(alloc, reader, writer),
+            // The reader itself, so that it shows how much is asked for at once.
+            Job::Serve => serve_one(alloc, reader.get_mut(), writer),
+            Job::Sessions => serve_two(alloc, reader.get_mut(), writer),
         }
     }
 }
@@ -211,16 +212,16 @@ const TWOS: &str = "020202020202020202020202020202020202020202020202020202020202
 
 const FOURS: &str = "0404040404040404040404040404040404040404040404040404040404040404";
 
-/// Marks an outcome where a reply tells that the directory was out of memory.
-fn marked(outcome: Outcome, written: &[u8]) -> Outcome {
+/// Marks an outcome where a reply tells that the directory was out of memory, also one that was not written.
+fn marked(outcome: Outcome, offered: &[u8]) -> Outcome {
     let mut marked = outcome;
-    if provider::lack_memory(written) {
+    if provider::lack_memory(offered) {
         marked.is_spoiled = true;
     }
     marked
 }
 
-fn serve_one(alloc: Global, reader: &mut Input<'_>, writer: &mut CutWriter) -> Outcome {
+fn serve_one(alloc: Global, reader: &mut CutReader<'_>, writer: &mut CutWriter) -> Outcome {
     let order = DirectoryOrder {
         sign_key: ONES,
         vuf_key: TWOS,
@@ -230,7 +231,7 @@ fn serve_one(alloc: Global, reader: &mut Input<'_>, writer: &mut CutWriter) -> O
         nonce: None,
     };
     let outcome = ended(serve_directory(alloc, order, reader, writer));
-    marked(outcome, writer.taken())
+    marked(outcome, writer.offered())
 }
 
 /// The one session that is open at a time.
@@ -253,7 +254,7 @@ fn told_epoch(frame: &[u8]) -> u64 {
     }
 }
 
-fn serve_two(alloc: Global, reader: &mut Input<'_>, writer: &mut CutWriter) -> Outcome {
+fn serve_two(alloc: Global, reader: &mut CutReader<'_>, writer: &mut CutWriter) -> Outcome {
     let lacking = ended(Err(ProgramFault::OutOfMemory));
     let Ok(mut hub) = provider::hub(alloc, NoKeeper) else {
         return lacking;
@@ -269,5 +270,5 @@ fn serve_two(alloc: Global, reader: &mut Input<'_>, writer: &mut CutWriter) -> O
     if second == Err(ServeFault::OutOfMemory) && first != second {
         outcome.is_spoiled = true;
     }
-    marked(outcome, writer.taken())
+    marked(outcome, writer.offered())
 }

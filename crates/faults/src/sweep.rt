@@ -43,8 +43,8 @@ fn read_devices<'a>(case: &mut Case<'a>) -> Devices<'a> {
     }
 }
 
-/// The most bytes of a read and of a write.
-const MOST: usize = 4096;
+/// The most bytes of a read and of a write: more than is read or written at once.
+const MOST: usize = 8192;
 
 /// Room for the longest output.
 const ROOM: usize = 1 << 20;

@@ -1,8 +1,9 @@
 //! Of `client`: a client, and another one, which stay for the next lines.
 
-use crate::stand_ins::{Functions, keyed, summed};
+use crate::stand_ins::{AnySign, Functions, keyed, summed};
 use crate::telling::{say_evidence, say_option};
 use client::{Client, Due, Outcome, Refusal, reconcile};
+use encoding::Hash32;
 use nodehash::{NodeHash, Sha256Hash, SumHash};
 use proofs::Statement;
 use questions::Case;
@@ -37,6 +38,7 @@ where
 {
     match case.word() {
         b"start" => start(case, by, &mut clients.client),
+        b"any" => any(case, by),
         b"put-aside" => put_aside(case, clients),
         b"reconcile" => {
             reconcile_both(case, by, clients.client.as_ref(), clients.other.as_ref());
@@ -79,17 +81,19 @@ where
     }
 }
 
-/// Refuses a call of a client.
-pub(crate) fn refuse(case: &mut Case<'_>, why: Refusal) {
-    let number = why.number();
+/// The evidence of a refusal, if it has some.
+pub(crate) fn say_cause(case: &mut Case<'_>, why: &Refusal) {
     match why {
         Refusal::Memory | Refusal::Root(rootchain::Refusal::Memory) => case.lack_memory(),
-        Refusal::RootDiffers(evidence) => {
-            case.say("refused 21 the root contradicts the chain:");
-            say_evidence(case, &evidence);
-        }
-        why => case.refuse(number, why),
+        Refusal::RootDiffers(evidence) => say_evidence(case, evidence),
+        _ => {}
     }
+}
+
+/// Refuses a call of a client.
+pub(crate) fn refuse(case: &mut Case<'_>, why: Refusal) {
+    say_cause(case, &why);
+    case.refuse(why.number(), why);
 }
 
 pub(crate) fn tell_done(case: &mut Case<'_>, done: Result<(), Refusal>) {
@@ -114,6 +118,26 @@ where
         Ok(client) => {
             *kept = Some(client);
             case.say("ok");
+        }
+        Err(why) => refuse(case, why),
+    }
+}
+
+/// `any ROOT LIST PROMISE`: a client of its own, under a verifier that accepts each signature, starts at
+/// the root, takes the list and keeps the promise.
+fn any<H, V>(case: &mut Case<'_>, by: &mut Functions<H, V>)
+where
+    H: NodeHash + Drop,
+    V: VufCheck + Drop,
+{
+    let root = case.bytes();
+    match Client::<H, V, AnySign>::start(case.alloc(), &AnySign, Hash32::default(), root) {
+        Ok(mut client) => {
+            case.say("ok");
+            let updated = client.update(&mut by.hash, &AnySign, case.bytes());
+            tell_done(case, updated);
+            let kept = client.keep_promise(&mut by.hash, &AnySign, case.bytes());
+            tell_done(case, kept);
         }
         Err(why) => refuse(case, why),
     }

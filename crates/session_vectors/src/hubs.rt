@@ -173,8 +173,8 @@ fn happen(case: &mut Case<'_>, kept: &mut KeptHub, event: &Event<'_>) {
     };
     let mut output = Vec::new(case.alloc());
     let heard = hear(hub, event, &mut output);
-    let kept_past = keep(case.alloc(), &mut kept.past, event);
-    if wanted_memory(heard, &output) || kept_past.is_err() {
+    // An event that comes once more is not kept before.
+    if wanted_memory(heard, &output) || keep(case.alloc(), &mut kept.past, event).is_err() {
         kept.hub = None;
         return case.lack_memory();
     }

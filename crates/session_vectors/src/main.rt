@@ -12,25 +12,30 @@
 //! | `directory` | `Directory::new`, `head` | `new`, `head` |
 //! | | `register`, `change`, `promise`, `close` | `register`, `change`, `promise`, `close` |
 //! | | `lookup`, `history`; `run` | `lookup`, `history`; `run` |
-//! | `hub` | `Hub::new`, `event`; `run` | `new`, `open`, `bytes`, `end`; `run`, `run-on` |
+//! | `hub` | `Hub::new`, which calls `Hub::over` and `Desk::new` | `new` |
+//! | | `event`, which calls `Service::answer`; `run` | `open`, `bytes`, `end`; `run`, `run-on` |
 //! | `serve` | `serve_directory`, which calls `serve` | `run`, `keys` |
 //! | `client` | `Client::start`, `update`, `look` | `start`, `update`, `look` |
 //! | | `keep_promise`, `due`, `due_epoch` | `keep`, `due`, `due-epoch` |
 //! | | `key`, `chain` | `key`, `head` |
-//! | | `reconcile` | `reconcile`, `reconcile-self` |
+//! | | `reconcile` | `reconcile`, `reconcile-self`; `put-aside` makes the client the other one |
+//! | | `start`, `update`, `keep_promise` under a verifier that accepts all | `any` |
 //! | `monitor` | `Monitor::new`, `update` | `new`, `update` |
 //! | | `next_epoch`, `step` | `next`, `step` |
 //! | | `expect_change` with `read_promise` and `keep_read` of a client | `expect` |
 //! | | `expected`, `name`, `client` | `expected`, `name`, `client` |
+//! | | `update`, `expect_change` under a verifier that accepts all | `any` |
 //! | `auditor` | `Auditor::new`, `observe`, `compare`, `chain` | `new`, `observe`, `compare`, `chain` |
+//! | | `observe` under a verifier that accepts all | `any` |
 //! | | `judge` | `judge` |
 //! | `evidence` | `evidence_json`, `read_evidence` | `json`, `read` |
 //! | | `judge_file`, `audit` | `judge`, `audit` |
 //! | `text` | refusals of memory, of a keeper and of streams | `refusal` |
 //! | `script` | all of them together, through frames | |
 //!
-//! Of the other public calls, `scripts/statuses.sh` asks `judge_at`, and `scripts/listen.sh` asks `listen`.
-//! The crate `faults` has keepers, readers and writers that fail.
+//! Of the public calls of the upper crates that no verb asks, `scripts/statuses.sh` asks `judge_at`, and `order`,
+//! `end`, `refuse` and `refuse_bytes` of `directoryd`; `scripts/listen.sh` asks `listen`. The crate `faults` has
+//! keepers, readers and writers that fail.
 #![tactic(auto)]
 
 mod auditors;

@@ -1,16 +1,16 @@
 //! Of `monitor`: a monitor, which stays for the next lines. It takes the client.
 
 use crate::clients::{
-    KeyedClients, reconcile_both, refuse as refuse_client, say_statement, tell_done,
+    KeyedClients, reconcile_both, refuse as refuse_client, say_cause, say_statement, tell_done,
 };
-use crate::stand_ins::{Functions, keyed};
+use crate::stand_ins::{AnySign, Functions, keyed};
 use crate::telling::say_option;
 use client::Client;
-use encoding::KeyData;
+use encoding::{Hash32, KeyData};
 use monitor::{Monitor, Refusal, Step};
 use nodehash::{NodeHash, Sha256Hash};
 use questions::Case;
-use sigiface::KeyedSign;
+use sigiface::{KeyedSign, Verifier};
 use vrfiface::{KeyedVuf, VufCheck};
 
 type Kept<H, V> = Monitor<H, V, KeyedSign>;
@@ -24,6 +24,7 @@ pub(crate) fn answer(
 ) {
     match case.word() {
         b"new" => new(case, &mut clients.client, kept),
+        b"any" => any(case, &mut keyed()),
         b"reconcile" => {
             let client = kept.as_ref().map(|monitor| monitor.client());
             reconcile_both(case, &mut keyed(), client, clients.other.as_ref());
@@ -50,7 +51,7 @@ where
             let updated = monitor.update(&mut by.hash, &by.verifier, case.bytes());
             tell_done(case, updated);
         }
-        b"expect" => expect(case, by, monitor),
+        b"expect" => expect(case, &mut by.hash, &by.verifier, monitor),
         b"step" => step(case, by, monitor),
         b"next" => say_option(case, monitor.next_epoch()),
         b"expected" => expected(case, monitor),
@@ -94,25 +95,47 @@ where
     case.say("ok");
 }
 
-fn refuse(case: &mut Case<'_>, why: Refusal) {
-    match why {
-        Refusal::Client(why) => refuse_client(case, why),
-        Refusal::OtherPromise => case.refuse(Refusal::OtherPromise.number(), Refusal::OtherPromise),
-    }
-}
-
-/// `expect KEY PROMISE`
-fn expect<H, V>(case: &mut Case<'_>, by: &mut Functions<H, V>, monitor: &mut Kept<H, V>)
+/// `any NAME ROOT LIST KEY PROMISE`: a monitor of its own, under a verifier that accepts each signature,
+/// starts at the root, takes the list and expects the change.
+fn any<H, V>(case: &mut Case<'_>, by: &mut Functions<H, V>)
 where
     H: NodeHash + Drop,
     V: VufCheck + Drop,
+{
+    let name = case.name();
+    let root = case.bytes();
+    match Client::<H, V, AnySign>::start(case.alloc(), &AnySign, Hash32::default(), root) {
+        Ok(client) => {
+            case.say("ok");
+            let mut monitor = Monitor::new(case.alloc(), client, name, None);
+            let updated = monitor.update(&mut by.hash, &AnySign, case.bytes());
+            tell_done(case, updated);
+            expect(case, &mut by.hash, &AnySign, &mut monitor);
+        }
+        Err(why) => refuse_client(case, why),
+    }
+}
+
+fn refuse(case: &mut Case<'_>, why: Refusal) {
+    if let Refusal::Client(why) = &why {
+        say_cause(case, why);
+    }
+    case.refuse(why.number(), why);
+}
+
+/// `expect KEY PROMISE`
+fn expect<H, V, S>(case: &mut Case<'_>, hash: &mut H, verifier: &S, monitor: &mut Monitor<H, V, S>)
+where
+    H: NodeHash + Drop,
+    V: VufCheck + Drop,
+    S: Verifier + Drop,
 {
     let key = case.key();
     let promise = case.bytes();
     if case.is_spoiled() {
         return;
     }
-    match monitor.expect_change(&mut by.hash, &by.verifier, &key, promise) {
+    match monitor.expect_change(hash, verifier, &key, promise) {
         Ok(()) => case.say("ok"),
         Err(why) => refuse(case, why),
     }

@@ -8,8 +8,9 @@
 //! | Subject | Calls | Verbs |
 //! |---|---|---|
 //! | `bits` | `bit`, `cut`, `agree`, `with_one` | `bit`, `cut`, `agree`, `with-one` |
-//! | | `Index`, `Hash32` | `index`, `hash`, `order` |
+//! | | `Index`, `Hash32`, and `<` of them | `index`, `hash`; `order`, `order-hash` |
 //! | | `Name`, `KeyData`, `Small`: `new`, `copied` | `name`, `key`, `small` |
+//! | | `<` of them | `order-name`, `order-key`, `order-small` |
 //! | | `Cursor`; `FixedText` | `read`; `text` |
 //! | `nodes` | `NodeHash::digest`, `count`, `digest_all` | `sha256`, `sum`; `all`, `all-sum` |
 //! | | `keyed_digest`, `sha256_four` | `keyed`, `four` |
@@ -19,7 +20,7 @@
 //! | | `index_of` | `index` |
 //! | | `Signer::public`, `sign`; `Verifier::verify` | `sign`, `verify` |
 //! | `roots` | `read`, `write`, `copied`, `verifies` of each form | `body`, `root`, `promise`, `signed-promise` |
-//! | | `Form::read_whole`, `read_from` | the same; `front` |
+//! | | `Form::read_whole`; `read_from`, which calls `read_parts` | the same; `front` |
 //! | | `RootList`; `write_list`, `list_len` | `list`; `write-list` |
 //! | | `RootEvidence::holds` | `fork`, `link`, `skip` |
 //! | `chains` | `Chain::start`, `extend`, `place`, `take` | `start`, `extend`, `place`, `take` |
@@ -31,7 +32,8 @@
 //! | | `root`, `get`, `path`, `Path::level` | `root`, `get`, `path` |
 //! | | `end_text`, `joined_text`, `climb`, `leads`, `Path::leads` | `end-text`, `joined`, `climb`, `leads` |
 //! | `replies` | `ReplyView::read`, `statement`, `siblings` | `read` |
-//! | | `accept`, `check`; `Accepted`; `Statement::binds` | `accept`, `accept-sum`; `accepted`; `binds` |
+//! | | `accept`, which calls `check` | `accept`, `accept-sum` |
+//! | | `Accepted`; `Statement::binds` | `accepted`; `binds` |
 //! | | `compare_replies`, `same_or_collision` | `compare`, `compare-sum`, `same`, `same-any` |
 //! | | `make` | `make` |
 //! | `frames` | `Request::read`, `fits`, `write` | `request` |

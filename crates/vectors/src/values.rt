@@ -10,6 +10,10 @@ pub(crate) fn answer(case: &mut Case<'_>, verb: &[u8]) {
         b"name" => name(case),
         b"key" => key(case),
         b"small" => small(case),
+        b"order-hash" => order_hashes(case),
+        b"order-name" => order_names(case),
+        b"order-key" => order_keys(case),
+        b"order-small" => order_smalls(case),
         _ => case.spoil(),
     }
 }
@@ -50,4 +54,32 @@ fn small(case: &mut Case<'_>) {
         Ok(small) => case.say_bytes(small.copied().bytes()),
         Err(fault) => case.refuse(fault.number(), fault),
     }
+}
+
+/// `order-hash HASH HASH`: whether the first is below the second.
+fn order_hashes(case: &mut Case<'_>) {
+    let first = case.hash();
+    let second = case.hash();
+    case.say_truth(first < second);
+}
+
+/// `order-name NAME NAME`: whether the first is below the second.
+fn order_names(case: &mut Case<'_>) {
+    let first = case.name();
+    let second = case.name();
+    case.say_truth(first < second);
+}
+
+/// `order-key KEY KEY`: whether the first is below the second.
+fn order_keys(case: &mut Case<'_>) {
+    let first = case.key();
+    let second = case.key();
+    case.say_truth(first < second);
+}
+
+/// `order-small SMALL SMALL`: whether the first is below the second.
+fn order_smalls(case: &mut Case<'_>) {
+    let first = case.small();
+    let second = case.small();
+    case.say_truth(first < second);
 }
