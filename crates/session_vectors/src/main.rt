@@ -12,7 +12,9 @@
 //! | `directory` | `Directory::new`, `head` | `new`, `head` |
 //! | | `register`, `change`, `promise`, `close` | `register`, `change`, `promise`, `close` |
 //! | | `lookup`, `history`; `run` | `lookup`, `history`; `run` |
-//! | `hub` | `Hub::new`, `event`; `run` | `new`, `open`, `bytes`, `end`; `run`, `run-on` |
+//! | `hub` | `Hub::new`, `event` | `new`, `open`, `bytes`, `end` |
+//! | | `head` | `head`, `seen`, `seen-sum` |
+//! | | `run` | `run`, `run-on`, `seen`, `seen-sum` |
 //! | `serve` | `serve_directory`, which calls `serve` | `run`, `keys` |
 //! | `client` | `Client::start`, `update`, `look` | `start`, `update`, `look` |
 //! | | `keep_promise`, `due`, `due_epoch` | `keep`, `due`, `due-epoch` |
@@ -41,6 +43,7 @@ mod hubs;
 mod monitors;
 mod refusals;
 mod script;
+mod seen;
 mod serving;
 mod stand_ins;
 mod telling;
