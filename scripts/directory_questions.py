@@ -1,6 +1,6 @@
 """Questions of `session_vectors` on directories, hubs and the server."""
 
-from asking import run
+from asking import joined, run
 from formats import *
 from session_scripts import HEAD, key_of, name_of, split
 from session_subjects import HUB_TOKEN, OTHER_KEY, SALT_KEY, SIGN_KEY, TOP, VUF_KEY, closing, message, subjects
@@ -216,9 +216,11 @@ def of_indices(q, rng):
 @subject("a hub: sessions that are opened and ended")
 def of_sessions(q, rng):
     q.ask("hub open", 1)
+    q.ask("hub head")
     q.ask("hub new", 0, ZERO32)
     q.ask("hub bytes", 1, HEAD)
     q.ask("hub new", 1, ZERO32)
+    q.ask("hub head")
     q.ask("hub bytes", 7, HEAD)
     q.ask("hub end", 7)
     for session in [7, 7, 0, 2**32 - 1]:
@@ -231,6 +233,7 @@ def of_sessions(q, rng):
         q.ask("hub bytes", 7, piece)
     q.ask("hub bytes", 7, HEAD[:4])
     q.ask("hub new", 5, run(0xA0))
+    q.ask("hub head")
     q.ask("hub bytes", 7, HEAD[4:])
     q.ask("hub open", 7)
     q.ask("hub bytes", 7, HEAD[4:])
@@ -268,6 +271,7 @@ def of_messages(q, rng):
     ]
     for session, piece in rows:
         q.ask("hub bytes", session, piece)
+        q.ask("hub head")
     q.note("A byte a piece.")
     for byte in register + HEAD + request_frame("promise", b"a"):
         q.ask("hub bytes", 1, bytes([byte]))
@@ -372,6 +376,61 @@ def of_hub_runs(q, rng):
             if not streams[session]:
                 del streams[session]
         q.ask("hub run", 3, run(most), *events)
+    of_seen_runs(q)
+    q.note("What users see: the streams of five sessions.")
+    q.ask("hub seen", 3, run(most), *events)
+
+
+def of_seen_runs(q):
+    """Runs as their users see them: examples of what the contract of `Hub::run` says, with what it takes for granted."""
+    q.ask("hub seen", 0, ZERO32, "open", 1)
+    q.ask("hub seen", 1, ZERO32, "open")
+    q.ask("hub seen", 1, ZERO32)
+    events = [("open", 1), ("open", 2), *two_sessions_and_a_closing()]
+    q.note("What users see: two sessions and a closing.")
+    q.ask("hub seen", 1, ZERO32, *joined(events))
+    q.note("What users see: the same messages, those of the first session a byte a piece. The answer is the same.")
+    q.ask("hub seen", 1, ZERO32, *joined(joined(cut_up(1, event) for event in events)))
+    q.note("What users see: two names of one index, of which one is bound; and the same where the indices differ.")
+    events = [("open", 7), ("open", 0), *two_names_of_one_index()]
+    q.ask("hub seen-sum", 4, ZERO32, *joined(events))
+    q.ask("hub seen", 4, ZERO32, *joined(events))
+
+
+def two_sessions_and_a_closing():
+    """Session 2 is the operator's. A frame of each session is cut, and a message of the other one comes between; of the
+    look-up of session 1 it is a closing."""
+    alice, bob = b"alice", b"bob"
+    latest, registration = request_frame("lookup", 0, alice), request_frame("register", bob, b"k3")
+    yield "bytes", 1, request_frame("register", alice, b"k1") + request_frame("promise", alice)[:4]
+    yield "bytes", 2, HEAD + latest
+    yield "bytes", 1, request_frame("promise", alice)[4:] + latest[:7]
+    yield "bytes", 2, closing(2)
+    yield "bytes", 1, latest[7:] + request_frame("change", alice, b"k2") + request_frame("lookup", 0, bob)
+    yield "bytes", 2, registration[:9]
+    yield "bytes", 1, request_frame("close", ZERO32, 3)
+    yield "bytes", 2, registration[9:] + closing(5)
+    yield "bytes", 1, b"".join(request_frame("lookup", *asked) for asked in [(0, alice), (2, alice), (1, alice), (2, bob)])
+    yield "bytes", 2, request_frame("lookup", 5, bob) + request_frame("promise", bob) + request_frame("history", 0, 64)
+    yield "bytes", 1, request_frame("history", 2, 2) + HEAD + request_frame("lookup", 7, alice)
+    yield "end", 1
+    yield "bytes", 2, frame(9, b"") + bytes(4)
+
+
+def two_names_of_one_index():
+    """The bytes of `ab` and `ba` have one sum."""
+    yield "bytes", 7, request_frame("register", b"ab", b"k")
+    yield "bytes", 0, closing(6)
+    for asked in [(6, b"ab"), (0, b"ba"), (4, b"ba"), (6, b"c")]:
+        yield "bytes", 7, request_frame("lookup", *asked)
+    yield "bytes", 7, request_frame("register", b"ba", b"l")
+
+
+def cut_up(session, event):
+    """The event, where a piece of this session comes a byte at a time."""
+    if event[:2] != ("bytes", session):
+        return [event]
+    return [(*event[:2], bytes([byte])) for byte in event[2]]
 
 
 def stream_of(rng, count):

@@ -152,9 +152,9 @@ class SessionAnswers(Lines):
     # hub
 
     @staticmethod
-    def new_hub(w):
+    def new_hub(w, hub=Hub):
         epoch, nonce = w.number(), w.hash()
-        return Hub(keyed_directory(epoch, nonce, SIGN_KEY, VUF_KEY, SALT_KEY), HUB_TOKEN)
+        return hub(keyed_directory(epoch, nonce, SIGN_KEY, VUF_KEY, SALT_KEY), HUB_TOKEN)
 
     def hub_new(self, w):
         """`new EPOCH NONCE`, under the keys of this module."""
@@ -173,6 +173,9 @@ class SessionAnswers(Lines):
         """`end S`"""
         return [told(there(self.hub).end(w.number(MAX_SESSION)))]
 
+    def hub_head(self, w):
+        return [told(there(self.hub).directory.head().write())]
+
     def hub_run(self, w):
         """`run EPOCH NONCE (open S|bytes S PIECE|end S)..`: the output of each session of a new hub."""
         return self.outputs(self.new_hub(w), self.events(w))
@@ -186,6 +189,24 @@ class SessionAnswers(Lines):
             raise BadQuestion
         hub.run(events[:count])
         return self.outputs(hub, events[count:])
+
+    def hub_seen(self, w):
+        """`seen EPOCH NONCE (open S|bytes S PIECE|end S)..`: the epoch of the last root, what users see of each reply
+        to each session, and whether the names that they asked about have indices of their own."""
+        return self.seen(self.new_hub(w, SeenHub), self.events(w))
+
+    def hub_seen_sum(self, w):
+        """`seen-sum EPOCH NONCE ..`: the same by the sum of bytes."""
+        directory = summed_directory(w.number(), w.hash(), SIGN_KEY, SALT_KEY)
+        return self.seen(SeenHub(directory, HUB_TOKEN), self.events(w))
+
+    @staticmethod
+    def seen(hub, events):
+        hub.run(events)
+        words = ["head", str(hub.directory.head().epoch)]
+        for session, lines in sorted(hub.seen.items()):
+            words += [f"{session}:", told_text("".join(f"{line}\n" for line in lines).encode())]
+        return [*words, "indices differ" if hub.indices_differ() else "indices meet"]
 
     @staticmethod
     def events(w):

@@ -368,6 +368,57 @@ class Hub:
         return sorted(outputs.items())
 
 
+class SeenHub(Hub):
+    """A hub that keeps a line for each reply to a session: what its users see. Of a look-up this is what the map of
+    the page has, and not what the reply shows."""
+
+    def __init__(self, directory, token):
+        super().__init__(directory, token)
+        self.seen, self.names, self.session = {}, set(), None
+
+    def open(self, session):
+        output = super().open(session)
+        self.seen.setdefault(session, [])
+        return output
+
+    def bytes(self, session, piece):
+        self.session, feed = session, self.feed_of(session)
+        had_failed = feed.failed
+        output = super().bytes(session, piece)
+        if feed.failed and not had_failed:
+            self.seen[session].append(response_line(REFUSED, 1))
+        return output
+
+    def answer(self, kind, body):
+        response = super().answer(kind, body)
+        try:
+            line = self.line(read_request(kind, body), response)
+        except Refusal:
+            line = response_line(*response)
+        self.seen[self.session].append(line)
+        return response
+
+    def line(self, request, response):
+        """The line for the response to a request, whose name is kept if a page can have it."""
+        command, *words = request
+        names = {"register": words[:1], "change": words[:1], "promise": words, "lookup": words[1:]}.get(command, [])
+        self.names.update(name for name in names if 1 <= len(name) <= MAX_NAME)
+        return response_line(*response) if response[0] != PROOF else self.found(*words)
+
+    def found(self, epoch, name):
+        """What the page of an epoch has at a name. No reply shows its absence where another name has its index."""
+        directory = self.directory
+        page = directory.page(epoch)
+        if name in page.bindings:
+            return f"present {page.epoch} {page.bindings[name].key.hex()}"
+        if directory.index_of(name) in map(directory.index_of, page.bindings):
+            return "client refuses proof 5"
+        return f"absent {page.epoch}"
+
+    def indices_differ(self):
+        return len(set(map(self.directory.index_of, self.names))) == len(self.names)
+
+
 def serve_directory(sign_key, vuf_key, salt_key, token, epoch, nonce, stream):
     """The output of one session of a new directory. Keys, token and nonce are texts; the nonce may be None."""
     sign_key, vuf_key, salt_key, token = map(option_hex32, (sign_key, vuf_key, salt_key, token))

@@ -68,7 +68,7 @@ pub(crate) fn make_keyed(
     )
 }
 
-fn make_summed(
+pub(crate) fn make_summed(
     alloc: Global,
     first: &First,
     secrets: &Secrets,

@@ -1,6 +1,7 @@
 //! Of `hub`: a hub, which stays for the next lines, and runs of fresh ones.
 
 use crate::directories::{First, common_secrets, make_keyed, read_first};
+use crate::seen;
 use crate::telling::tells_of_memory;
 use book::{NoKeeper, Refusal};
 use encoding::Hash32;
@@ -10,7 +11,7 @@ use server::ServedDesk;
 use std::alloc::{AllocError, Global};
 
 /// The token of the operator.
-const TOKEN: [u8; 32] = [4; 32];
+pub(crate) const TOKEN: [u8; 32] = [4; 32];
 
 /// An event that was asked for.
 #[derive(Drop)]
@@ -109,6 +110,9 @@ pub(crate) fn answer(case: &mut Case<'_>, kept: &mut KeptHub) {
         b"new" => new(case, kept),
         b"run" => run(case),
         b"run-on" => run_again(case),
+        b"seen" => seen::answer_keyed(case),
+        b"seen-sum" => seen::answer_summed(case),
+        b"head" => head(case, kept),
         verb => {
             if let Some(event) = event(case, verb) {
                 happen(case, kept, &event);
@@ -117,7 +121,7 @@ pub(crate) fn answer(case: &mut Case<'_>, kept: &mut KeptHub) {
     }
 }
 
-fn refuse(case: &mut Case<'_>, why: Refusal) {
+pub(crate) fn refuse(case: &mut Case<'_>, why: Refusal) {
     if why == Refusal::Memory {
         case.lack_memory();
     }
@@ -136,6 +140,15 @@ fn new(case: &mut Case<'_>, kept: &mut KeptHub) {
             case.say("ok");
         }
         Err(why) => refuse(case, why),
+    }
+}
+
+/// `head`
+fn head(case: &mut Case<'_>, kept: &mut KeptHub) {
+    kept.make_again(case);
+    match &kept.hub {
+        Some(hub) => case.say_bytes(hub.head().write().bytes()),
+        None => case.spoil(),
     }
 }
 
@@ -266,7 +279,7 @@ fn run_in_turn(
 }
 
 /// The events of the words that are left.
-fn events<'a>(case: &mut Case<'a>) -> Vec<Event<'a>> {
+pub(crate) fn events<'a>(case: &mut Case<'a>) -> Vec<Event<'a>> {
     let mut events = Vec::new(case.alloc());
     for _ in 0..case.left() {
         if case.left() == 0 {

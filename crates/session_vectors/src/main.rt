@@ -13,7 +13,9 @@
 //! | | `register`, `change`, `promise`, `close` | `register`, `change`, `promise`, `close` |
 //! | | `lookup`, `history`; `run` | `lookup`, `history`; `run` |
 //! | `hub` | `Hub::new`, which calls `Hub::over` and `Desk::new` | `new` |
-//! | | `event`, which calls `Service::answer`; `run` | `open`, `bytes`, `end`; `run`, `run-on` |
+//! | | `event`, which calls `Service::answer` | `open`, `bytes`, `end` |
+//! | | `head` | `head`, `seen`, `seen-sum` |
+//! | | `run` | `run`, `run-on`, `seen`, `seen-sum` |
 //! | `serve` | `serve_directory`, which calls `serve` | `run`, `keys` |
 //! | `client` | `Client::start`, `update`, `look` | `start`, `update`, `look` |
 //! | | `keep_promise`, `due`, `due_epoch` | `keep`, `due`, `due-epoch` |
@@ -46,6 +48,7 @@ mod hubs;
 mod monitors;
 mod refusals;
 mod script;
+mod seen;
 mod serving;
 mod stand_ins;
 mod telling;

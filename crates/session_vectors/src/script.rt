@@ -22,8 +22,8 @@ use vrfiface::KeyedVuf;
 
 mod engine;
 mod line;
-mod reply;
-mod telling;
+pub(crate) mod reply;
+pub(crate) mod telling;
 
 /// The engine of the scripts' directory.
 type KeyedEngine = Engine<Sha256Hash, KeyedVuf, ChaCha20Rng>;

@@ -120,7 +120,7 @@ pub(crate) fn tell_output(alloc: Global, session: u32, output: &[u8], printed: &
 }
 
 /// Tells a response. A proof is told by its epoch alone.
-fn tell_response(printed: &mut Printed, kind: u8, body: &[u8]) {
+pub(crate) fn tell_response(printed: &mut Printed, kind: u8, body: &[u8]) {
     match Response::read(kind, body) {
         Ok(Response::Promise(signed)) => {
             printed.say("promise");
