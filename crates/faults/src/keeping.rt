@@ -1,7 +1,8 @@
 // Each record fails to be kept, in turn.
 use crate::devices::LossyKeeper;
 use crate::provider;
-use book::{Command, Refusal, Reply};
+use book::{Refusal, Reply};
+use commands::{Command, Edit};
 use hub::{Event, HubRefusal};
 use provider::ProvidedHub;
 use questions::Case;
@@ -20,19 +21,9 @@ enum Asked<'a> {
 /// The command that a request is.
 fn command<'a>(request: &Request<'a>) -> Command<'a> {
     match request {
-        Request::Register { name, key } => Command::Register { name, key },
-        Request::Change { name, key } => Command::Change { name, key },
-        Request::Promise { name } => Command::Promise { name },
-        Request::Lookup { epoch, name } => Command::Lookup {
-            epoch: *epoch,
-            name,
-        },
-        Request::History { from, count } => Command::History {
-            from: *from,
-            count: *count,
-        },
-        Request::Head => Command::Head,
-        Request::Close { epoch, .. } => Command::Close { epoch: *epoch },
+        Request::Query(query) => Command::Query(*query),
+        Request::Put(put) => Command::Edit(Edit::Put(*put)),
+        Request::Turn { epoch, .. } => Command::Edit(Edit::Turn { epoch: *epoch }),
     }
 }
 

@@ -1,6 +1,7 @@
 //! Of `epochs`: a directory, which stays for the next lines, and runs of fresh ones.
 
-use book::{Command, NoKeeper, Refusal, Reply};
+use book::{NoKeeper, Refusal, Reply};
+use commands::{Command, Edit};
 use encoding::Hash32;
 use epochs::Directory;
 use nodehash::{NodeHash, Sha256Hash, SumHash};
@@ -318,13 +319,9 @@ fn commands<'a>(case: &mut Case<'a>) -> Vec<Command<'a>> {
 fn command(message: &[u8]) -> Option<Command<'_>> {
     let (kind, body) = message.split_first()?;
     match Request::read(*kind, body) {
-        Ok(Request::Register { name, key }) => Some(Command::Register { name, key }),
-        Ok(Request::Change { name, key }) => Some(Command::Change { name, key }),
-        Ok(Request::Promise { name }) => Some(Command::Promise { name }),
-        Ok(Request::Lookup { epoch, name }) => Some(Command::Lookup { name, epoch }),
-        Ok(Request::History { from, count }) => Some(Command::History { from, count }),
-        Ok(Request::Head) => Some(Command::Head),
-        Ok(Request::Close { epoch, .. }) => Some(Command::Close { epoch }),
+        Ok(Request::Query(query)) => Some(Command::Query(query)),
+        Ok(Request::Put(put)) => Some(Command::Edit(Edit::Put(put))),
+        Ok(Request::Turn { epoch, .. }) => Some(Command::Edit(Edit::Turn { epoch })),
         Err(_) => None,
     }
 }

@@ -4,6 +4,7 @@
 use crate::answers::written;
 use crate::root_lists::say_list;
 use crate::roots::{say_body, say_promise};
+use commands::{Put, Query, Verb};
 use questions::Case;
 use wire::{Feed, FeedRefusal, Next, Request, Response};
 
@@ -32,24 +33,9 @@ fn request(case: &mut Case<'_>) {
 
 fn say_request(case: &mut Case<'_>, request: &Request<'_>) {
     match request {
-        Request::Register { name, key } => say_binding(case, "register", name, key),
-        Request::Change { name, key } => say_binding(case, "change", name, key),
-        Request::Promise { name } => {
-            case.say("promise");
-            case.say_bytes(name);
-        }
-        Request::Lookup { epoch, name } => {
-            case.say("lookup");
-            case.say_shown(*epoch);
-            case.say_bytes(name);
-        }
-        Request::History { from, count } => {
-            case.say("history");
-            case.say_shown(*from);
-            case.say_shown(*count);
-        }
-        Request::Head => case.say("head"),
-        Request::Close { token, epoch } => {
+        Request::Query(query) => say_query(case, query),
+        Request::Put(put) => say_put(case, put),
+        Request::Turn { token, epoch } => {
             case.say("close");
             case.say_bytes(token.bytes());
             case.say_shown(*epoch);
@@ -57,10 +43,33 @@ fn say_request(case: &mut Case<'_>, request: &Request<'_>) {
     }
 }
 
-fn say_binding(case: &mut Case<'_>, verb: &str, name: &[u8], key: &[u8]) {
-    case.say(verb);
-    case.say_bytes(name);
-    case.say_bytes(key);
+fn say_query(case: &mut Case<'_>, query: &Query<'_>) {
+    match query {
+        Query::Promise { name } => {
+            case.say("promise");
+            case.say_bytes(name);
+        }
+        Query::Lookup { name, epoch } => {
+            case.say("lookup");
+            case.say_shown(*epoch);
+            case.say_bytes(name);
+        }
+        Query::History { from, count } => {
+            case.say("history");
+            case.say_shown(*from);
+            case.say_shown(*count);
+        }
+        Query::Head => case.say("head"),
+    }
+}
+
+fn say_put(case: &mut Case<'_>, put: &Put<'_>) {
+    case.say(match put.verb {
+        Verb::Register => "register",
+        Verb::Change => "change",
+    });
+    case.say_bytes(put.name);
+    case.say_bytes(put.key);
 }
 
 fn write_request(case: &mut Case<'_>, request: &Request<'_>) {

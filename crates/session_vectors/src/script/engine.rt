@@ -15,6 +15,7 @@ use crate::telling::tells_of_memory;
 use auditor::Auditor;
 use book::NoKeeper;
 use client::Client;
+use commands::Query;
 use encoding::{Hash32, KeyData, Name};
 use hub::{Desk, Event, Hub, HubRefusal};
 use monitor::Monitor;
@@ -139,17 +140,19 @@ where
         }
         self.ask(request, printed);
         match request {
-            Request::Lookup { name, epoch } => self.tell_look(name, *epoch, printed),
-            Request::Register { name, key } | Request::Change { name, key } => {
-                tell_reply(&self.reply, printed);
-                self.hand_out(name, key, printed);
+            Request::Query(Query::Lookup { name, epoch }) => {
+                self.tell_look(name, *epoch, printed);
             }
-            Request::Close { .. } => {
+            Request::Query(Query::Promise { .. } | Query::History { .. } | Query::Head) => {
+                tell_reply(&self.reply, printed);
+            }
+            Request::Put(put) => {
+                tell_reply(&self.reply, printed);
+                self.hand_out(put.name, put.key, printed);
+            }
+            Request::Turn { .. } => {
                 tell_reply(&self.reply, printed);
                 self.take_epochs(printed);
-            }
-            Request::Promise { .. } | Request::History { .. } | Request::Head => {
-                tell_reply(&self.reply, printed);
             }
         }
         true
@@ -207,7 +210,7 @@ where
     }
 
     fn watch_from_head(&mut self, name: Name, key: Option<KeyData>, printed: &mut Printed) {
-        self.ask(&Request::Head, printed);
+        self.ask(&Request::Query(Query::Head), printed);
         match Client::start(
             self.alloc,
             &self.by.verifier,
@@ -278,7 +281,7 @@ where
             return false;
         };
         let count = MAX_ROOTS as u16;
-        self.ask(&Request::History { from, count }, printed);
+        self.ask(&Request::Query(Query::History { from, count }), printed);
         let is_full = self.observe_all(printed) == MAX_ROOTS;
         self.update_monitors(printed);
         let roots = body_of(&self.reply);
@@ -341,10 +344,10 @@ where
             return false;
         };
         let name = monitor.name().copied();
-        let request = Request::Lookup {
-            epoch,
+        let request = Request::Query(Query::Lookup {
             name: name.bytes(),
-        };
+            epoch,
+        });
         self.ask(&request, printed);
         self.take_step(place, epoch, printed)
     }

@@ -1,5 +1,6 @@
 //! What a line of a script says.
 
+use commands::{Put, Query, Verb};
 use encoding::Hash32;
 use std::alloc::{AllocError, Global};
 use wire::Request;
@@ -111,7 +112,7 @@ pub(crate) fn read_line<'a>(line: &[u8], room: &'a mut Room) -> Result<Line<'a>,
 
 fn read_alone<'a>(verb: &[u8]) -> Line<'a> {
     match verb {
-        b"head" => Line::Ask(Request::Head),
+        b"head" => Line::Ask(Request::Query(Query::Head)),
         _ => Line::Unknown,
     }
 }
@@ -130,13 +131,13 @@ fn read_promise<'a>(name: &[u8], room: &'a mut Room) -> Result<Line<'a>, AllocEr
     if !read_bytes(name, &mut room.first)? {
         return Ok(Line::Unknown);
     }
-    Ok(Line::Ask(Request::Promise { name: &room.first }))
+    Ok(Line::Ask(Request::Query(Query::Promise { name: &room.first })))
 }
 
 /// `close EPOCH`
 fn closing<'a>(epoch: &[u8]) -> Line<'a> {
     match number(epoch) {
-        Some(epoch) => Line::Ask(Request::Close {
+        Some(epoch) => Line::Ask(Request::Turn {
             token: Hash32::default(),
             epoch,
         }),
@@ -174,20 +175,20 @@ fn read_lookup<'a>(name: &[u8], epoch: &[u8], room: &'a mut Room) -> Result<Line
     if !read_bytes(name, &mut room.first)? {
         return Ok(Line::Unknown);
     }
-    Ok(Line::Ask(Request::Lookup {
-        epoch,
+    Ok(Line::Ask(Request::Query(Query::Lookup {
         name: &room.first,
-    }))
+        epoch,
+    })))
 }
 
 /// `history FROM COUNT`
 fn history<'a>(from: &[u8], count: &[u8]) -> Line<'a> {
     match (number(from), number(count)) {
         (Some(from), Some(count)) if count <= u64::from(u16::MAX) => {
-            Line::Ask(Request::History {
+            Line::Ask(Request::Query(Query::History {
                 from,
                 count: count as u16,
-            })
+            }))
         }
         _ => Line::Unknown,
     }
@@ -220,8 +221,16 @@ fn read_binding<'a>(
     let name = &room.first;
     let key = &room.second;
     Ok(match verb {
-        b"register" => Line::Ask(Request::Register { name, key }),
-        b"change" => Line::Ask(Request::Change { name, key }),
+        b"register" => Line::Ask(Request::Put(Put {
+            verb: Verb::Register,
+            name,
+            key,
+        })),
+        b"change" => Line::Ask(Request::Put(Put {
+            verb: Verb::Change,
+            name,
+            key,
+        })),
         b"watch" => Line::Watch { name, key },
         _ => Line::Unknown,
     })
