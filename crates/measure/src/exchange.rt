@@ -63,7 +63,7 @@ impl Requests {
     fn close(alloc: Global, epoch: u64) -> Result<Requests, AllocError> {
         let token = Hash32::new(TOKEN);
         let mut frames = Vec::new(alloc);
-        write_request(&Request::Close { token, epoch }, &mut frames)?;
+        write_request(&Request::Turn { token, epoch }, &mut frames)?;
         let size = frames.len();
         Ok(Requests { frames, size })
     }

@@ -1,5 +1,6 @@
 use crate::steps::end_step;
 use anyhow::Result;
+use commands::Query;
 use std::alloc::Global;
 use wire::{Feed, FeedRefusal, Next, Request};
 
@@ -30,7 +31,7 @@ fn take_frames(feed: &mut Feed, piece: &[u8], wanted: &Pieces) -> Result<u64, Fe
 pub(crate) fn measure(rt: &(impl Print + Input), alloc: Global, wanted: &Pieces) -> Result<()> {
     let mut piece = Vec::new(alloc);
     for _ in 0..wanted.frames {
-        Request::Head.write(&mut piece)?;
+        Request::Query(Query::Head).write(&mut piece)?;
     }
     let mut feed = Feed::new(alloc);
     end_step(rt, alloc, 0)?;

@@ -1,6 +1,7 @@
 use crate::directory::{FIRST, Provided, close, key_of, name_of, new_directory, register_all};
 use crate::steps::end_step;
 use anyhow::{Context, Result};
+use commands::{Put, Query, Verb};
 use encoding::Hash32;
 use epochs::NoKeeper;
 use hub::{Desk, Event, Hub};
@@ -57,15 +58,16 @@ impl Entry {
     /// The request of this kind for it.
     pub(crate) fn request(&self, kind: Kind) -> Request<'_> {
         match kind {
-            Kind::Head => Request::Head,
-            Kind::LookUp => Request::Lookup {
-                epoch: 0,
+            Kind::Head => Request::Query(Query::Head),
+            Kind::LookUp => Request::Query(Query::Lookup {
                 name: &self.name,
-            },
-            Kind::Register => Request::Register {
+                epoch: 0,
+            }),
+            Kind::Register => Request::Put(Put {
+                verb: Verb::Register,
                 name: &self.name,
                 key: &self.key,
-            },
+            }),
         }
     }
 }

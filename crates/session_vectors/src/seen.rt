@@ -9,6 +9,7 @@ use crate::stand_ins::{Functions, summed};
 use crate::telling::tells_of_memory;
 use book::{NoKeeper, Refusal};
 use client::Client;
+use commands::Query;
 use encoding::{Hash32, Name};
 use hub::{Desk, Event, Hub};
 use nodehash::{NodeHash, Sha256Hash};
@@ -306,7 +307,9 @@ where
         return;
     };
     match (message, kind) {
-        (Ok(Request::Lookup { epoch, name }), PROOF) => look(user, name, *epoch, reply, printed),
+        (Ok(Request::Query(Query::Lookup { name, epoch })), PROOF) => {
+            look(user, name, *epoch, reply, printed)
+        }
         (_, PROMISE) => read_promise(user, reply, printed),
         _ => tell_response(printed, kind, reply),
     }
@@ -341,11 +344,9 @@ where
 /// The name that a request is about, or no byte.
 fn name_of<'a>(request: &Request<'a>) -> &'a [u8] {
     match request {
-        Request::Register { name, .. }
-        | Request::Change { name, .. }
-        | Request::Promise { name }
-        | Request::Lookup { name, .. } => name,
-        Request::History { .. } | Request::Head | Request::Close { .. } => &[],
+        Request::Put(put) => put.name,
+        Request::Query(Query::Promise { name } | Query::Lookup { name, .. }) => name,
+        Request::Query(Query::History { .. } | Query::Head) | Request::Turn { .. } => &[],
     }
 }
 
