@@ -11,7 +11,7 @@ use Rattle.hub.specs.Events.{BySession, Happening, Open, Bytes, End, Hubbed, at,
 use Rattle.hub.specs.Exchanges.{Exchange, Exchanges}
 use Rattle.hub.specs.Happenings.{Answered, Does}
 pub use Rattle.hub.specs.Runs.{lines}
-use Rattle.hub.specs.Runs.{Line, Stream, Streams, changed, completed, completed_by, each, fresh, rest_of, with_piece, AllAnswered}
+use Rattle.hub.specs.Runs.{Stream, Streams, changed, completed, completed_by, each, fresh, rest_of, with_piece, AllAnswered}
 use Rattle.hub.proofs.Entries.{due_each, insert_each, lookup_each, remove_each, set_each, all_found, all_inserted, all_removed, all_set, AllAt}
 use Rattle.hub.proofs.Streaming.{left_within, tells_append, tells_more, told_all, told_of}
 

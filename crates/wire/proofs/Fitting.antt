@@ -1,5 +1,5 @@
 -- A request that fits into a frame is well formed, and so is its frame.
-use Rattle.std.proofs.Common.{ℕ, ◌≤◌, List, ◌++◌, length, arith, lit≤}
+use Rattle.std.proofs.Common.{ℕ, ◌≤◌, List, ◌++◌, length, arith}
 use Rattle.std.proofs.lemmas.List.{length-append}
 use Rattle.encoding.specs.Bytes.{IsBytes}
 use Rattle.encoding.specs.Endian.{big_bytes}
