@@ -31,7 +31,7 @@ pub use feed::{Feed, Next};
 pub use frame::MAX_FRAME_LEN;
 pub use laws::{
     answers_are_read, body_spells_one_request, body_spells_one_response, cutting_does_not_matter,
-    frames_are_read, messages_are_computed, stream_splits_once,
+    frames_are_read, kinds_have_their_bytes, messages_are_computed, stream_splits_once,
 };
 pub use refusal::{FeedRefusal, ReadRefusal};
 pub use request::Request;
