@@ -653,19 +653,19 @@ class Epochs:
         self.bytes_a_name.append((names.memory + first.memory) / self.size)
         self.bytes_a_change.append(late / (LATE_ROUNDS * EPOCH_CHANGES))
 
-    def operation_row(self, times, kept, digest):
+    def operation_row(self, digests, times, kept, digest):
         """The row of registrations or of changes."""
-        # One for the index, one for the commitment, and the stand-ins' for value and signature.
-        digests = 4
         ratio, kept = times.least / (digests * digest), statistics.median(kept)
         row = [f"{self.size:,}", f"{digests}", *times.cells(1e6, 2)]
         return [*row, f"{ratio:.2f}", f"{kept:.0f}"]
 
     def registration_row(self, digest):
-        return self.operation_row(Spread(self.registrations, self.size), self.bytes_a_name, digest)
+        # One for the index, one for the commitment, and the stand-ins' for value and signature.
+        return self.operation_row(4, Spread(self.registrations, self.size), self.bytes_a_name, digest)
 
     def change_row(self, digest):
-        return self.operation_row(Spread(self.changes, EPOCH_CHANGES), self.bytes_a_change, digest)
+        # One for the commitment, and the stand-in's for the signature: the name keeps its index.
+        return self.operation_row(2, Spread(self.changes, EPOCH_CHANGES), self.bytes_a_change, digest)
 
     def closing_row(self, digest):
         # The rounds take different numbers of digests, so that the times are those of one digest.
@@ -678,14 +678,12 @@ class Epochs:
         return [*row, f"{change * 1e6:.2f}", f"{change / (CHANGE_DIGESTS * digest):.2f}"]
 
     def look_up_row(self, digest):
-        # One for the index, and the stand-in's for the value.
-        digests = 2
         levels = statistics.mean(level for step in self.levels for level in step)
-        row = [f"{self.size:,}", f"{levels:.2f}", f"{digests}"]
+        row = [f"{self.size:,}", f"{levels:.2f}"]
         for kept in (self.at_head, self.at_old):
             times = Spread(kept, EPOCH_LOOK_UPS)
-            ratio = times.least / (digests * digest)
-            row += [f"{1 / times.least:,.0f}", *times.cells(1e6, 2), f"{ratio:.2f}"]
+            # In digests: a look-up of a name that is held takes none.
+            row += [f"{1 / times.least:,.0f}", *times.cells(1e6, 2), f"{times.least / digest:.2f}"]
         return row
 
 
@@ -703,7 +701,8 @@ def epochs(_folder):
     title = f"the closing of {EPOCH_CHANGES:,} changes, milliseconds; a change with its share of it"
     rows = [each.closing_row(digest) for each in sizes]
     table(title, [*head, "a change, us", f"of {CHANGE_DIGESTS} digests"], rows)
-    head = ["names", "levels", "digests", "head/s", *spread, "old/s", *spread]
+    spread = [*spread[:-1], "in digests"]
+    head = ["names", "levels", "head/s", *spread, "old/s", *spread]
     rows = [each.look_up_row(digest) for each in sizes]
     table("look-ups at the head and at an old epoch, microseconds", head, rows)
 

@@ -1,13 +1,9 @@
 //! What may be asked of a key directory: queries, which read it, and edits, which change it.
 //!
-//! Callers can rely on this: the definitions see a command as what it asks, regardless of where its
-//! bytes lie, and a command holds bytes and numbers of their types.
+//! The definitions see a command as what it asks, regardless of where its bytes lie.
 //!
 //! ```
-//! match command {
-//!     Command::Query(query) => directory.answer(query),
-//!     Command::Edit(edit) => directory.edit(keeper, edit),
-//! }
+//! directory.run(keeper, &[Command::Edit(Edit::Turn { epoch: 2 }), Command::Query(Query::Head)])
 //! ```
 #![tactic(auto)]
 
