@@ -1,12 +1,12 @@
 use crate::directory::FIRST;
-use crate::sessions::{Entry, Kind, Sessions, entries_of, write_request};
+use crate::sessions::{Entry, Frame, Kind, Sessions, entries_of, write_frame};
 use crate::steps::end_step;
 use anyhow::{Context, Result, ensure};
 use encoding::Hash32;
 use std::alloc::{AllocError, Global};
 use std::io::{Read, Write};
 use std::net::{Net, TcpListener, TcpStream};
-use wire::{Feed, FeedRefusal, Next, Request};
+use wire::{Feed, FeedRefusal, Next};
 
 /// What a client asks a server over loopback.
 #[derive(Clone, Copy)]
@@ -53,7 +53,7 @@ impl Requests {
     fn new(alloc: Global, kind: Kind, entries: &[Entry]) -> Result<Requests, AllocError> {
         let mut frames = Vec::new(alloc);
         for entry in entries {
-            write_request(&entry.request(kind), &mut frames)?;
+            write_frame(&Frame::Of(kind, entry), &mut frames)?;
         }
         let size = frames.len().checked_div(entries.len()).unwrap_or(0);
         Ok(Requests { frames, size })
@@ -63,7 +63,7 @@ impl Requests {
     fn close(alloc: Global, epoch: u64) -> Result<Requests, AllocError> {
         let token = Hash32::new(TOKEN);
         let mut frames = Vec::new(alloc);
-        write_request(&Request::Turn { token, epoch }, &mut frames)?;
+        write_frame(&Frame::Turn(&token, epoch), &mut frames)?;
         let size = frames.len();
         Ok(Requests { frames, size })
     }

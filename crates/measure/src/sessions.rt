@@ -54,22 +54,6 @@ impl Entry {
             key: key_of(number, 1),
         }
     }
-
-    /// The request of this kind for it.
-    pub(crate) fn request(&self, kind: Kind) -> Request<'_> {
-        match kind {
-            Kind::Head => Request::Query(Query::Head),
-            Kind::LookUp => Request::Query(Query::Lookup {
-                name: &self.name,
-                epoch: 0,
-            }),
-            Kind::Register => Request::Put(Put {
-                verb: Verb::Register,
-                name: &self.name,
-                key: &self.key,
-            }),
-        }
-    }
 }
 
 /// The entries of a round: names of the page, or new names that are to be registered.
@@ -111,15 +95,44 @@ fn streams_of(alloc: Global, kind: Kind, entries: &[Entry]) -> Result<Vec<Stream
     let mut place = 0;
     for entry in entries {
         if let Some((_, stream)) = streams.get_mut(place) {
-            write_request(&entry.request(kind), stream)?;
+            write_frame(&Frame::Of(kind, entry), stream)?;
         }
         place = place.wrapping_add(1) % SESSIONS as usize;
     }
     Ok(streams)
 }
 
+/// What one frame asks.
+#[derive(Clone, Copy)]
+pub(crate) enum Frame<'a> {
+    Of(Kind, &'a Entry),
+    /// The end of an epoch, by its token: the next has this number.
+    Turn(&'a Hash32, u64),
+}
+
+/// Appends a frame. All requests are made here, since the checker has to see a query wherever a request
+/// is held.
+pub(crate) fn write_frame(frame: &Frame<'_>, stream: &mut Vec<u8>) -> Result<(), AllocError> {
+    match frame {
+        Frame::Of(Kind::Head, _) => write_request(&Request::Query(Query::Head), stream),
+        Frame::Of(Kind::LookUp, entry) => {
+            let name = entry.name.as_slice();
+            write_request(&Request::Query(Query::Lookup { name, epoch: 0 }), stream)
+        }
+        Frame::Of(Kind::Register, entry) => {
+            let (name, key) = (entry.name.as_slice(), entry.key.as_slice());
+            let verb = Verb::Register;
+            write_request(&Request::Put(Put { verb, name, key }), stream)
+        }
+        Frame::Turn(token, epoch) => {
+            let (token, epoch) = (**token, *epoch);
+            write_request(&Request::Turn { token, epoch }, stream)
+        }
+    }
+}
+
 /// Appends the frame of a request.
-pub(crate) fn write_request(request: &Request<'_>, stream: &mut Vec<u8>) -> Result<(), AllocError> {
+fn write_request(request: &Request<'_>, stream: &mut Vec<u8>) -> Result<(), AllocError> {
     if request.fits() {
         request.write(stream)?;
     }
