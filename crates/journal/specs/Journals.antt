@@ -1,0 +1,23 @@
+-- A journal as a keeper: each record that it keeps is written at the end; after a failed write it keeps nothing.
+use Rattle.std.specs.Prelude.{◌≡◌, ◌⊎◌, Bool, true, false, List, ℕ, Option}
+use Rattle.std.specs.Io.KnownBytes.{Appends, Keeps}
+use Rattle.textio.specs.Output.{WritesBeginning}
+use Rattle.book.specs.declared.record.Record.{Record}
+use Rattle.journal.specs.Records.{record_bytes}
+
+-- the writer, and whether a write failed
+pub record Written (W : Type 0) : Type 0 where
+  pub writer : W
+  pub is_broken : Bool
+
+module _ {W : Type 0} (contents : W → Option (List ℕ)) where
+  -- the record is written whole
+  abbrev pub KeepsRecord : Written W → Record → Written W → Type 0
+  KeepsRecord before kept after = (before.is_broken ≡ false) × (after.is_broken ≡ false)
+      × Appends (contents before.writer) (contents after.writer) (record_bytes kept)
+
+  -- a write failed, now or earlier: a beginning of the record is written, or nothing
+  abbrev pub LosesRecord : Written W → Record → Written W → Type 0
+  LosesRecord before lost after = (after.is_broken ≡ true)
+      × (((before.is_broken ≡ false) × WritesBeginning (contents before.writer) (contents after.writer) (record_bytes lost))
+      ⊎ ((before.is_broken ≡ true) × (after ≡ before)))

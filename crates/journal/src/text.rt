@@ -1,0 +1,62 @@
+ghost use Rattle.std.specs.Prelude.{◌≡◌};
+ghost use Rattle.journal.specs.Records.{record_bytes, verb_byte};
+
+use book::Record;
+use commands::Verb;
+use encoding::Text;
+
+/// The kind byte of a start, the letter N, and the version of its form.
+const START_HEAD: [u8; 2] = [0x4e, 1];
+
+/// The kind byte of a binding, the letter O.
+const BOUND: u8 = 0x4f;
+
+/// The kind byte of a new page, the letter C.
+const TURNED: u8 = 0x43;
+
+/// The byte of a verb.
+fn verb_byte(verb: Verb) -> u8
+    ensures { result ≡ verb_byte verb }
+{
+    match verb {
+        Verb::Register => 1,
+        Verb::Change => 2,
+    }
+}
+
+/// The bytes of a record: 106 of a start, 9 of a new page, and 38 of a binding beside its name and key.
+pub(crate) fn record_text(what: &Record) -> Text
+    ensures { result ≡ record_bytes what.now }
+{
+    let mut text = Text::new();
+    match what {
+        Record::Start {
+            epoch,
+            nonce,
+            signature_key,
+            vuf_key,
+        } => {
+            text.push_slice(&START_HEAD);
+            text.push_u64(*epoch);
+            text.push_slice(nonce.bytes());
+            text.push_slice(signature_key.bytes());
+            text.push_slice(vuf_key.bytes());
+        }
+        Record::Bound {
+            verb,
+            salt,
+            name,
+            key,
+        } => {
+            text.push_slice(&[BOUND, verb_byte(*verb)]);
+            text.push_slice(salt.bytes());
+            text.push_counted(name.bytes());
+            text.push_counted(key.bytes());
+        }
+        Record::Turned { epoch } => {
+            text.push_slice(&[TURNED]);
+            text.push_u64(*epoch);
+        }
+    }
+    text
+}
