@@ -271,6 +271,7 @@ def root_or_none(root):
 # The verbs of `vectors` ------------------------------------------------------------------------------
 
 KEY = bytes([1]) * 32  # what `root` and `signed-promise` verify under
+JOURNAL_ROOM = 5000  # the most that a question gives
 NUMBERS = {"u8": 1, "u16": 2, "u32": 4, "u64": 8}
 FORMS = {"body": Body, "root": SignedRoot, "promise": Promise, "signed-promise": SignedPromise}
 FAULTS = {
@@ -859,6 +860,39 @@ class Answers(Lines):
             if got in (WAIT, FAILED):
                 return [*words, got]
             words += [str(got[0]), told(got[1])]
+
+    # journal
+
+    def kept_twice(self, room, data):
+        """Whether a journal with so much room keeps the record, and keeps it once more; and what the room holds."""
+        first = len(data) <= room
+        second = first and 2 * len(data) <= room
+        written = data + data if first else data
+        return [yes(first), yes(second), told(written[:room].ljust(room, b"\0"))]
+
+    def journal_start(self, w):
+        """`start ROOM EPOCH NONCE SIGNATURE-KEY VUF-KEY`"""
+        room = w.number(JOURNAL_ROOM)
+        return self.kept_twice(room, start_record(w.number(), w.hash(), w.hash(), w.hash()))
+
+    def journal_register(self, w):
+        """`register ROOM SALT NAME KEY`"""
+        room = w.number(JOURNAL_ROOM)
+        return self.kept_twice(room, bound_record("register", w.hash(), w.name(), w.key()))
+
+    def journal_change(self, w):
+        """`change ROOM SALT NAME KEY`"""
+        room = w.number(JOURNAL_ROOM)
+        return self.kept_twice(room, bound_record("change", w.hash(), w.name(), w.key()))
+
+    def journal_turn(self, w):
+        """`turn ROOM EPOCH`"""
+        room = w.number(JOURNAL_ROOM)
+        return self.kept_twice(room, turned_record(w.number()))
+
+    def journal_records(self, w):
+        """`records BYTES`"""
+        return [str(count_records(w.bytes()))]
 
     # text: digits and faults of programs
 

@@ -980,6 +980,52 @@ def opened(end, salt, key):
     return Opening(salt, key) if isinstance(end, Present) else end
 
 
+# Journal records ---------------------------------------------------------------------------------------
+
+VERBS = {"register": 1, "change": 2}
+
+
+def start_record(epoch, nonce, signature_key, vuf_key):
+    """4e, 01, epoch, nonce, the two public keys: 106 bytes. The first record, and only there."""
+    return b"N\x01" + u64(epoch) + nonce + signature_key + vuf_key
+
+
+def bound_record(verb, salt, name, key):
+    """4f, the verb, salt, counted name, counted key: 38 bytes, and those of name and key."""
+    return b"O" + u8(VERBS[verb]) + salt + counted(name) + counted(key)
+
+
+def turned_record(epoch):
+    """43, epoch: 9 bytes."""
+    return b"C" + u64(epoch)
+
+
+def take_start_record(cursor):
+    if cursor.take(2) != b"N\x01":
+        raise Fault(OUT_OF_RANGE)
+    return cursor.u64(), cursor.hash32(), cursor.hash32(), cursor.hash32()
+
+
+def take_later_record(cursor):
+    kind = cursor.u8()
+    if kind == 0x43:
+        return (cursor.u64(),)
+    if kind != 0x4F or cursor.u8() not in VERBS.values():
+        raise Fault(OUT_OF_RANGE)
+    return cursor.hash32(), cursor.name(), cursor.key()
+
+
+def count_records(data):
+    """How many whole records begin the bytes: a start, and then others."""
+    cursor, count = Cursor(data), 0
+    try:
+        while True:
+            read_front(take_later_record if count else take_start_record, cursor)
+            count += 1
+    except Fault:
+        return count
+
+
 # Requests, responses and frames ------------------------------------------------------------------------
 
 

@@ -16,6 +16,7 @@ import root_questions
 import tree_questions  # noqa: F401
 import reply_questions  # noqa: F401
 import frame_questions  # noqa: F401
+import journal_questions  # noqa: F401
 
 
 @subject("in a few lines: trees, chains, frames and items")

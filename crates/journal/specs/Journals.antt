@@ -1,6 +1,6 @@
 -- A journal as a keeper: each record that it keeps is written at the end; after a failed write it keeps nothing.
 use Rattle.std.specs.Prelude.{◌≡◌, ◌⊎◌, Bool, true, false, List, ℕ, Option}
-use Rattle.std.specs.Io.KnownBytes.{Appends, Keeps}
+use Rattle.std.specs.Io.KnownBytes.{Appends}
 use Rattle.textio.specs.Output.{WritesBeginning}
 use Rattle.book.specs.declared.record.Record.{Record}
 use Rattle.journal.specs.Records.{record_bytes}

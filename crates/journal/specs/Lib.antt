@@ -1,3 +1,4 @@
+pub mod Counting
 pub mod Journals
-pub mod Openings
+pub mod Reading
 pub mod Records

@@ -1,5 +1,5 @@
 -- How records are written (the forms are this directory's own). A number has its highest byte first.
-use Rattle.std.specs.Prelude.{ℕ, ◌<◌, ◌^◌, List, [], ◌∷◌, ◌++◌, flat_map}
+use Rattle.std.specs.Prelude.{ℕ, ◌<◌, ◌^◌, List, ◌∷◌, ◌++◌, flat_map}
 use Rattle.encoding.specs.Bytes.{Is32Bytes}
 use Rattle.byteorder.specs.Endian.{big_bytes}
 use Rattle.encoding.specs.Forms.{counted_bytes}

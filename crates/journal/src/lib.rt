@@ -1,26 +1,20 @@
-//! The journal of a directory: the records of what it did, as bytes, from which it is made again.
+//! The journal of a directory: the records of what it did, as bytes.
 //!
 //! To the layers above: a record is written whole or the keeper fails, and from then on it keeps nothing.
-//! Any beginning of a journal opens to a beginning of what was done; what it opens to is exactly what its
-//! definition says.
+//! Each record has one spelling, and none begins another, so that the records at the front of any bytes
+//! are one list.
 //!
 //! ```
 //! let mut journal = Journal::new(file);
 //! journal.keep(&Record::Start { epoch, nonce, signature_key, vuf_key })?;
 //! let promise = directory.register(&mut journal, b"alice", &key)?;
-//!
-//! match open(alloc, &bytes, hash, vuf, signer, salts)? {
-//!     Opened::Nothing => ..,
-//!     Opened::Directory(directory, taken) => ..,
-//! }
 //! ```
 #![tactic(auto)]
 
+mod counting;
 mod journal;
-mod opening;
-mod refusal;
+mod reading;
 mod text;
 
+pub use counting::records;
 pub use journal::Journal;
-pub use opening::{Opened, open};
-pub use refusal::Refusal;

@@ -6,13 +6,13 @@ use commands::Verb;
 use encoding::Text;
 
 /// The kind byte of a start, the letter N, and the version of its form.
-const START_HEAD: [u8; 2] = [0x4e, 1];
+pub(crate) const START_HEAD: [u8; 2] = [0x4e, 1];
 
 /// The kind byte of a binding, the letter O.
-const BOUND: u8 = 0x4f;
+pub(crate) const BOUND: u8 = 0x4f;
 
 /// The kind byte of a new page, the letter C.
-const TURNED: u8 = 0x43;
+pub(crate) const TURNED: u8 = 0x43;
 
 /// The byte of a verb.
 fn verb_byte(verb: Verb) -> u8

@@ -39,6 +39,8 @@
 //! | `frames` | `Request::read`, `fits`, `write` | `request` |
 //! | | `Response::read`, `Answer::write` | `response`, `answer` |
 //! | | `Feed::new`, `feed`, `ready`, `next` | `new`, `feed` |
+//! | `journal` | `Journal::new`, `keep` | `start`, `register`, `change`, `turn` |
+//! | | `records` | `records` |
 //! | `text` | `hex_digits`, `hex32`, `option_hex32`, `option_nonce` | `digits`, `hex32`, `option-hex`, `option-nonce` |
 //! | | `ProgramFault::status`, `tell` | `fault` |
 //! | | the texts of refusals that only a device or a want of memory gives | `refusal` |
@@ -60,6 +62,7 @@ mod evidence;
 mod fixed_texts;
 mod frames;
 mod fronts;
+mod journals;
 mod listings;
 mod made_replies;
 mod nodes;
@@ -101,6 +104,7 @@ impl Subjects for State {
             b"trees" => trees::answer(case, &mut self.grown),
             b"replies" => replies::answer(case),
             b"frames" => frames::answer(case, &mut self.feed),
+            b"journal" => journals::answer(case),
             b"text" => texts::answer(case),
             b"items" => listings::answer(case),
             _ => case.spoil(),

@@ -1,0 +1,36 @@
+-- Reading records from the front of bytes.
+use Rattle.std.specs.Prelude.{ℕ, ◌==◌, if◌then◌else◌, List, [], ◌∷◌, Err}
+use Rattle.encoding.specs.declared.fault.Fault.TheVariants.{OutOfRange}
+use Rattle.encoding.specs.Reading.{Reading, is_within, read_as, read_behind, read_both, read_byte, read_bytes, read_counted, read_number, read_then, read_where}
+use Rattle.commands.specs.declared.edit.Verb.{Verb}
+use Rattle.commands.specs.declared.edit.Verb.TheVariants.{Register, Change}
+use Rattle.book.specs.declared.record.Record.{Record}
+use Rattle.book.specs.declared.record.Record.TheVariants.{Start, Bound, Turned}
+
+abbrev pub verb_of : ℕ → Verb
+verb_of byte = if byte == 1 then Register else Change
+
+unfoldable pub read_verb : List ℕ → Reading Verb
+read_verb = read_as verb_of (read_where (is_within 1 2) read_byte)
+
+abbrev pub start_of : ℕ × (List ℕ × (List ℕ × List ℕ)) → Record
+start_of parts = Start parts.0 parts.1.0 parts.1.1.0 parts.1.1.1
+
+abbrev pub bound_of : Verb × (List ℕ × (List ℕ × List ℕ)) → Record
+bound_of parts = Bound parts.0 parts.1.0 parts.1.1.0 parts.1.1.1
+
+unfoldable pub read_start : List ℕ → Reading Record
+read_start = read_behind (0x4e ∷ 1 ∷ []) (read_as start_of (read_both (read_number 8) (read_both (read_bytes 32) (read_both (read_bytes 32) (read_bytes 32)))))
+
+unfoldable pub read_bound : List ℕ → Reading Record
+read_bound = read_as bound_of (read_both read_verb (read_both (read_bytes 32) (read_both (read_counted 1 255) (read_counted 1 2048))))
+
+abbrev pub read_turned : List ℕ → Reading Record
+read_turned = read_as Turned (read_number 8)
+
+-- what follows the kind byte of a later record
+abbrev pub read_later_of : ℕ → List ℕ → Reading Record
+read_later_of kind bytes = if kind == 0x4f then read_bound bytes else (if kind == 0x43 then read_turned bytes else Err OutOfRange)
+
+unfoldable pub read_later : List ℕ → Reading Record
+read_later = read_then read_byte read_later_of
