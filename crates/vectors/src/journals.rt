@@ -55,6 +55,7 @@ fn turned(case: &mut Case<'_>) {
 /// Whether a journal with so much room keeps the record, and whether it keeps it once more; and what the
 /// room holds then, with zeros where nothing was written.
 fn keep_twice(case: &mut Case<'_>, room: usize, what: &Record) {
+    let room = room.min(ROOM);
     let mut bytes = [0; ROOM];
     let mut journal = Journal::new(bytes.split_at_mut(room).0);
     case.say_truth(journal.keep(what).is_ok());
