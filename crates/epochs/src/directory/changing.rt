@@ -1,4 +1,4 @@
-ghost use Rattle.std.specs.Prelude.{◌≡◌, ◌||◌, ℕ, ◌+◌, ◌<◌, ◌≤◌, ◌++◌, ◌∷◌, [], false, List, None, IfOk, IfSome, MatchResult, Ok, is_some};
+ghost use Rattle.std.specs.Prelude.{◌≡◌, ◌||◌, ℕ, ◌+◌, ◌<◌, ◌≤◌, ◌++◌, ◌∷◌, [], false, List, None, IfOk, IfSome, MatchResult, Ok, Some, is_some};
 ghost use Rattle.encoding.specs.Limits.{IsKeyData, IsName};
 ghost use Rattle.commands.specs.Asked as asks;
 ghost use Rattle.commands.specs.Asked.{Edit, Put};
@@ -9,6 +9,7 @@ ghost use Rattle.prefixtree.specs.Placement.{commitment_of, put as put_item};
 ghost use Rattle.book.specs.declared.record.Record.TheVariants as kept_as;
 ghost use Rattle.book.specs.Answers.{has_its_index, next_page, with_page, with_pending, Last, Promised};
 ghost use Rattle.book.specs.Maps.{at, overwritten};
+ghost use Rattle.book.specs.Replays.{put_refusal, with_bound};
 ghost use Rattle.book.specs.Shows.{index_of as index_by, placement};
 ghost use Rattle.book.specs.Sound.{IsHeld};
 ghost use Rattle.book.specs.Turns.{Shows, Turn};
@@ -248,6 +249,89 @@ impl<H: NodeHash, V: Vuf, S: Signer, R: Rng> Directory<H, V, S, R> {
             result ≡ false → (other : List ℕ) → IsHeld (book R.stream self.now) other → by other ≡ by name.now → other ≡ name.now }
     {
         self.trees[self.trees.len() - 1].get(index).is_some() || self.waiting.contains_key(index)
+    }
+
+    /// The address of a name that is new. Takes one digest.
+    pub(super) fn free_address(&mut self, name: &Name) -> Result<Address, Refusal>
+        ensures opens { let by = index_by (provider H.digest_of V.value_of S.signature_of self.old) in MatchResult result
+            (λ address. (put_refusal by (book R.stream self.old) Register name.now ≡ None)
+            × (address ≡ address_of (provider H.digest_of V.value_of S.signature_of self.old) name.now)
+            × (at self.old.pending name.now ≡ None)
+            × ((other : List ℕ) → IsHeld (book R.stream self.old) other → by other ≡ by name.now → other ≡ name.now))
+            (λ why. put_refusal by (book R.stream self.old) Register name.now ≡ Some why) }
+        ensures stays { self.new ≡ record self.old { digests = self.new.digests } }
+        ensures work { self.new.digests ≤ self.old.digests + 1 }
+    {
+        let (shown, waits) = self.standing(name);
+        if shown {
+            return Err(Refusal::NameTaken);
+        }
+        if waits {
+            return Err(Refusal::PendingExists);
+        }
+        let address = self.address(name);
+        if self.is_taken(name, &address.index) {
+            return Err(Refusal::IndexTaken);
+        }
+        Ok(address)
+    }
+
+    /// The address of a name that the last page has, and no operation on which waits.
+    pub(super) fn held_address(&mut self, name: &Name) -> Result<Address, Refusal>
+        ensures opens { let by = index_by (provider H.digest_of V.value_of S.signature_of self.old) in MatchResult result
+            (λ address. (put_refusal by (book R.stream self.old) Change name.now ≡ None)
+            × (address ≡ address_of (provider H.digest_of V.value_of S.signature_of self.old) name.now)
+            × (at self.old.pending name.now ≡ None)
+            × ((other : List ℕ) → IsHeld (book R.stream self.old) other → by other ≡ by name.now → other ≡ name.now))
+            (λ why. put_refusal by (book R.stream self.old) Change name.now ≡ Some why) }
+        ensures stays { self.new ≡ self.old }
+    {
+        let Some((address, waits)) = self.shown(name) else {
+            return Err(Refusal::NoSuchName);
+        };
+        if waits {
+            return Err(Refusal::PendingExists);
+        }
+        Ok(address)
+    }
+
+    /// Lets the key wait under this salt for the next page, once its record is kept. Takes one digest.
+    pub(super) fn bind<K: Keeper>(
+        &mut self,
+        keeper: &mut K,
+        what: &Record,
+        address: &Address,
+        name: &Name,
+        key: &KeyData,
+        salt: Hash32,
+    ) -> Result<(), Refusal>
+        requires waits { at self.old.pending name.now ≡ None }
+        requires addressed { address.now ≡ address_of (provider H.digest_of V.value_of S.signature_of self.old) name.now }
+        requires free { let by = index_by (provider H.digest_of V.value_of S.signature_of self.old) in
+            (other : List ℕ) → IsHeld (book R.stream self.old) other → by other ≡ by name.now → other ≡ name.now }
+        ensures made { MatchResult result
+            (λ _. K.kept keeper.old what.now keeper.new
+            × (book R.stream self.new ≡ with_bound (book R.stream self.old) name.now (record { key = key.now; salt = salt })))
+            (λ why. (book R.stream self.new ≡ book R.stream self.old) × IsUnkept K.failed keeper.old what.now why keeper.new) }
+        ensures keys { HasKeysOf self.old self.new }
+        ensures work { self.new.digests ≤ self.old.digests + 1 }
+    {
+        // What these ensure: the name and the key are within their limits, and the salt has 32 bytes.
+        name.bytes();
+        key.bytes();
+        salt.bytes();
+        let commitment = commit(&mut self.hash, &salt, name, key);
+        let version = Version::new(self.alloc, self.roots.len(), key, salt)?;
+        let_wait(
+            &mut self.names,
+            &mut self.waiting,
+            keeper,
+            what,
+            name,
+            address,
+            version,
+            commitment,
+        )
     }
 
     /// Lets the key wait for the next page, once its record is kept. Takes one digest.
