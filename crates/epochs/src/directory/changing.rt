@@ -286,6 +286,8 @@ impl<H: NodeHash, V: Vuf, S: Signer, R: Rng> Directory<H, V, S, R> {
             (λ why. put_refusal by (book R.stream self.old) Change name.now ≡ Some why) }
         ensures stays { self.new ≡ self.old }
     {
+        // The proof needs the invariant, which a borrow of a field brings.
+        let _ = &self.alloc;
         let Some((address, waits)) = self.shown(name) else {
             return Err(Refusal::NoSuchName);
         };
@@ -331,7 +333,8 @@ impl<H: NodeHash, V: Vuf, S: Signer, R: Rng> Directory<H, V, S, R> {
             address,
             version,
             commitment,
-        )
+        )?;
+        Ok(())
     }
 
     /// Lets the key wait for the next page, once its record is kept. Takes one digest.
