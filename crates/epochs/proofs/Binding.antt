@@ -6,6 +6,7 @@ use Rattle.encoding.specs.Bytes.{Is32Bytes}
 use Rattle.encoding.specs.Limits.{IsKeyData, IsName}
 use Rattle.commit.specs.Commitments.{commitment_bytes}
 use Rattle.prefixtree.specs.Placement.{Items, commitment_of, put}
+use Rattle.book.specs.Answers.{with_pending}
 use Rattle.book.specs.Books.{Binding, Book}
 use Rattle.book.specs.declared.refusal.Refusal.TheVariants.{NoSuchName, PendingExists}
 use Rattle.book.specs.Maps.{Map, at, put as put_name}
@@ -84,3 +85,10 @@ module _ (provider : Provider) (parts : Parts) (own : List ℕ) (left : Stream) 
         where
           with_drawn : List ℕ × Stream → Book
           with_drawn drawn-next = record (book_of parts (drawn-next.0) (drawn-next.1)) { pending = put_name (pending_of parts) name (record { key = key; salt = salt }) }
+
+-- once the salt after it is drawn, the book is that in which the binding waits under the next salt
+pub drawn_after : (before middle : Book) (name key next : List ℕ) (rest : Stream) → middle ≡ with_bound before name (record { key = key; salt = before.salt })
+    → (next, rest) ≡ fill_bytes 32 middle.left → ◌≡◌ {A = Book} (record middle { salt = next; left = rest }) (with_pending before name key)
+drawn_after before middle name key next rest is drawn =
+    ap (λ (x : List ℕ × Stream). record middle { salt = x.0; left = x.1 }) drawn
+    ∙ ap (λ (book : Book). record book { salt = (fill_bytes 32 book.left).0; left = (fill_bytes 32 book.left).1 }) is

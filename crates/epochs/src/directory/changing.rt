@@ -61,17 +61,10 @@ impl<H: NodeHash, V: Vuf, S: Signer, R: Rng> Directory<H, V, S, R> {
         let Ok(key) = KeyData::new(key) else {
             return Err(Refusal::BadKey);
         };
-        let (shown, waits) = self.standing(&name);
-        if shown {
-            return Err(Refusal::NameTaken);
-        }
-        if waits {
-            return Err(Refusal::PendingExists);
-        }
-        let address = self.address(&name);
-        if self.is_taken(&name, &address.index) {
-            return Err(Refusal::IndexTaken);
-        }
+        let address = match self.free_address(&name) {
+            Ok(address) => address,
+            Err(why) => return Err(why),
+        };
         let what = Record::Bound {
             verb: Verb::Register,
             salt: self.salt,
@@ -104,12 +97,10 @@ impl<H: NodeHash, V: Vuf, S: Signer, R: Rng> Directory<H, V, S, R> {
         let Ok(key) = KeyData::new(key) else {
             return Err(Refusal::BadKey);
         };
-        let Some((address, waits)) = self.shown(&name) else {
-            return Err(Refusal::NoSuchName);
+        let address = match self.held_address(&name) {
+            Ok(address) => address,
+            Err(why) => return Err(why),
         };
-        if waits {
-            return Err(Refusal::PendingExists);
-        }
         let what = Record::Bound {
             verb: Verb::Change,
             salt: self.salt,
@@ -277,14 +268,13 @@ impl<H: NodeHash, V: Vuf, S: Signer, R: Rng> Directory<H, V, S, R> {
     }
 
     /// The address of a name that the last page has, and no operation on which waits.
-    pub(super) fn held_address(&mut self, name: &Name) -> Result<Address, Refusal>
-        ensures opens { let by = index_by (provider H.digest_of V.value_of S.signature_of self.old) in MatchResult result
-            (λ address. (put_refusal by (book R.stream self.old) Change name.now ≡ None)
-            × (address ≡ address_of (provider H.digest_of V.value_of S.signature_of self.old) name.now)
-            × (at self.old.pending name.now ≡ None)
-            × ((other : List ℕ) → IsHeld (book R.stream self.old) other → by other ≡ by name.now → other ≡ name.now))
-            (λ why. put_refusal by (book R.stream self.old) Change name.now ≡ Some why) }
-        ensures stays { self.new ≡ self.old }
+    pub(super) fn held_address(&self, name: &Name) -> Result<Address, Refusal>
+        ensures opens { let by = index_by (provider H.digest_of V.value_of S.signature_of self.now) in MatchResult result
+            (λ address. (put_refusal by (book R.stream self.now) Change name.now ≡ None)
+            × (address ≡ address_of (provider H.digest_of V.value_of S.signature_of self.now) name.now)
+            × (at self.now.pending name.now ≡ None)
+            × ((other : List ℕ) → IsHeld (book R.stream self.now) other → by other ≡ by name.now → other ≡ name.now))
+            (λ why. put_refusal by (book R.stream self.now) Change name.now ≡ Some why) }
     {
         // The proof needs the invariant, which a borrow of a field brings.
         let _ = &self.alloc;
@@ -359,18 +349,12 @@ impl<H: NodeHash, V: Vuf, S: Signer, R: Rng> Directory<H, V, S, R> {
         ensures keys { HasKeysOf self.old self.new }
         ensures work { self.new.digests ≤ self.old.digests + 1 }
     {
-        let commitment = commit(&mut self.hash, &self.salt, &name, &key);
-        let version = Version::new(self.alloc, self.roots.len(), &key, self.salt)?;
-        let_wait(
-            &mut self.names,
-            &mut self.waiting,
-            keeper,
-            what,
-            &name,
-            address,
-            version,
-            commitment,
-        )?;
+        let salt = self.salt;
+        // A `?` would hide the refusal behind its conversion, and the proof needs it.
+        match self.bind(keeper, what, address, &name, &key, salt) {
+            Ok(()) => {}
+            Err(why) => return Err(why),
+        }
         self.salt = next_salt(&mut self.salts);
         Ok(self.promised(address.index, name, key))
     }

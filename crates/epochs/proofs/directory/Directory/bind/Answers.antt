@@ -1,4 +1,4 @@
-use Rattle.std.proofs.Common.{ap, rules, subst, sym, inl, refl}
+use Rattle.std.proofs.Common.{ap, rules, subst, sym}
 use Rattle.epochs.specs.declared.address.Address.{Address}
 use Rattle.epochs.specs.Addresses.{AreAddresses, Names}
 use Rattle.epochs.specs.Directories.{kept_of, parts_of}
