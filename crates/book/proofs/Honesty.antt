@@ -37,7 +37,7 @@ use Rattle.book.proofs.Begun.{begins-apart, begins-named, climbs, has-salts}
 use Rattle.book.proofs.Carried.{carried}
 use Rattle.book.proofs.Distinct.{AreApart, HasName, IsApart, apart-after, entry-named, named-or-not}
 use Rattle.book.proofs.Doubled.{doubled}
-use Rattle.book.proofs.Entries.{ascends_none, found-entry}
+use Rattle.book.proofs.Entries.{found-entry}
 use Rattle.book.proofs.Found.{AreSalted, IsRight, found-right}
 use Rattle.book.proofs.Members.{first-there, later-there, mapped-there}
 use Rattle.book.proofs.Placed.{Alone}

@@ -6,6 +6,7 @@ pub mod Honest
 pub mod Keeps
 pub mod Maps
 pub mod Refusals
+pub mod Replays
 pub mod Salted
 pub mod Seen
 pub mod Shows

@@ -21,6 +21,7 @@ use vrfiface::Vuf;
 
 mod changing;
 mod reading;
+mod replaying;
 mod running;
 
 /// The names and keys of a provider, in pages, one for each epoch.

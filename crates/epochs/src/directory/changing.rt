@@ -1,4 +1,4 @@
-ghost use Rattle.std.specs.Prelude.{◌≡◌, ◌||◌, ℕ, ◌+◌, ◌<◌, ◌≤◌, ◌++◌, ◌∷◌, [], false, List, None, IfOk, IfSome, MatchResult, Ok, is_some};
+ghost use Rattle.std.specs.Prelude.{◌≡◌, ◌||◌, ℕ, ◌+◌, ◌<◌, ◌≤◌, ◌++◌, ◌∷◌, [], false, List, None, IfOk, IfSome, MatchResult, Ok, Some, is_some};
 ghost use Rattle.encoding.specs.Limits.{IsKeyData, IsName};
 ghost use Rattle.commands.specs.Asked as asks;
 ghost use Rattle.commands.specs.Asked.{Edit, Put};
@@ -9,6 +9,7 @@ ghost use Rattle.prefixtree.specs.Placement.{commitment_of, put as put_item};
 ghost use Rattle.book.specs.declared.record.Record.TheVariants as kept_as;
 ghost use Rattle.book.specs.Answers.{has_its_index, next_page, with_page, with_pending, Last, Promised};
 ghost use Rattle.book.specs.Maps.{at, overwritten};
+ghost use Rattle.book.specs.Replays.{put_refusal, with_bound};
 ghost use Rattle.book.specs.Shows.{index_of as index_by, placement};
 ghost use Rattle.book.specs.Sound.{IsHeld};
 ghost use Rattle.book.specs.Turns.{Shows, Turn};
@@ -60,17 +61,10 @@ impl<H: NodeHash, V: Vuf, S: Signer, R: Rng> Directory<H, V, S, R> {
         let Ok(key) = KeyData::new(key) else {
             return Err(Refusal::BadKey);
         };
-        let (shown, waits) = self.standing(&name);
-        if shown {
-            return Err(Refusal::NameTaken);
-        }
-        if waits {
-            return Err(Refusal::PendingExists);
-        }
-        let address = self.address(&name);
-        if self.is_taken(&name, &address.index) {
-            return Err(Refusal::IndexTaken);
-        }
+        let address = match self.free_address(&name) {
+            Ok(address) => address,
+            Err(why) => return Err(why),
+        };
         let what = Record::Bound {
             verb: Verb::Register,
             salt: self.salt,
@@ -103,12 +97,10 @@ impl<H: NodeHash, V: Vuf, S: Signer, R: Rng> Directory<H, V, S, R> {
         let Ok(key) = KeyData::new(key) else {
             return Err(Refusal::BadKey);
         };
-        let Some((address, waits)) = self.shown(&name) else {
-            return Err(Refusal::NoSuchName);
+        let address = match self.held_address(&name) {
+            Ok(address) => address,
+            Err(why) => return Err(why),
         };
-        if waits {
-            return Err(Refusal::PendingExists);
-        }
         let what = Record::Bound {
             verb: Verb::Change,
             salt: self.salt,
@@ -250,6 +242,91 @@ impl<H: NodeHash, V: Vuf, S: Signer, R: Rng> Directory<H, V, S, R> {
         self.trees[self.trees.len() - 1].get(index).is_some() || self.waiting.contains_key(index)
     }
 
+    /// The address of a name that is new. Takes one digest.
+    pub(super) fn free_address(&mut self, name: &Name) -> Result<Address, Refusal>
+        ensures opens { let by = index_by (provider H.digest_of V.value_of S.signature_of self.old) in MatchResult result
+            (λ address. (put_refusal by (book R.stream self.old) Register name.now ≡ None)
+            × (address ≡ address_of (provider H.digest_of V.value_of S.signature_of self.old) name.now)
+            × (at self.old.pending name.now ≡ None)
+            × ((other : List ℕ) → IsHeld (book R.stream self.old) other → by other ≡ by name.now → other ≡ name.now))
+            (λ why. put_refusal by (book R.stream self.old) Register name.now ≡ Some why) }
+        ensures stays { self.new ≡ record self.old { digests = self.new.digests } }
+        ensures work { self.new.digests ≤ self.old.digests + 1 }
+    {
+        let (shown, waits) = self.standing(name);
+        if shown {
+            return Err(Refusal::NameTaken);
+        }
+        if waits {
+            return Err(Refusal::PendingExists);
+        }
+        let address = self.address(name);
+        if self.is_taken(name, &address.index) {
+            return Err(Refusal::IndexTaken);
+        }
+        Ok(address)
+    }
+
+    /// The address of a name that the last page has, and no operation on which waits.
+    pub(super) fn held_address(&self, name: &Name) -> Result<Address, Refusal>
+        ensures opens { let by = index_by (provider H.digest_of V.value_of S.signature_of self.now) in MatchResult result
+            (λ address. (put_refusal by (book R.stream self.now) Change name.now ≡ None)
+            × (address ≡ address_of (provider H.digest_of V.value_of S.signature_of self.now) name.now)
+            × (at self.now.pending name.now ≡ None)
+            × ((other : List ℕ) → IsHeld (book R.stream self.now) other → by other ≡ by name.now → other ≡ name.now))
+            (λ why. put_refusal by (book R.stream self.now) Change name.now ≡ Some why) }
+    {
+        // The proof needs the invariant, which a borrow of a field brings.
+        let _ = &self.alloc;
+        let Some((address, waits)) = self.shown(name) else {
+            return Err(Refusal::NoSuchName);
+        };
+        if waits {
+            return Err(Refusal::PendingExists);
+        }
+        Ok(address)
+    }
+
+    /// Lets the key wait under this salt for the next page, once its record is kept. Takes one digest.
+    pub(super) fn bind<K: Keeper>(
+        &mut self,
+        keeper: &mut K,
+        what: &Record,
+        address: &Address,
+        name: &Name,
+        key: &KeyData,
+        salt: Hash32,
+    ) -> Result<(), Refusal>
+        requires waits { at self.old.pending name.now ≡ None }
+        requires addressed { address.now ≡ address_of (provider H.digest_of V.value_of S.signature_of self.old) name.now }
+        requires free { let by = index_by (provider H.digest_of V.value_of S.signature_of self.old) in
+            (other : List ℕ) → IsHeld (book R.stream self.old) other → by other ≡ by name.now → other ≡ name.now }
+        ensures made { MatchResult result
+            (λ _. K.kept keeper.old what.now keeper.new
+            × (book R.stream self.new ≡ with_bound (book R.stream self.old) name.now (record { key = key.now; salt = salt })))
+            (λ why. (book R.stream self.new ≡ book R.stream self.old) × IsUnkept K.failed keeper.old what.now why keeper.new) }
+        ensures keys { HasKeysOf self.old self.new }
+        ensures work { self.new.digests ≤ self.old.digests + 1 }
+    {
+        // What these ensure: the name and the key are within their limits, and the salt has 32 bytes.
+        name.bytes();
+        key.bytes();
+        salt.bytes();
+        let commitment = commit(&mut self.hash, &salt, name, key);
+        let version = Version::new(self.alloc, self.roots.len(), key, salt)?;
+        let_wait(
+            &mut self.names,
+            &mut self.waiting,
+            keeper,
+            what,
+            name,
+            address,
+            version,
+            commitment,
+        )?;
+        Ok(())
+    }
+
     /// Lets the key wait for the next page, once its record is kept. Takes one digest.
     fn accept<K: Keeper>(
         &mut self,
@@ -272,18 +349,12 @@ impl<H: NodeHash, V: Vuf, S: Signer, R: Rng> Directory<H, V, S, R> {
         ensures keys { HasKeysOf self.old self.new }
         ensures work { self.new.digests ≤ self.old.digests + 1 }
     {
-        let commitment = commit(&mut self.hash, &self.salt, &name, &key);
-        let version = Version::new(self.alloc, self.roots.len(), &key, self.salt)?;
-        let_wait(
-            &mut self.names,
-            &mut self.waiting,
-            keeper,
-            what,
-            &name,
-            address,
-            version,
-            commitment,
-        )?;
+        let salt = self.salt;
+        // A `?` would hide the refusal behind its conversion, and the proof needs it.
+        match self.bind(keeper, what, address, &name, &key, salt) {
+            Ok(()) => {}
+            Err(why) => return Err(why),
+        }
         self.salt = next_salt(&mut self.salts);
         Ok(self.promised(address.index, name, key))
     }

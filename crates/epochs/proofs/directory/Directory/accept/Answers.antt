@@ -1,35 +1,25 @@
-use Rattle.std.proofs.Common.{ap, rules, subst, sym}
-use Rattle.epochs.specs.declared.address.Address.{Address}
-use Rattle.epochs.specs.Addresses.{AreAddresses, Names}
-use Rattle.epochs.specs.Directories.{kept_of, parts_of}
-use Rattle.epochs.specs.Kept.{provider}
-use Rattle.epochs.proofs.Addresses.{addresses_with}
-use Rattle.epochs.proofs.Changing.{book_accepted, index_free, keeps_accepted, later_version}
+use Rattle.std.proofs.Common.{◌≡◌, List, ℕ, Ok, ap, subst, ◌∙◌}
+use Rattle.book.specs.Answers.{Promised}
+use Rattle.book.specs.Fresh.{provider_of}
+use Rattle.book.specs.Replays.{with_bound}
+use Rattle.book.specs.Shows.{Provider}
+use Rattle.book.specs.Turns.{Shows}
+use Rattle.epochs.specs.Directories.{kept_of}
+use Rattle.epochs.specs.Kept.{book, provider, Kept}
+use Rattle.epochs.specs.Replied.{promised}
+use Rattle.epochs.proofs.Binding.{drawn_after}
 use Rattle.epochs.proofs.directory.Directory.accept.Goals as goal
 
-pub let_wait-requires-clause-later : goal.let_wait-requires-clause-later
-let_wait-requires-clause-later g c =
-    later_version _ (parts_of c.self.inside) _ _ c.self.invariant.0 c.args.name c.args.key (rw (← c.self.view_is) at c.requires.waits) (rw (← c.self.view_is) at c.requires.free) c.len.result (search rules) _ c.in_ok-version.ensures
-
-pub let_wait-requires-clause-free : goal.let_wait-requires-clause-free
-let_wait-requires-clause-free g c =
-    index_free _ (parts_of c.self.inside) _ _ c.self.invariant.0 c.args.name c.args.key (rw (← c.self.view_is) at c.requires.waits) (rw (← c.self.view_is) at c.requires.free) _ (ap (λ (address : Address). address.index) (rw (← c.self.view_is) at c.requires.addressed))
-
-pub invariant_of-self-2 : goal.invariant_of-self-2
-invariant_of-self-2 g c =
-    let by = provider g.H.NodeHash.digest_of g.V.Vuf.value_of g.S.Signer.signature_of (kept_of g.V.Vuf.public_key g.S.Signer.public_key g.H.NodeHash.digests c.self.inside) in (
-      keeps_accepted _ (parts_of c.self.inside) _ _ c.self.invariant.0 c.args.name c.args.key (rw (← c.self.view_is) at c.requires.waits) (rw (← c.self.view_is) at c.requires.free) c.len.result (search rules) _ c.in_ok-version.ensures
-          c.args.address.now.index c.commit-commitment.result c.next_salt-self-inside.result (g.R.Rng.stream c.next_salt-self-inside.new.salts) c.let_wait.new.names.versions c.let_wait.new.waiting.entries
-          (ap (λ (address : Address). address.index) (rw (← c.self.view_is) at c.requires.addressed)) c.commit-commitment.ensures.value c.next_salt-self-inside.ensures.drawn (ap (λ (names : Names). names.versions) c.in_ok-let_wait.ensures.1) c.in_ok-let_wait.ensures.2
-          c.requires.limits.0 c.requires.limits.1 c.next_salt-self-inside.ensures.size,
-      subst (λ (names : Names). AreAddresses by names.addresses) (sym c.in_ok-let_wait.ensures.1) (addresses_with by c.self.inside.names c.args.name c.args.address.now c.in_ok-version.version c.self.invariant.1 (rw (← c.self.view_is) at c.requires.addressed)),
-    )
-
 pub returns-clause-made : goal.returns-clause-made
-returns-clause-made g c = rw (← c.self.view_is) (
-  c.in_ok-let_wait.ensures.0,
-  book_accepted _ (parts_of c.self.inside) _ _ c.self.invariant.0 c.args.name c.args.key (rw (← c.self.view_is) at c.requires.waits) (rw (← c.self.view_is) at c.requires.free) c.len.result (search rules) _ c.in_ok-version.ensures
-      c.args.address.now.index c.commit-commitment.result c.next_salt-self-inside.result (g.R.Rng.stream c.next_salt-self-inside.new.salts) c.let_wait.new.names.versions c.let_wait.new.waiting.entries
-      (ap (λ (address : Address). address.index) (rw (← c.self.view_is) at c.requires.addressed)) c.commit-commitment.ensures.value c.next_salt-self-inside.ensures.drawn (ap (λ (names : Names). names.versions) c.in_ok-let_wait.ensures.1) c.in_ok-let_wait.ensures.2,
-  c.promised.ensures c.self.inside.salt,
-)
+returns-clause-made g c =
+    let the_book = book {R = g.row.R.Denot} g.R.Rng.stream in
+    let by = provider {R = g.row.R.Denot} g.H.NodeHash.digest_of g.V.Vuf.value_of g.S.Signer.signature_of in
+    let middle = kept_of g.V.Vuf.public_key g.S.Signer.public_key g.H.NodeHash.digests c.self-2.inside in
+    let same : by middle ≡ by c.args.self.now = λ i. provider_of g.H.NodeHash.digest_of g.V.Vuf.value_of ((ap (λ (kept : Kept g.row.R.Denot). kept.vuf_key) c.self-2.view_is ∙ c.in-Ok.ensures.keys.0) i)
+    g.S.Signer.signature_of ((ap (λ (kept : Kept g.row.R.Denot). kept.key) c.self-2.view_is ∙ c.in-Ok.ensures.keys.1) i) in (
+      c.in-Ok.ensures.made.0,
+      drawn_after (the_book c.args.self.now) (the_book middle) c.args.name c.args.key c.next_salt-self-inside.result (g.R.Rng.stream c.next_salt-self-inside.new.salts)
+          (ap the_book c.self-2.view_is ∙ c.in-Ok.ensures.made.1 ∙ ap (λ (salt : List ℕ). with_bound (the_book c.args.self.now) c.args.name (record { key = c.args.key; salt = salt })) (ap (λ (kept : Kept g.row.R.Denot). kept.salt) c.self.view_is))
+          c.next_salt-self-inside.ensures.drawn,
+      subst (λ (p : Provider). Shows p (record (the_book middle) { salt = c.next_salt-self-inside.result; left = g.R.Rng.stream c.next_salt-self-inside.new.salts }) (Promised c.args.name (record { key = c.args.key; salt = c.args.self.now.salt })) (promised (Ok c.promised.result))) same (c.promised.ensures c.args.self.now.salt),
+    )

@@ -9,7 +9,7 @@ returns-clause-turn g c =
     let by = provider {R = g.row.R.Denot} g.H.NodeHash.digest_of g.V.Vuf.value_of g.S.Signer.signature_of in
     let the_book = book {R = g.row.R.Denot} g.R.Rng.stream in
     put_turn (by c.args.self.now) g.K.Keeper.kept g.K.Keeper.failed (the_book c.args.self.now) c.args.keeper.now c.args.name.now c.args.key.now
-    (by c.address-address.new.self) (the_book c.address-address.new.self) c.in-Ok.name c.in-Ok-new.key c.self.inside.salt
-    (ap by c.address-address.ensures.stays) (ap the_book c.address-address.ensures.stays) c.in-Ok.ensures.value c.in-Ok-new.ensures.value
-    (ap (λ (kept : Kept g.row.R.Denot). kept.salt) (c.self.view_is ∙ c.address-address.ensures.stays))
+    (by c.free_address.new.self) (the_book c.free_address.new.self) c.in-Ok.name c.in-Ok-new.key c.self.inside.salt
+    (ap by c.free_address.ensures.stays) (ap the_book c.free_address.ensures.stays) c.in-Ok.ensures.value c.in-Ok-new.ensures.value
+    (ap (λ (kept : Kept g.row.R.Denot). kept.salt) (c.self.view_is ∙ c.free_address.ensures.stays))
     c.accept.result (the_book c.accept.new.self) c.accept.new.keeper Register (search rules) (rw (c.copied.ensures, c.copied-2.ensures) at c.accept.ensures.made)

@@ -1,0 +1,94 @@
+-- A binding that waits under a salt of its own: the salts to come stay.
+use Rattle.std.proofs.Common.{◌≡◌, ℕ, List, [], ◌∷◌, length, Option, Some, None, true, false, if◌then◌else◌, refl, sym, ap, ◌∙◌}
+use Rattle.std.specs.Prelude.{is_none, is_some}
+use Rattle.rand_core.specs.Stream.{Stream, fill_bytes}
+use Rattle.encoding.specs.Bytes.{Is32Bytes}
+use Rattle.encoding.specs.Limits.{IsKeyData, IsName}
+use Rattle.commit.specs.Commitments.{commitment_bytes}
+use Rattle.prefixtree.specs.Placement.{Items, commitment_of, put}
+use Rattle.book.specs.Answers.{with_pending}
+use Rattle.book.specs.Books.{Binding, Book}
+use Rattle.book.specs.declared.refusal.Refusal.TheVariants.{NoSuchName, PendingExists}
+use Rattle.book.specs.Maps.{Map, at, put as put_name}
+use Rattle.book.specs.Replays.{with_bound}
+use Rattle.book.specs.Salted.{salted}
+use Rattle.book.specs.Shows.{Provider, index_of}
+use Rattle.book.specs.Sound.{IsHeld}
+use Rattle.book.proofs.Joining.{first-salt}
+use Rattle.epochs.specs.Histories.{Version}
+use Rattle.epochs.specs.Parts.{Keeps, Parts, pending_of}
+use Rattle.epochs.specs.Versions.{AllBefore, versions_of, with_version}
+use Rattle.epochs.proofs.Changing.{book_accepted, index_free, keeps_accepted, later_version}
+use Rattle.epochs.proofs.Parts.{book_of}
+
+-- a name that the last page has, and that does not wait
+pub held_opens : (found pending : Option Binding) → true ≡ is_some found → false ≡ is_some pending
+    → ((if is_none found then Some NoSuchName else (if is_some pending then Some PendingExists else None)) ≡ None) × (pending ≡ None)
+held_opens (Some x) None has waits = (refl, refl)
+held_opens (Some x) (Some y) has waits = absurd cc
+held_opens None pending has waits = absurd cc
+
+-- parts keep their book whatever salts are to come
+pub resalted : (provider : Provider) (parts : Parts) (salt : List ℕ) (left : Stream) → Keeps provider parts (book_of parts salt left)
+    → (other : List ℕ) (rest : Stream) → Is32Bytes other → Keeps provider parts (book_of parts other rest)
+resalted provider parts salt left keeps other rest small = record {
+  begun = keeps.begun;
+  roots = keeps.roots;
+  trees = keeps.trees;
+  waiting = keeps.waiting;
+  root_hash = keeps.root_hash;
+  histories = keeps.histories;
+  numbers = keeps.numbers;
+  sound = record {
+    ascend = keeps.sound.ascend;
+    stay = keeps.sound.stay;
+    pending = keeps.sound.pending;
+    salt = small;
+    apart = keeps.sound.apart;
+    pages = keeps.sound.pages;
+  };
+}
+
+module _ (provider : Provider) (parts : Parts) (own : List ℕ) (left : Stream) (keeps : Keeps provider parts (book_of parts own left)) (name key : List ℕ)
+    (none : at (pending_of parts) name ≡ None) (free : (other : List ℕ) → IsHeld (book_of parts own left) other → index_of provider other ≡ index_of provider name → other ≡ name)
+    (salt : List ℕ) (small : Is32Bytes salt) where
+  -- the salts to come, where the binding's own comes first
+  abbrev ahead : Stream
+  ahead = salted (own ∷ []) left
+
+  abbrev keeps_ahead : Keeps provider parts (book_of parts salt ahead)
+  keeps_ahead = resalted provider parts own left keeps salt ahead small
+
+  pub bound_free : (index : List ℕ) → index ≡ index_of provider name → commitment_of parts.waiting index ≡ None
+  bound_free = index_free provider parts salt ahead keeps_ahead name key none free
+
+  module _ (len : ℕ) (long : len ≡ length parts.roots) (version : Version) (is : version ≡ record { number = len; binding = record { key = key; salt = salt } }) where
+    pub bound_later : AllBefore version.number (versions_of parts.names name)
+    bound_later = later_version provider parts salt ahead keeps_ahead name key none free len long version is
+
+    module _ (index commitment : List ℕ) (names : Map (List Version)) (waiting : Items)
+        (indexed : index ≡ index_of provider name) (committed : commitment ≡ provider.hash (commitment_bytes salt name key))
+        (named : names ≡ with_version parts.names name version) (waits : waiting ≡ put parts.waiting index commitment) where
+      abbrev parts_bound : Parts
+      parts_bound = record { names = names; roots = parts.roots; trees = parts.trees; waiting = waiting; root_hash = parts.root_hash }
+
+      drawn : (own, left) ≡ fill_bytes 32 ahead
+      drawn = sym (first-salt own [] left)
+
+      pub keeps_bound : IsName name → IsKeyData key → Keeps provider parts_bound (book_of parts_bound own left)
+      keeps_bound is-name is-key = keeps_accepted provider parts salt ahead keeps_ahead name key none free len long version is index commitment own left names waiting indexed committed drawn named waits is-name is-key keeps.sound.salt
+
+      pub book_bound : book_of parts_bound own left ≡ with_bound (book_of parts own left) name (record { key = key; salt = salt })
+      book_bound =
+          book_accepted provider parts salt ahead keeps_ahead name key none free len long version is index commitment own left names waiting indexed committed drawn named waits
+          ∙ ap with_drawn (first-salt own [] left)
+        where
+          with_drawn : List ℕ × Stream → Book
+          with_drawn drawn-next = record (book_of parts (drawn-next.0) (drawn-next.1)) { pending = put_name (pending_of parts) name (record { key = key; salt = salt }) }
+
+-- once the salt after it is drawn, the book is that in which the binding waits under the next salt
+pub drawn_after : (before middle : Book) (name key next : List ℕ) (rest : Stream) → middle ≡ with_bound before name (record { key = key; salt = before.salt })
+    → (next, rest) ≡ fill_bytes 32 middle.left → ◌≡◌ {A = Book} (record middle { salt = next; left = rest }) (with_pending before name key)
+drawn_after before middle name key next rest is drawn =
+    ap (λ (x : List ℕ × Stream). record middle { salt = x.0; left = x.1 }) drawn
+    ∙ ap (λ (book : Book). record book { salt = (fill_bytes 32 book.left).0; left = (fill_bytes 32 book.left).1 }) is

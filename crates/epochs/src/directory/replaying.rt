@@ -1,0 +1,104 @@
+ghost use Rattle.std.specs.Prelude.{◌≡◌, ℕ, ◌+◌, ◌<◌, ◌≤◌, List, None, Some, IsSome, MatchResult};
+ghost use Rattle.commands.specs.Asked as asks;
+ghost use Rattle.nodehash.specs.Digests.{one_more};
+ghost use Rattle.book.specs.declared.record.Record.TheVariants.{Bound, Turned};
+ghost use Rattle.book.specs.Maps.{at};
+ghost use Rattle.book.specs.Replays.{kept_edit, put_refusal, replayed, with_bound, IsUnreplayed};
+ghost use Rattle.book.specs.Shows.{index_of as index_by};
+ghost use Rattle.book.specs.Sound.{IsHeld};
+ghost use Rattle.epochs.specs.Addresses.{address_of};
+ghost use Rattle.epochs.specs.Kept.{book, provider, HasKeysOf};
+ghost use Rattle.epochs.specs.Replayed.{replay_digests};
+
+use super::Directory;
+use crate::address::Address;
+use book::{NoKeeper, Record, Refusal};
+use commands::Verb;
+use encoding::{Hash32, KeyData, Name};
+use nodehash::NodeHash;
+use rand_core::Rng;
+use sigiface::Signer;
+use vrfiface::Vuf;
+
+impl<H: NodeHash, V: Vuf, S: Signer, R: Rng> Directory<H, V, S, R> {
+    /// Carries out once more the command that a record was kept of, with the record's salt. Nothing is
+    /// kept of it, and the salts to come stay.
+    ///
+    /// # Errors
+    ///
+    /// Those of the command, in its order, but `KeepFailed`.
+    pub fn replay(&mut self, what: &Record) -> Result<(), Refusal>
+        requires { IsSome (kept_edit what.now) }
+        ensures replays { let by = index_by (provider H.digest_of V.value_of S.signature_of self.old) in MatchResult result
+            (λ _. replayed by (book R.stream self.old) what.now ≡ Some (book R.stream self.new))
+            (λ why. (book R.stream self.new ≡ book R.stream self.old) × IsUnreplayed by (book R.stream self.old) what.now why) }
+        ensures keys { HasKeysOf self.old self.new }
+        ensures work { self.new.digests ≤ self.old.digests + replay_digests (provider H.digest_of V.value_of S.signature_of self.old) self.old what.now }
+    {
+        match what {
+            Record::Start { .. } => unreachable!(),
+            Record::Bound {
+                verb,
+                salt,
+                name,
+                key,
+            } => self.put_again(what, *verb, *salt, name, key),
+            Record::Turned { epoch } => self.turn_again(*epoch),
+        }
+    }
+
+    /// Puts the key to the name once more, under this salt.
+    fn put_again(
+        &mut self,
+        what: &Record,
+        verb: Verb,
+        salt: Hash32,
+        name: &Name,
+        key: &KeyData,
+    ) -> Result<(), Refusal>
+        ensures replays { let by = index_by (provider H.digest_of V.value_of S.signature_of self.old) in MatchResult result
+            (λ _. replayed by (book R.stream self.old) (Bound verb salt name.now key.now) ≡ Some (book R.stream self.new))
+            (λ why. (book R.stream self.new ≡ book R.stream self.old) × IsUnreplayed by (book R.stream self.old) (Bound verb salt name.now key.now) why) }
+        ensures keys { HasKeysOf self.old self.new }
+        ensures work { self.new.digests ≤ self.old.digests + 2 }
+    {
+        // What these ensure: the name and the key are within their limits.
+        name.bytes();
+        key.bytes();
+        match self.open(verb, name) {
+            Ok(address) => self.bind(&mut NoKeeper, what, &address, name, key, salt),
+            Err(why) => Err(why),
+        }
+    }
+
+    /// Ends the epoch once more.
+    fn turn_again(&mut self, epoch: u64) -> Result<(), Refusal>
+        ensures replays { let by = index_by (provider H.digest_of V.value_of S.signature_of self.old) in MatchResult result
+            (λ _. replayed by (book R.stream self.old) (Turned epoch) ≡ Some (book R.stream self.new))
+            (λ why. (book R.stream self.new ≡ book R.stream self.old) × IsUnreplayed by (book R.stream self.old) (Turned epoch) why) }
+        ensures keys { HasKeysOf self.old self.new }
+        ensures work { self.new.digests ≤ self.old.digests + replay_digests (provider H.digest_of V.value_of S.signature_of self.old) self.old (Turned epoch) }
+    {
+        match self.close(&mut NoKeeper, epoch) {
+            Ok(_) => Ok(()),
+            Err(why) => Err(why),
+        }
+    }
+
+    /// The address of a name to which a key may be put so. Takes at most one digest.
+    fn open(&mut self, verb: Verb, name: &Name) -> Result<Address, Refusal>
+        ensures opens { let by = index_by (provider H.digest_of V.value_of S.signature_of self.old) in MatchResult result
+            (λ address. (put_refusal by (book R.stream self.old) verb name.now ≡ None)
+            × (address ≡ address_of (provider H.digest_of V.value_of S.signature_of self.old) name.now)
+            × (at self.old.pending name.now ≡ None)
+            × ((other : List ℕ) → IsHeld (book R.stream self.old) other → by other ≡ by name.now → other ≡ name.now))
+            (λ why. put_refusal by (book R.stream self.old) verb name.now ≡ Some why) }
+        ensures stays { self.new ≡ record self.old { digests = self.new.digests } }
+        ensures work { self.new.digests ≤ self.old.digests + 1 }
+    {
+        match verb {
+            Verb::Register => self.free_address(name),
+            Verb::Change => self.held_address(name),
+        }
+    }
+}
