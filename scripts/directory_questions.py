@@ -1,6 +1,6 @@
 """Questions of `session_vectors` on directories, hubs and the server."""
 
-from asking import joined, run
+from asking import index, joined, run
 from formats import *
 from session_scripts import HEAD, key_of, name_of, split
 from session_subjects import HUB_TOKEN, OTHER_KEY, SALT_KEY, SIGN_KEY, TOP, VUF_KEY, closing, message, subjects
@@ -54,6 +54,47 @@ def of_calls(q, rng):
         (0, 64), (0, 1), (2, 1), (3, 64), (9, 64), (10, 64), (TOP, 1), (0, 0), (0, 65), (1, 65535),
     ]:
         q.ask("directory history", start, count)
+
+
+@subject("a directory: records carried out once more")
+def of_replays(q, rng):
+    q.ask("directory replay turn", 2)
+    new_directory(q)
+    q.note("a registration under the salt of its record; the one after it takes the first salt of the stream")
+    q.ask("directory replay register", run(0x10), b"alice", b"k1")
+    q.ask("directory promise", b"alice")
+    q.ask("directory register", b"bob", b"k1")
+    q.note("each refusal, which changes nothing")
+    q.ask("directory replay register", run(0x11), b"alice", b"k2")
+    q.ask("directory replay register", run(0x11), b"bob", b"k2")
+    q.ask("directory replay change", run(0x11), b"alice", b"k2")
+    for epoch in [0, 1, 2]:
+        q.ask("directory replay turn", epoch)
+    q.ask("directory head")
+    q.ask("directory replay turn", 2)
+    q.ask("directory replay register", run(0x11), b"alice", b"k2")
+    q.ask("directory replay change", run(0x12), b"alice", b"k2")
+    q.ask("directory replay change", run(0x13), b"alice", b"k3")
+    q.ask("directory change", b"bob", b"k2")
+    q.ask("directory replay turn", TOP)
+    q.ask("directory replay turn", TOP)
+    for name in [b"alice", b"bob"]:
+        for epoch in [1, 2, TOP]:
+            q.ask("directory lookup", name, epoch)
+    q.note("limits and some hundreds")
+    new_directory(q)
+    q.ask("directory replay register", run(0x20), b"n" * 255, b"k" * 2048)
+    for k in range(300):
+        q.ask("directory replay register", index(last=k % 256), name_of(k), key_of(k))
+    q.ask("directory replay turn", 5)
+    for k in range(0, 300, 7):
+        q.ask("directory replay change", index(1, last=k % 256), name_of(k), key_of(k + 1))
+    for epoch in range(6, 40):
+        q.ask("directory replay turn", epoch)
+    q.ask("directory head")
+    for k in [0, 7, 8, 299]:
+        q.ask("directory lookup", name_of(k), 5)
+        q.ask("directory lookup", name_of(k), 0)
 
 
 @subject("a directory: names of 0, 1, 255 and 256 bytes, keys of 0, 1, 2,048 and 2,049")

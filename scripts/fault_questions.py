@@ -161,9 +161,9 @@ class LossyDirectory(sessions.Directory):
         if self.records - 1 == self.lost:
             raise sessions.DirectoryRefusal(19)
 
-    def let_wait(self, name, key):
+    def let_wait(self, name, key, salt):
         self.keep()
-        return super().let_wait(name, key)
+        return super().let_wait(name, key, salt)
 
     def close(self, epoch):
         if epoch > self.head().epoch:

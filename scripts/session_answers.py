@@ -135,6 +135,18 @@ class SessionAnswers(Lines):
         roots = self.directory().history(w.number(), w.number(2**16 - 1))
         return [str(len(roots)), told(b"".join(root.write() for root in roots))]
 
+    def directory_replay(self, w):
+        """`replay register SALT NAME KEY`, `replay change` the same, or `replay turn EPOCH`"""
+        directory, kind = self.directory(), w.word()
+        if kind == "turn":
+            directory.close(w.number())
+        elif kind in ("register", "change"):
+            salt, name, key = w.hash(), w.name(), w.key()
+            getattr(directory, kind)(name, key, salt)
+        else:
+            raise BadQuestion
+        return ["ok"]
+
     def directory_run(self, w):
         """`run EPOCH NONCE MESSAGE..`: a new directory; each message is the kind and the body of a request."""
         epoch, nonce = w.number(), w.hash()

@@ -188,7 +188,7 @@ class Directory:
     def index_of(self, name):
         return index_of(self.digest, self.vuf.value(name))
 
-    def register(self, name, key):
+    def register(self, name, key, salt=None):
         check_lengths(name, key)
         if name in self.last().bindings:
             raise DirectoryRefusal(6)
@@ -196,19 +196,19 @@ class Directory:
             raise DirectoryRefusal(8)
         if self.indices.get(self.index_of(name), name) != name:
             raise DirectoryRefusal(9)
-        return self.let_wait(name, key)
+        return self.let_wait(name, key, salt)
 
-    def change(self, name, key):
+    def change(self, name, key, salt=None):
         check_lengths(name, key)
         if name not in self.last().bindings:
             raise DirectoryRefusal(7)
         if name in self.waiting:
             raise DirectoryRefusal(8)
-        return self.let_wait(name, key)
+        return self.let_wait(name, key, salt)
 
-    def let_wait(self, name, key):
-        """Lets a binding wait for the next page. Only this draws a salt."""
-        self.waiting[name] = Binding(key, next(self.salts))
+    def let_wait(self, name, key, salt):
+        """Lets a binding wait for the next page. Only this draws a salt, and only where none is given."""
+        self.waiting[name] = Binding(key, next(self.salts) if salt is None else salt)
         self.indices[self.index_of(name)] = name
         return self.promise(name)
 

@@ -1,7 +1,7 @@
 //! Of `epochs`: a directory, which stays for the next lines, and runs of fresh ones.
 
-use book::{NoKeeper, Refusal, Reply};
-use commands::{Command, Edit};
+use book::{NoKeeper, Record, Refusal, Reply};
+use commands::{Command, Edit, Verb};
 use encoding::Hash32;
 use epochs::Directory;
 use nodehash::{NodeHash, Sha256Hash, SumHash};
@@ -134,7 +134,47 @@ where
         b"head" => case.say_bytes(directory.head().write().bytes()),
         b"lookup" => look_up(case, directory),
         b"history" => history(case, directory),
+        b"replay" => replay(case, directory),
         _ => case.spoil(),
+    }
+}
+
+/// `replay register SALT NAME KEY`, `replay change` the same, or `replay turn EPOCH`
+fn replay<H, V>(case: &mut Case<'_>, directory: &mut Made<H, V>)
+where
+    H: NodeHash + Drop,
+    V: Vuf + Drop,
+{
+    match case.word() {
+        b"register" => replay_put(case, directory, Verb::Register),
+        b"change" => replay_put(case, directory, Verb::Change),
+        b"turn" => {
+            let epoch = case.number();
+            let replayed = directory.replay(&Record::Turned { epoch });
+            tell_replayed(case, replayed);
+        }
+        _ => case.spoil(),
+    }
+}
+
+fn replay_put<H, V>(case: &mut Case<'_>, directory: &mut Made<H, V>, verb: Verb)
+where
+    H: NodeHash + Drop,
+    V: Vuf + Drop,
+{
+    let replayed = directory.replay(&Record::Bound {
+        verb,
+        salt: case.hash(),
+        name: case.name(),
+        key: case.key(),
+    });
+    tell_replayed(case, replayed);
+}
+
+fn tell_replayed(case: &mut Case<'_>, replayed: Result<(), Refusal>) {
+    match replayed {
+        Ok(()) => case.say("ok"),
+        Err(why) => refuse(case, why),
     }
 }
 
