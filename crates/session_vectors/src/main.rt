@@ -11,7 +11,7 @@
 //! |---|---|---|
 //! | `directory` | `Directory::new`, `head` | `new`, `head` |
 //! | | `register`, `change`, `promise`, `close` | `register`, `change`, `promise`, `close` |
-//! | | `lookup`, `history`; `run` | `lookup`, `history`; `run` |
+//! | | `lookup`, `history`; `run`; `replay` | `lookup`, `history`; `run`; `replay` |
 //! | `hub` | `Hub::new`, which calls `Hub::over` and `Desk::new` | `new` |
 //! | | `event`, which calls `Service::answer` | `open`, `bytes`, `end` |
 //! | | `head` | `head`, `seen`, `seen-sum` |

@@ -65,7 +65,7 @@ impl<H: NodeHash, V: Vuf, S: Signer, R: Rng> Directory<H, V, S, R> {
         // What these ensure: the name and the key are within their limits.
         name.bytes();
         key.bytes();
-        match self.open(verb, name) {
+        match self.put_address(verb, name) {
             Ok(address) => self.bind(&mut NoKeeper, what, &address, name, key, salt),
             Err(why) => Err(why),
         }
@@ -86,7 +86,7 @@ impl<H: NodeHash, V: Vuf, S: Signer, R: Rng> Directory<H, V, S, R> {
     }
 
     /// The address of a name to which a key may be put so. Takes at most one digest.
-    fn open(&mut self, verb: Verb, name: &Name) -> Result<Address, Refusal>
+    fn put_address(&mut self, verb: Verb, name: &Name) -> Result<Address, Refusal>
         ensures opens { let by = index_by (provider H.digest_of V.value_of S.signature_of self.old) in MatchResult result
             (λ address. (put_refusal by (book R.stream self.old) verb name.now ≡ None)
             × (address ≡ address_of (provider H.digest_of V.value_of S.signature_of self.old) name.now)
