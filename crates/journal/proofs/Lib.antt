@@ -1,2 +1,5 @@
 mod Counted
+mod Cuts
+mod Ended
+mod Replaying
 mod Spelled
