@@ -11,7 +11,7 @@ use Rattle.std.proofs.Common.{Result}
 use Rattle.journal.specs.Counting.{HasLater}
 use Rattle.journal.specs.Reading.{read_later, read_start}
 use Rattle.journal.specs.declared.beginning.Beginning.{Beginning}
-use Rattle.journal.specs.Records.{record_bytes, records_bytes, start_bytes, start_of, IsLater, IsStart}
+use Rattle.journal.specs.Records.{record_bytes, records_bytes, start_bytes, IsLater, IsStart}
 use Rattle.journal.proofs.Spelled.{later_field, start_field}
 
 -- what the readers give is what they read

@@ -1,23 +1,21 @@
 -- A reader tells cuts: it says that bytes are short exactly where they are a spelling that was cut short.
 -- One lemma for each reader, and one for each way to make a reader of others.
-use Rattle.std.proofs.Common.{◌≡◌, ◌≢◌, ◌⊎◌, inl, inr, ℕ, zero, suc, ◌+◌, ◌*◌, ◌-◌, ◌^◌, ◌<◌, ◌≤◌, Bool, true, false, cond, ltb, leb, List, [], ◌∷◌, ◌++◌, length, replicate, take, drop, Result, Ok, Err, refl, sym, ap, subst, ◌∙◌, append_assoc, arith, lit≤, true≢false}
-use Rattle.std.specs.Prelude.{◌==◌, nat_le}
-use Rattle.std.proofs.lemmas.Bool.{and_parts, ltb-true, ltb-false, lt-ltb, leb-true, le-leb, eqb-true, eq-eqb}
+use Rattle.std.proofs.Common.{◌≡◌, ◌≢◌, ◌⊎◌, inl, inr, ℕ, suc, ◌-◌, ◌^◌, ◌<◌, Bool, true, false, cond, ltb, List, [], ◌∷◌, ◌++◌, length, replicate, take, drop, Result, Ok, Err, refl, sym, ap, subst, ◌∙◌, append_assoc, arith, true≢false}
+use Rattle.std.specs.Prelude.{◌==◌}
+use Rattle.std.proofs.lemmas.Bool.{ltb-true, lt-ltb, eqb-true, eq-eqb}
 use Rattle.std.proofs.lemmas.List.{append-nil, length-append, length-replicate}
 use Rattle.byteorder.specs.Endian.{big_bytes, big_number}
 use Rattle.byteorder.specs.Numbers.{big_from-lt, length-bytes_high_first}
 use Rattle.encoding.specs.declared.fault.Fault.{Fault}
-use Rattle.encoding.specs.declared.fault.Fault.TheVariants.{Short, Trailing, OutOfRange}
+use Rattle.encoding.specs.declared.fault.Fault.TheVariants.{Short, OutOfRange}
 use Rattle.encoding.specs.Bytes.{IsBytes, HasBytes}
-use Rattle.encoding.specs.Fields.{Begins, IsField}
-use Rattle.encoding.specs.Forms.{counted_bytes}
-use Rattle.encoding.specs.Limits.{IsWithin}
-use Rattle.encoding.specs.Reading.{Reading, ◌>>=◌, is_within, read_as, read_both, read_byte, read_bytes, read_counted, read_number, read_then, read_where}
-use Rattle.encoding.proofs.ByteLists.{IsBytes-append, IsBytes-back, IsBytes-two, IsBytes-zeros}
+use Rattle.encoding.specs.Fields.{IsField}
+use Rattle.encoding.specs.Reading.{Reading, ◌>>=◌, read_as, read_both, read_bytes, read_number, read_then}
+use Rattle.encoding.proofs.ByteLists.{IsBytes-append, IsBytes-back, IsBytes-zeros}
 use Rattle.encoding.proofs.Fields.{refused_read}
 use Rattle.encoding.proofs.NumberBytes.{bytes-of_number}
 use Rattle.journal.specs.Openings.{IsCut, IsNone}
-use Rattle.journal.specs.Reading.{read_mark, read_up_to}
+use Rattle.journal.specs.Reading.{read_mark}
 
 pub record TellsCuts {A : Type 0} (read : List ℕ → Reading A) (spelling : A → List ℕ) (Allowed : A → Type 0) : Type 0 where
   pub cut : (bytes : List ℕ) → IsBytes bytes → read bytes ≡ Err Short → (x : A) × (more : List ℕ) × (spelling x ≡ bytes ++ more) × Allowed x

@@ -1,31 +1,26 @@
 -- The readers of records tell cuts.
-use Rattle.std.proofs.Common.{◌≡◌, ◌≢◌, ◌⊎◌, ℕ, zero, suc, ◌+◌, ◌*◌, ◌<◌, ◌≤◌, ◌^◌, Bool, true, false, cond, leb, List, [], ◌∷◌, ◌++◌, length, replicate, Result, Ok, Err, refl, sym, ap, subst, ◌∙◌, arith, lit≤, true≢false}
-use Rattle.std.specs.Prelude.{◌==◌, nat_le}
+use Rattle.std.proofs.Common.{◌≡◌, ◌≢◌, ℕ, zero, suc, ◌+◌, ◌*◌, ◌<◌, ◌≤◌, ◌^◌, Bool, true, false, cond, leb, List, [], ◌∷◌, ◌++◌, length, replicate, Ok, Err, refl, sym, ap, subst, ◌∙◌, arith, lit≤}
+use Rattle.std.specs.Prelude.{◌==◌}
 use Rattle.std.specs.Int.{byte_at}
-use Rattle.std.proofs.lemmas.Bool.{and_parts, eqb-true, eq-eqb, leb-true, le-leb, le-ltb}
+use Rattle.std.proofs.lemmas.Bool.{and_parts, eqb-true, leb-true, le-leb, le-ltb}
 use Rattle.std.proofs.lemmas.List.{length-append, length-replicate}
 use Rattle.byteorder.specs.Endian.{big_bytes, big_number}
-use Rattle.byteorder.specs.Numbers.{big_from-lt}
-use Rattle.encoding.specs.declared.fault.Fault.{Fault}
 use Rattle.encoding.specs.declared.fault.Fault.TheVariants.{Short, OutOfRange}
-use Rattle.encoding.specs.Bytes.{IsBytes, HasBytes, Is32Bytes}
+use Rattle.encoding.specs.Bytes.{IsBytes, Is32Bytes}
 use Rattle.encoding.specs.Fields.{IsField}
 use Rattle.encoding.specs.Forms.{counted_bytes}
 use Rattle.encoding.specs.Limits.{IsWithin}
 use Rattle.encoding.specs.Reading.{Reading, ◌>>=◌, is_within, read_byte, read_bytes, read_counted, read_number, read_then, read_where}
 use Rattle.encoding.proofs.ByteLists.{IsBytes-two, IsBytes-zeros}
 use Rattle.encoding.proofs.Fields.{bytes_field, numbers_field, refused_read, tested_field}
-use Rattle.encoding.proofs.FieldsOf.{both}
 use Rattle.encoding.proofs.NumberBytes.{bytes-of_number}
-use Rattle.commands.specs.declared.edit.Verb.{Verb}
-use Rattle.commands.specs.declared.edit.Verb.TheVariants.{Register, Change}
 use Rattle.book.specs.declared.record.Record.{Record}
 use Rattle.book.specs.declared.record.Record.TheVariants.{Start, Bound, Turned}
 use Rattle.journal.specs.declared.beginning.Beginning.{Beginning}
 use Rattle.journal.specs.Reading.{beginning_of, bound_of, read_bound, read_later, read_later_of, read_start, read_turned, read_up_to, read_verb, verb_of}
 use Rattle.journal.specs.Records.{record_bytes, start_bytes, verb_byte, IsLater, IsStart}
 use Rattle.journal.proofs.Cuts.{allowed_cuts, both_cuts, bytes_cuts, mark_cuts, numbers_cuts, renamed_cuts, refused, respelled_cuts, then_cuts, where_is, TellsCuts}
-use Rattle.journal.proofs.Spelled.{beginning_is, beginning_parts, binding_is, bound_parts, bound_same, counted_up_to, epoch_of, is_beginning, is_binding, is_turned, is_verb, kind_of, later_parts, length_byte, spelled_beginning, spelled_bound, turned_is, turned_same, verb_again, verb_field, BeginningParts, BoundParts, IsBeginning, IsBinding, IsTurned, IsVerb, IsVerbByte, OfKind}
+use Rattle.journal.proofs.Spelled.{beginning_is, beginning_parts, binding_is, bound_parts, bound_same, counted_up_to, epoch_of, is_beginning, is_binding, is_turned, is_verb, kind_of, later_parts, length_byte, spelled_beginning, spelled_bound, turned_is, turned_same, verb_again, verb_field, BeginningParts, BoundParts, IsBeginning, IsBinding, IsTurned, IsVerbByte, OfKind}
 
 -- ---- values that are there
 

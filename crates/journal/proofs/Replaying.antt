@@ -1,16 +1,14 @@
 -- Records that are carried out one after another.
-use Rattle.std.proofs.Common.{◌≡◌, ◌≢◌, ◌⊎◌, inl, inr, ℕ, zero, suc, ◌+◌, ◌<◌, ◌≤◌, List, [], ◌∷◌, ◌++◌, length, length-append, append_assoc, Option, Some, None, Result, Ok, Err, refl, sym, ap, subst, ◌∙◌, arith, lit≤}
-use Rattle.std.specs.List.{AllByRecursion}
+use Rattle.std.proofs.Common.{◌≡◌, ◌≢◌, inl, inr, ℕ, ◌+◌, ◌≤◌, List, [], ◌∷◌, ◌++◌, length, length-append, append_assoc, Some, None, Ok, Err, refl, sym, ap, subst, ◌∙◌, arith, lit≤}
 use Rattle.encoding.specs.Bytes.{IsBytes}
-use Rattle.encoding.specs.Reading.{Gives}
 use Rattle.encoding.specs.declared.fault.Fault.{Fault}
-use Rattle.encoding.specs.declared.fault.Fault.TheVariants.{Short, Trailing, OutOfRange}
+use Rattle.encoding.specs.declared.fault.Fault.TheVariants.{Short}
 use Rattle.book.specs.declared.record.Record.{Record}
-use Rattle.book.specs.declared.record.Record.TheVariants.{Start, Bound, Turned}
+use Rattle.book.specs.declared.record.Record.TheVariants.{Turned}
 use Rattle.book.specs.Books.{Book}
 use Rattle.rand_core.specs.Stream.{Stream}
 use Rattle.book.specs.Fresh.{fresh, provider_of}
-use Rattle.book.specs.Replays.{replayed, replayed_all}
+use Rattle.book.specs.Replays.{replayed}
 use Rattle.book.specs.Shows.{index_of}
 use Rattle.epochs.specs.Kept.{Kept, provider, HasKeysOf}
 use Rattle.journal.specs.declared.refusal.Refusal.{Refusal}

@@ -1,10 +1,10 @@
 -- What comes of opening a journal, by what its bytes are.
-use Rattle.std.specs.Prelude.{◌≡◌, ◌⊎◌, ◌<◌, ◌+◌, ℕ, List, length, Some, None, Result, Ok, Err, ⊤}
+use Rattle.std.specs.Prelude.{◌≡◌, ◌<◌, ◌+◌, ℕ, List, length, None, Result, Ok, Err, ⊤}
 use Rattle.rand_core.specs.Stream.{Stream}
 use Rattle.book.specs.declared.record.Record.{Record}
 use Rattle.book.specs.Books.{Book}
 use Rattle.book.specs.Replays.{replayed}
-use Rattle.epochs.specs.Kept.{Kept, book}
+use Rattle.epochs.specs.Kept.{book}
 use Rattle.journal.specs.declared.beginning.Beginning.{Beginning}
 use Rattle.journal.specs.declared.opening.Opened.{Opened}
 use Rattle.journal.specs.declared.opening.Opened.TheVariants.{Nothing, Directory}

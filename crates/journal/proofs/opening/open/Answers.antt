@@ -1,13 +1,11 @@
-use Rattle.std.proofs.Common.{rules, ◌≡◌, ◌≤◌, ◌<◌, ◌^◌, ◌+◌, length, ℕ, List, inl, inr, refl, sym, ap, subst, ◌∙◌, arith, Ok, Err}
-use Rattle.encoding.specs.Bytes.{IsBytes}
-use Rattle.encoding.specs.declared.fault.Fault.TheVariants.{Short, Trailing, OutOfRange}
+use Rattle.std.proofs.Common.{rules, ◌≡◌, ◌<◌, ◌^◌, length, ℕ, List, inl, sym, ap, subst, ◌∙◌, arith, Ok, Err}
+use Rattle.encoding.specs.declared.fault.Fault.TheVariants.{Trailing, OutOfRange}
 use Rattle.book.specs.Books.{Book}
 use Rattle.book.specs.Fresh.{provider_of}
 use Rattle.book.specs.Shows.{index_of}
 use Rattle.epochs.specs.Kept.{book}
 use Rattle.journal.specs.Opened.{StopsAt}
 use Rattle.journal.specs.Reading.{read_start}
-use Rattle.journal.specs.Records.{start_bytes}
 use Rattle.journal.proofs.Counted.{start_is}
 use Rattle.journal.proofs.Replaying.{begun_index, not_begun, not_replayed, opened, start_cut, start_none, start_size}
 use Rattle.journal.proofs.opening.open.Goals as goal
@@ -68,9 +66,9 @@ returns g c =
     let stops = subst (λ first. Stops by first) begun.1 (subst (λ i. Stops i (book g.R.Rng.stream c.in_ok-directory.directory)) index c.in_ok-taken.ensures.replays) in
     record {
       opens = (
-          opened by (g.S.Signer.public_key c.args.signer) (g.V.Vuf.public_key c.args.vuf) (g.R.Rng.stream c.args.salts) c.in-Ok.beginning c.read_start.new.cursor read.0 read.1 begun.0
-          c.in_ok-taken.taken (book g.R.Rng.stream c.replay_all.new.directory) c.replay_all.new.cursor stops,
-          c.in_ok-taken.ensures.keys.1 ∙ begun.3,
-          c.in_ok-taken.ensures.keys.0 ∙ begun.2,
+        opened by (g.S.Signer.public_key c.args.signer) (g.V.Vuf.public_key c.args.vuf) (g.R.Rng.stream c.args.salts) c.in-Ok.beginning c.read_start.new.cursor read.0 read.1 begun.0
+            c.in_ok-taken.taken (book g.R.Rng.stream c.replay_all.new.directory) c.replay_all.new.cursor stops,
+        c.in_ok-taken.ensures.keys.1 ∙ begun.3,
+        c.in_ok-taken.ensures.keys.0 ∙ begun.2,
       );
     }
