@@ -42,7 +42,7 @@ is_none f s P field tells bytes fault other e = (
 -- ---- lists
 
 -- one of two equal lists is parted within its first half, or after it
-parted : (a b c d : List ℕ) → a ++ b ≡ c ++ d → ((m : List ℕ) × (a ≡ c ++ m) × (m ≢ [])) ⊎ ((m : List ℕ) × (c ≡ a ++ m) × (b ≡ m ++ d))
+pub parted : (a b c d : List ℕ) → a ++ b ≡ c ++ d → ((m : List ℕ) × (a ≡ c ++ m) × (m ≢ [])) ⊎ ((m : List ℕ) × (c ≡ a ++ m) × (b ≡ m ++ d))
 parted [] b c d e = inr (c, refl, e)
 parted (x ∷ a) b [] d e = inl (x ∷ a, refl, λ none. absurd cc)
 parted (x ∷ a) b (y ∷ c) d e = later (parted a b c d cc)
@@ -55,7 +55,7 @@ parted (x ∷ a) b (y ∷ c) d e = later (parted a b c d cc)
     later (inl h) = inl (h.0, rw (same, h.1) refl, h.2)
     later (inr h) = inr (h.0, rw (same, h.1) refl, h.2)
 
-longer : (bytes more : List ℕ) → more ≢ [] → length bytes < length (bytes ++ more)
+pub longer : (bytes more : List ℕ) → more ≢ [] → length bytes < length (bytes ++ more)
 longer bytes [] some = absurd (some refl)
 longer bytes (m ∷ more) some = omega (arith, length-append bytes (m ∷ more))
 

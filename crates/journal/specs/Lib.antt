@@ -5,3 +5,4 @@ pub mod Openings
 pub mod Reading
 pub mod Records
 pub mod Refusals
+pub mod Reopened

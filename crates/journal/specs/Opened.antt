@@ -48,5 +48,5 @@ module _ (index_of : List ℕ → List ℕ) (signature_key vuf_key : List ℕ) (
   -- why they open to nothing
   abbrev pub IsUnopened : List ℕ → Refusal → Type 0
   IsUnopened bytes BadRecord = IsBad index_of signature_key vuf_key salts bytes
-  IsUnopened bytes OtherKeys = HasOtherKeys index_of signature_key vuf_key salts bytes
+  IsUnopened bytes OtherKeys = HasOtherKeys signature_key vuf_key bytes
   IsUnopened bytes Memory = IsBegun index_of signature_key vuf_key salts bytes

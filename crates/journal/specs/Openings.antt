@@ -23,6 +23,11 @@ IsNone spelling Allowed bytes = (¬ Begins spelling Allowed bytes) × (¬ IsCut 
 abbrev pub HasKeys : List ℕ → List ℕ → Beginning → Type 0
 HasKeys signature_key vuf_key beginning = (beginning.signature_key ≡ signature_key) × (beginning.vuf_key ≡ vuf_key)
 
+-- the bytes begin with a start of other keys
+abbrev pub HasOtherKeys : List ℕ → List ℕ → List ℕ → Type 0
+HasOtherKeys signature_key vuf_key bytes = (beginning : Beginning) × (later : List ℕ)
+    × (bytes ≡ start_bytes beginning ++ later) × IsStart beginning × (0 < beginning.epoch) × (¬ HasKeys signature_key vuf_key beginning)
+
 module _ (index_of : List ℕ → List ℕ) where
   -- later records stand at the front of the bytes, before this rest, and lead from one book to another
   abbrev pub Leads : Book → List ℕ → Book → List ℕ → Type 0
@@ -51,11 +56,6 @@ module _ (index_of : List ℕ → List ℕ) where
     IsBad bytes = IsNone start_bytes IsStart bytes
         ⊎ (((beginning : Beginning) × (later : List ℕ) × (bytes ≡ start_bytes beginning ++ later) × IsStart beginning × (beginning.epoch ≡ 0))
         ⊎ ((book : Book) × (rest : List ℕ) × Reaches bytes book rest × IsBadNext book rest))
-
-    -- the bytes begin with a start of other keys
-    abbrev pub HasOtherKeys : List ℕ → Type 0
-    HasOtherKeys bytes = (beginning : Beginning) × (later : List ℕ)
-        × (bytes ≡ start_bytes beginning ++ later) × IsStart beginning × (0 < beginning.epoch) × (¬ HasKeys signature_key vuf_key beginning)
 
     -- the bytes begin with a start of these keys
     abbrev pub IsBegun : List ℕ → Type 0

@@ -32,12 +32,18 @@ start_of beginning = Start beginning.epoch beginning.nonce beginning.signature_k
 abbrev pub start_bytes : Beginning → List ℕ
 start_bytes beginning = record_bytes (start_of beginning)
 
+-- the parts are within their limits
+abbrev pub IsRecord : Record → Type 0
+IsRecord (Start epoch nonce signature_key vuf_key) = (epoch < 2 ^ 64) × Is32Bytes nonce × Is32Bytes signature_key × Is32Bytes vuf_key
+IsRecord (Bound verb salt name key) = Is32Bytes salt × IsName name × IsKeyData key
+IsRecord (Turned epoch) = epoch < 2 ^ 64
+
 -- what may stand first
 abbrev pub IsStart : Beginning → Type 0
-IsStart beginning = (beginning.epoch < 2 ^ 64) × Is32Bytes beginning.nonce × Is32Bytes beginning.signature_key × Is32Bytes beginning.vuf_key
+IsStart beginning = IsRecord (start_of beginning)
 
 -- what may stand at each later place
 abbrev pub IsLater : Record → Type 0
 IsLater (Start epoch nonce signature_key vuf_key) = ⊥
-IsLater (Bound verb salt name key) = Is32Bytes salt × IsName name × IsKeyData key
-IsLater (Turned epoch) = epoch < 2 ^ 64
+IsLater (Bound verb salt name key) = IsRecord (Bound verb salt name key)
+IsLater (Turned epoch) = IsRecord (Turned epoch)

@@ -18,6 +18,7 @@
 mod beginning;
 mod counting;
 mod journal;
+mod laws;
 mod opening;
 mod reading;
 mod refusal;
@@ -25,5 +26,6 @@ mod text;
 
 pub use counting::records;
 pub use journal::Journal;
+pub use laws::{journals_open_to_their_runs, openings_are_settled};
 pub use opening::{Opened, open};
 pub use refusal::Refusal;

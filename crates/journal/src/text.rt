@@ -1,5 +1,5 @@
 ghost use Rattle.std.specs.Prelude.{◌≡◌, length};
-ghost use Rattle.journal.specs.Records.{record_bytes, verb_byte, IsLater};
+ghost use Rattle.journal.specs.Records.{record_bytes, verb_byte, IsLater, IsRecord};
 
 use book::Record;
 use commands::Verb;
@@ -29,7 +29,8 @@ fn verb_byte(verb: Verb) -> u8
 
 /// The bytes of a record: 106 of a start, 9 of a new page, and 38 of a binding beside its name and key.
 pub(crate) fn record_text(what: &Record) -> Text
-    ensures { result ≡ record_bytes what.now }
+    ensures text { result ≡ record_bytes what.now }
+    ensures record { IsRecord what.now }
 {
     let mut text = Text::new();
     match what {
