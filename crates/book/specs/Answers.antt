@@ -76,10 +76,13 @@ module _ (index_of : List ℕ → List ℕ) where
   query_refusal book (History from count) = first ((not (nat_le 1 count && nat_le count 64), BadRange) ∷ [])
   query_refusal book Head = None
 
+  -- what the book has against a key for a name, where both are within their limits
+  abbrev pub put_tests : Book → Verb → List ℕ → List (Bool × Refusal)
+  put_tests book verb name = bad_verb verb (at book.last.bindings name) ∷ (is_some (at book.pending name), PendingExists) ∷ bad_index verb book name ∷ []
+
   -- the first refusal of an edit that applies, if one does, but for want of memory and what is not kept
   abbrev pub edit_refusal : Book → Revision → Option Refusal
-  edit_refusal book (Put verb name key) = first (
-      bad_name name ∷ bad_key key ∷ bad_verb verb (at book.last.bindings name) ∷ (is_some (at book.pending name), PendingExists) ∷ bad_index verb book name ∷ [])
+  edit_refusal book (Put verb name key) = first (bad_name name ∷ bad_key key ∷ put_tests book verb name)
   edit_refusal book (Turn epoch) = first ((nat_le epoch book.last.epoch, EpochNotLater) ∷ [])
 
   -- the first refusal of a command

@@ -1,15 +1,15 @@
--- What a record says was done, done once more: the command that it was kept of, with its salt, while the
--- salts to come stay.
-use Rattle.std.specs.Prelude.{◌≡◌, ◌⊎◌, ℕ, List, [], ◌∷◌, Option, Some, None, option_map, option_and_then, is_some}
+-- A record carried out once more: the command that it was kept of, under the record's salt. The salts to come
+-- stay.
+use Rattle.std.specs.Prelude.{◌≡◌, ◌⊎◌, ℕ, List, [], ◌∷◌, Option, Some, None, option_map, option_and_then}
 use Rattle.book.specs.declared.record.Record.{Record}
 use Rattle.book.specs.declared.record.Record.TheVariants.{Start, Bound, Turned}
 use Rattle.book.specs.declared.refusal.Refusal.{Refusal}
-use Rattle.book.specs.declared.refusal.Refusal.TheVariants.{Memory, PendingExists}
+use Rattle.book.specs.declared.refusal.Refusal.TheVariants.{Memory}
 use Rattle.commands.specs.declared.edit.Verb.{Verb}
 use Rattle.commands.specs.Asked.{Revision, Edit, Put, Turn}
-use Rattle.book.specs.Answers.{bad_index, bad_verb, first, refusal}
+use Rattle.book.specs.Answers.{first, put_tests, refusal}
 use Rattle.book.specs.Books.{Binding, Book}
-use Rattle.book.specs.Maps.{at, put}
+use Rattle.book.specs.Maps.{put}
 use Rattle.book.specs.Steps.{Outcome, Answers, Refuses, step}
 
 -- what a record was kept of; a start is kept of no command
@@ -44,7 +44,7 @@ module _ (index_of : List ℕ → List ℕ) where
 
   -- why a name and a key within their limits are not put to the book, if they are not
   abbrev pub put_refusal : Book → Verb → List ℕ → Option Refusal
-  put_refusal book verb name = first (bad_verb verb (at book.last.bindings name) ∷ (is_some (at book.pending name), PendingExists) ∷ bad_index index_of verb book name ∷ [])
+  put_refusal book verb name = first (put_tests index_of book verb name)
 
   -- why a record is not carried out: its command is refused so, or memory is wanting
   abbrev pub IsUnreplayed : Book → Record → Refusal → Type 0

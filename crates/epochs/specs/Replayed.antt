@@ -1,13 +1,28 @@
--- How many digests it takes to carry out a record once more.
-use Rattle.std.specs.Prelude.{ℕ, ◌+◌}
+-- What it is to carry out a record once more, and how many digests that takes.
+use Rattle.std.specs.Prelude.{◌≡◌, ℕ, ◌+◌, List, Some, Result, Ok, Err}
+use Rattle.rand_core.specs.Stream.{Stream}
 use Rattle.prefixtree.specs.Changes.{made_count}
+use Rattle.commands.specs.declared.edit.Verb.{Verb}
+use Rattle.commands.specs.declared.edit.Verb.TheVariants.{Register, Change}
 use Rattle.book.specs.declared.record.Record.{Record}
 use Rattle.book.specs.declared.record.Record.TheVariants.{Start, Bound, Turned}
+use Rattle.book.specs.declared.refusal.Refusal.{Refusal}
+use Rattle.book.specs.Replays.{replayed, IsUnreplayed}
 use Rattle.book.specs.Shows.{Provider, placement}
-use Rattle.epochs.specs.Kept.{Kept}
+use Rattle.epochs.specs.Kept.{book, Kept}
 
--- at most so many
+-- the record is carried out; or it is refused, and the book stays
+abbrev pub Replays : {R : Type 0} → (R → Stream) → (List ℕ → List ℕ) → Kept R → Record → Result (Unit {0}) Refusal → Kept R → Type 0
+Replays stream index_of before what (Ok done) after = replayed index_of (book stream before) what ≡ Some (book stream after)
+Replays stream index_of before what (Err why) after = (book stream after ≡ book stream before) × IsUnreplayed index_of (book stream before) what why
+
+-- digests to find the address of a name: one for that of a new name
+abbrev pub address_digests : Verb → ℕ
+address_digests Register = 1
+address_digests Change = 0
+
+-- at most so many digests
 abbrev pub replay_digests : {R : Type 0} → Provider → Kept R → Record → ℕ
 replay_digests provider kept (Start epoch nonce signature_key vuf_key) = 0
-replay_digests provider kept (Bound verb salt name key) = 2
+replay_digests provider kept (Bound verb salt name key) = address_digests verb + 1
 replay_digests provider kept (Turned epoch) = made_count 256 (placement provider kept.last.bindings) (placement provider kept.pending) + 1

@@ -3,12 +3,12 @@ ghost use Rattle.commands.specs.Asked as asks;
 ghost use Rattle.nodehash.specs.Digests.{one_more};
 ghost use Rattle.book.specs.declared.record.Record.TheVariants.{Bound, Turned};
 ghost use Rattle.book.specs.Maps.{at};
-ghost use Rattle.book.specs.Replays.{kept_edit, put_refusal, replayed, with_bound, IsUnreplayed};
+ghost use Rattle.book.specs.Replays.{kept_edit, put_refusal};
 ghost use Rattle.book.specs.Shows.{index_of as index_by};
 ghost use Rattle.book.specs.Sound.{IsHeld};
 ghost use Rattle.epochs.specs.Addresses.{address_of};
 ghost use Rattle.epochs.specs.Kept.{book, provider, HasKeysOf};
-ghost use Rattle.epochs.specs.Replayed.{replay_digests};
+ghost use Rattle.epochs.specs.Replayed.{address_digests, replay_digests, Replays};
 
 use super::Directory;
 use crate::address::Address;
@@ -21,17 +21,15 @@ use sigiface::Signer;
 use vrfiface::Vuf;
 
 impl<H: NodeHash, V: Vuf, S: Signer, R: Rng> Directory<H, V, S, R> {
-    /// Carries out once more the command that a record was kept of, with the record's salt. Nothing is
-    /// kept of it, and the salts to come stay.
+    /// Carries out once more the command that a record was kept of, under the record's salt. The record
+    /// must not be a start. No record is kept, and the salts to come stay.
     ///
     /// # Errors
     ///
-    /// Those of the command, in its order, but `KeepFailed`.
+    /// Those of the command, in their order, except `KeepFailed`. The directory then stays as it is.
     pub fn replay(&mut self, what: &Record) -> Result<(), Refusal>
         requires { IsSome (kept_edit what.now) }
-        ensures replays { let by = index_by (provider H.digest_of V.value_of S.signature_of self.old) in MatchResult result
-            (λ _. replayed by (book R.stream self.old) what.now ≡ Some (book R.stream self.new))
-            (λ why. (book R.stream self.new ≡ book R.stream self.old) × IsUnreplayed by (book R.stream self.old) what.now why) }
+        ensures replays { Replays R.stream (index_by (provider H.digest_of V.value_of S.signature_of self.old)) self.old what.now result self.new }
         ensures keys { HasKeysOf self.old self.new }
         ensures work { self.new.digests ≤ self.old.digests + replay_digests (provider H.digest_of V.value_of S.signature_of self.old) self.old what.now }
     {
@@ -56,13 +54,11 @@ impl<H: NodeHash, V: Vuf, S: Signer, R: Rng> Directory<H, V, S, R> {
         name: &Name,
         key: &KeyData,
     ) -> Result<(), Refusal>
-        ensures replays { let by = index_by (provider H.digest_of V.value_of S.signature_of self.old) in MatchResult result
-            (λ _. replayed by (book R.stream self.old) (Bound verb salt name.now key.now) ≡ Some (book R.stream self.new))
-            (λ why. (book R.stream self.new ≡ book R.stream self.old) × IsUnreplayed by (book R.stream self.old) (Bound verb salt name.now key.now) why) }
+        ensures replays { Replays R.stream (index_by (provider H.digest_of V.value_of S.signature_of self.old)) self.old (Bound verb salt name.now key.now) result self.new }
         ensures keys { HasKeysOf self.old self.new }
-        ensures work { self.new.digests ≤ self.old.digests + 2 }
+        ensures work { self.new.digests ≤ self.old.digests + (address_digests verb + 1) }
     {
-        // What these ensure: the name and the key are within their limits.
+        // These calls ensure that the name and the key are within their limits.
         name.bytes();
         key.bytes();
         match self.put_address(verb, name) {
@@ -73,9 +69,7 @@ impl<H: NodeHash, V: Vuf, S: Signer, R: Rng> Directory<H, V, S, R> {
 
     /// Ends the epoch once more.
     fn turn_again(&mut self, epoch: u64) -> Result<(), Refusal>
-        ensures replays { let by = index_by (provider H.digest_of V.value_of S.signature_of self.old) in MatchResult result
-            (λ _. replayed by (book R.stream self.old) (Turned epoch) ≡ Some (book R.stream self.new))
-            (λ why. (book R.stream self.new ≡ book R.stream self.old) × IsUnreplayed by (book R.stream self.old) (Turned epoch) why) }
+        ensures replays { Replays R.stream (index_by (provider H.digest_of V.value_of S.signature_of self.old)) self.old (Turned epoch) result self.new }
         ensures keys { HasKeysOf self.old self.new }
         ensures work { self.new.digests ≤ self.old.digests + replay_digests (provider H.digest_of V.value_of S.signature_of self.old) self.old (Turned epoch) }
     {
@@ -85,7 +79,7 @@ impl<H: NodeHash, V: Vuf, S: Signer, R: Rng> Directory<H, V, S, R> {
         }
     }
 
-    /// The address of a name to which a key may be put so. Takes at most one digest.
+    /// The address of a name to which the verb may put a key.
     fn put_address(&mut self, verb: Verb, name: &Name) -> Result<Address, Refusal>
         ensures opens { let by = index_by (provider H.digest_of V.value_of S.signature_of self.old) in MatchResult result
             (λ address. (put_refusal by (book R.stream self.old) verb name.now ≡ None)
@@ -94,7 +88,7 @@ impl<H: NodeHash, V: Vuf, S: Signer, R: Rng> Directory<H, V, S, R> {
             × ((other : List ℕ) → IsHeld (book R.stream self.old) other → by other ≡ by name.now → other ≡ name.now))
             (λ why. put_refusal by (book R.stream self.old) verb name.now ≡ Some why) }
         ensures stays { self.new ≡ record self.old { digests = self.new.digests } }
-        ensures work { self.new.digests ≤ self.old.digests + 1 }
+        ensures work { self.new.digests ≤ self.old.digests + address_digests verb }
     {
         match verb {
             Verb::Register => self.free_address(name),
