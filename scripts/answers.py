@@ -236,7 +236,7 @@ def body_words(body):
 
 
 def promise_words(promise):
-    parts = (promise.root_hash, promise.index, promise.name, promise.key)
+    parts = (promise.body_hash, promise.index, promise.name, promise.key)
     return [str(promise.epoch), *map(told, parts)]
 
 

@@ -218,7 +218,7 @@ def of_promises(q, rng):
         q.note("Promises that are refused.")
         for promise in [
             b"", b"P", first[:-1], first + b"\0", a.promise(b"a", b"k1", OTHER_KEY), second,
-            a.promise(b"a", b"k1", root_hash=run(1)), a.promise(b"a", b"k1", epoch=4),
+            a.promise(b"a", b"k1", body_hash=run(1)), a.promise(b"a", b"k1", epoch=4),
             a.promise(b"a", b"k1", epoch=2), SignedPromise.read(first).promise.write() + counted(bytes(33)),
             SignedPromise.read(first).promise.write() + counted(bytes(256)),
             SignedPromise.read(first).promise.write() + counted(bytes(257)),
@@ -488,7 +488,7 @@ def of_watching(q, rng):
     for key, promise in [
         (b"k", b""), (b"k", first + b"\0"), (b"k", a.promise(b"a", b"k", OTHER_KEY)),
         (b"k", b.promise(b"a", b"k")), (b"k", a.promise(b"b", b"k")), (b"k", a.promise(b"a", b"l")),
-        (b"l", first), (b"k", a.promise(b"a", b"k", root_hash=run(1))),
+        (b"l", first), (b"k", a.promise(b"a", b"k", body_hash=run(1))),
         (b"k", a.promise(b"b", b"k", OTHER_KEY)), (b"k", b.promise(b"b", b"l")), (b"", first),
     ]:
         q.ask("monitor expect", key, promise)

@@ -168,7 +168,7 @@ def of_judging(q, rng):
         (b.promise(b"a", b"k9", index=run(7)), absent, absent.reply(b"a")),
         (b.promise(b"b", b"k9"), absent, absent.reply(b"a")),
         (b.promise(b"a", b"k9", OTHER_KEY), absent, absent.reply(b"a")),
-        (b.promise(b"a", b"k9", root_hash=run(7)), absent, absent.reply(b"a")),
+        (b.promise(b"a", b"k9", body_hash=run(7)), absent, absent.reply(b"a")),
         (b.promise(b"a", b"k9", epoch=6), absent, absent.reply(b"a")),
         (a.promise(b"a", b"k9"), absent, absent.reply(b"a")),
         (b.promise(b"a", b"k9"), late, late.reply(b"a")),

@@ -615,13 +615,13 @@ class Promise:
     """50, 01, epoch, hash of the root's body, index, counted name, counted key: at most 2,381 bytes."""
 
     epoch: int
-    root_hash: bytes
+    body_hash: bytes
     index: bytes
     name: bytes
     key: bytes
 
     def write(self):
-        hashes = self.root_hash + self.index
+        hashes = self.body_hash + self.index
         return b"P\x01" + u64(self.epoch) + hashes + counted(self.name) + counted(self.key)
 
     @staticmethod
@@ -629,8 +629,8 @@ class Promise:
         """The epoch is at least 1."""
         if cursor.take(2) != b"P\x01":
             raise Fault(OUT_OF_RANGE)
-        epoch, root_hash, index = cursor.u64(), cursor.hash32(), cursor.hash32()
-        promise = Promise(epoch, root_hash, index, cursor.name(), cursor.key())
+        epoch, body_hash, index = cursor.u64(), cursor.hash32(), cursor.hash32()
+        promise = Promise(epoch, body_hash, index, cursor.name(), cursor.key())
         if epoch == 0:
             raise Fault(OUT_OF_RANGE)
         return promise
@@ -1182,7 +1182,7 @@ class BrokenPromise:
         promise, body = self.promise.promise, self.root.body
         if not (self.promise.verifies(key) and self.root.verifies(key)):
             return False
-        if (body.previous_epoch, body.previous_hash) != (promise.epoch, promise.root_hash):
+        if (body.previous_epoch, body.previous_hash) != (promise.epoch, promise.body_hash):
             return False
         try:
             accepted = accept(digest, vuf, body, promise.name, self.proof)

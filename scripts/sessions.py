@@ -478,7 +478,7 @@ class Client:
         if not self.chain.verified(self.key, signed):
             raise RootRefusal(BAD_SIGNATURE)
         root = self.chain.at(signed.promise.epoch)
-        if root is None or self.digest(root.body.write()) != signed.promise.root_hash:
+        if root is None or self.digest(root.body.write()) != signed.promise.body_hash:
             raise ClientRefusal(20)
         return signed
 

@@ -125,7 +125,7 @@ def promise_fields(signed):
     front = [
         (b"P\x01", "a promise, version 1"),
         (u64(promise.epoch), "the epoch of the latest root"),
-        (promise.root_hash, "the hash of its body"),
+        (promise.body_hash, "the hash of its body"),
         (promise.index, "the index of the name"),
     ]
     name = counted_fields(promise.name, "the name", "name")

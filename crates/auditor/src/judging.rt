@@ -45,7 +45,7 @@ fn is_broken<H: NodeHash, V: VufCheck, S: Verifier>(
     broken.promise.verifies(verifier, key)
         && broken.root.verifies(verifier, key)
         && body.previous_epoch == promise.epoch
-        && body.previous_hash == promise.root_hash
+        && body.previous_hash == promise.body_hash
         && contradicts(hash, vuf, promise, body, broken.proof.bytes())
 }
 

@@ -5,7 +5,7 @@ ghost use Rattle.textio.specs.declared.program_fault.ProgramFault.TheVariants.{B
 ghost use Rattle.audits.specs.Auditing.{answer_line, AuditsInput, AuditsText};
 ghost use Rattle.audits.specs.Steps.{AnswersLine, TellsLine};
 
-use crate::kinds::AuditOrder;
+use crate::orders::AuditOrder;
 use crate::writing::evidence_json;
 use auditor::{Auditor, Evidence, Observed};
 use encoding::Hash32;

@@ -15,7 +15,7 @@
 mod auditing;
 mod fault;
 mod judging;
-mod kinds;
+mod orders;
 mod laws;
 mod opening;
 mod reading;
@@ -24,7 +24,7 @@ mod writing;
 pub use auditing::audit;
 pub use fault::ReadFault;
 pub use judging::{Verdict, judge_at, judge_file};
-pub use kinds::{AuditOrder, JudgeOrder};
+pub use orders::{AuditOrder, JudgeOrder};
 pub use laws::{file_is_one_evidence, text_is_compact, text_is_file};
 pub use reading::read_evidence;
 pub use writing::evidence_json;

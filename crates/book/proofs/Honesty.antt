@@ -210,7 +210,7 @@ module _ (provider : Provider) where
       root = s.root;
       is = s.is;
       epoch = refl;
-      root_hash = refl;
+      body_hash = refl;
       index = refl;
       next = s.holds.next;
     })

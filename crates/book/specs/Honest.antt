@@ -144,7 +144,7 @@ module _ (provider : Provider) where
       pub root : SignedRoot
       pub is : IsRootOf provider after page root
       pub epoch : promised.promise.epoch ≡ root.body.epoch
-      pub root_hash : promised.promise.root_hash ≡ provider.hash (body_bytes root.body)
+      pub body_hash : promised.promise.body_hash ≡ provider.hash (body_bytes root.body)
       pub index : promised.promise.index ≡ index_of provider promised.promise.name
       pub next : (next_page : Page) (next_root : SignedRoot) → IsRootOf provider after next_page next_root → next_root.body.previous_epoch ≡ promised.promise.epoch
           → key_at next_page promised.promise.name ≡ Some promised.promise.key

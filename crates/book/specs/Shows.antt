@@ -85,7 +85,7 @@ module _ (provider : Provider) where
   abbrev pub promise : Body → List ℕ → Binding → Promise
   promise body name binding = record {
     epoch = body.epoch;
-    root_hash = provider.hash (body_bytes body);
+    body_hash = provider.hash (body_bytes body);
     index = index_of name;
     name = name;
     key = binding.key;

@@ -16,7 +16,7 @@ asked-at chain zero found some is = absurd (some refl)
 asked-at chain (suc n) found some is = is
 
 module _ (hash : List ℕ → List ℕ) (chain : KeyedRoots) (promise : Promise) (found : Option SignedRoot) (is : (root : SignedRoot) → (found ≡ Some root) ↔ IsAt chain promise.epoch root) where
-  pub root-of : (own : SignedRoot) → found ≡ Some own → (test : Bool) → IsTrue test ↔ (promise.root_hash ≡ hash (body_bytes own.body)) → IsTrue test ↔ HasRootOf hash chain promise
+  pub root-of : (own : SignedRoot) → found ≡ Some own → (test : Bool) → IsTrue test ↔ (promise.body_hash ≡ hash (body_bytes own.body)) → IsTrue test ↔ HasRootOf hash chain promise
   unfolding HasRootOf
   root-of own at test same = (
     λ yes. (own, (is own).0 at, same.0 yes),

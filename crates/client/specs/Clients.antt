@@ -38,7 +38,7 @@ with_promise client promise = record client { promises = client.promises ++ prom
 module _ (hash : List ℕ → List ℕ) where
   -- a root of the chain has the promise's epoch and hash
   unfoldable pub HasRootOf : KeyedRoots → Promise → Type 0
-  HasRootOf chain promise = (root : SignedRoot) × IsAt chain promise.epoch root × (promise.root_hash ≡ hash (body_bytes root.body))
+  HasRootOf chain promise = (root : SignedRoot) × IsAt chain promise.epoch root × (promise.body_hash ≡ hash (body_bytes root.body))
 
   -- the reply was accepted for the name under the root that the chain has at the look's epoch
   pub record IsAcceptedLook (accepted : List ℕ → List ℕ → List ℕ → Type 0) (chain : KeyedRoots) (look : Look) : Type 0 where

@@ -29,7 +29,7 @@ pub(crate) fn has_root_of<H: NodeHash, S: Verifier>(
     ensures { IsTrue result ↔ HasRootOf H.digest_of chain.now promise.now }
 {
     match chain.at(promise.epoch) {
-        Some(root) => promise.root_hash == hash.digest(root.body.write().bytes()),
+        Some(root) => promise.body_hash == hash.digest(root.body.write().bytes()),
         None => false,
     }
 }

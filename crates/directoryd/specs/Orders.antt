@@ -6,8 +6,8 @@ use Rattle.std.specs.Str.Parse.{digits_value, without_leading_plus}
 use Rattle.clap.specs.declared.builder.value_parser.ValueParser.{ValueParser}
 use Rattle.clap.specs.ValueTests.{is_unsigned_in}
 use Rattle.clap.specs.Words.{Row, Text, fault_of, first_of, subcommand_of}
-use Rattle.items.specs.declared.kinds.HashChoice.{HashChoice}
-use Rattle.items.specs.declared.kinds.HashChoice.TheVariants.{Sha256, Sum}
+use Rattle.items.specs.declared.orders.HashChoice.{HashChoice}
+use Rattle.items.specs.declared.orders.HashChoice.TheVariants.{Sha256, Sum}
 use Rattle.items.specs.Asked.{Asked, values_of}
 use Rattle.server.specs.Asked.{Asked as AskedDirectory, values_of as directory_values}
 use Rattle.directoryd.specs.declared.order.kinds.Order.{Order}

@@ -29,7 +29,7 @@ module _ (provider : Provider) (epoch : ℕ) (nonce salt : List ℕ) (left : Str
     pub roots : parts.roots ≡ signed provider body ∷ []
     pub trees : parts.trees ≡ tree ∷ []
     pub waiting : parts.waiting ≡ []
-    pub root_hash : parts.root_hash ≡ provider.hash (body_bytes body)
+    pub body_hash : parts.body_hash ≡ provider.hash (body_bytes body)
 
   pub keeps_begun : (tree : Contents) (root previous_hash vuf_key : List ℕ) (parts : Parts) → IsFirst tree root previous_hash vuf_key → IsMade tree (body_made root previous_hash vuf_key) parts
       → IsEpoch epoch → Is32Bytes nonce → Is32Bytes salt → Keeps provider parts (book_of parts salt left)
@@ -45,7 +45,7 @@ module _ (provider : Provider) (epoch : ℕ) (nonce salt : List ℕ) (left : Str
         roots = (made.roots ∙ ap (λ (b : Body). signed provider b ∷ []) is) i;
         trees = (made.trees ∙ ap (λ (t : Contents). t ∷ []) first.tree_is) i;
         waiting = made.waiting i;
-        root_hash = (made.root_hash ∙ ap (λ (b : Body). provider.hash (body_bytes b)) is) i;
+        body_hash = (made.body_hash ∙ ap (λ (b : Body). provider.hash (body_bytes b)) is) i;
       }
 
 -- a list that begins with nothing

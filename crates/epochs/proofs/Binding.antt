@@ -36,7 +36,7 @@ resalted provider parts salt left keeps other rest small = record {
   roots = keeps.roots;
   trees = keeps.trees;
   waiting = keeps.waiting;
-  root_hash = keeps.root_hash;
+  body_hash = keeps.body_hash;
   histories = keeps.histories;
   numbers = keeps.numbers;
   sound = record {
@@ -70,7 +70,7 @@ module _ (provider : Provider) (parts : Parts) (own : List ℕ) (left : Stream) 
         (indexed : index ≡ index_of provider name) (committed : commitment ≡ provider.hash (commitment_bytes salt name key))
         (named : names ≡ with_version parts.names name version) (waits : waiting ≡ put parts.waiting index commitment) where
       abbrev parts_bound : Parts
-      parts_bound = record { names = names; roots = parts.roots; trees = parts.trees; waiting = waiting; root_hash = parts.root_hash }
+      parts_bound = record { names = names; roots = parts.roots; trees = parts.trees; waiting = waiting; body_hash = parts.body_hash }
 
       drawn : (own, left) ≡ fill_bytes 32 ahead
       drawn = sym (first-salt own [] left)

@@ -45,7 +45,7 @@ module _ (provider : Provider) (parts : Parts) (salt : List ℕ) (left : Stream)
 
     -- a promise over it
     pub promise_shown : (name index : List ℕ) (binding : Binding) (made : PromiseMade) → index ≡ index_of provider name
-        → made ≡ record { epoch = root.body.epoch; root_hash = parts.root_hash; index = index; name = name; key = binding.key }
+        → made ≡ record { epoch = root.body.epoch; body_hash = parts.body_hash; index = index; name = name; key = binding.key }
         → Shows provider (book_of parts salt left) (Promised name binding) (reply.Promised (record { promise = made; signature = provider.sign (promise_bytes made) }))
     promise_shown name index binding made indexed is-made = (name, binding, last_root parts, refl, last_root_kept provider parts salt left keeps, ap signed all)
       where
@@ -53,10 +53,10 @@ module _ (provider : Provider) (parts : Parts) (salt : List ℕ) (left : Stream)
         signed promise = record { promise = promise; signature = provider.sign (promise_bytes promise) }
 
         over : SignedRoot → List ℕ → List ℕ → PromiseMade
-        over last hash place = record { epoch = last.body.epoch; root_hash = hash; index = place; name = name; key = binding.key }
+        over last hash place = record { epoch = last.body.epoch; body_hash = hash; index = place; name = name; key = binding.key }
 
         all : made ≡ over (last_root parts) (provider.hash (body_bytes (last_root parts).body)) (index_of provider name)
-        all = is-made ∙ ap (λ (r : SignedRoot). over r parts.root_hash index) last_is ∙ ap (λ (h : List ℕ). over (last_root parts) h index) keeps.root_hash ∙ ap (λ (i : List ℕ). over (last_root parts) (provider.hash (body_bytes (last_root parts).body)) i) indexed
+        all = is-made ∙ ap (λ (r : SignedRoot). over r parts.body_hash index) last_is ∙ ap (λ (h : List ℕ). over (last_root parts) h index) keeps.body_hash ∙ ap (λ (i : List ℕ). over (last_root parts) (provider.hash (body_bytes (last_root parts).body)) i) indexed
 
 -- parts, with the next salt and the stream left after it
 record Stand : Type 0 where
@@ -87,13 +87,13 @@ module _ (provider : Provider) (parts : Parts) (salt : List ℕ) (left : Stream)
         (indexed : index ≡ index_of provider name) (committed : commitment ≡ provider.hash (commitment_bytes salt name key)) (drawn : (next, rest) ≡ fill_bytes 32 left)
         (named : names ≡ with_version parts.names name version) (waits : waiting ≡ put parts.waiting index commitment) where
       abbrev pub parts_with : Parts
-      parts_with = record { names = names; roots = parts.roots; trees = parts.trees; waiting = waiting; root_hash = parts.root_hash }
+      parts_with = record { names = names; roots = parts.roots; trees = parts.trees; waiting = waiting; body_hash = parts.body_hash }
 
       abbrev kept-stand : Stand
       kept-stand = record { parts = with_waiting provider parts salt left keeps name key none; salt = (fill_bytes 32 left).0; left = (fill_bytes 32 left).1 }
 
       stand-is : record { parts = parts_with; salt = next; left = rest } ≡ kept-stand
-      stand-is = λ i. record { parts = record { names = all-names i; roots = parts.roots; trees = parts.trees; waiting = all-waiting i; root_hash = parts.root_hash }; salt = (drawn i).0; left = (drawn i).1 }
+      stand-is = λ i. record { parts = record { names = all-names i; roots = parts.roots; trees = parts.trees; waiting = all-waiting i; body_hash = parts.body_hash }; salt = (drawn i).0; left = (drawn i).1 }
         where
           all-names : names ≡ with_version parts.names name (version_of provider parts salt left keeps name key none)
           all-names = named ∙ ap (with_version parts.names name) is-version

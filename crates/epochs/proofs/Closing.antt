@@ -37,12 +37,12 @@ module _ (provider : Provider) (parts : Parts) (salt : List ℕ) (left : Stream)
   module _ (epoch : ℕ) (tree : Contents) (tree-is : tree ≡ record { nonce = (last_of parts).nonce; items = placement provider (overwritten (last_of parts).bindings (pending_of parts)) })
       (len : ℕ) (long : len ≡ length parts.roots) (last : SignedRoot) (is : last ≡ slice_index_or parts.roots (len - 1) last) (above : (last_of parts).epoch < epoch) (fits : epoch < 2 ^ 64)
       (body : Body)
-      (body-is : body ≡ record { epoch = epoch; previous_epoch = last.body.epoch; root = root_of provider.hash tree.nonce tree.items; previous_hash = parts.root_hash; nonce = last.body.nonce; vuf_key = provider.vuf_key })
+      (body-is : body ≡ record { epoch = epoch; previous_epoch = last.body.epoch; root = root_of provider.hash tree.nonce tree.items; previous_hash = parts.body_hash; nonce = last.body.nonce; vuf_key = provider.vuf_key })
       (root : SignedRoot) (root-is : root ≡ record { body = body; signature = provider.sign (body_bytes body) })
       (hash : List ℕ) (hash-is : hash ≡ provider.hash (body_bytes body)) (copy : SignedRoot) (copied : copy ≡ root) (roots : List SignedRoot) (roots-are : roots ≡ parts.roots ++ copy ∷ [])
       (trees : List Contents) (trees-are : trees ≡ parts.trees ++ tree ∷ []) (waiting : Items) (none : waiting ≡ []) where
     abbrev pub parts_closed : Parts
-    parts_closed = record { names = parts.names; roots = roots; trees = trees; waiting = waiting; root_hash = hash }
+    parts_closed = record { names = parts.names; roots = roots; trees = trees; waiting = waiting; body_hash = hash }
 
     last-at : last ≡ last_root parts
     last-at = last_is provider parts salt left keeps len long last is
@@ -55,7 +55,7 @@ module _ (provider : Provider) (parts : Parts) (salt : List ℕ) (left : Stream)
       epoch = epoch;
       previous_epoch = (last-at i).body.epoch;
       root = root_of provider.hash (tree-with i).nonce (tree-with i).items;
-      previous_hash = parts.root_hash;
+      previous_hash = parts.body_hash;
       nonce = (last-at i).body.nonce;
       vuf_key = provider.vuf_key;
     })
@@ -67,7 +67,7 @@ module _ (provider : Provider) (parts : Parts) (salt : List ℕ) (left : Stream)
     root-with = root-is ∙ ap signed-with body-with
 
     parts-with : parts_closed ≡ with_root provider parts salt left keeps epoch
-    parts-with = λ i. record { names = parts.names; roots = all-roots i; trees = all-trees i; waiting = none i; root_hash = all-hash i }
+    parts-with = λ i. record { names = parts.names; roots = all-roots i; trees = all-trees i; waiting = none i; body_hash = all-hash i }
       where
         all-roots : roots ≡ parts.roots ++ signed-with (body_after provider parts salt left keeps epoch) ∷ []
         all-roots = roots-are ∙ ap (λ (r : SignedRoot). parts.roots ++ r ∷ []) (copied ∙ root-with)
@@ -111,10 +111,10 @@ module _ (provider : Provider) (parts : Parts) (salt : List ℕ) (left : Stream)
 
   module _ (roots : List SignedRoot) (trees : List Contents) (roots-are : roots ≡ parts.roots) (trees-are : trees ≡ parts.trees) where
     abbrev pub parts_same : Parts
-    parts_same = record { names = parts.names; roots = roots; trees = trees; waiting = parts.waiting; root_hash = parts.root_hash }
+    parts_same = record { names = parts.names; roots = roots; trees = trees; waiting = parts.waiting; body_hash = parts.body_hash }
 
     same-parts : parts_same ≡ parts
-    same-parts = λ i. record { names = parts.names; roots = roots-are i; trees = trees-are i; waiting = parts.waiting; root_hash = parts.root_hash }
+    same-parts = λ i. record { names = parts.names; roots = roots-are i; trees = trees-are i; waiting = parts.waiting; body_hash = parts.body_hash }
 
     pub keeps_same : Keeps provider parts_same (book_of parts_same salt left)
     keeps_same = subst (λ (p : Parts). Keeps provider p (book_of p salt left)) (sym same-parts) keeps

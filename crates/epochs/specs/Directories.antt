@@ -13,7 +13,7 @@ module _ {H V S R : Type 0} where
     roots = inside.roots.items;
     trees = inside.trees.items;
     waiting = inside.waiting.entries;
-    root_hash = inside.root_hash;
+    body_hash = inside.body_hash;
   }
 
   abbrev pub kept_of : (V → List ℕ) → (S → List ℕ) → (H → ℕ) → Inside H V S R → Kept R

@@ -20,7 +20,7 @@ pub record Parts : Type 0 where
   -- an index and a commitment for each operation that waits
   pub waiting : Items
   -- the hash of the last root's body
-  pub root_hash : List ℕ
+  pub body_hash : List ℕ
 
 -- what stands for the last root of no roots
 abbrev pub no_root : SignedRoot
@@ -61,7 +61,7 @@ pub record Keeps (provider : Provider) (parts : Parts) (book : Book) : Type 0 wh
   pub roots : parts.roots ≡ roots provider book
   pub trees : parts.trees ≡ map (tree_of provider) (pages book)
   pub waiting : parts.waiting ≡ placement provider book.pending
-  pub root_hash : parts.root_hash ≡ provider.hash (body_bytes (last_root parts).body)
+  pub body_hash : parts.body_hash ≡ provider.hash (body_bytes (last_root parts).body)
   pub histories : AreHistories parts.names
   pub numbers : NamesWithin (length parts.roots) parts.names
   pub sound : IsSound (index_of provider) book

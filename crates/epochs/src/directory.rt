@@ -42,7 +42,7 @@ pub struct Directory<H: NodeHash, V: Vuf, S: Signer, R: Rng> {
     /// The tree of each page.
     trees: Vec<Tree<H>>,
     /// The hash of the last root's body.
-    root_hash: Hash32,
+    body_hash: Hash32,
 }
 
 impl<H: NodeHash, V: Vuf, S: Signer, R: Rng> Model for Directory<H, V, S, R> {
@@ -99,7 +99,7 @@ impl<H: NodeHash, V: Vuf, S: Signer, R: Rng> Directory<H, V, S, R> {
         roots.push(signed_root(&signer, body, &text))?;
         let mut trees = Vec::new(alloc);
         trees.push(tree)?;
-        let root_hash = hash_of(&mut hash, &text);
+        let body_hash = hash_of(&mut hash, &text);
         let salt = next_salt(&mut salts);
         Ok(Directory {
             alloc,
@@ -112,7 +112,7 @@ impl<H: NodeHash, V: Vuf, S: Signer, R: Rng> Directory<H, V, S, R> {
             waiting: BTreeMap::new(alloc),
             roots,
             trees,
-            root_hash,
+            body_hash,
         })
     }
 

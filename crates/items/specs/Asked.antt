@@ -1,7 +1,7 @@
 -- What `root` and `prove` are asked.
 use Rattle.std.specs.Prelude.{ℕ, List, Option, option_map}
-use Rattle.items.specs.declared.kinds.HashChoice.{HashChoice}
-use Rattle.items.specs.declared.kinds.RootOrder.{RootOrder}
+use Rattle.items.specs.declared.orders.HashChoice.{HashChoice}
+use Rattle.items.specs.declared.orders.RootOrder.{RootOrder}
 
 -- the values of an order: the hash function, and the nonce's text where one is given
 pub record Asked : Type 0 where

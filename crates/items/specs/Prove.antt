@@ -8,7 +8,7 @@ use Rattle.prefixtree.specs.declared.path.End.{End}
 use Rattle.prefixtree.specs.declared.path.End.TheVariants.{Present, Empty, Other}
 use Rattle.textio.specs.declared.program_fault.ProgramFault.{ProgramFault}
 use Rattle.textio.specs.declared.program_fault.ProgramFault.TheVariants.{BadHex}
-use Rattle.items.specs.declared.kinds.HashChoice.{HashChoice}
+use Rattle.items.specs.declared.orders.HashChoice.{HashChoice}
 use Rattle.items.specs.Items.{placement_of}
 use Rattle.items.specs.Root.{digest_of, root_line}
 

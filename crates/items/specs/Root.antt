@@ -7,8 +7,8 @@ use Rattle.prefixtree.specs.Placement.{Items}
 use Rattle.prefixtree.specs.Node.{root_of}
 use Rattle.textio.specs.declared.program_fault.ProgramFault.{ProgramFault}
 use Rattle.textio.specs.declared.program_fault.ProgramFault.TheVariants.{BadHex}
-use Rattle.items.specs.declared.kinds.HashChoice.{HashChoice}
-use Rattle.items.specs.declared.kinds.HashChoice.TheVariants.{Sha256, Sum}
+use Rattle.items.specs.declared.orders.HashChoice.{HashChoice}
+use Rattle.items.specs.declared.orders.HashChoice.TheVariants.{Sha256, Sum}
 use Rattle.textio.specs.Digits.{nonce_of}
 use Rattle.items.specs.Items.{placement_of}
 use Rattle.items.specs.Asked.{Asked}

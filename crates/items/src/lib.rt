@@ -14,11 +14,11 @@
 //! ```
 #![tactic(auto)]
 
-mod kinds;
+mod orders;
 mod listing;
 mod path_lines;
 mod root_line;
 
-pub use kinds::{HashChoice, ProveOrder, RootOrder};
+pub use orders::{HashChoice, ProveOrder, RootOrder};
 pub use path_lines::prove;
 pub use root_line::root;

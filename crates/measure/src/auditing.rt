@@ -175,7 +175,7 @@ fn broken_case(alloc: Global, siblings: usize) -> Result<Case> {
 
     let promise = Promise {
         epoch: first.epoch,
-        root_hash: hash_of(&first),
+        body_hash: hash_of(&first),
         index,
         name,
         key: promised,

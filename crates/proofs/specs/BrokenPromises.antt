@@ -24,5 +24,5 @@ module _ (hash : List ℕ → List ℕ) (accepted : List ℕ → List ℕ → Li
       pub signed : PromiseVerifies verified key promised
       pub rooted : Verifies verified key root
       pub next : root.body.previous_epoch ≡ promised.promise.epoch
-      pub linked : root.body.previous_hash ≡ promised.promise.root_hash
+      pub linked : root.body.previous_hash ≡ promised.promise.body_hash
       pub contradicts : Contradicts promised.promise root.body text

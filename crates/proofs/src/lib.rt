@@ -20,7 +20,7 @@ mod checking;
 mod comparing;
 mod end;
 mod laws;
-mod limits;
+mod kind_bytes;
 mod making;
 mod refusal;
 mod statement;

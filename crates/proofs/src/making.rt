@@ -4,7 +4,7 @@ ghost use Rattle.proofs.specs.Replies.{reply_end_bytes, reply_bytes, sibling_byt
 ghost use Rattle.proofs.specs.Views.{end_given};
 
 use crate::End;
-use crate::limits::{EMPTY, OTHER, PRESENT};
+use crate::kind_bytes::{EMPTY, OTHER, PRESENT};
 use encoding::{Hash32, ProofText, Small};
 use prefixtree::Path;
 use rootchain::Body;

@@ -7,7 +7,7 @@ ghost use Rattle.proofs.specs.Refusals.{ReadsReply};
 ghost use Rattle.proofs.specs.Replies.{joined_bytes, IsEnd, IsReply};
 ghost use Rattle.proofs.specs.Views.{end_seen, key_stated, reply_seen};
 
-use crate::limits::{EMPTY, OTHER, PRESENT};
+use crate::kind_bytes::{EMPTY, OTHER, PRESENT};
 use crate::{Refusal, Statement};
 use encoding::{Cursor, Fault, Form, KeyData, MAX_KEY_DATA_LEN, MAX_SMALL_LEN, MIN_LEN};
 use prefixtree::MAX_SIBLINGS;

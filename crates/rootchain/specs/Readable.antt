@@ -69,7 +69,7 @@ promise_field =
     (tested is_at_epoch (renamed promise_of parts_of (λ _. refl) (both (numbers_field 8) (both hash (both hash (both (counted_field 1 255 (lit≤ tt)) (counted_field 1 2048 (lit≤ tt)))))))))
   where
     parts_of : Promise → ℕ × (List ℕ × (List ℕ × (List ℕ × List ℕ)))
-    parts_of promise = (promise.epoch, (promise.root_hash, (promise.index, (promise.name, promise.key))))
+    parts_of promise = (promise.epoch, (promise.body_hash, (promise.index, (promise.name, promise.key))))
 
 pub signed_promise_field : IsField read_signed_promise signed_promise_bytes IsSignedPromise
 unfolding read_signed_promise

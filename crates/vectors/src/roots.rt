@@ -67,7 +67,7 @@ pub(crate) fn signed_root(case: &mut Case<'_>) -> Result<SignedRoot, Refusal> {
 
 pub(crate) fn say_promise(case: &mut Case<'_>, promise: &Promise) {
     case.say_shown(promise.epoch);
-    case.say_bytes(promise.root_hash.bytes());
+    case.say_bytes(promise.body_hash.bytes());
     case.say_bytes(promise.index.bytes());
     case.say_bytes(promise.name.bytes());
     case.say_bytes(promise.key.bytes());

@@ -25,7 +25,7 @@ some_body : Body
 some_body = record { epoch = 0; previous_epoch = 0; root = []; previous_hash = []; nonce = []; vuf_key = [] }
 
 some_promise : SignedPromise
-some_promise = record { promise = record { epoch = 0; root_hash = []; index = []; name = []; key = [] }; signature = [] }
+some_promise = record { promise = record { epoch = 0; body_hash = []; index = []; name = []; key = [] }; signature = [] }
 
 -- of the kind there are responses, and the body spells none
 abbrev pub IsNone : ℕ → List ℕ → Type 0

@@ -153,7 +153,7 @@ impl<H: NodeHash, V: Vuf, S: Signer, R: Rng> Directory<H, V, S, R> {
             epoch,
             previous_epoch: last.epoch,
             root: tree.root(),
-            previous_hash: self.root_hash,
+            previous_hash: self.body_hash,
             nonce: last.nonce,
             vuf_key: self.vuf.public(),
         };
@@ -168,7 +168,7 @@ impl<H: NodeHash, V: Vuf, S: Signer, R: Rng> Directory<H, V, S, R> {
             tree,
         ) {
             Ok(()) => {
-                self.root_hash = hash_of(&mut self.hash, &text);
+                self.body_hash = hash_of(&mut self.hash, &text);
                 self.waiting.clear();
                 Ok(root)
             }
@@ -366,7 +366,7 @@ impl<H: NodeHash, V: Vuf, S: Signer, R: Rng> Directory<H, V, S, R> {
     {
         let promise = Promise {
             epoch: self.roots[self.roots.len() - 1].body.epoch,
-            root_hash: self.root_hash,
+            body_hash: self.body_hash,
             index,
             name,
             key,

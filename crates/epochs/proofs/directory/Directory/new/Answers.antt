@@ -17,7 +17,7 @@ invariant_of-result g c =
             roots = begun_with _ _ c.signed_root.result _ c.new-roots.ensures.items c.in_ok-push.ensures.items c.signed_root.ensures;
             trees = begun_with _ _ c.in_ok-tree.tree _ c.new-trees.ensures.items c.in_ok-push-2.ensures.items refl;
             waiting = c.new-4.ensures.empty;
-            root_hash = c.hash_of-root_hash.ensures.value ∙ ap g.H.NodeHash.digest_of c.write-text.ensures.value;
+            body_hash = c.hash_of-body_hash.ensures.value ∙ ap g.H.NodeHash.digest_of c.write-text.ensures.value;
           })
           (some, c.ranges.epoch.fits) (c.write-text.ensures.form (some, λ _. c.new-2.ensures)).5 c.next_salt-salt.ensures.size,
       subst (λ (names : Names). AreAddresses by names.addresses) (sym c.new-3.ensures) tt,

@@ -22,13 +22,13 @@ invariant_of-self g c =
       epoch = c.args.epoch;
       previous_epoch = c.index.result.now.body.epoch;
       root = c.root.result;
-      previous_hash = c.self.inside.root_hash;
+      previous_hash = c.self.inside.body_hash;
       nonce = c.index.result.now.body.nonce;
       vuf_key = c.public.result;
     } in (
       keeps_closed _ (parts_of c.self.inside) _ _ c.self.invariant.0 c.args.epoch c.in_ok-tree.tree (c.in_ok-tree.ensures.tree ∙ ap in_page (sym stands)) c.len.result (search rules) c.index.result.now c.index.ensures
           (subst (λ (kept : Kept g.row.R.Denot). kept.last.epoch < c.args.epoch) (sym stands) c.requires) c.ranges.epoch.fits
-          the_body (λ i. record { epoch = c.args.epoch; previous_epoch = c.index.result.now.body.epoch; root = c.root.ensures i; previous_hash = c.self.inside.root_hash; nonce = c.index.result.now.body.nonce; vuf_key = c.public.ensures i })
+          the_body (λ i. record { epoch = c.args.epoch; previous_epoch = c.index.result.now.body.epoch; root = c.root.ensures i; previous_hash = c.self.inside.body_hash; nonce = c.index.result.now.body.nonce; vuf_key = c.public.ensures i })
           c.signed_root-root.result c.signed_root-root.ensures c.hash_of-self-inside.result (c.hash_of-self-inside.ensures.value ∙ ap g.H.NodeHash.digest_of c.write-text.ensures.value) c.copied.result c.copied.ensures
           c.add_page.new.roots.items c.in-Ok.ensures.1 c.add_page.new.trees.items c.in-Ok.ensures.2 c.clear.new.self.entries c.clear.ensures.empty,
       c.self.invariant.1,
@@ -47,13 +47,13 @@ returns-in-Ok-clause-made g c =
       epoch = c.args.epoch;
       previous_epoch = c.index.result.now.body.epoch;
       root = c.root.result;
-      previous_hash = c.self.inside.root_hash;
+      previous_hash = c.self.inside.body_hash;
       nonce = c.index.result.now.body.nonce;
       vuf_key = c.public.result;
     } in
     let made = closed_made _ (parts_of c.self.inside) _ _ c.self.invariant.0 c.args.epoch c.in_ok-tree.tree (c.in_ok-tree.ensures.tree ∙ ap in_page (sym stands)) c.len.result (search rules) c.index.result.now c.index.ensures
     (subst (λ (kept : Kept g.row.R.Denot). kept.last.epoch < c.args.epoch) (sym stands) c.requires) c.ranges.epoch.fits
-    the_body (λ i. record { epoch = c.args.epoch; previous_epoch = c.index.result.now.body.epoch; root = c.root.ensures i; previous_hash = c.self.inside.root_hash; nonce = c.index.result.now.body.nonce; vuf_key = c.public.ensures i })
+    the_body (λ i. record { epoch = c.args.epoch; previous_epoch = c.index.result.now.body.epoch; root = c.root.ensures i; previous_hash = c.self.inside.body_hash; nonce = c.index.result.now.body.nonce; vuf_key = c.public.ensures i })
     c.signed_root-root.result c.signed_root-root.ensures c.hash_of-self-inside.result (c.hash_of-self-inside.ensures.value ∙ ap g.H.NodeHash.digest_of c.write-text.ensures.value) c.copied.result c.copied.ensures
     c.add_page.new.roots.items c.in-Ok.ensures.1 c.add_page.new.trees.items c.in-Ok.ensures.2 c.clear.new.self.entries c.clear.ensures.empty
     (by c.args.self.now) (the_book c.args.self.now) (ap by stands) (ap the_book stands) in
