@@ -10,8 +10,8 @@ use Rattle.items.specs.declared.orders.HashChoice.{HashChoice}
 use Rattle.items.specs.declared.orders.HashChoice.TheVariants.{Sha256, Sum}
 use Rattle.items.specs.Asked.{Asked, values_of}
 use Rattle.server.specs.Asked.{Asked as AskedDirectory, values_of as directory_values}
-use Rattle.directoryd.specs.declared.order.kinds.Order.{Order}
-use Rattle.directoryd.specs.declared.order.kinds.Order.TheVariants.{Root, Prove, Audit, Judge, Serve, Listen}
+use Rattle.directoryd.specs.declared.order.subcommands.Order.{Order}
+use Rattle.directoryd.specs.declared.order.subcommands.Order.TheVariants.{Root, Prove, Audit, Judge, Serve, Listen}
 use Rattle.directoryd.specs.CommandLine.{directory_app, greatest, IsHashNames}
 
 -- what is ordered: a root; the path of the index that a text gives; an audit under the key that a text

@@ -8,13 +8,13 @@ ghost use Rattle.items.specs.Asked.{values_of};
 ghost use Rattle.server.specs.Asked.{values_of as directory_values};
 ghost use Rattle.directoryd.specs.Orders.{asked_in, directory_in, hash_named, number_from, ordered_in, text_in, values_in, IsOrdered};
 
-mod kinds;
+mod subcommands;
 
 use audits::{AuditOrder, JudgeOrder};
 use clap::builder::ValueParser;
 use clap::{Arg, ArgMatches, Command, Error};
 use items::{HashChoice, ProveOrder, RootOrder};
-pub use kinds::Order;
+pub use subcommands::Order;
 use server::{DirectoryOrder, ListenOrder};
 use std::alloc::{AllocError, Global};
 use std::convert::AsStr;
