@@ -2,7 +2,7 @@
 """Times the built programs and prints the tables of the scripts beside it. docs/SPEED.md says what
 the columns mean.
 
-usage: bench/bench.py root|tree|changes|replies|reconcile|epochs|hub|serve|audit|client, at the top of
+usage: bench/bench.py root|tree|changes|replies|reconcile|epochs|journal|hub|serve|audit|client, at the top of
 the repository
 
 BEFORE, if it is set, is the top of another clone, in which directoryd and measure are built. `root`
@@ -56,6 +56,8 @@ CLIENT_ROUNDS, CLIENT_RUNS = {10: 500, 100: 50, 1_000: 5}, 3
 # How often each size of a directory is measured. In a run: the epochs with changes, the changes of
 # each, the look-ups of a step, and the steps of look-ups.
 EPOCH_RUNS = {1_000: 10, 10_000: 10, 100_000: 10, 1_000_000: 5}
+# How often each size of a journal is measured, and the bytes of a record beside those of a start and a page.
+JOURNAL_RUNS, JOURNAL_BYTES, OTHER_BYTES = {10_000: 10, 100_000: 10, 1_000_000: 3}, 86, 115
 EPOCH_ROUNDS, EPOCH_CHANGES = 100, 1_000
 EPOCH_LOOK_UPS, LOOK_UP_ROUNDS = 10_000, 10
 # The last epochs of a run, in which the memory that a change keeps is measured. The first ones use
@@ -707,6 +709,49 @@ def epochs(_folder):
     table("look-ups at the head and at an old epoch, microseconds", head, rows)
 
 
+class Journals:
+    """The runs of `measure journal` on so many names: the times and the memory of a directory
+    without a journal, of one with a journal in memory, and of one that is opened from it."""
+
+    def __init__(self, size):
+        self.size = size
+        # For each name its value, its index and its commitment; and the nodes of the tree.
+        indices = sorted(index_of_name(number) for number in range(size))
+        self.nodes = changed_nodes(indices, indices, 0, size)
+        self.digests, self.plain, self.kept, self.opened, self.memory = [], [], [], [], []
+        for _ in range(JOURNAL_RUNS[size]):
+            self.run()
+
+    def run(self):
+        _, (before, plain, first, _, kept, _, _, opened, after) = steps(9, "journal", self.size, DIGESTS)
+        taken = JOURNAL_BYTES * self.size + OTHER_BYTES
+        if opened.number != taken:
+            sys.exit(f"journal: {opened.number} bytes, and {taken} was wanted")
+        self.digests += [before.seconds, after.seconds]
+        self.plain.append(plain.seconds)
+        self.kept.append(kept.seconds)
+        self.opened.append(opened.seconds)
+        self.memory.append(opened.memory / (plain.memory + first.memory))
+
+    def row(self, digest):
+        plain, kept = Spread(self.plain, self.size), Spread(self.kept, self.size)
+        opened = Spread(self.opened)
+        ratio = opened.least / ((3 * self.size + self.nodes + 2) * digest)
+        row = [f"{self.size:,}", *plain.cells(1e6, 2), *kept.cells(1e6, 2), f"{plain.least / kept.least:.2f}"]
+        return [*row, *opened.cells(1, 3), f"{ratio:.2f}", f"{statistics.median(self.memory):.2f}"]
+
+
+def journal(_folder):
+    sizes = [Journals(size) for size in JOURNAL_RUNS]
+    digests = Spread([time for each in sizes for time in each.digests], DIGESTS)
+    print_digest(LEAF, digests)
+    spread = ["least", "median", "greatest"]
+    head = ["names", "plain", *spread[1:], "kept", *spread[1:], "part of the rate"]
+    head += ["opened, s", *spread[1:], "ratio", "memory"]
+    rows = [each.row(digests.least) for each in sizes]
+    table("registrations without and with a journal, microseconds; and its opening", head, rows)
+
+
 class Sessions:
     """The runs of `measure hub` with pieces of so many bytes: for each request the times of its
     steps, which are the calls, the calls with their frames written, and the hub."""
@@ -1060,7 +1105,7 @@ def main(which):
     with tempfile.TemporaryDirectory() as folder:
         print_machine()
         of = {"root": root, "tree": tree, "changes": changes, "replies": replies}
-        of |= {"reconcile": reconcile, "epochs": epochs, "hub": hub, "serve": serve}
+        of |= {"reconcile": reconcile, "epochs": epochs, "journal": journal, "hub": hub, "serve": serve}
         of |= {"audit": audit, "client": client}
         of[which](folder)
     print(f"\nload at the end {os.getloadavg()[0]:.2f}")

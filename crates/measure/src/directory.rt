@@ -3,7 +3,7 @@ use crate::steps::end_step;
 use crate::tree::LEAF_BYTES;
 use anyhow::{Context, Result};
 use encoding::Hash32;
-use epochs::{Directory, NoKeeper};
+use epochs::{Directory, Keeper, NoKeeper};
 use nodehash::Sha256Hash;
 use rand_chacha::ChaCha20Rng;
 use rand_core::SeedableRng;
@@ -36,6 +36,16 @@ pub(crate) type Provided = Directory<Sha256Hash, KeyedVuf, KeyedSign, ChaCha20Rn
 /// The epoch whose page is the first with names.
 pub(crate) const FIRST: u64 = 2;
 
+/// The provider's signatures.
+pub(crate) fn signer() -> KeyedSign {
+    KeyedSign::new(Hash32::new([1; 32]))
+}
+
+/// The provider's verifiable function.
+pub(crate) fn vuf() -> KeyedVuf {
+    KeyedVuf::new(Hash32::new([2; 32]))
+}
+
 /// A directory at epoch 1, without a name.
 pub(crate) fn new_directory(alloc: Global) -> Result<Provided> {
     Ok(Directory::new(
@@ -43,8 +53,8 @@ pub(crate) fn new_directory(alloc: Global) -> Result<Provided> {
         1,
         Hash32::default(),
         Sha256Hash::new(),
-        KeyedVuf::new(Hash32::new([2; 32])),
-        KeyedSign::new(Hash32::new([1; 32])),
+        vuf(),
+        signer(),
         ChaCha20Rng::from_seed([0; 32]),
     )?)
 }
@@ -74,10 +84,14 @@ fn with_promise(sum: u64, signed: &SignedPromise) -> u64 {
 }
 
 /// Registers so many names.
-pub(crate) fn register_all(directory: &mut Provided, names: usize) -> Result<u64> {
+pub(crate) fn register_all<K: Keeper>(
+    directory: &mut Provided,
+    keeper: &mut K,
+    names: usize,
+) -> Result<u64> {
     let mut sum = 0;
     for number in 0..names as u64 {
-        let promise = directory.register(&mut NoKeeper, &name_of(number), &key_of(number, 1))?;
+        let promise = directory.register(keeper, &name_of(number), &key_of(number, 1))?;
         sum = with_promise(sum, &promise);
     }
     Ok(sum)
@@ -95,8 +109,12 @@ fn change_all(directory: &mut Provided, numbers: &[u64], epoch: u64) -> Result<u
 }
 
 /// Closes the epoch, and returns the first byte of the new root.
-pub(crate) fn close(directory: &mut Provided, epoch: u64) -> Result<u64> {
-    let root = directory.close(&mut NoKeeper, epoch)?;
+pub(crate) fn close<K: Keeper>(
+    directory: &mut Provided,
+    keeper: &mut K,
+    epoch: u64,
+) -> Result<u64> {
+    let root = directory.close(keeper, epoch)?;
     let first = root.body.root.bytes().first().copied().unwrap_or(0);
     Ok(u64::from(first))
 }
@@ -153,14 +171,14 @@ pub(crate) fn measure(rt: &(impl Print + Input), alloc: Global, wanted: &Epochs)
     let mut directory = new_directory(alloc)?;
     end_step(rt, alloc, 0)?;
     end_step(rt, alloc, take_digests(&mut text, wanted.digests))?;
-    end_step(rt, alloc, register_all(&mut directory, wanted.names)?)?;
-    end_step(rt, alloc, close(&mut directory, FIRST)?)?;
+    end_step(rt, alloc, register_all(&mut directory, &mut NoKeeper, wanted.names)?)?;
+    end_step(rt, alloc, close(&mut directory, &mut NoKeeper, FIRST)?)?;
     for round in 0..wanted.rounds {
         let numbers = numbers_of_round(alloc, wanted, round, wanted.changes)?;
         let epoch = FIRST.wrapping_add(1).wrapping_add(round as u64);
         end_step(rt, alloc, 0)?;
         end_step(rt, alloc, change_all(&mut directory, &numbers, epoch)?)?;
-        end_step(rt, alloc, close(&mut directory, epoch)?)?;
+        end_step(rt, alloc, close(&mut directory, &mut NoKeeper, epoch)?)?;
     }
     look_up_rounds(rt, alloc, &mut directory, wanted, 0)?;
     look_up_rounds(rt, alloc, &mut directory, wanted, FIRST)?;

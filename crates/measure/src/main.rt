@@ -13,6 +13,7 @@ mod digests;
 mod directory;
 mod exchange;
 mod feeding;
+mod keeping;
 mod looking;
 mod pages;
 mod reconciling;
@@ -35,7 +36,7 @@ const USAGE: &str = "usage: measure digests BYTES COUNT | texts COUNT ROUNDS \
     | tree GROWN MORE DIGESTS | whole ITEMS TIMES DIGESTS \
     | changes ITEMS CHANGES LISTS ROUNDS DIGESTS | replies SIBLINGS REPLIES ROUNDS DIGESTS \
     | chains ROOTS SHARED ROUNDS | epochs NAMES CHANGES ROUNDS LOOK_UPS LOOK_UP_ROUNDS DIGESTS \
-    | hub NAMES FRAMES PIECE ROUNDS | feed FRAMES TIMES \
+    | journal NAMES DIGESTS | hub NAMES FRAMES PIECE ROUNDS | feed FRAMES TIMES \
     | audit ROOTS MORE SIBLINGS TIMES DIGESTS | updates BEFORE LISTS DIGESTS \
     | looks NAMES SIBLINGS ROOTS EPOCHS ROUNDS | watch SIBLINGS EPOCHS ROUNDS \
     | clients SIBLINGS NAMES SHARED EPOCHS ROUNDS | all \
@@ -120,6 +121,7 @@ fn run_on_directory(
             };
             directory::measure(rt, alloc, &wanted)
         }
+        ("journal", &[names, digests]) => keeping::measure(rt, alloc, names, digests),
         ("hub", &[names, frames, piece, rounds]) => {
             let wanted = sessions::Sessions {
                 names,
@@ -253,6 +255,7 @@ fn run_all(rt: &(impl Print + Input), alloc: Global) -> Result<()> {
     run(rt, alloc, "replies", &[4, 3, 2, 1])?;
     run(rt, alloc, "chains", &[5, 3, 2])?;
     run(rt, alloc, "epochs", &[5, 3, 2, 4, 2, 1])?;
+    run(rt, alloc, "journal", &[5, 1])?;
     run(rt, alloc, "hub", &[5, 3, 16, 2])?;
     run(rt, alloc, "feed", &[3, 2])?;
     run(rt, alloc, "audit", &[5, 3, 2, 2, 1])?;

@@ -171,8 +171,8 @@ fn piece_of(stream: &[u8], bytes: usize, number: usize) -> Option<&[u8]> {
 /// A directory whose page has so many names.
 fn directory_of(alloc: Global, names: usize) -> Result<Provided> {
     let mut directory = new_directory(alloc)?;
-    register_all(&mut directory, names)?;
-    close(&mut directory, FIRST)?;
+    register_all(&mut directory, &mut NoKeeper, names)?;
+    close(&mut directory, &mut NoKeeper, FIRST)?;
     Ok(directory)
 }
 
