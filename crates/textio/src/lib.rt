@@ -16,14 +16,14 @@
 #![tactic(auto)]
 
 mod digits;
-mod reading;
+mod input;
 mod line;
 mod output;
 mod program_fault;
 mod stream_fault;
 
 pub use digits::{HASH_DIGITS, HASH_SIZE, hex_digits, hex32, option_hex32, option_nonce};
-pub use reading::read_some;
+pub use input::read_some;
 pub use line::next_line;
 pub use output::write_text;
 pub use program_fault::ProgramFault;
