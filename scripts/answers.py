@@ -279,6 +279,8 @@ FAULTS = {
     "bad-item": "line {}: bad item",
     "index-repeated": "line {}: index repeated",
     "not-evidence": "not an evidence file",
+    "bad-record": "journal: bad record",
+    "other-keys": "journal: other keys",
     "cannot-read": "cannot read",
     "cannot-write": "cannot write",
     "cannot-listen": "cannot listen",

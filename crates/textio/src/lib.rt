@@ -21,6 +21,7 @@ mod line;
 mod output;
 mod program_fault;
 mod stream_fault;
+mod whole;
 
 pub use digits::{HASH_DIGITS, HASH_SIZE, hex_digits, hex32, option_hex32, option_nonce};
 pub use input::read_some;
@@ -28,3 +29,4 @@ pub use line::next_line;
 pub use output::write_text;
 pub use program_fault::ProgramFault;
 pub use stream_fault::StreamFault;
+pub use whole::{file_fault, read_whole};

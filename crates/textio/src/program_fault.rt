@@ -13,7 +13,7 @@ use thiserror::Error;
 
 /// Why a program stopped, for every program of `directoryd`. Lines are numbered from 1.
 ///
-/// A new fault is a variant here, and a case of `text` and of `fault_text` in `specs/`.
+/// A new fault is a variant here, and a case of `text` and of each definition in `specs/` that lists them.
 #[derive(Clone, Copy, Debug, PartialEq, Eq, Error)]
 pub enum ProgramFault {
     #[error("bad hex")]
@@ -24,6 +24,12 @@ pub enum ProgramFault {
     IndexRepeated(u64),
     #[error("not an evidence file")]
     NotEvidence,
+    /// A journal has a record that cannot be carried out, or bytes that are none.
+    #[error("journal: bad record")]
+    BadRecord,
+    /// A journal is one of other keys.
+    #[error("journal: other keys")]
+    OtherKeys,
     #[error("cannot read")]
     CannotRead,
     #[error("cannot write")]
@@ -112,6 +118,8 @@ impl ProgramFault {
             ProgramFault::BadItem(line) => numbered(line, b": bad item\n"),
             ProgramFault::IndexRepeated(line) => numbered(line, b": index repeated\n"),
             ProgramFault::NotEvidence => plain(b"not an evidence file\n"),
+            ProgramFault::BadRecord => plain(b"journal: bad record\n"),
+            ProgramFault::OtherKeys => plain(b"journal: other keys\n"),
             ProgramFault::CannotRead => plain(b"cannot read\n"),
             ProgramFault::CannotWrite => plain(b"cannot write\n"),
             ProgramFault::CannotListen => plain(b"cannot listen\n"),

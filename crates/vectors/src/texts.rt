@@ -69,6 +69,8 @@ fn named_fault(case: &mut Case<'_>) -> Option<ProgramFault> {
         b"not-evidence" => ProgramFault::NotEvidence,
         b"cannot-read" => ProgramFault::CannotRead,
         b"cannot-write" => ProgramFault::CannotWrite,
+        b"bad-record" => ProgramFault::BadRecord,
+        b"other-keys" => ProgramFault::OtherKeys,
         b"cannot-listen" => ProgramFault::CannotListen,
         b"out-of-memory" => ProgramFault::OutOfMemory,
         _ => return None,
