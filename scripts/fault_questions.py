@@ -20,7 +20,8 @@ on. The answer is what is replied without a failure, and in each of these runs.
 `journal PIECE COUNT MESSAGE..` runs a directory over the first COUNT messages, with a journal whose writer takes at
 most PIECE bytes a call and fails at its first call, its second, and so on. What is written then is opened. The answer
 is the journal without a failure, and then a row for runs that left the same: COUNT, and `nothing` or `after N`, where
-the opened directory answers the other messages as the stopped one does, and as one after the first N messages.
+the opened directory answers the other messages as the stopped one does, and as one after the first N messages. It
+would be `other` if there were no such N.
 """
 
 import itertools

@@ -5,7 +5,8 @@
 //! Then it is made again and again, and the device fails at its first call, at its second call, and so on,
 //! until a run ends before that call. The answer tells how these runs ended: how many in a row, with which
 //! fault, and how many bytes were written, or `other` where these are no beginning of the whole output.
-//! A journal whose writer fails is opened, and the answer tells how many commands the directory has then.
+//! What a failing writer leaves of a journal is opened: the answer tells after how many commands of the
+//! run the directory stands, or `other` where it is no beginning of the run.
 //!
 //! The stored answers come from `scripts/fault_questions.py`, which computes them from the definitions.
 #![tactic(auto)]
