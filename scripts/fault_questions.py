@@ -16,8 +16,15 @@ session was told.
 
 `directory MESSAGE..` and `hub PIECE FRAMES` ask a directory whose keeper fails at its first call, its second, and so
 on. The answer is what is replied without a failure, and in each of these runs.
+
+`journal PIECE COUNT MESSAGE..` runs a directory over the first COUNT messages, with a journal whose writer takes at
+most PIECE bytes a call and fails at its first call, its second, and so on. What is written then is opened. The answer
+is the journal without a failure, and then a row for runs that left the same: COUNT, and `nothing` or `after N`, where
+the opened directory answers the other messages as the stopped one does, and as one after the first N messages. It
+would be `other` if there were no such N.
 """
 
+import itertools
 from typing import NamedTuple
 
 import session_scripts
@@ -171,6 +178,14 @@ class LossyDirectory(sessions.Directory):
         return super().close(epoch)
 
 
+def new_recorded():
+    return sessions.Recorded(1, ZERO32, sha256, KeyedVuf(VUF_KEY), SIGN_KEY, salts(SALT_KEY))
+
+
+def replied(directory, requests):
+    return b"".join(reply_bytes(*reply) for reply in directory.run(requests))
+
+
 def new_hub(lost=None):
     hub = sessions.Hub(LossyDirectory(lost), TOKEN)
     hub.open(1)
@@ -184,6 +199,23 @@ def reply_bytes(kind, value):
     return b"".join(root.write() for root in value) if kind == ROOTS else value.write()
 
 
+def stops(journal, ends, piece):
+    """How many bytes of a journal are written where a call fails: each call in turn, and at the end none. Each record
+    is written by calls of its own."""
+    starts = [0, *dict.fromkeys(ends)]
+    for start, end in itertools.pairwise(starts):
+        yield from range(start, end, piece)
+    yield len(journal)
+
+
+def left_by(data, asked, beginnings):
+    """What the bytes that were written open to."""
+    found = sessions.open_journal(data, sha256, KeyedVuf(VUF_KEY), SIGN_KEY, salts(SALT_KEY, count_records(data)))
+    if found is None:
+        return "nothing"
+    return f"after {beginnings.index(replied(found[0], asked))}"
+
+
 # Answers -------------------------------------------------------------------------------------------------
 
 MOST_PIECE = 8192
@@ -194,7 +226,7 @@ class Sweeps(Lines):
     """Answers questions. The method of a verb takes the words, and gives the program of devices, piece and input."""
 
     def verb(self, subject, words):
-        if subject in ("directory", "hub"):
+        if subject in ("directory", "hub", "journal"):
             return getattr(self, subject)
         of = getattr(self, f"of_{subject}", None)
         if of is None:
@@ -282,6 +314,21 @@ class Sweeps(Lines):
             return b"".join(hub.bytes(1, part) for part in cut_up(frames, piece))
 
         return self.losses(output)
+
+    def journal(self, words):
+        piece, count = words.number(4096), words.number(1000)
+        requests = [read_request(message[0], message[1:]) for message in words.all_bytes()]
+        run, asked = requests[:count], requests[count:]
+        beginnings, ends = [], []
+        for size in range(len(run) + 1):
+            directory = new_recorded()
+            directory.run(run[:size])
+            ends.append(len(directory.journal))
+            beginnings.append(replied(directory, asked))
+        journal = directory.journal[: ends[-1]]
+        lefts = [left_by(journal[:size], asked, beginnings) for size in stops(journal, ends, piece)]
+        rows = [f"{len(list(same))} {left};" for left, same in itertools.groupby(lefts)]
+        return [told(journal), *rows]
 
     def losses(self, output):
         """What is replied without a lost record, and with each one lost in turn."""
@@ -480,12 +527,41 @@ def of_keepers(q):
     q.ask("hub 15", HEAD * 3)
 
 
+# Two registrations, a change and three closings; and what shows roots, promises that wait, and their salts.
+RECORDED = [
+    ("register", b"a", b"k"), ("register", b"bb", b"kk"), ("close", TOKEN, 2), ("change", b"a", b"l"),
+    ("close", TOKEN, 5), ("close", TOKEN, 6),
+]
+SHOWN = [
+    ("head",), ("history", 0, 64), ("promise", b"a"), ("promise", b"bb"), ("lookup", 0, b"a"), ("lookup", 0, b"bb"),
+    ("close", TOKEN, MAX_EPOCH), ("lookup", 0, b"a"), ("lookup", 0, b"bb"),
+]
+
+
+def of_journals(q):
+    q.note("A journal that stops at each byte, or before each record, opens to a beginning of the run.")
+    shown = [request_frame(*request)[4:] for request in SHOWN]
+
+    def ask(piece, run):
+        q.ask("journal", piece, len(run), *(request_frame(*request)[4:] for request in run), *shown)
+
+    for piece in [1, 7, 40, 4096]:
+        ask(piece, RECORDED)
+    ask(1, [])
+    q.note("Commands that are refused have no record.")
+    refused = [("register", b"a", b"m"), ("change", b"c", b"m"), ("close", TOKEN, 1), ("promise", b"a")]
+    ask(1, [step for request in RECORDED for step in (request, *refused)])
+    q.note("Names and keys at their limits.")
+    ask(100, [("register", b"n" * 255, b"k" * 2048), ("close", TOKEN, 2), ("change", b"n" * 255, b"k")])
+
+
 SUBJECTS = {
     "texts": of_texts,
     "items": of_items,
     "audits": of_audits,
     "sessions": of_sessions,
     "keepers of records": of_keepers,
+    "journals": of_journals,
 }
 
 

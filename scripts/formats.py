@@ -1007,12 +1007,14 @@ def take_start_record(cursor):
 
 
 def take_later_record(cursor):
+    """A verb, a salt, a name and a key; or `turn` and an epoch."""
     kind = cursor.u8()
     if kind == 0x43:
-        return (cursor.u64(),)
-    if kind != 0x4F or cursor.u8() not in VERBS.values():
+        return "turn", cursor.u64()
+    verbs = {byte: verb for verb, byte in VERBS.items()}
+    if kind != 0x4F or (byte := cursor.u8()) not in verbs:
         raise Fault(OUT_OF_RANGE)
-    return cursor.hash32(), cursor.name(), cursor.key()
+    return verbs[byte], cursor.hash32(), cursor.name(), cursor.key()
 
 
 def count_records(data):
@@ -1024,6 +1026,28 @@ def count_records(data):
             count += 1
     except Fault:
         return count
+
+
+def is_cut_start(data):
+    """Whether more bytes, at least one, make a start of these."""
+    return len(data) < 106 and b"N\x01".startswith(data[:2])
+
+
+def is_cut_record(data):
+    """Whether more bytes, at least one, make a record of a command of these."""
+    if data[:1] == b"C":
+        return len(data) < 9
+    if not any(head.startswith(data[:2]) for head in (b"C", b"O\x01", b"O\x02")):
+        return False
+    rest = data[34:]
+    for most in (MAX_NAME, MAX_KEY):
+        if not any(u16(size).startswith(rest[:2]) for size in range(1, most + 1)):
+            return False
+        end = 2 + int.from_bytes(rest[:2], "big")
+        if len(rest) < max(end, 2):
+            return True
+        rest = rest[end:]
+    return False
 
 
 # Requests, responses and frames ------------------------------------------------------------------------

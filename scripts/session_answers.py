@@ -31,6 +31,7 @@ REFUSALS = {
     "directory-memory": f"refused 14 {OUT_OF_MEMORY}",
     "directory-unkept": "refused 19 the record was not kept",
     "keeper": "the record was not kept",
+    "journal-memory": f"refused 3 {OUT_OF_MEMORY}",
     "hub-memory": f"refused 14 {OUT_OF_MEMORY}",
     "client-memory": f"refused 22 {OUT_OF_MEMORY}",
     "serve-read": "cannot read",
@@ -146,6 +147,19 @@ class SessionAnswers(Lines):
         else:
             raise BadQuestion
         return ["ok"]
+
+    def directory_open(self, w):
+        """`open SIGN VUF SALT BYTES`, without VUF by the sum: `nothing`; or `taken`, how many bytes, and the head. The
+        salts to come are those of the stream that has the number of the records."""
+        sign_key = w.hash()
+        vuf = KeyedVuf(w.hash()) if self.values is self.keyed else PlainVuf
+        salt_key, data = w.hash(), w.bytes()
+        stream = salts(salt_key, count_records(data))
+        found = open_journal(data, self.values.digest, vuf, sign_key, stream)
+        if found is None:
+            return ["nothing"]
+        self.values.directory, taken = found
+        return ["taken", str(taken), *self.directory_head(w)]
 
     def directory_run(self, w):
         """`run EPOCH NONCE MESSAGE..`: a new directory; each message is the kind and the body of a request."""

@@ -11,6 +11,7 @@ import random
 import client_questions
 import directory_questions
 import evidence_questions
+import opening_questions
 import session_scripts
 from asking import Questions
 from evidence_questions import json_of
@@ -20,7 +21,7 @@ from session_subjects import *
 from sessions import SALT_KEY, SIGN_KEY, VUF_KEY
 
 SUBJECTS, subject = subjects()
-for part in (directory_questions, client_questions, evidence_questions):
+for part in (directory_questions, client_questions, evidence_questions, opening_questions):
     SUBJECTS += part.SUBJECTS
 
 
@@ -34,6 +35,11 @@ def of_few_lines(q, rng):
     q.ask("directory close", 5)
     q.ask("directory lookup", b"a", 0)
     q.ask("directory history", 0, 64)
+    records = bound_record("register", ZERO32, b"a", b"k") + turned_record(2)
+    records += bound_record("change", ZERO32, b"a", b"l")
+    q.ask("directory open", SIGN_KEY, VUF_KEY, SALT_KEY, start_record(1, ZERO32, SIGN_KEY, VUF_KEY) + records)
+    q.ask("directory register", b"b", b"k")
+    q.ask("directory close", 3)
     requests = [("register", b"a", b"k"), ("close", HUB_TOKEN, 2), ("lookup", 2, b"a")]
     q.ask("directory run", 1, ZERO32, *(message(*request) for request in requests))
     stream = b"".join(request_frame(*request) for request in requests)

@@ -1,6 +1,7 @@
 """The upper half of the reference model: all that holds state.
 
     Directory   pages, what waits for the next page, and the salts
+    Recorded    a directory with the bytes of its journal; and open_journal
     Hub         sessions whose commands go to one directory
     Client      the chain, the looks and the promises of one user
     Monitor     what the owner of a name expects of each epoch
@@ -65,16 +66,20 @@ from formats import (
     SignedRoot,
     Tree,
     accept,
+    bound_record,
     byte_sum,
     commitment_text,
     compare_chains,
     evidence_json,
     index_of,
+    is_cut_record,
+    is_cut_start,
     judge,
     lines_of,
     opened,
     option_hex32,
     option_nonce,
+    read_front,
     read_list,
     read_request,
     read_response,
@@ -84,6 +89,10 @@ from formats import (
     salts,
     same_or_collision,
     sha256,
+    start_record,
+    take_later_record,
+    take_start_record,
+    turned_record,
     write_list,
 )
 
@@ -107,6 +116,12 @@ class DirectoryRefusal(Refusal):
         13: "no operation on the name waits",
         15: "no root is asked for, or more than 64",
     }
+
+
+class JournalRefusal(Refusal):
+    """A journal that is not opened."""
+
+    texts = {1: "bad record", 2: "other keys"}
 
 
 class HubRefusal(Refusal):
@@ -303,6 +318,75 @@ def keyed_directory(epoch, nonce, sign_key, vuf_key, salt_key):
 def summed_directory(epoch, nonce, sign_key, salt_key):
     """A directory by the sum of bytes, in which the value of a name is the name."""
     return Directory(epoch, nonce, byte_sum, PlainVuf, sign_key, salts(salt_key))
+
+
+# Journals ---------------------------------------------------------------------------------------
+
+
+class Recorded(Directory):
+    """A directory that writes a journal."""
+
+    def __init__(self, epoch, nonce, digest, vuf, sign_key, salts):
+        super().__init__(epoch, nonce, digest, vuf, sign_key, salts)
+        self.journal = start_record(epoch, nonce, sign_key, vuf.public)
+
+    def register(self, name, key, salt=None):
+        return self.recorded("register", name, super().register(name, key, salt))
+
+    def change(self, name, key, salt=None):
+        return self.recorded("change", name, super().change(name, key, salt))
+
+    def recorded(self, verb, name, promise):
+        key, salt = self.waiting[name]
+        self.journal += bound_record(verb, salt, name, key)
+        return promise
+
+    def close(self, epoch):
+        root = super().close(epoch)
+        self.journal += turned_record(epoch)
+        return root
+
+
+def open_journal(data, digest, vuf, sign_key, salts):
+    """The directory after the whole records that begin the bytes, and how many bytes these have. None where
+    the bytes are a start that was cut short."""
+    cursor = Cursor(data)
+    try:
+        epoch, nonce, *keys = read_front(take_start_record, cursor)
+    except Fault:
+        if is_cut_start(data):
+            return None
+        raise JournalRefusal(1) from None
+    if epoch == 0:
+        raise JournalRefusal(1)
+    if keys != [sign_key, vuf.public]:
+        raise JournalRefusal(2)
+    directory = Directory(epoch, nonce, digest, vuf, sign_key, salts)
+    while (record := next_record(cursor)) is not None:
+        replay(directory, *record)
+    if not is_cut_record(data[cursor.at :]):
+        raise JournalRefusal(1)
+    return directory, cursor.at
+
+
+def next_record(cursor):
+    """The record of a command, if a whole one comes next."""
+    try:
+        return read_front(take_later_record, cursor)
+    except Fault:
+        return None
+
+
+def replay(directory, verb, *words):
+    """Carries out a record once more. Whatever the directory refuses is a bad record."""
+    try:
+        if verb == "turn":
+            directory.close(*words)
+        else:
+            salt, name, key = words
+            getattr(directory, verb)(name, key, salt)
+    except DirectoryRefusal:
+        raise JournalRefusal(1) from None
 
 
 # The hub ----------------------------------------------------------------------------------------

@@ -1,7 +1,7 @@
 // Each record fails to be kept, in turn.
 use crate::devices::LossyKeeper;
-use crate::provider;
-use book::{Refusal, Reply};
+use crate::provider::{self, Provided};
+use book::{Keeper, Refusal, Reply};
 use commands::{Command, Edit};
 use hub::{Event, HubRefusal};
 use provider::ProvidedHub;
@@ -43,7 +43,7 @@ fn push_command<'a>(case: &mut Case<'a>, commands: &mut Vec<Command<'a>>) {
 }
 
 /// The commands of the words that are left.
-fn commands<'a>(case: &mut Case<'a>) -> Vec<Command<'a>> {
+pub(crate) fn commands<'a>(case: &mut Case<'a>) -> Vec<Command<'a>> {
     let mut commands = Vec::new(case.alloc());
     for _ in 0..case.left() {
         push_command(case, &mut commands);
@@ -68,19 +68,29 @@ fn push_reply(output: &mut Vec<u8>, reply: &Reply) -> Result<(), AllocError> {
     }
 }
 
+/// Appends the replies of a directory.
+pub(crate) fn ask_directory<K: Keeper>(
+    directory: &mut Provided,
+    keeper: &mut K,
+    commands: &[Command<'_>],
+    output: &mut Vec<u8>,
+) -> Result<(), AllocError> {
+    let replies = directory.run(keeper, commands)?;
+    for reply in &replies {
+        push_reply(output, reply)?;
+    }
+    Ok(())
+}
+
 /// Appends the replies of a new directory.
-fn ask_directory(
+fn ask_new_directory(
     alloc: Global,
     keeper: &mut LossyKeeper,
     commands: &[Command<'_>],
     output: &mut Vec<u8>,
 ) -> Result<(), AllocError> {
     let mut directory = provider::directory(alloc)?;
-    let replies = directory.run(keeper, commands)?;
-    for reply in &replies {
-        push_reply(output, reply)?;
-    }
-    Ok(())
+    ask_directory(&mut directory, keeper, commands, output)
 }
 
 /// The number of the session.
@@ -134,7 +144,7 @@ fn ask(
     output.clear();
     let mut keeper = LossyKeeper::new(failing);
     match asked {
-        Asked::Commands(commands) => ask_directory(alloc, &mut keeper, commands, output),
+        Asked::Commands(commands) => ask_new_directory(alloc, &mut keeper, commands, output),
         Asked::Stream { piece, frames } => ask_hub(alloc, keeper, *piece, frames, output),
     }
 }

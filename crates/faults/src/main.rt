@@ -5,6 +5,9 @@
 //! Then it is made again and again, and the device fails at its first call, at its second call, and so on,
 //! until a run ends before that call. The answer tells how these runs ended: how many in a row, with which
 //! fault, and how many bytes were written, or `other` where these are no beginning of the whole output.
+//! What a failing writer leaves of a journal is opened: the answer tells after how many commands of the
+//! run the directory stands, or `other` where it is no beginning of the run.
+//!
 //! The stored answers come from `scripts/fault_questions.py`, which computes them from the definitions.
 #![tactic(auto)]
 
@@ -12,6 +15,7 @@ mod devices;
 mod job;
 mod keeping;
 mod provider;
+mod stopping;
 mod sweep;
 
 use anyhow::Result;
@@ -28,6 +32,7 @@ impl Subjects for Sweeps {
         match case.word() {
             b"directory" => keeping::directory(case),
             b"hub" => keeping::hub(case),
+            b"journal" => stopping::journal(case),
             verb => match Job::read(verb, case) {
                 Some(job) => sweep::sweep(case, &job),
                 None => case.spoil(),

@@ -1,5 +1,6 @@
 //! Of `epochs`: a directory, which stays for the next lines, and runs of fresh ones.
 
+use crate::journals;
 use book::{NoKeeper, Record, Refusal, Reply};
 use commands::{Command, Edit, Verb};
 use encoding::Hash32;
@@ -88,6 +89,7 @@ pub(crate) fn make_summed(
 pub(crate) fn answer_keyed(case: &mut Case<'_>, kept: &mut Option<KeyedDirectory>) {
     match case.word() {
         b"new" => new_keyed(case, kept),
+        b"open" => journals::open_keyed(case, kept),
         b"run" => {
             let made = make_keyed(case.alloc(), &read_first(case), &common_secrets());
             run(case, made);
@@ -99,6 +101,7 @@ pub(crate) fn answer_keyed(case: &mut Case<'_>, kept: &mut Option<KeyedDirectory
 pub(crate) fn answer_summed(case: &mut Case<'_>, kept: &mut Option<SummedDirectory>) {
     match case.word() {
         b"new" => new_summed(case, kept),
+        b"open" => journals::open_summed(case, kept),
         b"run" => {
             let made = make_summed(case.alloc(), &read_first(case), &common_secrets());
             run(case, made);

@@ -12,6 +12,7 @@
 //! | `directory` | `Directory::new`, `head` | `new`, `head` |
 //! | | `register`, `change`, `promise`, `close` | `register`, `change`, `promise`, `close` |
 //! | | `lookup`, `history`; `run`; `replay` | `lookup`, `history`; `run`; `replay` |
+//! | | `journal::open`, under the stream of salts that `records` numbers | `open` |
 //! | `hub` | `Hub::new`, which calls `Hub::over` and `Desk::new` | `new` |
 //! | | `event`, which calls `Service::answer` | `open`, `bytes`, `end` |
 //! | | `head` | `head`, `seen`, `seen-sum` |
@@ -45,6 +46,7 @@ mod clients;
 mod directories;
 mod evidences;
 mod hubs;
+mod journals;
 mod monitors;
 mod refusals;
 mod script;

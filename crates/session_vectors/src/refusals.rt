@@ -23,6 +23,10 @@ fn refusal(case: &mut Case<'_>) {
             let refusal = HubRefusal::Memory { taken: false };
             case.refuse(refusal.number(), refusal);
         }
+        b"journal-memory" => {
+            let refusal = journal::Refusal::Memory;
+            case.refuse(refusal.number(), refusal);
+        }
         b"client-memory" => {
             let refusal = client::Refusal::Memory;
             case.refuse(refusal.number(), refusal);
