@@ -3,7 +3,7 @@ use Rattle.std.specs.Prelude.{ℕ, List, ◌++◌, Result, Err, codes, decimal, 
 use Rattle.textio.specs.declared.stream_fault.StreamFault.{StreamFault}
 use Rattle.textio.specs.declared.stream_fault.StreamFault.TheVariants as stream
 use Rattle.textio.specs.declared.program_fault.ProgramFault.{ProgramFault}
-use Rattle.textio.specs.declared.program_fault.ProgramFault.TheVariants.{BadHex, BadItem, IndexRepeated, NotEvidence, CannotRead, CannotWrite, CannotListen, OutOfMemory}
+use Rattle.textio.specs.declared.program_fault.ProgramFault.TheVariants.{BadHex, BadItem, IndexRepeated, NotEvidence, BadRecord, OtherKeys, CannotRead, CannotWrite, CannotListen, OutOfMemory}
 
 -- what a program says of a read or a write that failed
 abbrev pub of_stream : StreamFault → ProgramFault
@@ -16,6 +16,8 @@ fault_text BadHex = codes "bad hex\n"
 fault_text (BadItem line) = codes "line " ++ decimal line ++ codes ": bad item\n"
 fault_text (IndexRepeated line) = codes "line " ++ decimal line ++ codes ": index repeated\n"
 fault_text NotEvidence = codes "not an evidence file\n"
+fault_text BadRecord = codes "journal: bad record\n"
+fault_text OtherKeys = codes "journal: other keys\n"
 fault_text CannotRead = codes "cannot read\n"
 fault_text CannotWrite = codes "cannot write\n"
 fault_text CannotListen = codes "cannot listen\n"
@@ -30,14 +32,26 @@ IsTold fault Says = Says (Err fault)
 
 -- a read or memory failed
 abbrev pub IsDeviceFault : ProgramFault → Type 0
+IsDeviceFault BadHex = ⊥
+IsDeviceFault (BadItem line) = ⊥
+IsDeviceFault (IndexRepeated line) = ⊥
+IsDeviceFault NotEvidence = ⊥
+IsDeviceFault BadRecord = ⊥
+IsDeviceFault OtherKeys = ⊥
 IsDeviceFault CannotRead = ⊤
+IsDeviceFault CannotWrite = ⊥
+IsDeviceFault CannotListen = ⊥
 IsDeviceFault OutOfMemory = ⊤
-IsDeviceFault _ = ⊥
 
 -- the fault came up while the input was read
 abbrev pub IsInputFault : ProgramFault → Type 0
 IsInputFault BadHex = ⊥
+IsInputFault (BadItem line) = ⊤
+IsInputFault (IndexRepeated line) = ⊤
 IsInputFault NotEvidence = ⊥
+IsInputFault BadRecord = ⊥
+IsInputFault OtherKeys = ⊥
+IsInputFault CannotRead = ⊤
 IsInputFault CannotWrite = ⊥
 IsInputFault CannotListen = ⊥
-IsInputFault _ = ⊤
+IsInputFault OutOfMemory = ⊤

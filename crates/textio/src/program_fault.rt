@@ -24,6 +24,10 @@ pub enum ProgramFault {
     IndexRepeated(u64),
     #[error("not an evidence file")]
     NotEvidence,
+    #[error("journal: bad record")]
+    BadRecord,
+    #[error("journal: other keys")]
+    OtherKeys,
     #[error("cannot read")]
     CannotRead,
     #[error("cannot write")]
@@ -112,6 +116,8 @@ impl ProgramFault {
             ProgramFault::BadItem(line) => numbered(line, b": bad item\n"),
             ProgramFault::IndexRepeated(line) => numbered(line, b": index repeated\n"),
             ProgramFault::NotEvidence => plain(b"not an evidence file\n"),
+            ProgramFault::BadRecord => plain(b"journal: bad record\n"),
+            ProgramFault::OtherKeys => plain(b"journal: other keys\n"),
             ProgramFault::CannotRead => plain(b"cannot read\n"),
             ProgramFault::CannotWrite => plain(b"cannot write\n"),
             ProgramFault::CannotListen => plain(b"cannot listen\n"),

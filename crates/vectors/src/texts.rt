@@ -67,6 +67,8 @@ fn named_fault(case: &mut Case<'_>) -> Option<ProgramFault> {
         b"bad-item" => ProgramFault::BadItem(case.number()),
         b"index-repeated" => ProgramFault::IndexRepeated(case.number()),
         b"not-evidence" => ProgramFault::NotEvidence,
+        b"bad-record" => ProgramFault::BadRecord,
+        b"other-keys" => ProgramFault::OtherKeys,
         b"cannot-read" => ProgramFault::CannotRead,
         b"cannot-write" => ProgramFault::CannotWrite,
         b"cannot-listen" => ProgramFault::CannotListen,
