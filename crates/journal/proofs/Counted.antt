@@ -10,7 +10,8 @@ use Rattle.book.specs.declared.record.Record.TheVariants.{Start, Bound, Turned}
 use Rattle.std.proofs.Common.{Result}
 use Rattle.journal.specs.Counting.{HasLater}
 use Rattle.journal.specs.Reading.{read_later, read_start}
-use Rattle.journal.specs.Records.{record_bytes, records_bytes, IsLater, IsStart}
+use Rattle.journal.specs.declared.beginning.Beginning.{Beginning}
+use Rattle.journal.specs.Records.{record_bytes, records_bytes, start_bytes, IsLater, IsStart}
 use Rattle.journal.proofs.Spelled.{later_field, start_field}
 
 -- what the readers give is what they read
@@ -18,9 +19,9 @@ pub later_is : (bytes : List ℕ) (result : Result Record Fault) (rest : List �
     → Reads (λ kept. kept) record_bytes IsLater bytes result rest
 later_is bytes result rest small gives = gives-reads (λ kept. kept) read_later record_bytes IsLater later_field bytes result rest small gives
 
-pub start_is : (bytes : List ℕ) (result : Result Record Fault) (rest : List ℕ) → IsBytes bytes → Gives (λ kept. kept) result rest (read_start bytes)
-    → Reads (λ kept. kept) record_bytes IsStart bytes result rest
-start_is bytes result rest small gives = gives-reads (λ kept. kept) read_start record_bytes IsStart start_field bytes result rest small gives
+pub start_is : (bytes : List ℕ) (result : Result Beginning Fault) (rest : List ℕ) → IsBytes bytes → Gives (λ beginning. beginning) result rest (read_start bytes)
+    → Reads (λ beginning. beginning) start_bytes IsStart bytes result rest
+start_is bytes result rest small gives = gives-reads (λ beginning. beginning) read_start start_bytes IsStart start_field bytes result rest small gives
 
 -- a record has a byte
 pub longer : (kept : Record) (rest : List ℕ) → length rest < length (record_bytes kept ++ rest)

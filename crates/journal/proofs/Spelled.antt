@@ -1,36 +1,38 @@
 -- A record is read exactly where one is spelled.
-use Rattle.std.proofs.Common.{◌≡◌, ℕ, zero, suc, ◌<◌, ◌^◌, List, [], ◌∷◌, ◌++◌, Bool, true, false, Ok, Err, refl, sym, ap, subst, ◌∙◌, arith, lit≤, true≢false}
+use Rattle.std.proofs.Common.{◌≡◌, ℕ, zero, suc, ◌+◌, ◌*◌, ◌<◌, ◌≤◌, ◌^◌, List, [], ◌∷◌, ◌++◌, length, Bool, true, false, leb, Ok, Err, refl, sym, ap, subst, ◌∙◌, arith, lit≤, true≢false}
 use Rattle.std.specs.Prelude.{◌==◌}
-use Rattle.std.proofs.lemmas.Bool.{and_parts, eqb-true, leb-true}
+use Rattle.std.proofs.lemmas.Bool.{and_parts, eqb-true, eq-eqb, leb-true, le-leb}
+use Rattle.std.specs.Int.{byte_at}
 use Rattle.encoding.specs.declared.fault.Fault.TheVariants.{OutOfRange}
 use Rattle.encoding.specs.Bytes.{IsBytes, Is32Bytes}
 use Rattle.encoding.specs.Endian.{big_bytes}
 use Rattle.encoding.specs.Fields.{IsField}
 use Rattle.encoding.specs.Forms.{counted_bytes}
-use Rattle.encoding.specs.Limits.{IsKeyData, IsName}
-use Rattle.encoding.specs.Reading.{is_within, read_byte, read_number, read_where}
+use Rattle.encoding.specs.Limits.{IsKeyData, IsName, IsWithin}
+use Rattle.encoding.specs.Reading.{Reading, is_within, read_byte, read_counted, read_number, read_where}
 use Rattle.encoding.proofs.Fields.{allowed_field, byte_field, bytes_field, counted_field, numbers_field, refused_read, renamed_field, respelled_field, tested_field, then_field}
-use Rattle.encoding.proofs.FieldsOf.{behind, both}
+use Rattle.encoding.proofs.FieldsOf.{both}
 use Rattle.commands.specs.declared.edit.Verb.{Verb}
 use Rattle.commands.specs.declared.edit.Verb.TheVariants.{Register, Change}
 use Rattle.book.specs.declared.record.Record.{Record}
 use Rattle.book.specs.declared.record.Record.TheVariants.{Start, Bound, Turned}
-use Rattle.journal.specs.Reading.{bound_of, read_bound, read_later, read_later_of, read_start, read_turned, read_verb, start_of, verb_of}
-use Rattle.journal.specs.Records.{record_bytes, verb_byte, IsLater, IsStart}
+use Rattle.journal.specs.declared.beginning.Beginning.{Beginning}
+use Rattle.journal.specs.Reading.{beginning_of, bound_of, read_bound, read_later, read_later_of, read_mark, read_start, read_turned, read_up_to, read_verb, verb_of}
+use Rattle.journal.specs.Records.{record_bytes, start_bytes, verb_byte, IsLater, IsStart}
 
 -- ---- verbs
 
-abbrev IsVerbByte : ℕ → Type 0
+abbrev pub IsVerbByte : ℕ → Type 0
 IsVerbByte byte = (byte < 256) × (is_within 1 2 byte ≡ true)
 
-abbrev IsVerb : Verb → Type 0
+abbrev pub IsVerb : Verb → Type 0
 IsVerb verb = IsVerbByte (verb_byte verb) × (verb_of (verb_byte verb) ≡ verb)
 
-is_verb : (verb : Verb) → IsVerb verb
+pub is_verb : (verb : Verb) → IsVerb verb
 is_verb Register = ((lit≤ tt, refl), refl)
 is_verb Change = ((lit≤ tt, refl), refl)
 
-verb_again : (byte : ℕ) → IsVerbByte byte → verb_byte (verb_of byte) ≡ byte
+pub verb_again : (byte : ℕ) → IsVerbByte byte → verb_byte (verb_of byte) ≡ byte
 verb_again zero h = absurd cc
 verb_again (suc zero) h = refl
 verb_again (suc (suc zero)) h = refl
@@ -43,134 +45,154 @@ verb_field =
     (renamed_field verb_of verb_byte (read_where (is_within 1 2) read_byte) (λ byte. byte ∷ []) IsVerbByte verb_again
     (tested_field (is_within 1 2) read_byte (λ byte. byte ∷ []) (λ byte. byte < 256) byte_field))
 
+-- ---- marks, and lengths that are refused at their first byte
+
+pub mark_field : {A : Type 0} (mark : ℕ) {f : List ℕ → Reading A} {s : A → List ℕ} {P : A → Type 0} → mark < 256 → IsField f s P → IsField (read_mark mark f) (λ x. mark ∷ s x) P
+mark_field mark {f} {s} {P} small field =
+    let IsMark : ℕ → Type 0 = λ byte. (byte < 256) × ((mark == byte) ≡ true) in
+    allowed_field (read_mark mark f) (λ x. mark ∷ s x) (λ x. IsMark mark × P x) P (λ x h. h.1) (λ x h. ((small, eq-eqb mark mark refl), h))
+    (then_field (λ _. mark) (read_where (λ byte. mark == byte) read_byte) (λ _. f) (λ byte. byte ∷ []) s IsMark P
+    (tested_field (λ byte. mark == byte) read_byte (λ byte. byte ∷ []) (λ byte. byte < 256) byte_field)
+    (λ byte h. allowed_field f s P (λ x. P x × (mark ≡ byte)) (λ x p. (p, eqb-true mark byte h.1)) (λ x p. p.0) field))
+
+pub up_to_field : {A : Type 0} (most : ℕ) (f : List ℕ → Reading A) (s : A → List ℕ) (P : A → Type 0)
+    → ((x : A) (rest : List ℕ) → P x → (byte : ℕ) × (more : List ℕ) × (s x ++ rest ≡ byte ∷ more) × (byte ≤ most)) → IsField f s P → IsField (read_up_to most f) s P
+up_to_field {A} most f s P low field = record { spelled = spelled; again = again }
+  where
+    spelled : (bytes : List ℕ) (z : A × List ℕ) → IsBytes bytes → read_up_to most f bytes ≡ Ok z → (bytes ≡ s z.0 ++ z.1) × P z.0
+    spelled [] z small e = field.spelled [] z small e
+    spelled (byte ∷ rest) z small e = by_byte (leb byte most) refl
+      where
+        by_byte : (b : Bool) → leb byte most ≡ b → (byte ∷ rest ≡ s z.0 ++ z.1) × P z.0
+        by_byte true b = field.spelled (byte ∷ rest) z small (sym (rw b refl) ∙ e)
+        by_byte false b = absurd (refused_read OutOfRange z (sym (rw b refl) ∙ e))
+
+    again : (x : A) (rest : List ℕ) → P x → read_up_to most f (s x ++ rest) ≡ Ok (x, rest)
+    again x rest h =
+        let first = low x rest h in
+        ap (read_up_to most f) first.2 ∙ rw (le-leb first.0 most first.3) (ap f (sym first.2) ∙ field.again x rest h)
+
+-- the first byte of a length
+pub length_byte : (n high : ℕ) → n < 256 * high + 256 → byte_at 1 n ≤ high
+length_byte n high small = omega (arith, small)
+
+pub counted_up_to : (high most : ℕ) → most < 2 ^ 16 → most < 256 * high + 256 → IsField (read_up_to high (read_counted 1 most)) counted_bytes (IsWithin 1 most)
+counted_up_to high most fits small =
+    up_to_field high (read_counted 1 most) counted_bytes (IsWithin 1 most)
+    (λ x rest h. (byte_at 1 (length x), byte_at 0 (length x) ∷ x ++ rest, refl, length_byte (length x) high (omega (arith, small, h.1))))
+    (counted_field 1 most fits)
+
 -- ---- starts
 
-abbrev start_parts : Record → ℕ × (List ℕ × (List ℕ × List ℕ))
-start_parts (Start epoch nonce signature_key vuf_key) = (epoch, (nonce, (signature_key, vuf_key)))
-start_parts (Bound verb salt name key) = (0, ([], ([], [])))
-start_parts (Turned epoch) = (0, ([], ([], [])))
+abbrev pub beginning_parts : Beginning → ℕ × (List ℕ × (List ℕ × List ℕ))
+beginning_parts beginning = (beginning.epoch, (beginning.nonce, (beginning.signature_key, beginning.vuf_key)))
 
-abbrev spelled_start : ℕ × (List ℕ × (List ℕ × List ℕ)) → List ℕ
-spelled_start parts = big_bytes 8 parts.0 ++ (parts.1.0 ++ (parts.1.1.0 ++ parts.1.1.1))
+abbrev pub spelled_beginning : ℕ × (List ℕ × (List ℕ × List ℕ)) → List ℕ
+spelled_beginning parts = big_bytes 8 parts.0 ++ (parts.1.0 ++ (parts.1.1.0 ++ parts.1.1.1))
 
-abbrev StartParts : ℕ × (List ℕ × (List ℕ × List ℕ)) → Type 0
-StartParts parts = (parts.0 < 256 ^ 8) × (Is32Bytes parts.1.0 × (Is32Bytes parts.1.1.0 × Is32Bytes parts.1.1.1))
+abbrev pub BeginningParts : ℕ × (List ℕ × (List ℕ × List ℕ)) → Type 0
+BeginningParts parts = (parts.0 < 256 ^ 8) × (Is32Bytes parts.1.0 × (Is32Bytes parts.1.1.0 × Is32Bytes parts.1.1.1))
 
-abbrev Started : Record → Type 0
-Started kept = StartParts (start_parts kept) × (start_of (start_parts kept) ≡ kept)
+abbrev pub IsBeginning : Beginning → Type 0
+IsBeginning beginning = BeginningParts (beginning_parts beginning) × (beginning_of (beginning_parts beginning) ≡ beginning)
 
-pub start_field : IsField read_start record_bytes IsStart
+pub beginning_is : (beginning : Beginning) → IsBeginning beginning → IsStart beginning
+beginning_is beginning h = (h.0.0, h.0.1.0, h.0.1.1.0, h.0.1.1.1)
+
+pub is_beginning : (beginning : Beginning) → IsStart beginning → IsBeginning beginning
+is_beginning beginning h = ((h.0, (h.1, (h.2, h.3))), refl)
+
+pub start_field : IsField read_start start_bytes IsStart
 unfolding read_start
 start_field =
-    allowed_field _ record_bytes Started IsStart to back
-    (respelled_field _ (λ kept. (0x4e ∷ 1 ∷ []) ++ spelled_start (start_parts kept)) record_bytes Started same
-    (behind (0x4e ∷ 1 ∷ []) small
-    (renamed_field start_of start_parts _ spelled_start StartParts (λ _ _. refl)
+    mark_field 0x4e (lit≤ tt) (mark_field 1 (lit≤ tt)
+    (allowed_field _ (λ beginning. spelled_beginning (beginning_parts beginning)) IsBeginning IsStart beginning_is is_beginning
+    (renamed_field beginning_of beginning_parts _ spelled_beginning BeginningParts (λ _ _. refl)
     (both (numbers_field 8) (both (bytes_field 32) (both (bytes_field 32) (bytes_field 32)))))))
-  where
-    small : IsBytes (0x4e ∷ 1 ∷ [])
-    small zero = lit≤ tt
-    small (suc zero) = lit≤ tt
-    small (suc (suc k)) = lit≤ tt
-
-    same : (kept : Record) → Started kept → (0x4e ∷ 1 ∷ []) ++ spelled_start (start_parts kept) ≡ record_bytes kept
-    same (Start epoch nonce signature_key vuf_key) h = refl
-    same (Bound verb salt name key) h = absurd cc
-    same (Turned epoch) h = absurd cc
-
-    to : (kept : Record) → Started kept → IsStart kept
-    to (Start epoch nonce signature_key vuf_key) h = (h.0.0, h.0.1.0, h.0.1.1.0, h.0.1.1.1)
-    to (Bound verb salt name key) h = absurd cc
-    to (Turned epoch) h = absurd cc
-
-    back : (kept : Record) → IsStart kept → Started kept
-    back (Start epoch nonce signature_key vuf_key) h = ((h.0, (h.1, (h.2, h.3))), refl)
-    back (Bound verb salt name key) h = absurd h
-    back (Turned epoch) h = absurd h
 
 -- ---- later records
 
 -- what follows the kind byte
-abbrev later_parts : Record → List ℕ
+abbrev pub later_parts : Record → List ℕ
 later_parts (Start epoch nonce signature_key vuf_key) = []
 later_parts (Bound verb salt name key) = (verb_byte verb ∷ []) ++ (salt ++ (counted_bytes name ++ counted_bytes key))
 later_parts (Turned epoch) = big_bytes 8 epoch
 
-abbrev kind_of : Record → ℕ
+abbrev pub kind_of : Record → ℕ
 kind_of (Start epoch nonce signature_key vuf_key) = 0x4e
 kind_of (Bound verb salt name key) = 0x4f
 kind_of (Turned epoch) = 0x43
 
-abbrev OfKind : ℕ → Record → Type 0
+abbrev pub OfKind : ℕ → Record → Type 0
 OfKind kind kept = IsLater kept × (kind_of kept ≡ kind)
 
-abbrev bound_parts : Record → Verb × (List ℕ × (List ℕ × List ℕ))
+abbrev pub bound_parts : Record → Verb × (List ℕ × (List ℕ × List ℕ))
 bound_parts (Start epoch nonce signature_key vuf_key) = (Register, ([], ([], [])))
 bound_parts (Bound verb salt name key) = (verb, (salt, (name, key)))
 bound_parts (Turned epoch) = (Register, ([], ([], [])))
 
-abbrev spelled_bound : Verb × (List ℕ × (List ℕ × List ℕ)) → List ℕ
+abbrev pub spelled_bound : Verb × (List ℕ × (List ℕ × List ℕ)) → List ℕ
 spelled_bound parts = (verb_byte parts.0 ∷ []) ++ (parts.1.0 ++ (counted_bytes parts.1.1.0 ++ counted_bytes parts.1.1.1))
 
-abbrev BoundParts : Verb × (List ℕ × (List ℕ × List ℕ)) → Type 0
+abbrev pub BoundParts : Verb × (List ℕ × (List ℕ × List ℕ)) → Type 0
 BoundParts parts = Unit {0} × (Is32Bytes parts.1.0 × (IsName parts.1.1.0 × IsKeyData parts.1.1.1))
 
-abbrev IsBinding : Record → Type 0
+abbrev pub IsBinding : Record → Type 0
 IsBinding kept = BoundParts (bound_parts kept) × (bound_of (bound_parts kept) ≡ kept)
 
-bound_field : IsField read_bound later_parts (OfKind 0x4f)
+pub bound_same : (kept : Record) → IsBinding kept → spelled_bound (bound_parts kept) ≡ later_parts kept
+bound_same (Start epoch nonce signature_key vuf_key) h = absurd cc
+bound_same (Bound verb salt name key) h = refl
+bound_same (Turned epoch) h = absurd cc
+
+pub binding_is : (kept : Record) → IsBinding kept → OfKind 0x4f kept
+binding_is (Start epoch nonce signature_key vuf_key) h = absurd cc
+binding_is (Bound verb salt name key) h = ((h.0.1.0, h.0.1.1.0, h.0.1.1.1), refl)
+binding_is (Turned epoch) h = absurd cc
+
+pub is_binding : (kept : Record) → OfKind 0x4f kept → IsBinding kept
+is_binding (Start epoch nonce signature_key vuf_key) h = absurd h.0
+is_binding (Bound verb salt name key) h = ((tt, (h.0.0, (h.0.1, h.0.2))), refl)
+is_binding (Turned epoch) h = absurd (omega (arith, h.1))
+
+pub bound_field : IsField read_bound later_parts (OfKind 0x4f)
 unfolding read_bound
 bound_field =
-    allowed_field _ later_parts IsBinding (OfKind 0x4f) to back
-    (respelled_field _ (λ kept. spelled_bound (bound_parts kept)) later_parts IsBinding same
+    allowed_field _ later_parts IsBinding (OfKind 0x4f) binding_is is_binding
+    (respelled_field _ (λ kept. spelled_bound (bound_parts kept)) later_parts IsBinding bound_same
     (renamed_field bound_of bound_parts _ spelled_bound BoundParts (λ _ _. refl)
-    (both verb_field (both (bytes_field 32) (both (counted_field 1 255 (lit≤ tt)) (counted_field 1 2048 (lit≤ tt)))))))
-  where
-    same : (kept : Record) → IsBinding kept → spelled_bound (bound_parts kept) ≡ later_parts kept
-    same (Start epoch nonce signature_key vuf_key) h = absurd cc
-    same (Bound verb salt name key) h = refl
-    same (Turned epoch) h = absurd cc
+    (both verb_field (both (bytes_field 32) (both (counted_up_to 0 255 (lit≤ tt) (lit≤ tt)) (counted_up_to 8 2048 (lit≤ tt) (lit≤ tt)))))))
 
-    to : (kept : Record) → IsBinding kept → OfKind 0x4f kept
-    to (Start epoch nonce signature_key vuf_key) h = absurd cc
-    to (Bound verb salt name key) h = ((h.0.1.0, h.0.1.1.0, h.0.1.1.1), refl)
-    to (Turned epoch) h = absurd cc
-
-    back : (kept : Record) → OfKind 0x4f kept → IsBinding kept
-    back (Start epoch nonce signature_key vuf_key) h = absurd h.0
-    back (Bound verb salt name key) h = ((tt, (h.0.0, (h.0.1, h.0.2))), refl)
-    back (Turned epoch) h = absurd (omega (arith, h.1))
-
-abbrev epoch_of : Record → ℕ
+abbrev pub epoch_of : Record → ℕ
 epoch_of (Start epoch nonce signature_key vuf_key) = 0
 epoch_of (Bound verb salt name key) = 0
 epoch_of (Turned epoch) = epoch
 
-abbrev IsTurned : Record → Type 0
+abbrev pub IsTurned : Record → Type 0
 IsTurned kept = (epoch_of kept < 256 ^ 8) × (Turned (epoch_of kept) ≡ kept)
 
-turned_field : IsField read_turned later_parts (OfKind 0x43)
+pub turned_same : (kept : Record) → IsTurned kept → big_bytes 8 (epoch_of kept) ≡ later_parts kept
+turned_same (Start epoch nonce signature_key vuf_key) h = absurd cc
+turned_same (Bound verb salt name key) h = absurd cc
+turned_same (Turned epoch) h = refl
+
+pub turned_is : (kept : Record) → IsTurned kept → OfKind 0x43 kept
+turned_is (Start epoch nonce signature_key vuf_key) h = absurd cc
+turned_is (Bound verb salt name key) h = absurd cc
+turned_is (Turned epoch) h = (h.0, refl)
+
+pub is_turned : (kept : Record) → OfKind 0x43 kept → IsTurned kept
+is_turned (Start epoch nonce signature_key vuf_key) h = absurd h.0
+is_turned (Bound verb salt name key) h = absurd (omega (arith, h.1))
+is_turned (Turned epoch) h = (h.0, refl)
+
+pub turned_field : IsField read_turned later_parts (OfKind 0x43)
 turned_field =
-    allowed_field _ later_parts IsTurned (OfKind 0x43) to back
-    (respelled_field _ (λ kept. big_bytes 8 (epoch_of kept)) later_parts IsTurned same
+    allowed_field _ later_parts IsTurned (OfKind 0x43) turned_is is_turned
+    (respelled_field _ (λ kept. big_bytes 8 (epoch_of kept)) later_parts IsTurned turned_same
     (renamed_field Turned epoch_of (read_number 8) (big_bytes 8) (λ n. n < 256 ^ 8) (λ _ _. refl) (numbers_field 8)))
-  where
-    same : (kept : Record) → IsTurned kept → big_bytes 8 (epoch_of kept) ≡ later_parts kept
-    same (Start epoch nonce signature_key vuf_key) h = absurd cc
-    same (Bound verb salt name key) h = absurd cc
-    same (Turned epoch) h = refl
 
-    to : (kept : Record) → IsTurned kept → OfKind 0x43 kept
-    to (Start epoch nonce signature_key vuf_key) h = absurd cc
-    to (Bound verb salt name key) h = absurd cc
-    to (Turned epoch) h = (h.0, refl)
-
-    back : (kept : Record) → OfKind 0x43 kept → IsTurned kept
-    back (Start epoch nonce signature_key vuf_key) h = absurd h.0
-    back (Bound verb salt name key) h = absurd (omega (arith, h.1))
-    back (Turned epoch) h = (h.0, refl)
-
-kinds : (kind : ℕ) → IsField (read_later_of kind) later_parts (OfKind kind)
+pub kinds : (kind : ℕ) → IsField (read_later_of kind) later_parts (OfKind kind)
 kinds kind = first (kind == 0x4f) refl
   where
     IsOne : ℕ → Type 0
@@ -195,7 +217,7 @@ kinds kind = first (kind == 0x4f) refl
     first true e = subst IsOne (sym (eqb-true kind 0x4f e)) bound_field
     first false e = second (kind == 0x43) refl e
 
-later_small : (kept : Record) → kind_of kept < 256
+pub later_small : (kept : Record) → kind_of kept < 256
 later_small (Start epoch nonce signature_key vuf_key) = lit≤ tt
 later_small (Bound verb salt name key) = lit≤ tt
 later_small (Turned epoch) = lit≤ tt

@@ -1,11 +1,12 @@
 -- Reading records from the front of bytes.
-use Rattle.std.specs.Prelude.{ℕ, ◌==◌, if◌then◌else◌, List, [], ◌∷◌, Err}
+use Rattle.std.specs.Prelude.{ℕ, ◌==◌, if◌then◌else◌, List, [], ◌∷◌, Err, nat_le}
 use Rattle.encoding.specs.declared.fault.Fault.TheVariants.{OutOfRange}
-use Rattle.encoding.specs.Reading.{Reading, is_within, read_as, read_behind, read_both, read_byte, read_bytes, read_counted, read_number, read_then, read_where}
+use Rattle.encoding.specs.Reading.{Reading, is_within, read_as, read_both, read_byte, read_bytes, read_counted, read_number, read_then, read_where}
 use Rattle.commands.specs.declared.edit.Verb.{Verb}
 use Rattle.commands.specs.declared.edit.Verb.TheVariants.{Register, Change}
 use Rattle.book.specs.declared.record.Record.{Record}
-use Rattle.book.specs.declared.record.Record.TheVariants.{Start, Bound, Turned}
+use Rattle.book.specs.declared.record.Record.TheVariants.{Bound, Turned}
+use Rattle.journal.specs.declared.beginning.Beginning.{Beginning}
 
 abbrev pub verb_of : ℕ → Verb
 verb_of byte = if byte == 1 then Register else Change
@@ -13,17 +14,27 @@ verb_of byte = if byte == 1 then Register else Change
 unfoldable pub read_verb : List ℕ → Reading Verb
 read_verb = read_as verb_of (read_where (is_within 1 2) read_byte)
 
-abbrev pub start_of : ℕ × (List ℕ × (List ℕ × List ℕ)) → Record
-start_of parts = Start parts.0 parts.1.0 parts.1.1.0 parts.1.1.1
+abbrev pub beginning_of : ℕ × (List ℕ × (List ℕ × List ℕ)) → Beginning
+beginning_of parts = record { epoch = parts.0; nonce = parts.1.0; signature_key = parts.1.1.0; vuf_key = parts.1.1.1 }
 
 abbrev pub bound_of : Verb × (List ℕ × (List ℕ × List ℕ)) → Record
 bound_of parts = Bound parts.0 parts.1.0 parts.1.1.0 parts.1.1.1
 
-unfoldable pub read_start : List ℕ → Reading Record
-read_start = read_behind (0x4e ∷ 1 ∷ []) (read_as start_of (read_both (read_number 8) (read_both (read_bytes 32) (read_both (read_bytes 32) (read_bytes 32)))))
+-- a value behind one byte, as a kind or a version
+abbrev pub read_mark : {A : Type 0} → ℕ → (List ℕ → Reading A) → List ℕ → Reading A
+read_mark mark read bytes = read_then (read_where (λ byte. mark == byte) read_byte) (λ _. read) bytes
+
+-- a reader of what begins with no byte above this: where only one byte is left, it tells a beginning from what is none
+abbrev pub read_up_to : {A : Type 0} → ℕ → (List ℕ → Reading A) → List ℕ → Reading A
+read_up_to most read [] = read []
+read_up_to most read (byte ∷ rest) = if nat_le byte most then read (byte ∷ rest) else Err OutOfRange
+
+unfoldable pub read_start : List ℕ → Reading Beginning
+read_start = read_mark 0x4e (read_mark 1
+    (read_as beginning_of (read_both (read_number 8) (read_both (read_bytes 32) (read_both (read_bytes 32) (read_bytes 32))))))
 
 unfoldable pub read_bound : List ℕ → Reading Record
-read_bound = read_as bound_of (read_both read_verb (read_both (read_bytes 32) (read_both (read_counted 1 255) (read_counted 1 2048))))
+read_bound = read_as bound_of (read_both read_verb (read_both (read_bytes 32) (read_both (read_up_to 0 (read_counted 1 255)) (read_up_to 8 (read_counted 1 2048)))))
 
 abbrev pub read_turned : List ℕ → Reading Record
 read_turned = read_as Turned (read_number 8)

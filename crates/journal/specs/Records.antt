@@ -8,6 +8,7 @@ use Rattle.commands.specs.declared.edit.Verb.{Verb}
 use Rattle.commands.specs.declared.edit.Verb.TheVariants.{Register, Change}
 use Rattle.book.specs.declared.record.Record.{Record}
 use Rattle.book.specs.declared.record.Record.TheVariants.{Start, Bound, Turned}
+use Rattle.journal.specs.declared.beginning.Beginning.{Beginning}
 
 -- 01 for a registration, 02 for a change
 abbrev pub verb_byte : Verb → ℕ
@@ -25,14 +26,24 @@ record_bytes (Turned epoch) = 0x43 ∷ big_bytes 8 epoch
 abbrev pub records_bytes : List Record → List ℕ
 records_bytes = flat_map record_bytes
 
+abbrev pub start_of : Beginning → Record
+start_of beginning = Start beginning.epoch beginning.nonce beginning.signature_key beginning.vuf_key
+
+abbrev pub start_bytes : Beginning → List ℕ
+start_bytes beginning = record_bytes (start_of beginning)
+
+-- the parts are within their limits
+abbrev pub IsRecord : Record → Type 0
+IsRecord (Start epoch nonce signature_key vuf_key) = (epoch < 2 ^ 64) × Is32Bytes nonce × Is32Bytes signature_key × Is32Bytes vuf_key
+IsRecord (Bound verb salt name key) = Is32Bytes salt × IsName name × IsKeyData key
+IsRecord (Turned epoch) = epoch < 2 ^ 64
+
 -- what may stand first
-abbrev pub IsStart : Record → Type 0
-IsStart (Start epoch nonce signature_key vuf_key) = (epoch < 2 ^ 64) × Is32Bytes nonce × Is32Bytes signature_key × Is32Bytes vuf_key
-IsStart (Bound verb salt name key) = ⊥
-IsStart (Turned epoch) = ⊥
+abbrev pub IsStart : Beginning → Type 0
+IsStart beginning = IsRecord (start_of beginning)
 
 -- what may stand at each later place
 abbrev pub IsLater : Record → Type 0
 IsLater (Start epoch nonce signature_key vuf_key) = ⊥
-IsLater (Bound verb salt name key) = Is32Bytes salt × IsName name × IsKeyData key
-IsLater (Turned epoch) = epoch < 2 ^ 64
+IsLater (Bound verb salt name key) = IsRecord (Bound verb salt name key)
+IsLater (Turned epoch) = IsRecord (Turned epoch)

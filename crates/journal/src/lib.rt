@@ -1,20 +1,31 @@
 //! The journal of a directory: the records of what it did, as bytes.
 //!
-//! To the layers above: a record is written whole or the keeper fails, and from then on it keeps nothing.
-//! Each record has one spelling, and none begins another, so that the records at the front of any bytes
-//! are one list.
+//! To the layers above: a record is written whole, or the keeper fails and keeps nothing more. `open` gives
+//! exactly the directory that the records lead to, and the whole records at the front are counted exactly.
 //!
 //! ```
 //! let mut journal = Journal::new(file);
 //! journal.keep(&Record::Start { epoch, nonce, signature_key, vuf_key })?;
 //! let promise = directory.register(&mut journal, b"alice", &key)?;
+//!
+//! match open(alloc, &bytes, hash, vuf, signer, salts)? {
+//!     Opened::Directory(directory, taken) => ..,
+//!     Opened::Nothing => ..,
+//! }
 //! ```
 #![tactic(auto)]
 
+mod beginning;
 mod counting;
 mod journal;
+mod laws;
+mod opening;
 mod reading;
+mod refusal;
 mod text;
 
 pub use counting::records;
 pub use journal::Journal;
+pub use laws::{journals_open_to_their_runs, openings_are_settled};
+pub use opening::{Opened, open};
+pub use refusal::Refusal;

@@ -1,20 +1,27 @@
-ghost use Rattle.encoding.specs.Reading.{Gives};
-ghost use Rattle.journal.specs.Reading.{read_bound, read_later, read_start, read_verb};
+// Records are read so that a refusal says whether the bytes were cut short: `Short` exactly where they
+// begin a record that more bytes could end. So a length is refused at its first byte where no second one
+// could mend it.
+ghost use Rattle.encoding.specs.Reading.{Gives, read_counted};
+ghost use Rattle.journal.specs.Reading.{read_bound, read_later, read_start, read_up_to, read_verb};
 
-use crate::text::{BOUND, START_HEAD, TURNED};
+use crate::beginning::Beginning;
+use crate::text::{BOUND, START, START_VERSION, TURNED};
 use book::Record;
 use commands::Verb;
-use encoding::{Cursor, Fault};
+use encoding::{Bounded, Cursor, Fault};
 
 /// The start at the front of the bytes. Where it is refused, the cursor may stand anywhere.
 #[tactic(auto, unfolding(crate::specs::Reading::read_start))]
-pub(crate) fn read_start(cursor: &mut Cursor<'_>) -> Result<Record, Fault>
-    ensures { Gives (λ kept. kept) result cursor.new (read_start cursor.old) }
+pub(crate) fn read_start(cursor: &mut Cursor<'_>) -> Result<Beginning, Fault>
+    ensures { Gives (λ beginning. beginning) result cursor.new (read_start cursor.old) }
 {
-    if cursor.take(2)? != START_HEAD.as_slice() {
+    if cursor.u8()? != START {
         return Err(Fault::OutOfRange);
     }
-    Ok(Record::Start {
+    if cursor.u8()? != START_VERSION {
+        return Err(Fault::OutOfRange);
+    }
+    Ok(Beginning {
         epoch: cursor.u64()?,
         nonce: cursor.hash32()?,
         signature_key: cursor.hash32()?,
@@ -44,8 +51,8 @@ fn read_bound(cursor: &mut Cursor<'_>) -> Result<Record, Fault>
     Ok(Record::Bound {
         verb: read_verb(cursor)?,
         salt: cursor.hash32()?,
-        name: cursor.bounded()?,
-        key: cursor.bounded()?,
+        name: read_up_to(cursor, 0)?,
+        key: read_up_to(cursor, 8)?,
     })
 }
 
@@ -57,5 +64,15 @@ fn read_verb(cursor: &mut Cursor<'_>) -> Result<Verb, Fault>
         1 => Ok(Verb::Register),
         2 => Ok(Verb::Change),
         _ => Err(Fault::OutOfRange),
+    }
+}
+
+/// Bytes behind their length, whose first byte is at most `most`.
+fn read_up_to<const MOST: usize>(cursor: &mut Cursor<'_>, most: u8) -> Result<Bounded<MOST>, Fault>
+    ensures { Gives (λ text. text) result cursor.new (read_up_to most (read_counted 1 MOST) cursor.old) }
+{
+    match cursor.copied().u8() {
+        Ok(first) if first > most => Err(Fault::OutOfRange),
+        _ => cursor.bounded(),
     }
 }

@@ -1,12 +1,15 @@
-ghost use Rattle.std.specs.Prelude.{◌≡◌};
-ghost use Rattle.journal.specs.Records.{record_bytes, verb_byte};
+ghost use Rattle.std.specs.Prelude.{◌≡◌, length};
+ghost use Rattle.journal.specs.Records.{record_bytes, verb_byte, IsLater, IsRecord};
 
 use book::Record;
 use commands::Verb;
 use encoding::Text;
 
-/// The kind byte of a start, the letter N, and the version of its form.
-pub(crate) const START_HEAD: [u8; 2] = [0x4e, 1];
+/// The kind byte of a start, the letter N.
+pub(crate) const START: u8 = 0x4e;
+
+/// The version of the form of a start.
+pub(crate) const START_VERSION: u8 = 1;
 
 /// The kind byte of a binding, the letter O.
 pub(crate) const BOUND: u8 = 0x4f;
@@ -26,7 +29,8 @@ fn verb_byte(verb: Verb) -> u8
 
 /// The bytes of a record: 106 of a start, 9 of a new page, and 38 of a binding beside its name and key.
 pub(crate) fn record_text(what: &Record) -> Text
-    ensures { result ≡ record_bytes what.now }
+    ensures text { result ≡ record_bytes what.now }
+    ensures record { IsRecord what.now }
 {
     let mut text = Text::new();
     match what {
@@ -36,7 +40,7 @@ pub(crate) fn record_text(what: &Record) -> Text
             signature_key,
             vuf_key,
         } => {
-            text.push_slice(&START_HEAD);
+            text.push_slice(&[START, START_VERSION]);
             text.push_u64(*epoch);
             text.push_slice(nonce.bytes());
             text.push_slice(signature_key.bytes());
@@ -59,4 +63,24 @@ pub(crate) fn record_text(what: &Record) -> Text
         }
     }
     text
+}
+
+/// How many bytes a start has.
+pub(crate) const START_SIZE: usize = 106;
+
+/// How many bytes a binding has beside its name and its key, and a new page.
+const BOUND_SIZE: usize = 38;
+
+const TURNED_SIZE: usize = 9;
+
+/// How many bytes the record of a command has.
+pub(crate) fn later_size(what: &Record) -> usize
+    requires { IsLater what.now }
+    ensures { result ≡ length (record_bytes what.now) }
+{
+    match what {
+        Record::Start { .. } => START_SIZE,
+        Record::Bound { name, key, .. } => BOUND_SIZE + name.bytes().len() + key.bytes().len(),
+        Record::Turned { .. } => TURNED_SIZE,
+    }
 }
