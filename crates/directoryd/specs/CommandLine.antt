@@ -50,9 +50,13 @@ with_keys command =
     with_rule (with_rule (with_rule (with_rule command
     (required_rule (codes "sign-key"))) (required_rule (codes "vuf-key"))) (required_rule (codes "salt-key"))) (required_rule (codes "token"))
 
--- a command, with the options of a directory: its keys, its first epoch, and the nonce of its trees
+-- `--journal`
+abbrev pub journal_rule : Rule
+journal_rule = text_rule (codes "journal")
+
+-- a command, with the options of a directory: its keys, its first epoch, the nonce of its trees, and its journal
 abbrev pub with_directory : App → App
-with_directory command = with_rule (with_rule (with_keys command) (number_rule (codes "epoch") 1 (codes "1"))) nonce_rule
+with_directory command = with_rule (with_rule (with_rule (with_keys command) (number_rule (codes "epoch") 1 (codes "1"))) nonce_rule) journal_rule
 
 abbrev pub root_app : ValueParser → App
 root_app names = with_tree names (new_app (codes "root"))

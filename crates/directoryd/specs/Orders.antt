@@ -58,6 +58,7 @@ directory_in rows = record {
   token = text_in (codes "token") rows;
   epoch = number_from 1 (text_in (codes "epoch") rows);
   nonce = first_of (codes "nonce") rows;
+  journal = first_of (codes "journal") rows;
 }
 
 -- what a subcommand orders by its name: a path, an audit, a verdict, a session, connections, or else a root

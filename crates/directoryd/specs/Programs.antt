@@ -17,7 +17,7 @@ use Rattle.audits.specs.Verdicts.{verdict_status, JudgesAt}
 use Rattle.items.specs.Prove.{Proves}
 use Rattle.items.specs.Root.{root_answer}
 use Rattle.server.specs.Directories.{keys_of}
-use Rattle.server.specs.Listening.{TellsAddress}
+use Rattle.server.specs.Listening.{ListenTells}
 use Rattle.server.specs.Programs.{DirectoryServes}
 use Rattle.directoryd.specs.declared.ending.Ending.{Ending}
 use Rattle.directoryd.specs.CommandLine.{status_of, Refuses}
@@ -43,18 +43,18 @@ verdict_outcome (Ok verdict) = Ok (verdict_status verdict)
 verdict_outcome (Err fault) = Err fault
 
 -- What is ordered is done: a root is written, or the path of an index; an input is audited; a file is
--- judged; a directory begins and serves one session; or one begins and serves connections, and writes its
--- address to the errors.
+-- judged; a directory begins, or goes on from its journal, and serves one session; or one serves connections, and
+-- writes its address to the errors. The line about a journal is on the errors too.
 abbrev pub Obeys : Ordered → Option (List ℕ) → Option (List ℕ) → Option (List ℕ) → Option (List ℕ) → Option (List ℕ) → Result ℕ ProgramFault → Type 0
 Obeys (the_root asked) input out out-new err err-new outcome = EndsAt 0 (λ input said. root_answer asked input ≡ said) input out out-new outcome × Keeps err err-new
 Obeys (the_path index asked) input out out-new err err-new outcome = EndsAt 0 (Proves asked.hash (nonce_of asked.nonce) (hex32 index)) input out out-new outcome × Keeps err err-new
 Obeys (the_audit key) input out out-new err err-new outcome = IsZero outcome × Keeps err err-new × AuditsText key input out (without_status outcome) out-new
 Obeys (the_verdict key file) input out out-new err err-new outcome = Keeps err err-new
     × (verdict : Result Verdict ProgramFault) × (outcome ≡ verdict_outcome verdict) × JudgesAt key out verdict out-new
-Obeys (the_session asked) input out out-new err err-new outcome = IsZero outcome × Keeps err err-new
-    × (left : Option (List ℕ)) × DirectoryServes asked input out (without_status outcome) left out-new
+Obeys (the_session asked) input out out-new err err-new outcome = IsZero outcome
+    × (left : Option (List ℕ)) × DirectoryServes asked input out err (without_status outcome) left out-new err-new
 Obeys (the_connections asked count address) input out out-new err err-new outcome = IsZero outcome × Keeps out out-new
-    × ((outcome ≡ Err BadHex) ↔ (keys_of asked ≡ None)) × TellsAddress err (without_status outcome) err-new
+    × ((outcome ≡ Err BadHex) ↔ (keys_of asked ≡ None)) × ListenTells asked err (without_status outcome) err-new
 
 -- a text is written whole, and this status returned; or less of it if a write failed, or nothing if
 -- memory ran out

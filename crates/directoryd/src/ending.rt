@@ -14,7 +14,7 @@ use crate::{audit, judge_at, listen, prove, root, serve_directory};
 use audits::JudgeOrder;
 use std::alloc::Global;
 use std::convert::AsStr;
-use std::fs::Files;
+use std::fs::{File, Files};
 use std::io::{self, BufRead, Write};
 use std::net::{Net, TcpListener, TcpStream};
 use textio::ProgramFault;
@@ -53,7 +53,7 @@ fn obey<N, R, W, E>(
     errors: &mut E,
 ) -> Result<u8, ProgramFault>
 where
-    N: Net<Listener = TcpListener, Stream = TcpStream> + Files,
+    N: Net<Listener = TcpListener, Stream = TcpStream> + Files<File = File>,
     R: BufRead,
     W: Write,
     E: Write,
@@ -65,7 +65,7 @@ where
         Order::Prove(order) => prove(alloc, order, reader, writer)?,
         Order::Audit(order) => audit(alloc, order, reader, writer)?,
         Order::Judge(order) => return judge(alloc, system, order, writer),
-        Order::Serve(order) => serve_directory(alloc, order, reader, writer)?,
+        Order::Serve(order) => serve_directory(alloc, system, order, reader, writer, errors)?,
         Order::Listen(order) => listen(alloc, system, order, errors)?,
     }
     Ok(0)
@@ -81,7 +81,7 @@ fn run<N, S, R, W, E>(
     errors: &mut E,
 ) -> Result<u8, ProgramFault>
 where
-    N: Net<Listener = TcpListener, Stream = TcpStream> + Files,
+    N: Net<Listener = TcpListener, Stream = TcpStream> + Files<File = File>,
     S: AsStr,
     R: BufRead,
     W: Write,
@@ -105,7 +105,7 @@ fn start<N, R, W, E>(
     errors: &mut E,
 ) -> Result<u8, ProgramFault>
 where
-    N: Net<Listener = TcpListener, Stream = TcpStream> + Files,
+    N: Net<Listener = TcpListener, Stream = TcpStream> + Files<File = File>,
     R: BufRead + Drop,
     W: Write,
     E: Write,
@@ -155,7 +155,7 @@ pub fn end<N, R, W, E>(
     errors: &mut E,
 ) -> Ending
 where
-    N: Net<Listener = TcpListener, Stream = TcpStream> + Files,
+    N: Net<Listener = TcpListener, Stream = TcpStream> + Files<File = File>,
     R: BufRead + Drop,
     W: Write,
     E: Write,

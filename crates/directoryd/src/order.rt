@@ -3,7 +3,7 @@ ghost use Rattle.std.specs.NonZero.{non_zero_u64_get};
 ghost use Rattle.clap.specs.Words.{app_of, found_of, kind_of, rows_of, rule_of};
 ghost use Rattle.clap.specs.declared.builder.command.Command.TheViews.{out-Command};
 ghost use Rattle.clap.specs.declared.error.kind.ErrorKind.TheVariants.{OutOfMemory};
-ghost use Rattle.directoryd.specs.CommandLine.{audit_app, directory_app, hash_rule, judge_app, listen_app, nonce_rule, number_rule, positional_rule, prove_app, required_rule, root_app, serve_app, text_rule, with_directory, with_keys, IsHashNames, Refuses};
+ghost use Rattle.directoryd.specs.CommandLine.{audit_app, directory_app, hash_rule, journal_rule, judge_app, listen_app, nonce_rule, number_rule, positional_rule, prove_app, required_rule, root_app, serve_app, text_rule, with_directory, with_keys, IsHashNames, Refuses};
 ghost use Rattle.items.specs.Asked.{values_of};
 ghost use Rattle.server.specs.Asked.{values_of as directory_values};
 ghost use Rattle.directoryd.specs.Orders.{asked_in, directory_in, hash_named, number_from, ordered_in, text_in, values_in, IsOrdered};
@@ -52,14 +52,16 @@ Example: directoryd judge --key $KEY evidence.json";
 /// What stands below the options of `serve`.
 static SERVE_HELP: &str = "\
 Reads the frames of one session from standard input, and writes their replies to standard output.
-The directory is new, and nothing of it is kept at the end.
+The directory is new, and nothing of it is kept at the end, unless --journal is given: then it goes on
+as the file has it, and everything is kept there.
 
 Example: directoryd serve --sign-key $SIGN --vuf-key $VUF --salt-key $SALT --token $TOKEN < requests";
 
 /// What stands below the options of `listen`.
 static LISTEN_HELP: &str = "\
 Answers connections one after another, all from one directory. A connection with a fault is closed,
-and the next one is taken. The directory is new, and nothing of it is kept at the end.
+and the next one is taken. The directory is new, and nothing of it is kept at the end, unless --journal
+is given: then it goes on as the file has it, and everything is kept there.
 
 Example: directoryd listen --sign-key $SIGN --vuf-key $VUF --salt-key $SALT --token $TOKEN 127.0.0.1:7000";
 
@@ -124,6 +126,17 @@ fn nonce_arg<'a>(alloc: Global) -> Arg<'a>
         "nonce",
         "The nonce of the tree, 64 hexadecimal digits [default: zeros]",
     )
+}
+
+/// `--journal FILE`.
+fn journal_arg<'a>(alloc: Global) -> Arg<'a>
+    ensures rule { rule_of result ≡ journal_rule }
+    ensures local { result.global ≡ false }
+{
+    Arg::new(alloc, "journal")
+        .long("journal")
+        .value_name("FILE")
+        .help("The file in which the directory is kept [default: none]")
 }
 
 /// `--epoch E`.
@@ -248,7 +261,8 @@ fn add_directory<'a>(alloc: Global, command: Command<'a>) -> Result<Command<'a>,
 {
     let with_directory = add_keys(alloc, command)?
         .arg(epoch_arg(alloc))?
-        .arg(nonce_arg(alloc))?;
+        .arg(nonce_arg(alloc))?
+        .arg(journal_arg(alloc))?;
     Ok(with_directory)
 }
 
@@ -353,6 +367,7 @@ fn directory_order<'a>(found: &ArgMatches<'a>) -> DirectoryOrder<'a>
         token: text(found, "token"),
         epoch: first_epoch(found),
         nonce: found.get_str("nonce"),
+        journal: found.get_str("journal"),
     }
 }
 

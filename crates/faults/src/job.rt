@@ -5,7 +5,7 @@ use audits::{AuditOrder, audit, judge_file};
 use book::NoKeeper;
 use items::{HashChoice, ProveOrder, RootOrder, prove, root};
 use questions::Case;
-use server::{DirectoryOrder, ServeFault, serve, serve_directory};
+use server::{DirectoryOrder, ServeFault, serve, serve_unkept};
 use std::alloc::Global;
 use std::fmt;
 use std::io::BufReader;
@@ -229,8 +229,9 @@ fn serve_one(alloc: Global, reader: &mut CutReader<'_>, writer: &mut CutWriter) 
         token: FOURS,
         epoch: NonZeroU64::MIN,
         nonce: None,
+        journal: None,
     };
-    let outcome = ended(serve_directory(alloc, order, reader, writer));
+    let outcome = ended(serve_unkept(alloc, order, reader, writer));
     marked(outcome, writer.offered())
 }
 

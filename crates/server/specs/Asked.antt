@@ -3,8 +3,8 @@ use Rattle.std.specs.Prelude.{ℕ, List, Option, option_map}
 use Rattle.std.specs.NonZero.{non_zero_u64_get}
 use Rattle.server.specs.declared.order.DirectoryOrder.{DirectoryOrder}
 
--- the values of an order: the texts of the keys and of the token, the epoch of the first page, and the
--- nonce's text where one is given
+-- the values of an order: the texts of the keys and of the token, the epoch of the first page, and, where
+-- they are given, the nonce's text and the path of the journal
 pub record Asked : Type 0 where
   pub sign_key : List ℕ
   pub vuf_key : List ℕ
@@ -12,6 +12,7 @@ pub record Asked : Type 0 where
   pub token : List ℕ
   pub epoch : ℕ
   pub nonce : Option (List ℕ)
+  pub journal : Option (List ℕ)
 
 abbrev pub values_of : DirectoryOrder → Asked
 values_of order = record {
@@ -21,4 +22,5 @@ values_of order = record {
   token = order.token.now;
   epoch = non_zero_u64_get order.epoch;
   nonce = option_map (λ text. text.now) order.nonce;
+  journal = option_map (λ path. path.now) order.journal;
 }

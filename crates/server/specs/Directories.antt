@@ -3,10 +3,8 @@ use Rattle.std.specs.Prelude.{◌≡◌, ℕ, List, Option, None, Some}
 use Rattle.rand_core.specs.Stream.{Stream}
 use Rattle.rand_core.specs.Steps.{steps_u32, stream_of}
 use Rattle.rand_chacha.specs.ChaCha.{ChaCha, next_word, of_seed}
-use Rattle.book.specs.declared.keeper.NoKeeper.{NoKeeper}
 use Rattle.book.specs.Fresh.{fresh}
-use Rattle.epochs.specs.Kept.{book}
-use Rattle.hub.specs.Desks.{Desked}
+use Rattle.epochs.specs.Kept.{book, Kept}
 use Rattle.textio.specs.Digits.{hex32, nonce_of}
 use Rattle.server.specs.Asked.{Asked}
 
@@ -32,9 +30,8 @@ keys_of asked = keyed_if (hex32 asked.sign_key) (hex32 asked.vuf_key) (hex32 ask
 abbrev pub salts : ChaCha → Stream
 salts = stream_of (steps_u32 (next_word 10))
 
--- the desk is that of a directory at its first page, with these keys, and salts by ChaCha20 under the salt key
-pub record Begins (keys : Keyed) (desk : Desked ChaCha NoKeeper) : Type 0 where
-  pub book : book salts desk.directory ≡ fresh keys.epoch keys.nonce (salts (of_seed keys.salt_key))
-  pub vuf_key : desk.directory.vuf_key ≡ keys.vuf_key
-  pub sign_key : desk.directory.key ≡ keys.sign_key
-  pub token : desk.token ≡ keys.token
+-- the directory is at its first page, with these keys, and salts by ChaCha20 under the salt key
+pub record Begins (keys : Keyed) (directory : Kept ChaCha) : Type 0 where
+  pub book : book salts directory ≡ fresh keys.epoch keys.nonce (salts (of_seed keys.salt_key))
+  pub vuf_key : directory.vuf_key ≡ keys.vuf_key
+  pub sign_key : directory.key ≡ keys.sign_key

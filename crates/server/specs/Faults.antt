@@ -1,4 +1,5 @@
 -- Faults of a session as those of a program.
+use Rattle.std.specs.Prelude.{Result, Ok, Err}
 use Rattle.textio.specs.declared.stream_fault.StreamFault.{StreamFault}
 use Rattle.textio.specs.declared.stream_fault.StreamFault.TheVariants as stream
 use Rattle.textio.specs.declared.program_fault.ProgramFault.{ProgramFault}
@@ -15,3 +16,8 @@ abbrev pub of_serving : ServeFault → ProgramFault
 of_serving CannotRead = program.CannotRead
 of_serving CannotWrite = program.CannotWrite
 of_serving OutOfMemory = program.OutOfMemory
+
+-- the end of a session as that of the program
+abbrev pub outcome_of : Result (Unit {0}) ServeFault → Result (Unit {0}) ProgramFault
+outcome_of (Ok done) = Ok tt
+outcome_of (Err fault) = Err (of_serving fault)

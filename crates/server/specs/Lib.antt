@@ -4,4 +4,5 @@ pub mod Faults
 pub mod Listening
 pub mod Pieces
 pub mod Programs
+pub mod Reopening
 pub mod Serving

@@ -1,9 +1,13 @@
 -- What a server says of where it listens.
-use Rattle.std.specs.Prelude.{ℕ, List, ◌++◌, [], ◌∷◌, Option, Result, Ok, Err, codes}
+use Rattle.std.specs.Prelude.{◌≡◌, ◌⊎◌, ℕ, List, ◌++◌, [], ◌∷◌, Option, None, Some, Result, Ok, Err, OnOk, codes, ⊤}
 use Rattle.std.specs.Io.KnownBytes.{Appends, Keeps}
 use Rattle.textio.specs.declared.program_fault.ProgramFault.{ProgramFault}
-use Rattle.textio.specs.declared.program_fault.ProgramFault.TheVariants.{CannotWrite}
+use Rattle.textio.specs.declared.program_fault.ProgramFault.TheVariants.{BadHex, CannotWrite}
 use Rattle.textio.specs.Output.{WritesBeginning}
+use Rattle.hub.specs.Exchanges.{Exchange}
+use Rattle.server.specs.Asked.{Asked}
+use Rattle.server.specs.Directories.{keys_of, Keyed}
+use Rattle.server.specs.Programs.{AfterJournal, AllServedBy, KeepsInFile, KeptDesk, LosesInFile}
 
 -- the line with an address
 abbrev pub address_line : List ℕ → List ℕ
@@ -14,3 +18,21 @@ abbrev pub TellsAddress : Option (List ℕ) → Result (Unit {0}) ProgramFault �
 TellsAddress old (Ok done) new = (address : List ℕ) × Appends old new (address_line address)
 TellsAddress old (Err CannotWrite) new = (address : List ℕ) × WritesBeginning old new (address_line address)
 TellsAddress old (Err _) new = Keeps old new
+
+-- connections are served from a desk on, each a session, if all went well
+abbrev pub ServesConnections : Result (Unit {0}) ProgramFault → KeptDesk → Type 0
+ServesConnections result desk = OnOk result ((served : List (ℕ × List Exchange)) × (after : KeptDesk) × AllServedBy KeepsInFile LosesInFile desk served after)
+
+-- the same behind a journal, whose line comes first
+abbrev pub TellsKept : Asked → Option (List ℕ) → Result (Unit {0}) ProgramFault → Option (List ℕ) → Type 0
+TellsKept asked errors result new = ((result ≡ Err BadHex) × Keeps errors new)
+    ⊎ ((keys : Keyed) × (keys_of asked ≡ Some keys)
+    × AfterJournal keys errors new result ⊤ (λ desk told. TellsAddress told result new × ServesConnections result desk))
+
+-- what is written to the errors, by whether there is a journal
+abbrev pub TellsBy : Option (List ℕ) → Asked → Option (List ℕ) → Result (Unit {0}) ProgramFault → Option (List ℕ) → Type 0
+TellsBy None asked errors result new = TellsAddress errors result new
+TellsBy (Some path) asked errors result new = TellsKept asked errors result new
+
+abbrev pub ListenTells : Asked → Option (List ℕ) → Result (Unit {0}) ProgramFault → Option (List ℕ) → Type 0
+ListenTells asked = TellsBy asked.journal asked

@@ -1,25 +1,30 @@
-ghost use Rattle.std.specs.Prelude.{◌≡◌, [], IfOk, MatchResult, None, Some};
+ghost use Rattle.std.specs.Prelude.{◌≡◌, IfOk, MatchResult, None, Some};
 ghost use Rattle.server.specs.Asked.{values_of};
 ghost use Rattle.server.specs.Directories.{keys_of, Begins};
+ghost use Rattle.server.specs.Reopening.{at_stream, beginning_of};
+ghost use Rattle.journal.specs.Records.{start_of};
 ghost use Rattle.textio.specs.declared.program_fault.ProgramFault.TheVariants.{BadHex};
 
 use crate::DirectoryOrder;
-use book::NoKeeper;
+use book::Record;
 use encoding::Hash32;
 use epochs::Directory;
-use hub::{Desk, Hub};
+use hub::Desk;
 use nodehash::Sha256Hash;
 use rand_chacha::ChaCha20Rng;
 use rand_core::SeedableRng;
-use sigiface::KeyedSign;
+use sigiface::{KeyedSign, Signer};
 use std::alloc::{AllocError, Global};
 use std::marker::Model;
 use std::num::NonZeroU64;
 use textio::{HASH_SIZE, ProgramFault, option_hex32, option_nonce};
-use vrfiface::KeyedVuf;
+use vrfiface::{KeyedVuf, Vuf};
 
-/// The desk of the directory that the programs serve.
-pub type ServedDesk = Desk<Sha256Hash, KeyedVuf, KeyedSign, ChaCha20Rng, NoKeeper>;
+/// The directory that the programs serve.
+pub type ServedDirectory = Directory<Sha256Hash, KeyedVuf, KeyedSign, ChaCha20Rng>;
+
+/// The desk of that directory, with its keeper.
+pub type ServedDesk<K> = Desk<Sha256Hash, KeyedVuf, KeyedSign, ChaCha20Rng, K>;
 
 /// What a directory begins with.
 #[derive(Debug, Drop)]
@@ -68,22 +73,62 @@ impl Keys {
         })
     }
 
-    /// A hub of the directory that begins with these keys, without a session.
-    pub(crate) fn begin(&self, alloc: Global) -> Result<Hub<ServedDesk>, AllocError>
-        ensures begins { IfOk result (λ hub. Begins self.now hub.service) }
-        ensures idle { IfOk result (λ hub. hub.sessions ≡ []) }
+    /// The token of the operator.
+    pub(crate) fn token(&self) -> Hash32
+        ensures { result ≡ (self.now).token }
+    {
+        self.token
+    }
+
+    /// The functions of the directory.
+    pub(crate) fn vuf(&self) -> KeyedVuf
+        ensures { result ≡ (self.now).vuf_key }
+    {
+        KeyedVuf::new(self.vuf_key)
+    }
+
+    pub(crate) fn signer(&self) -> KeyedSign
+        ensures { result ≡ (self.now).sign_key }
+    {
+        KeyedSign::new(self.sign_key)
+    }
+
+    /// The generator of the salts, at the front of a stream.
+    pub(crate) fn salts(&self, stream: u64) -> ChaCha20Rng
+        ensures { result ≡ at_stream (self.now).salt_key stream }
+    {
+        let mut salts = ChaCha20Rng::from_seed(self.salt_key);
+        salts.set_stream(stream);
+        salts
+    }
+
+    /// The start of the directory that begins with these keys.
+    pub(crate) fn start(&self) -> Record
+        ensures { result ≡ start_of (beginning_of self.now) }
+    {
+        Record::Start {
+            epoch: self.epoch.get(),
+            nonce: self.nonce,
+            signature_key: self.signer().public(),
+            vuf_key: self.vuf().public(),
+        }
+    }
+
+    /// The directory that begins with these keys.
+    pub(crate) fn begin(&self, alloc: Global) -> Result<ServedDirectory, AllocError>
+        ensures { IfOk result (Begins self.now) }
     {
         let directory = Directory::new(
             alloc,
             self.epoch.get(),
             self.nonce,
             Sha256Hash::new(),
-            KeyedVuf::new(self.vuf_key),
-            KeyedSign::new(self.sign_key),
+            self.vuf(),
+            self.signer(),
             ChaCha20Rng::from_seed(self.salt_key),
         );
         match directory {
-            Ok(directory) => Ok(Hub::new(alloc, directory, NoKeeper, self.token)),
+            Ok(directory) => Ok(directory),
             Err(_) => Err(AllocError),
         }
     }

@@ -6,17 +6,23 @@
 //! refused before anything is read.
 #![tactic(auto)]
 
+mod disk;
 mod fault;
 mod input;
+mod journal_file;
 mod keys;
 mod laws;
 mod listening;
+mod opening;
 mod order;
+mod reopening;
 mod serving;
+mod telling;
 
 pub use fault::ServeFault;
-pub use input::serve_directory;
-pub use keys::ServedDesk;
+pub use input::{serve_directory, serve_unkept};
+pub use journal_file::{DiskFile, JournalFile};
+pub use keys::{ServedDesk, ServedDirectory};
 pub use laws::sessions_show_one_run;
 pub use listening::listen;
 pub use order::{DirectoryOrder, ListenOrder};

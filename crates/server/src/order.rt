@@ -1,6 +1,6 @@
 use std::num::NonZeroU64;
 
-/// A directory that begins with the program. The texts are those of the command line.
+/// A directory that is served. The texts are those of the command line.
 #[derive(Clone, Copy, Debug)]
 pub struct DirectoryOrder<'a> {
     /// The key of signatures, 64 hexadecimal digits; so are the other keys and the token.
@@ -15,6 +15,9 @@ pub struct DirectoryOrder<'a> {
     pub epoch: NonZeroU64,
     /// The nonce of the trees, 64 hexadecimal digits; zeros if none is given.
     pub nonce: Option<&'a str>,
+    /// The path of the file in which the directory is kept. A directory that the file already holds goes
+    /// on, and the order's epoch and nonce are then not used.
+    pub journal: Option<&'a str>,
 }
 
 /// A directory that answers connections.

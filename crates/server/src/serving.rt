@@ -10,6 +10,7 @@ ghost use Rattle.server.specs.Pieces.{AnswersPiece};
 ghost use Rattle.server.specs.Serving.{AllReplied, RepliedHonestly, Serves};
 
 use crate::ServeFault;
+use crate::disk::{Disk, write_answers};
 use book::Keeper;
 use hub::{Desk, Event, Hub, Service};
 use nodehash::NodeHash;
@@ -17,7 +18,7 @@ use rand_core::Rng;
 use sigiface::Signer;
 use std::alloc::Global;
 use std::io::{Read, Write};
-use textio::{read_some, write_text};
+use textio::read_some;
 use vrfiface::Vuf;
 
 /// The most bytes that are read at once.
@@ -31,13 +32,14 @@ fn answer_piece<S: Service + Drop, W: Write>(
     session: u32,
     piece: &[u8],
     writer: &mut W,
+    disk: Option<Disk<'_>>,
 ) -> Result<(), ServeFault>
     requires { due hub.old.sessions (AreBytes session piece.now) ≡ None }
     ensures { AnswersPiece S.answers hub.old session piece.now (W.contents writer.old) result hub.new (W.contents writer.new) }
 {
     let mut output = Vec::new(alloc);
     let heard = hub.event(&Event::Bytes(session, piece), &mut output);
-    let written = write_text(writer, &output);
+    let written = write_answers(disk, writer, &output);
     if heard.is_err() {
         return Err(ServeFault::OutOfMemory);
     }
@@ -52,6 +54,7 @@ fn converse<S: Service + Drop, R: Read, W: Write>(
     session: u32,
     reader: &mut R,
     writer: &mut W,
+    disk: Option<Disk<'_>>,
 ) -> Result<(), ServeFault>
     requires { at hub.old.sessions session ≡ Some (Rest []) }
     ensures keeps { (kept : Held) × (hub.new.sessions ≡ set_value (is_at (nat_cmp session)) hub.old.sessions kept) }
@@ -65,7 +68,7 @@ fn converse<S: Service + Drop, R: Read, W: Write>(
         if count == 0 {
             return Ok(());
         }
-        answer_piece(alloc, hub, session, &room[..count], writer)?;
+        answer_piece(alloc, hub, session, &room[..count], writer, disk)?;
     }
     Err(ServeFault::CannotRead)
 }
@@ -98,10 +101,36 @@ where
         hub.old.service (R.remaining reader.old) (W.contents writer.old) result hub.new.service (R.remaining reader.new) (W.contents writer.new) }
     ensures ended { hub.new.sessions ≡ hub.old.sessions }
 {
+    serve_on(alloc, hub, session, reader, writer, None)
+}
+
+/// The same, where the records of a journal are put on their disk before the answers that tell of them
+/// leave. If that fails, the fault is `CannotWrite`, and none of these answers has left.
+pub(crate) fn serve_on<H, V, S, G, K, R, W>(
+    alloc: Global,
+    hub: &mut Hub<Desk<H, V, S, G, K>>,
+    session: u32,
+    reader: &mut R,
+    writer: &mut W,
+    disk: Option<Disk<'_>>,
+) -> Result<(), ServeFault>
+where
+    H: NodeHash + Drop,
+    V: Vuf + Drop,
+    S: Signer + Drop,
+    G: Rng + Drop,
+    K: Keeper + Drop,
+    R: Read,
+    W: Write,
+    requires { due hub.old.sessions (IsOpen session) ≡ None }
+    ensures serves { Serves (RepliedHonestly H.digest_of V.value_of S.signature_of G.stream K.kept K.failed V.accepted S.verified session)
+        hub.old.service (R.remaining reader.old) (W.contents writer.old) result hub.new.service (R.remaining reader.new) (W.contents writer.new) }
+    ensures ended { hub.new.sessions ≡ hub.old.sessions }
+{
     // What the two calls of `head` ensure: the book is sound before and after, and the provider's
     // functions keep their laws.
     hub.head();
-    let outcome = serve_any(alloc, hub, session, reader, writer);
+    let outcome = serve_any(alloc, hub, session, reader, writer, disk);
     hub.head();
     outcome
 }
@@ -113,6 +142,7 @@ fn serve_any<S: Service + Drop, R: Read, W: Write>(
     session: u32,
     reader: &mut R,
     writer: &mut W,
+    disk: Option<Disk<'_>>,
 ) -> Result<(), ServeFault>
     requires { due hub.old.sessions (IsOpen session) ≡ None }
     ensures serves { Serves (AllReplied S.answers session) hub.old.service (R.remaining reader.old) (W.contents writer.old) result
@@ -123,7 +153,7 @@ fn serve_any<S: Service + Drop, R: Read, W: Write>(
     if hub.event(&Event::Open(session), &mut nothing).is_err() {
         return Err(ServeFault::OutOfMemory);
     }
-    let outcome = converse(alloc, hub, session, reader, writer);
+    let outcome = converse(alloc, hub, session, reader, writer, disk);
     let _ended = hub.event(&Event::End(session), &mut nothing);
     outcome
 }

@@ -17,7 +17,7 @@
 //! | | `event`, which calls `Service::answer` | `open`, `bytes`, `end` |
 //! | | `head` | `head`, `seen`, `seen-sum` |
 //! | | `run` | `run`, `run-on`, `seen`, `seen-sum` |
-//! | `serve` | `serve_directory`, which calls `serve` | `run`, `keys` |
+//! | `serve` | `serve_unkept`, which calls `serve` | `run`, `keys` |
 //! | `client` | `Client::start`, `update`, `look` | `start`, `update`, `look` |
 //! | | `keep_promise`, `due`, `due_epoch` | `keep`, `due`, `due-epoch` |
 //! | | `key`, `chain` | `key`, `head` |

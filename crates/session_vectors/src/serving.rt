@@ -2,7 +2,7 @@
 
 use crate::telling::{say_fault, tells_of_memory};
 use questions::Case;
-use server::{DirectoryOrder, serve_directory};
+use server::{DirectoryOrder, serve_unkept};
 use std::num::NonZeroU64;
 use textio::ProgramFault;
 
@@ -34,6 +34,7 @@ fn run(case: &mut Case<'_>) {
         token: TOKEN,
         epoch,
         nonce: case.option_text(),
+        journal: None,
     };
     serve(case, order);
 }
@@ -47,6 +48,7 @@ fn keys(case: &mut Case<'_>) {
         token: case.text(),
         epoch: NonZeroU64::MIN,
         nonce: None,
+        journal: None,
     };
     serve(case, order);
 }
@@ -55,7 +57,7 @@ fn keys(case: &mut Case<'_>) {
 fn serve(case: &mut Case<'_>, order: DirectoryOrder<'_>) {
     let mut reader = case.bytes();
     let mut output = Vec::new(case.alloc());
-    let served = serve_directory(case.alloc(), order, &mut reader, &mut output);
+    let served = serve_unkept(case.alloc(), order, &mut reader, &mut output);
     if tells_of_memory(&output) {
         case.lack_memory();
     }

@@ -26,7 +26,7 @@ returns-in-Judge g c =
 pub returns-in_err-serve_directory-in-Serve : goal.returns-in_err-serve_directory-in-Serve
 returns-in_err-serve_directory-in-Serve g c =
     let passed : c.from_residual-in_err-serve_directory-in-Serve.result ≡ Err c.in_err-serve_directory-in-Serve.field-0.0 = search rules in
-    rw (passed, c.in-Serve.is) (tt, Keeps-refl _, _, c.in_err-serve_directory-in-Serve.ensures.serves)
+    rw (passed, c.in-Serve.is) (tt, _, c.in_err-serve_directory-in-Serve.ensures.serves)
 
 pub returns-in_err-listen-in-Listen : goal.returns-in_err-listen-in-Listen
 returns-in_err-listen-in-Listen g c =
@@ -44,7 +44,7 @@ pub returns-in_ok-audit-in-Audit : goal.returns-in_ok-audit-in-Audit
 returns-in_ok-audit-in-Audit g c = rw c.in-Audit.is (refl, Keeps-refl _, c.in_ok-audit-in-Audit.ensures.audits)
 
 pub returns-in_ok-serve_directory-in-Serve : goal.returns-in_ok-serve_directory-in-Serve
-returns-in_ok-serve_directory-in-Serve g c = rw c.in-Serve.is (refl, Keeps-refl _, _, c.in_ok-serve_directory-in-Serve.ensures.serves)
+returns-in_ok-serve_directory-in-Serve g c = rw c.in-Serve.is (refl, _, c.in_ok-serve_directory-in-Serve.ensures.serves)
 
 pub returns-in_ok-listen-in-Listen : goal.returns-in_ok-listen-in-Listen
 returns-in_ok-listen-in-Listen g c =

@@ -7,6 +7,7 @@ pub returns : goal.returns
 returns c =
     let found = found_of c.args.found.now in
     let given : option_map (λ s. s.now) c.get_str.result ≡ first_of (codes "nonce") (rows_of found) = c.get_str.ensures ∙ first_value-rows found (codes "nonce") in
+    let journal : option_map (λ s. s.now) c.get_str-2.result ≡ first_of (codes "journal") (rows_of found) = c.get_str-2.ensures ∙ first_value-rows found (codes "journal") in
     λ i. record {
       sign_key = c.text.ensures i;
       vuf_key = c.text-2.ensures i;
@@ -14,4 +15,5 @@ returns c =
       token = c.text-4.ensures i;
       epoch = c.first_epoch.ensures i;
       nonce = given i;
+      journal = journal i;
     }

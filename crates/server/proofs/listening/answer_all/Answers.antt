@@ -7,26 +7,26 @@ use Rattle.hub.specs.Desks.{DeskAnswers}
 use Rattle.hub.specs.Runs.{lines}
 use Rattle.hub.proofs.DeskHonest.{lines_show_honest_run}
 use Rattle.server.specs.Directories.{salts}
-use Rattle.server.specs.Programs.{IsKeyedSignature, IsKeyedValue, KeepsNothing, NeverFails}
+use Rattle.server.specs.Programs.{IsKeyedSignature, IsKeyedValue}
 use Rattle.server.specs.Serving.{all_lines}
 use Rattle.server.proofs.Joined.{all_answered}
 use Rattle.server.proofs.Listened.{after_next}
 use Rattle.server.proofs.listening.answer_all.Goals as goal
 
 pub loop-preserved : goal.loop-preserved
-loop-preserved c =
-    let more = after_next (DeskAnswers sha256 keyed_value keyed_signature salts KeepsNothing NeverFails) 1 c.args.hub.now.service c.loop.hub.service c.answer_next.new.hub.service
-    (λ exchanges. ShowHonestRun sha256 keyed_value keyed_signature salts KeepsNothing NeverFails IsKeyedValue IsKeyedSignature c.loop.hub.service (lines 1 exchanges) c.answer_next.new.hub.service)
+loop-preserved g c =
+    let more = after_next (DeskAnswers sha256 keyed_value keyed_signature salts g.K.Keeper.kept g.K.Keeper.failed) 1 c.args.hub.now.service c.loop.hub.service c.answer_next.new.hub.service
+    (λ exchanges. ShowHonestRun sha256 keyed_value keyed_signature salts g.K.Keeper.kept g.K.Keeper.failed IsKeyedValue IsKeyedSignature c.loop.hub.service (lines 1 exchanges) c.answer_next.new.hub.service)
     (c.loop.invariant.1, c.loop.invariant.2) c.answer_next.ensures.replied in
     (c.answer_next.ensures.ended, more.0, more.1)
 
 pub returns-clause-shown : goal.returns-clause-shown
-returns-clause-shown c = (
+returns-clause-shown g c = (
   c.loop.invariant.1,
   (
     c.loop.invariant.2,
-    lines_show_honest_run sha256 keyed_value keyed_signature salts KeepsNothing NeverFails IsKeyedValue IsKeyedSignature c.args.hub.now.service (all_lines c.loop.invariant.1) c.loop.hub.service
+    lines_show_honest_run sha256 keyed_value keyed_signature salts g.K.Keeper.kept g.K.Keeper.failed IsKeyedValue IsKeyedSignature c.args.hub.now.service (all_lines c.loop.invariant.1) c.loop.hub.service
         c.head.ensures.well c.head-2.ensures.well
-        (all_answered (DeskAnswers sha256 keyed_value keyed_signature salts KeepsNothing NeverFails) c.args.hub.now.service c.loop.invariant.1 c.loop.hub.service c.loop.invariant.2),
+        (all_answered (DeskAnswers sha256 keyed_value keyed_signature salts g.K.Keeper.kept g.K.Keeper.failed) c.args.hub.now.service c.loop.invariant.1 c.loop.hub.service c.loop.invariant.2),
   ),
 )

@@ -9,6 +9,6 @@ returns-then-is_err g c =
     let bad : IsErr c.event-heard.result = search rules in
     let happens : Happens g.S.Service.answers c.args.hub.now (Bytes c.args.session c.args.piece.now) [] c.event-heard.result c.event-heard.new.self c.event-heard.new.output.items =
     subst (λ (t : List ℕ). Happens g.S.Service.answers c.args.hub.now (Bytes c.args.session c.args.piece.now) t c.event-heard.result c.event-heard.new.self c.event-heard.new.output.items) c.new-output.ensures.items c.event-heard.ensures.happens in
-    let writes : Writes (g.W.Write.contents c.args.writer.now) (g.W.Write.contents c.write_text-written.new.writer) c.event-heard.new.output.items c.write_text-written.result =
-    subst (λ (t : List ℕ). Writes (g.W.Write.contents c.args.writer.now) (g.W.Write.contents c.write_text-written.new.writer) t c.write_text-written.result) c.deref.ensures.value (c.write_text-written.ensures.ok, c.write_text-written.ensures.err) in
-    part_written g.S.Service.answers c.args.hub.now c.args.session c.args.piece.now _ c.event-heard.result c.event-heard.new.self _ _ c.write_text-written.result happens c.requires bad writes
+    let writes : Writes (g.W.Write.contents c.args.writer.now) (g.W.Write.contents c.write_answers-written.new.writer) c.event-heard.new.output.items c.write_answers-written.result =
+    subst (λ (t : List ℕ). Writes (g.W.Write.contents c.args.writer.now) (g.W.Write.contents c.write_answers-written.new.writer) t c.write_answers-written.result) c.deref.ensures.value (c.write_answers-written.ensures.ok, c.write_answers-written.ensures.err) in
+    part_written g.S.Service.answers c.args.hub.now c.args.session c.args.piece.now _ c.event-heard.result c.event-heard.new.self _ _ c.write_answers-written.result happens c.requires bad writes

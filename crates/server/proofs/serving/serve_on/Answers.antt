@@ -3,7 +3,7 @@ use Rattle.hub.proofs.DeskHonest.{lines_show_honest_run}
 use Rattle.hub.specs.Runs.{lines}
 use Rattle.server.specs.Serving.{AllReplied, RepliedHonestly}
 use Rattle.server.proofs.Conversing.{serves_also}
-use Rattle.server.proofs.serving.serve.Goals as goal
+use Rattle.server.proofs.serving.serve_on.Goals as goal
 
 pub returns-clause-serves : goal.returns-clause-serves
 returns-clause-serves g c =

@@ -1,0 +1,112 @@
+-- What a server makes of the file of a journal: the directory that it goes on with, and what the file then holds.
+use Rattle.std.specs.Prelude.{◌≡◌, ◌⊎◌, ℕ, ◌+◌, ◌==◌, if◌then◌else◌, Bool, false, List, [], ◌∷◌, ◌++◌, length, take, Option, None, Some, IfSome, codes, decimal, ⊤}
+use Rattle.rand_chacha.specs.ChaCha.{ChaCha, of_seed}
+use Rattle.nodehash.specs.Sha256.{sha256}
+use Rattle.vrfiface.specs.StandIns.{keyed_value}
+use Rattle.sigiface.specs.StandIn.{keyed_signature}
+use Rattle.book.specs.Fresh.{provider_of}
+use Rattle.book.specs.Shows.{index_of}
+use Rattle.epochs.specs.Kept.{book, Kept}
+use Rattle.journal.specs.declared.beginning.Beginning.{Beginning}
+use Rattle.journal.specs.declared.refusal.Refusal.{Refusal}
+use Rattle.journal.specs.declared.refusal.Refusal.TheVariants as refusal
+use Rattle.journal.specs.Counting.{Counts}
+use Rattle.journal.specs.Openings.{HasOtherKeys, IsBad, IsCut, OpensTo}
+use Rattle.journal.specs.Records.{start_bytes, IsStart}
+use Rattle.textio.specs.declared.program_fault.ProgramFault.{ProgramFault}
+use Rattle.textio.specs.declared.program_fault.ProgramFault.TheVariants.{BadHex, BadItem, IndexRepeated, NotEvidence, BadRecord, OtherKeys, CannotRead, CannotWrite, CannotListen, OutOfMemory}
+use Rattle.server.specs.Directories.{salts, Begins, Keyed}
+
+-- known bytes are cut to their first ones
+abbrev pub Cuts : Option (List ℕ) → ℕ → Option (List ℕ) → Type 0
+Cuts None size new = ⊤
+Cuts (Some bytes) size new = new ≡ Some (take size bytes)
+
+-- the bytes of a file are these, where they are known
+abbrev pub Holds : Option (List ℕ) → List ℕ → Type 0
+Holds known bytes = IfSome known (λ all. bytes ≡ all)
+
+-- and afterwards the file holds those
+abbrev pub Turns : Option (List ℕ) → List ℕ → Option (List ℕ) → List ℕ → Type 0
+Turns known bytes after held = IfSome known (λ all. (bytes ≡ all) × (after ≡ Some held))
+
+-- the salts' generator under a key, at the front of the stream of this number
+abbrev pub at_stream : List ℕ → ℕ → ChaCha
+at_stream salt_key number = record (of_seed salt_key) { stream = number }
+
+-- the index of a name, by these keys
+abbrev pub index_by : Keyed → List ℕ → List ℕ
+index_by keys = index_of (provider_of sha256 keyed_value keys.vuf_key keyed_signature keys.sign_key)
+
+-- the start of a new directory of these keys
+abbrev pub beginning_of : Keyed → Beginning
+beginning_of keys = record { epoch = keys.epoch; nonce = keys.nonce; signature_key = keys.sign_key; vuf_key = keys.vuf_key }
+
+module _ (keys : Keyed) (bytes : List ℕ) where
+  -- the bytes are a start that was cut short: a new directory begins, and the file holds its start alone
+  abbrev pub StartsAnew : Kept ChaCha → List ℕ → ℕ → ℕ → Type 0
+  StartsAnew directory held records cut = IsCut start_bytes IsStart bytes × Begins keys directory
+      × (held ≡ start_bytes (beginning_of keys)) × (records ≡ 0) × (cut ≡ length bytes)
+
+  -- the bytes open to this directory, whose next salts come from the stream that has the number of their
+  -- records; the file holds the bytes of these, and the rest is cut off
+  abbrev pub GoesOn : Kept ChaCha → List ℕ → ℕ → ℕ → Type 0
+  GoesOn directory held records cut = (taken : ℕ) × Counts bytes records
+      × OpensTo (index_by keys) keys.sign_key keys.vuf_key (salts (at_stream keys.salt_key records)) bytes (book salts directory) taken
+      × (directory.key ≡ keys.sign_key) × (directory.vuf_key ≡ keys.vuf_key) × (held ≡ take taken bytes) × (length bytes ≡ taken + cut)
+
+  abbrev pub Reopens : Kept ChaCha → List ℕ → ℕ → ℕ → Type 0
+  Reopens directory held records cut = StartsAnew directory held records cut ⊎ GoesOn directory held records cut
+
+  -- the bytes are refused, whatever their next salts
+  abbrev pub IsRefused : Type 0
+  IsRefused = (records : ℕ) × Counts bytes records × IsBad (index_by keys) keys.sign_key keys.vuf_key (salts (at_stream keys.salt_key records)) bytes
+
+-- the bytes that a file holds, where they are known, are cut to none, and the start of a new directory is written
+abbrev pub HasStarted : Keyed → Option (List ℕ) → Kept ChaCha → Bool → Option (List ℕ) → Type 0
+HasStarted keys known directory is_broken after = Begins keys directory × (is_broken ≡ false) × IfSome known (λ all. after ≡ Some (start_bytes (beginning_of keys)))
+
+-- the bytes of a file lead to this directory, with this many records and this many bytes cut off, and the journal
+-- goes on behind what the file then holds
+abbrev pub HasReopened : Keyed → Option (List ℕ) → Kept ChaCha → Bool → Option (List ℕ) → ℕ → ℕ → Type 0
+HasReopened keys known directory is_broken after records cut = (is_broken ≡ false)
+    × (bytes held : List ℕ) × Turns known bytes after held × Reopens keys bytes directory held records cut
+
+abbrev pub of_refusal : Refusal → ProgramFault
+of_refusal refusal.BadRecord = BadRecord
+of_refusal refusal.OtherKeys = OtherKeys
+of_refusal refusal.Memory = OutOfMemory
+
+-- a read, a write or memory failed
+abbrev pub IsSystemFault : ProgramFault → Type 0
+IsSystemFault BadHex = ⊥
+IsSystemFault (BadItem line) = ⊥
+IsSystemFault (IndexRepeated line) = ⊥
+IsSystemFault NotEvidence = ⊥
+IsSystemFault BadRecord = ⊥
+IsSystemFault OtherKeys = ⊥
+IsSystemFault CannotRead = ⊤
+IsSystemFault CannotWrite = ⊤
+IsSystemFault CannotListen = ⊥
+IsSystemFault OutOfMemory = ⊤
+
+-- why a file is not opened: its bytes are refused, or have other keys, or the system failed
+abbrev pub IsUnopened : Keyed → Option (List ℕ) → ProgramFault → Type 0
+IsUnopened keys known BadRecord = (bytes : List ℕ) × Holds known bytes × IsRefused keys bytes
+IsUnopened keys known OtherKeys = (bytes : List ℕ) × Holds known bytes × HasOtherKeys keys.sign_key keys.vuf_key bytes
+IsUnopened keys known CannotRead = ⊤
+IsUnopened keys known CannotWrite = ⊤
+IsUnopened keys known OutOfMemory = ⊤
+IsUnopened keys known BadHex = ⊥
+IsUnopened keys known (BadItem line) = ⊥
+IsUnopened keys known (IndexRepeated line) = ⊥
+IsUnopened keys known NotEvidence = ⊥
+IsUnopened keys known CannotListen = ⊥
+
+-- what was cut off, where anything was
+abbrev pub cut_words : ℕ → List ℕ
+cut_words cut = if cut == 0 then [] else (codes ", " ++ decimal cut ++ codes " bytes cut off")
+
+-- the line about a journal that was opened
+abbrev pub journal_line : ℕ → ℕ → List ℕ
+journal_line records cut = codes "journal: " ++ decimal records ++ codes " records taken" ++ cut_words cut ++ 10 ∷ []
