@@ -8,7 +8,7 @@
 
 mod disk;
 mod fault;
-mod input;
+mod streams;
 mod journal_file;
 mod keys;
 mod laws;
@@ -20,7 +20,7 @@ mod serving;
 mod telling;
 
 pub use fault::ServeFault;
-pub use input::{serve_directory, serve_unkept};
+pub use streams::{serve_directory, serve_unkept};
 pub use journal_file::{DiskFile, JournalFile};
 pub use keys::{ServedDesk, ServedDirectory};
 pub use laws::sessions_show_one_run;

@@ -10,7 +10,7 @@ ghost use Rattle.server.specs.Listening.{ListenTells, ServesConnections, TellsAd
 ghost use Rattle.server.specs.Programs.{AfterJournal, AllServedBy, ServedReplied};
 
 use crate::disk::{Disk, DiskState};
-use crate::input::SESSION;
+use crate::streams::SESSION;
 use crate::journal_file::DiskFile;
 use crate::keys::{Keys, ServedDesk};
 use crate::opening::open_journal;

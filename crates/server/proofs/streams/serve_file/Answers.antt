@@ -4,7 +4,7 @@ use Rattle.std.proofs.KnownBytes.{Keeps-refl}
 use Rattle.server.specs.Faults.{of_serving}
 use Rattle.server.specs.Reopening.{journal_line}
 use Rattle.server.proofs.Behind.{told, untold}
-use Rattle.server.proofs.input.serve_file.Goals as goal
+use Rattle.server.proofs.streams.serve_file.Goals as goal
 
 pub returns-in-Err-tell_journal-clause-serves : goal.returns-in-Err-tell_journal-clause-serves
 returns-in-Err-tell_journal-clause-serves g c =
