@@ -1,0 +1,130 @@
+#!/usr/bin/env bash
+# Runs `directoryd serve` and `directoryd listen` with a journal as processes: what they say of its file, what
+# they keep through kills, and what they do with a full disk. What a file holds is in no clause, so it is shown
+# here.
+#
+#   scripts/journal.sh
+#
+# Takes the built program, or the one that DIRECTORYD names. The last line is `N passed, M failed`, and the
+# status is 0 where none failed. It ends after five minutes whatever happens.
+set -uo pipefail
+cd "$(dirname "$0")/.." || exit 1
+
+if [ -z "${JOURNAL_LIMIT:-}" ]; then
+    JOURNAL_LIMIT=300 exec timeout --kill-after=10 300 "scripts/journal.sh"
+fi
+
+program=${DIRECTORYD:-crates/directoryd/out/directoryd}
+folder=$(mktemp -d)
+passed=0
+failed=0
+
+finish() {
+    rm -rf "$folder"
+    echo "$passed passed, $failed failed"
+    [ "$failed" = 0 ]
+    exit
+}
+
+fails() {
+    failed=$((failed + 1))
+    echo "$1"
+}
+
+trap 'fails "out of time"; finish' TERM
+
+# Compares what was got with what is wanted: same WHAT WANTED GOT
+same() {
+    if [ "$3" = "$2" ]; then
+        passed=$((passed + 1))
+    else
+        fails "$1: wanted '${2:0:80}', got '${3:0:80}'"
+    fi
+}
+
+# Runs the program over a file to its end, and compares status, output in hex and errors: ends WHAT STATUS
+# OUTPUT ERRORS INPUT WORD..
+ends() {
+    local what=$1 status=$2 output=$3 errors=$4 input=$5 got=0
+    shift 5
+    timeout --foreground 60 "$program" "$@" <"$input" >"$folder/out" 2>"$folder/err" || got=$?
+    same "$what, status" "$status" "$got"
+    same "$what, output" "$output" "$(od -An -v -tx1 "$folder/out" | tr -d ' \n')"
+    same "$what, errors" "$errors" "$(cat "$folder/err")"
+}
+
+# Runs a command that has to end with status 0, and shows what it prints where it does not: well WHAT WORD..
+well() {
+    local what=$1
+    shift
+    if timeout --foreground 240 "$@" >"$folder/printed" 2>&1; then
+        passed=$((passed + 1))
+    else
+        fails "$what: status $?"
+        cat "$folder/printed"
+    fi
+}
+
+if [ ! -x "$program" ]; then
+    fails "there is no program $program: build it with (cd crates/directoryd && rt run)"
+    finish
+fi
+keys=$(scripts/formats.py --keys)
+zeros=$(printf '0%.0s' {1..64})
+scripts/formats.py --requests >"$folder/requests"
+scripts/formats.py --replies >"$folder/replies"
+all=$(od -An -v -tx1 "$folder/replies" | tr -d ' \n')
+last=$(tail -c 185 "$folder/replies" | od -An -v -tx1 | tr -d ' \n')
+printf '\0\0\0\1\6' >"$folder/head"
+journal=$folder/journal
+
+# A new directory answers as without a journal, and goes on from it. Its first epoch and nonce stay.
+ends "a new journal" 0 "$all" "journal: 0 records taken" "$folder/requests" serve $keys --journal "$journal"
+count=$(python3 -c 'import sys; sys.path.insert(0, "scripts"); import formats
+print(formats.count_records(open(sys.argv[1], "rb").read()))' "$journal")
+size=$(stat -c %s "$journal")
+cp "$journal" "$folder/whole"
+ends "a journal" 0 "$last" "journal: $count records taken" "$folder/head" serve $keys --journal "$journal"
+ends "a journal, another epoch" 0 "$last" "journal: $count records taken" "$folder/head" \
+    serve $keys --journal "$journal" --epoch 9 --nonce "${zeros//0/1}"
+same "a journal that was only read" "" "$(cmp "$journal" "$folder/whole" 2>&1)"
+
+# What follows the whole records is cut off.
+printf 'C\0\0' >>"$journal"
+ends "three bytes too many" 0 "$last" "journal: $count records taken, 3 bytes cut off" "$folder/head" \
+    serve $keys --journal "$journal"
+same "the bytes are cut off" "" "$(cmp "$journal" "$folder/whole" 2>&1)"
+head -c 105 "$folder/whole" >"$folder/cut"
+ends "a start that was cut short" 0 "$all" "journal: 0 records taken, 105 bytes cut off" "$folder/requests" \
+    serve $keys --journal "$folder/cut"
+same "the same journal" "" "$(cmp "$folder/cut" "$folder/whole" 2>&1)"
+
+# Refused files stay as they are.
+cp "$folder/whole" "$folder/bad"
+printf X >>"$folder/bad"
+cp "$folder/bad" "$folder/kept"
+ends "a bad record" 1 "" "journal: bad record" "$folder/head" serve $keys --journal "$folder/bad"
+ends "a bad record, listening" 1 "" "journal: bad record" /dev/null listen $keys --journal "$folder/bad" nowhere
+same "a bad journal stays" "" "$(cmp "$folder/bad" "$folder/kept" 2>&1)"
+other="--sign-key $zeros ${keys#* * }"
+ends "other keys" 1 "" "journal: other keys" "$folder/head" serve $other --journal "$journal"
+same "a journal of other keys stays" "" "$(cmp "$journal" "$folder/whole" 2>&1)"
+
+# The keys come before the file, and the file before the address.
+ends "a bad nonce" 1 "" "bad hex" "$folder/head" serve $keys --nonce 00 --journal "$folder/bad"
+ends "a folder that is not there" 1 "" "cannot write" "$folder/head" serve $keys --journal "$folder/none/journal"
+ends "a folder" 1 "" "cannot read" "$folder/head" serve $keys --journal "$folder"
+ends "no address" 1 "" "journal: $count records taken
+cannot listen" /dev/null listen $keys --journal "$journal" nowhere
+got=0
+flock "$journal" "$program" serve $keys --journal "$journal" <"$folder/head" >"$folder/out" 2>"$folder/err" || got=$?
+same "a file that another holds, status" 1 "$got"
+same "a file that another holds" "cannot write" "$(cat "$folder/err")"
+got=0
+"$program" serve $keys --journal "$journal" <"$folder/head" >"$folder/out" 2>/dev/full || got=$?
+same "a line that cannot be written, status" 1 "$got"
+same "a line that cannot be written, output" "" "$(od -An -v -tx1 "$folder/out")"
+
+well "a file that may not grow" scripts/journaled.py "$program" "$folder" full
+well "kills at 200 moments" scripts/journaled.py "$program" "$folder" kills 200
+finish
