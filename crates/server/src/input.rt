@@ -4,6 +4,7 @@ ghost use Rattle.textio.specs.declared.program_fault.ProgramFault.TheVariants.{B
 ghost use Rattle.server.specs.Asked.{values_of};
 ghost use Rattle.server.specs.Programs.{AfterJournal, DirectoryServes, ServesAt, ServesKept, ServesUnkept};
 
+use crate::DirectoryOrder;
 use crate::disk::{Disk, DiskState};
 use crate::journal_file::DiskFile;
 use crate::keys::Keys;
@@ -11,7 +12,6 @@ use crate::opening::open_journal;
 use crate::reopening::{Reopened, reopen};
 use crate::serving::{serve, serve_on};
 use crate::telling::tell_journal;
-use crate::DirectoryOrder;
 use book::NoKeeper;
 use hub::Hub;
 use std::alloc::Global;
