@@ -147,7 +147,8 @@ class Answered:
             accepted = accept(sha256, KeyedVuf, root.body, name, body)
         except Refusal:
             return False
-        return root.verifies(SIGN_KEY) and accepted.reply.end.key == key
+        end = accepted.reply.end
+        return root.verifies(SIGN_KEY) and isinstance(end, Opening) and end.key == key
 
 
 def kills(program, folder, count):

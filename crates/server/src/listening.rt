@@ -201,7 +201,8 @@ where
         Ok(file) => file,
         Err(fault) => return Err(fault),
     };
-    let state = Cell::new(DiskState::Synced);
+    // What the file already has may be in the memory of the system alone.
+    let state = Cell::new(DiskState::Unsynced);
     let disk = Disk {
         file: &file,
         state: &state,

@@ -4,6 +4,7 @@ ghost use Rattle.textio.specs.declared.program_fault.ProgramFault.TheVariants.{B
 ghost use Rattle.server.specs.Asked.{values_of};
 ghost use Rattle.server.specs.Programs.{AfterJournal, DirectoryServes, ServesAt, ServesKept, ServesUnkept};
 
+use crate::DirectoryOrder;
 use crate::disk::{Disk, DiskState};
 use crate::journal_file::DiskFile;
 use crate::keys::Keys;
@@ -11,7 +12,6 @@ use crate::opening::open_journal;
 use crate::reopening::{Reopened, reopen};
 use crate::serving::{serve, serve_on};
 use crate::telling::tell_journal;
-use crate::DirectoryOrder;
 use book::NoKeeper;
 use hub::Hub;
 use std::alloc::Global;
@@ -96,7 +96,8 @@ fn serve_kept<F: Files<File = File>, R: Read, W: Write, E: Write>(
         Ok(file) => file,
         Err(fault) => return Err(fault),
     };
-    let state = Cell::new(DiskState::Synced);
+    // What the file already has may be in the memory of the system alone.
+    let state = Cell::new(DiskState::Unsynced);
     let disk = Disk {
         file: &file,
         state: &state,

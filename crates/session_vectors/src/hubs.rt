@@ -46,7 +46,7 @@ impl Past {
 pub(crate) struct KeptHub {
     first: First,
     past: Vec<Past>,
-    hub: Option<Hub<ServedDesk>>,
+    hub: Option<Hub<ServedDesk<NoKeeper>>>,
 }
 
 impl KeptHub {
@@ -74,7 +74,7 @@ impl KeptHub {
     }
 }
 
-fn make(alloc: Global, first: &First) -> Result<Hub<ServedDesk>, Refusal> {
+fn make(alloc: Global, first: &First) -> Result<Hub<ServedDesk<NoKeeper>>, Refusal> {
     match make_keyed(alloc, first, &common_secrets()) {
         Ok(directory) => Ok(Hub::new(alloc, directory, NoKeeper, Hash32::new(TOKEN))),
         Err(why) => Err(why),
@@ -84,9 +84,9 @@ fn make(alloc: Global, first: &First) -> Result<Hub<ServedDesk>, Refusal> {
 /// The hub after these events, if memory did not run out again.
 fn live_again(
     case: &mut Case<'_>,
-    made: Hub<ServedDesk>,
+    made: Hub<ServedDesk<NoKeeper>>,
     past: &[Past],
-) -> Option<Hub<ServedDesk>> {
+) -> Option<Hub<ServedDesk<NoKeeper>>> {
     let mut hub = made;
     let mut output = Vec::new(case.alloc());
     for event in past {
@@ -152,7 +152,7 @@ fn head(case: &mut Case<'_>, kept: &mut KeptHub) {
     }
 }
 
-fn keep_hub(alloc: Global, kept: &mut KeptHub, first: First, hub: Hub<ServedDesk>) {
+fn keep_hub(alloc: Global, kept: &mut KeptHub, first: First, hub: Hub<ServedDesk<NoKeeper>>) {
     *kept = KeptHub {
         first,
         past: Vec::new(alloc),
@@ -197,7 +197,7 @@ fn happen(case: &mut Case<'_>, kept: &mut KeptHub, event: &Event<'_>) {
 /// Lets the hub handle an event. If memory ran out before the event was taken, it comes once more; if
 /// after, an empty piece goes on with what waits.
 fn hear(
-    hub: &mut Hub<ServedDesk>,
+    hub: &mut Hub<ServedDesk<NoKeeper>>,
     event: &Event<'_>,
     output: &mut Vec<u8>,
 ) -> Result<(), HubRefusal> {
@@ -209,7 +209,7 @@ fn hear(
 }
 
 fn go_on(
-    hub: &mut Hub<ServedDesk>,
+    hub: &mut Hub<ServedDesk<NoKeeper>>,
     event: &Event<'_>,
     output: &mut Vec<u8>,
 ) -> Result<(), HubRefusal> {
@@ -267,7 +267,7 @@ fn run_again(case: &mut Case<'_>) {
 
 fn run_in_turn(
     case: &mut Case<'_>,
-    made: Hub<ServedDesk>,
+    made: Hub<ServedDesk<NoKeeper>>,
     before: &[Event<'_>],
     after: &[Event<'_>],
 ) {
@@ -296,7 +296,7 @@ pub(crate) fn events<'a>(case: &mut Case<'a>) -> Vec<Event<'a>> {
     events
 }
 
-fn run_on(case: &mut Case<'_>, made: Hub<ServedDesk>, events: &[Event<'_>]) {
+fn run_on(case: &mut Case<'_>, made: Hub<ServedDesk<NoKeeper>>, events: &[Event<'_>]) {
     let mut hub = made;
     match hub.run(events) {
         Ok(outputs) => tell_outputs(case, &outputs),
