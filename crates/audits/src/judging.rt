@@ -3,8 +3,8 @@ ghost use Rattle.nodehash.specs.Sha256.{sha256};
 ghost use Rattle.audits.specs.StandIns.{KeyedAccepts, KeyedVerifies};
 ghost use Rattle.audits.specs.Verdicts.{verdict_line, verdict_status, IsVerdict, Judges, JudgesAt, JudgesFile};
 
-use crate::orders::JudgeOrder;
 use crate::opening::file_bytes;
+use crate::orders::JudgeOrder;
 use crate::reading::read_evidence;
 use auditor::{Evidence, judge};
 use encoding::Hash32;

@@ -15,16 +15,16 @@
 mod auditing;
 mod fault;
 mod judging;
-mod orders;
 mod laws;
 mod opening;
+mod orders;
 mod reading;
 mod writing;
 
 pub use auditing::audit;
 pub use fault::ReadFault;
 pub use judging::{Verdict, judge_at, judge_file};
-pub use orders::{AuditOrder, JudgeOrder};
 pub use laws::{file_is_one_evidence, text_is_compact, text_is_file};
+pub use orders::{AuditOrder, JudgeOrder};
 pub use reading::read_evidence;
 pub use writing::evidence_json;

@@ -14,11 +14,11 @@ use audits::{AuditOrder, JudgeOrder};
 use clap::builder::ValueParser;
 use clap::{Arg, ArgMatches, Command, Error};
 use items::{HashChoice, ProveOrder, RootOrder};
-pub use subcommands::Order;
 use server::{DirectoryOrder, ListenOrder};
 use std::alloc::{AllocError, Global};
 use std::convert::AsStr;
 use std::num::NonZeroU64;
+pub use subcommands::Order;
 
 /// What stands below the options of `root`: the format of its input, and an example.
 static ROOT_HELP: &str = "\

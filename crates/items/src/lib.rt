@@ -14,8 +14,8 @@
 //! ```
 #![tactic(auto)]
 
-mod orders;
 mod listing;
+mod orders;
 mod path_lines;
 mod root_line;
 

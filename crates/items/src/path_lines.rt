@@ -5,8 +5,8 @@ ghost use Rattle.textio.specs.Output.{Ends};
 ghost use Rattle.items.specs.Prove.{end_line, path_lines, sibling_lines, PathTold, Proves};
 ghost use Rattle.items.specs.Asked.{values_of};
 
-use crate::orders::{HashChoice, ProveOrder};
 use crate::listing::read_placement;
+use crate::orders::{HashChoice, ProveOrder};
 use crate::root_line::root_text;
 use encoding::{Hash32, Index};
 use itoa::Buffer;

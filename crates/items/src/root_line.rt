@@ -5,8 +5,8 @@ ghost use Rattle.textio.specs.Output.{Ends};
 ghost use Rattle.textio.specs.Digits.{nonce_of};
 ghost use Rattle.items.specs.Root.{root_answer, root_line, root_told};
 
-use crate::orders::{HashChoice, RootOrder};
 use crate::listing::read_placement;
+use crate::orders::{HashChoice, RootOrder};
 use encoding::{FixedText, Hash32};
 use nodehash::{NodeHash, Sha256Hash, SumHash};
 use prefixtree::Tree;

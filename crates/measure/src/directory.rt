@@ -171,7 +171,11 @@ pub(crate) fn measure(rt: &(impl Print + Input), alloc: Global, wanted: &Epochs)
     let mut directory = new_directory(alloc)?;
     end_step(rt, alloc, 0)?;
     end_step(rt, alloc, take_digests(&mut text, wanted.digests))?;
-    end_step(rt, alloc, register_all(&mut directory, &mut NoKeeper, wanted.names)?)?;
+    end_step(
+        rt,
+        alloc,
+        register_all(&mut directory, &mut NoKeeper, wanted.names)?,
+    )?;
     end_step(rt, alloc, close(&mut directory, &mut NoKeeper, FIRST)?)?;
     for round in 0..wanted.rounds {
         let numbers = numbers_of_round(alloc, wanted, round, wanted.changes)?;

@@ -40,7 +40,11 @@ fn keep(
     let mut journal = Journal::new(room);
     journal.keep(&start())?;
     end_step(rt, alloc, 0)?;
-    end_step(rt, alloc, register_all(&mut directory, &mut journal, names)?)?;
+    end_step(
+        rt,
+        alloc,
+        register_all(&mut directory, &mut journal, names)?,
+    )?;
     end_step(rt, alloc, close(&mut directory, &mut journal, FIRST)?)?;
     Ok(directory)
 }

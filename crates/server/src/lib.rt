@@ -8,7 +8,6 @@
 
 mod disk;
 mod fault;
-mod streams;
 mod journal_file;
 mod keys;
 mod laws;
@@ -17,13 +16,14 @@ mod opening;
 mod order;
 mod reopening;
 mod serving;
+mod streams;
 mod telling;
 
 pub use fault::ServeFault;
-pub use streams::{serve_directory, serve_unkept};
 pub use journal_file::{DiskFile, JournalFile};
 pub use keys::{ServedDesk, ServedDirectory};
 pub use laws::sessions_show_one_run;
 pub use listening::listen;
 pub use order::{DirectoryOrder, ListenOrder};
 pub use serving::serve;
+pub use streams::{serve_directory, serve_unkept};

@@ -10,12 +10,12 @@ ghost use Rattle.server.specs.Listening.{ListenTells, ServesConnections, TellsAd
 ghost use Rattle.server.specs.Programs.{AfterJournal, AllServedBy, ServedReplied};
 
 use crate::disk::{Disk, DiskState};
-use crate::streams::SESSION;
 use crate::journal_file::DiskFile;
 use crate::keys::{Keys, ServedDesk};
 use crate::opening::open_journal;
 use crate::reopening::{Reopened, reopen};
 use crate::serving::serve_on;
+use crate::streams::SESSION;
 use crate::telling::tell_journal;
 use crate::{ListenOrder, ServeFault};
 use book::{Keeper, NoKeeper};
