@@ -1,5 +1,5 @@
 -- What a run writes to its journal, and what a beginning of that opens to.
-use Rattle.std.proofs.Common.{◌≡◌, ◌≢◌, ◌⊎◌, inl, inr, ℕ, suc, ◌+◌, ◌<◌, List, [], ◌∷◌, ◌++◌, length, length-append, append_assoc, take, Bool, true, false, Option, Some, None, refl, sym, ap, subst, ◌∙◌, arith, true≢false}
+use Rattle.std.proofs.Common.{◌≡◌, ◌≤◌, ◌≢◌, ◌⊎◌, inl, inr, ℕ, suc, ◌+◌, ◌<◌, List, [], ◌∷◌, ◌++◌, length, length-append, append_assoc, take, Bool, true, false, Option, Some, None, refl, sym, ap, subst, ◌∙◌, arith, true≢false}
 use Rattle.std.proofs.lemmas.List.{append-nil}
 use Rattle.std.specs.Prelude.{option_map}
 use Rattle.std.specs.Io.KnownBytes.{Appends}
@@ -13,18 +13,20 @@ use Rattle.book.specs.declared.reply.Reply.{Reply}
 use Rattle.book.specs.declared.reply.Reply.TheVariants as reply
 use Rattle.book.specs.Answers.{Answer}
 use Rattle.book.specs.Books.{Book}
-use Rattle.book.specs.Replays.{after_answer, replayed, with_salt_of, with_salts_of}
+use Rattle.std.specs.List.{AllByRecursion}
+use Rattle.book.specs.Replays.{after_answer, replayed, replayed_all, with_salt_of, with_salts_of}
 use Rattle.book.specs.Shows.{Provider, index_of}
 use Rattle.book.specs.Steps.{Outcome, Answers, Refuses, step, unless_refused}
 use Rattle.book.specs.Turns.{kept_of, Declines, Keeps as KeepsOne, Run, Turn as Turns}
 use Rattle.book.proofs.Stepping.{stepped}
 use Rattle.journal.specs.declared.beginning.Beginning.{Beginning}
 use Rattle.journal.specs.Journals.{KeepsRecord, LosesRecord, Written}
-use Rattle.journal.specs.Openings.{IsCut, Leads}
+use Rattle.journal.specs.Openings.{IsCut, Leads, OpensTo}
 use Rattle.journal.specs.Records.{record_bytes, records_bytes, start_bytes, IsLater, IsRecord, IsStart}
-use Rattle.journal.specs.Reopened.{begun, OpensInto}
+use Rattle.journal.specs.Reopened.{begun, with_stream, OpensInto}
 use Rattle.journal.proofs.Cuts.{longer, parted}
 use Rattle.journal.proofs.Replaying.{leads_nowhere, leads_on, nothing_cut}
+use Rattle.journal.proofs.Settled.{led}
 
 -- what is known to have been appended
 appended : (one two : Option (List ℕ)) (old more : List ℕ) → one ≡ Some old → Appends one two more → two ≡ Some (old ++ more)
@@ -70,6 +72,26 @@ module _ (by : List ℕ → List ℕ) (other : Book) where
       let R : Option Refusal → Option Book = λ why. option_map (with_salts_of old) (after_answer (unless_refused why old (Edit (Turn epoch)))) in
       subst (λ (k : Record). replayed by old k ≡ Some (with_salts_of other middle)) same
       (ap R s.none ∙ ap (λ (b : Book). Some (with_salts_of other b)) (sym s.does.1))
+
+nothing : (rest : List ℕ) → length rest ≤ 0 → rest ≡ []
+nothing [] few = refl
+nothing (byte ∷ rest) few = absurd (omega (arith, few))
+
+some_book : (one two : Book) → (let left : Option Book = Some one in left) ≡ Some two → one ≡ two
+some_book one two e = cc
+
+-- records that lead from one book to another, and records that lead on from there
+leads_join : (by : List ℕ → List ℕ) (records : List Record) (before middle after : Book) (bytes more rest : List ℕ)
+    → bytes ≡ records_bytes records ++ [] → AllByRecursion IsLater records → replayed_all by before records ≡ Some middle
+    → Leads by middle more after rest → Leads by before (bytes ++ more) after rest
+leads_join by [] before middle after bytes more rest is all leads on =
+    subst (λ (b : Book). Leads by b (bytes ++ more) after rest) (sym (some_book before middle leads)) (subst (λ (t : List ℕ). Leads by middle (t ++ more) after rest) (sym is) on)
+leads_join by (kept ∷ records) before middle after bytes more rest is all leads on =
+    let one = led by before middle kept records leads in
+    let later = leads_join by records one.0 middle after (records_bytes records ++ []) more rest refl all.1 one.2 on in
+    leads_on by before one.0 after kept (bytes ++ more) ((records_bytes records ++ []) ++ more) rest
+    (ap (λ (t : List ℕ). t ++ more) (is ∙ append_assoc (record_bytes kept) (records_bytes records) []) ∙ append_assoc (record_bytes kept) (records_bytes records ++ []) more)
+    all.0 one.1 later
 
 module _ (provider : Provider) {W : Type 0} (contents : W → Option (List ℕ)) where
   abbrev Ran : Book → Written W → List Asked → List Reply → Book → Written W → Type 0
@@ -266,7 +288,7 @@ module _ (provider : Provider) {W : Type 0} (contents : W → Option (List ℕ))
       → Ran (begun beginning salts) keeper commands replies after keeper_after
       → contents keeper_after.writer ≡ Some bytes → bytes ≡ front ++ more
       → IsCut start_bytes IsStart front
-      ⊎ ((middle : Book) × OpensInto provider contents beginning later (begun beginning salts) keeper commands replies front middle × (more ≡ [] → middle ≡ after))
+      ⊎ ((middle : Book) × OpensInto provider contents beginning.signature_key beginning.vuf_key later (begun beginning salts) keeper commands replies front middle × (more ≡ [] → middle ≡ after))
   reopened beginning salts later keeper keeper_after after commands replies bytes front more start positive held run holds is =
       by_part (parted (start_bytes beginning) tail.0 front more (some_same _ _ (sym tail.1 ∙ holds) ∙ is))
     where
@@ -275,14 +297,14 @@ module _ (provider : Provider) {W : Type 0} (contents : W → Option (List ℕ))
 
       by_part : ((m : List ℕ) × (start_bytes beginning ≡ front ++ m) × (m ≢ [])) ⊎ ((m : List ℕ) × (front ≡ start_bytes beginning ++ m) × (tail.0 ≡ m ++ more))
           → IsCut start_bytes IsStart front
-          ⊎ ((middle : Book) × OpensInto provider contents beginning later (begun beginning salts) keeper commands replies front middle × (more ≡ [] → middle ≡ after))
+          ⊎ ((middle : Book) × OpensInto provider contents beginning.signature_key beginning.vuf_key later (begun beginning salts) keeper commands replies front middle × (more ≡ [] → middle ≡ after))
       by_part (inl (m, cut, some)) = inl (beginning, m, cut, some, start)
       by_part (inr (m, whole, left)) =
           opens (tail.2 m more left)
         where
           opens : Found (begun beginning later) (begun beginning salts) keeper commands replies after m more
               → IsCut start_bytes IsStart front
-              ⊎ ((middle : Book) × OpensInto provider contents beginning later (begun beginning salts) keeper commands replies front middle × (more ≡ [] → middle ≡ after))
+              ⊎ ((middle : Book) × OpensInto provider contents beginning.signature_key beginning.vuf_key later (begun beginning salts) keeper commands replies front middle × (more ≡ [] → middle ≡ after))
           opens (n, middle, between, rest, ran, leads, cut, all) = inr (
             middle,
             (
@@ -298,3 +320,41 @@ module _ (provider : Provider) {W : Type 0} (contents : W → Option (List ℕ))
             ),
             all,
           )
+
+  -- a run that goes on with what a journal held
+  pub goes_on : (signature_key vuf_key : List ℕ) (later : Stream) (keeper keeper_after : Written W) (book after : Book) (commands : List Asked) (replies : List Reply) (held bytes front more : List ℕ)
+      → contents keeper.writer ≡ Some held → OpensTo (index_of provider) signature_key vuf_key later held (with_stream later book) (length held)
+      → Ran book keeper commands replies after keeper_after
+      → contents keeper_after.writer ≡ Some bytes → bytes ≡ front ++ more → length held ≤ length front
+      → (middle : Book) × OpensInto provider contents signature_key vuf_key later book keeper commands replies front middle × (more ≡ [] → middle ≡ after)
+  goes_on signature_key vuf_key later keeper keeper_after book after commands replies held bytes front more has opens run holds is long =
+      by_part (parted held tail.0 front more (some_same _ _ (sym tail.1 ∙ holds) ∙ is))
+    where
+      tail : Tail (with_stream later book) book keeper commands replies after keeper_after held
+      tail = held_tail (with_stream later book) keeper.is_broken commands replies book after keeper keeper_after held refl has run
+
+      by_part : ((m : List ℕ) × (held ≡ front ++ m) × (m ≢ [])) ⊎ ((m : List ℕ) × (front ≡ held ++ m) × (tail.0 ≡ m ++ more))
+          → (middle : Book) × OpensInto provider contents signature_key vuf_key later book keeper commands replies front middle × (more ≡ [] → middle ≡ after)
+      by_part (inl (m, cut, some)) = absurd (omega (arith, ap length cut, longer front m some, long))
+      by_part (inr (m, whole, left)) = joined opens (tail.2 m more left)
+        where
+          joined : OpensTo (index_of provider) signature_key vuf_key later held (with_stream later book) (length held) → Found (with_stream later book) book keeper commands replies after m more
+              → (middle : Book) × OpensInto provider contents signature_key vuf_key later book keeper commands replies front middle × (more ≡ [] → middle ≡ after)
+          joined (rest, (beginning, behind, spelled, start, positive, keys, leads), cut, length_is) (n, middle, between, left_over, ran, on, short, all) =
+              let none : rest ≡ [] = nothing rest (omega (arith, length_is)) in
+              let first = subst (λ (r : List ℕ). Leads (index_of provider) (begun beginning later) behind (with_stream later book) r) none leads in
+              let both = leads_join (index_of provider) first.0 (begun beginning later) (with_stream later book) (with_stream later middle) behind m left_over first.1 first.2 first.3 on in (
+                middle,
+                (
+                  n,
+                  length (start_bytes beginning) + length (records_bytes both.0),
+                  (between, ran),
+                  (
+                    left_over,
+                    (beginning, behind ++ m, whole ∙ ap (λ (t : List ℕ). t ++ m) spelled ∙ append_assoc (start_bytes beginning) behind m, start, positive, keys, both),
+                    short,
+                    omega (arith, ap length whole, ap length spelled, length-append held m, length-append (start_bytes beginning) behind, length-append behind m, ap length both.1, length-append (records_bytes both.0) left_over),
+                  ),
+                ),
+                all,
+              )

@@ -33,7 +33,7 @@ some_none one e = absurd cc
 
 module _ (by : List ℕ → List ℕ) where
   -- what remains after one record more
-  led : (before book : Book) (kept : Record) (records : List Record) → replayed_all by before (kept ∷ records) ≡ Some book → (middle : Book) × (replayed by before kept ≡ Some middle) × (replayed_all by middle records ≡ Some book)
+  pub led : (before book : Book) (kept : Record) (records : List Record) → replayed_all by before (kept ∷ records) ≡ Some book → (middle : Book) × (replayed by before kept ≡ Some middle) × (replayed_all by middle records ≡ Some book)
   led before book kept records e = by_one (replayed by before kept) refl
     where
       by_one : (one : Option Book) → replayed by before kept ≡ one → (middle : Book) × (replayed by before kept ≡ Some middle) × (replayed_all by middle records ≡ Some book)
@@ -112,4 +112,29 @@ module _ (by : List ℕ → List ℕ) where
       whole_or_cut read_start start_bytes IsStart start_field bytes (reaches.0, reaches.1, reaches.2, reaches.3),
       not_bad bytes book rest reaches cut,
       not_others bytes book rest reaches,
+    )
+
+    -- a start that was cut short has no fault
+    cut_not_bad : (bytes : List ℕ) → IsCut start_bytes IsStart bytes → IsBad by signature_key vuf_key salts bytes → ⊥
+    cut_not_bad bytes cut (inl none) = none.1 cut
+    cut_not_bad bytes cut (inr (inl (two, behind, so, fine, zero_epoch))) = whole_or_cut read_start start_bytes IsStart start_field bytes (two, behind, so, fine) cut
+    cut_not_bad bytes cut (inr (inr (other, left, others, bad))) = whole_or_cut read_start start_bytes IsStart start_field bytes (others.0, others.1, others.2, others.3) cut
+
+    -- a bad journal is none of other keys
+    bad_not_others : (bytes : List ℕ) → IsBad by signature_key vuf_key salts bytes → HasOtherKeys signature_key vuf_key bytes → ⊥
+    bad_not_others bytes (inl none) (two, behind, so, fine, more, other) = none.0 (two, behind, so, fine)
+    bad_not_others bytes (inr (inl (one, later, is, start, zero_epoch))) (two, behind, so, fine, more, other) =
+        let same = one_start bytes one two later behind is start so fine in
+        omega (arith, more, zero_epoch, ap (λ (b : Beginning). b.epoch) same.0)
+    bad_not_others bytes (inr (inr (book, rest, reaches, bad))) others = not_others bytes book rest reaches others
+
+    pub faults_settled : (bytes : List ℕ)
+        → (IsCut start_bytes IsStart bytes → (¬ IsBad by signature_key vuf_key salts bytes) × (¬ HasOtherKeys signature_key vuf_key bytes))
+        × (IsBad by signature_key vuf_key salts bytes → ¬ HasOtherKeys signature_key vuf_key bytes)
+    faults_settled bytes = (
+      λ cut. (
+        cut_not_bad bytes cut,
+        λ others. whole_or_cut read_start start_bytes IsStart start_field bytes (others.0, others.1, others.2, others.3) cut,
+      ),
+      bad_not_others bytes,
     )

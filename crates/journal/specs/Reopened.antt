@@ -1,11 +1,10 @@
 -- What a journal opens to, beside the run that was kept in it.
 use Rattle.std.specs.Prelude.{ℕ, List, take, Option}
-use Rattle.rand_core.specs.Stream.{Stream}
+use Rattle.rand_core.specs.Stream.{Stream, fill_bytes}
 use Rattle.commands.specs.Asked.{Asked}
 use Rattle.book.specs.declared.reply.Reply.{Reply}
 use Rattle.book.specs.Books.{Book}
 use Rattle.book.specs.Fresh.{fresh}
-use Rattle.book.specs.Replays.{with_salts_of}
 use Rattle.book.specs.Shows.{Provider, index_of}
 use Rattle.book.specs.Turns.{Run}
 use Rattle.journal.specs.declared.beginning.Beginning.{Beginning}
@@ -15,6 +14,10 @@ use Rattle.journal.specs.Openings.{OpensTo}
 -- the book with which a directory begins
 abbrev pub begun : Beginning → Stream → Book
 begun beginning salts = fresh beginning.epoch beginning.nonce salts
+
+-- the book, where the salts to come are the first ones of this stream
+abbrev pub with_stream : Stream → Book → Book
+with_stream salts book = record book { salt = (fill_bytes 32 salts).0; left = (fill_bytes 32 salts).1 }
 
 module _ (provider : Provider) {W : Type 0} (contents : W → Option (List ℕ)) where
   -- a run that is kept in a journal
@@ -27,7 +30,7 @@ module _ (provider : Provider) {W : Type 0} (contents : W → Option (List ℕ))
 
   -- Bytes open to a beginning of a run: to the book after its first so many commands, with the same pages and the
   -- same that waits, while the salts to come are those handed in.
-  abbrev pub OpensInto : Beginning → Stream → Book → Written W → List Asked → List Reply → List ℕ → Book → Type 0
-  OpensInto beginning salts book keeper commands replies bytes middle = (n : ℕ) × (taken : ℕ)
+  abbrev pub OpensInto : List ℕ → List ℕ → Stream → Book → Written W → List Asked → List Reply → List ℕ → Book → Type 0
+  OpensInto signature_key vuf_key salts book keeper commands replies bytes middle = (n : ℕ) × (taken : ℕ)
       × Leaves book keeper commands replies n middle
-      × OpensTo (index_of provider) beginning.signature_key beginning.vuf_key salts bytes (with_salts_of (begun beginning salts) middle) taken
+      × OpensTo (index_of provider) signature_key vuf_key salts bytes (with_stream salts middle) taken

@@ -26,6 +26,8 @@ mod text;
 
 pub use counting::records;
 pub use journal::Journal;
-pub use laws::{journals_open_to_their_runs, openings_are_settled};
+pub use laws::{
+    faults_are_settled, journals_go_on, journals_open_to_their_runs, openings_are_settled,
+};
 pub use opening::{Opened, open};
 pub use refusal::Refusal;

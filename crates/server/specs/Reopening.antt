@@ -58,7 +58,7 @@ module _ (keys : Keyed) (bytes : List ℕ) where
   abbrev pub Reopens : Kept ChaCha → List ℕ → ℕ → ℕ → Type 0
   Reopens directory held records cut = StartsAnew directory held records cut ⊎ GoesOn directory held records cut
 
-  -- the bytes are refused, whatever their next salts
+  -- the bytes are refused, where the next salts come from the stream that has the number of their records
   abbrev pub IsRefused : Type 0
   IsRefused = (records : ℕ) × Counts bytes records × IsBad (index_by keys) keys.sign_key keys.vuf_key (salts (at_stream keys.salt_key records)) bytes
 

@@ -11,7 +11,7 @@ use textio::{ProgramFault, read_whole};
 
 /// The file of a journal. What it holds are its contents as a writer, which writes at its end.
 pub trait JournalFile: Write {
-    /// All bytes of the file.
+    /// All bytes of the file. Called once, before anything is written.
     ///
     /// # Errors
     ///

@@ -2,8 +2,9 @@
 //! another.
 //!
 //! To the layers above: `serve` writes exactly the replies to the messages in the bytes that it reads, or a
-//! beginning of them if there is a fault, and it ends the session on every way out. Malformed keys are
-//! refused before anything is read.
+//! beginning of them if there is a fault, and it ends the session on every way out. With a journal, the
+//! directory is the one that the bytes of a file open to, and records are written behind the bytes that
+//! were taken. Malformed keys are refused before anything is read.
 #![tactic(auto)]
 
 mod disk;

@@ -23,7 +23,8 @@ use textio::ProgramFault;
 /// The number of the one session that is open at a time.
 pub(crate) const SESSION: u32 = 1;
 
-/// Begins a directory that is kept nowhere, and answers one session, from the reader to the writer.
+/// Begins a directory that is kept nowhere, and answers one session, from the reader to the writer. It
+/// does not look at the order's journal: `serve_directory` does.
 ///
 /// # Errors
 ///
