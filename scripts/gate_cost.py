@@ -258,10 +258,10 @@ def run(command):
 def main():
     parser = argparse.ArgumentParser(description=__doc__.split("\n\n")[0])
     parser.add_argument("--watch", type=int, metavar="PID", help="a command that runs already")
-    parser.add_argument("command", nargs="*", default=["rt", "ci", "--anew"])
+    parser.add_argument("command", nargs=argparse.REMAINDER)
     given = parser.parse_args()
     if given.watch is None:
-        sys.exit(run(given.command))
+        sys.exit(run(given.command or ["rt", "ci", "--anew"]))
     tree = Tree(given.watch)
     words = " ".join(map(os.path.basename, words_of(given.watch))) or f"process {given.watch}"
     clock = watch(tree, lambda: False)
