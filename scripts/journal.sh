@@ -126,5 +126,5 @@ same "a line that cannot be written, status" 1 "$got"
 same "a line that cannot be written, output" "" "$(od -An -v -tx1 "$folder/out")"
 
 well "a file that may not grow" scripts/journaled.py "$program" "$folder" full
-well "kills at 200 moments" scripts/journaled.py "$program" "$folder" kills 200
+well "kills at 200 moments, or at as many as there is time for" scripts/journaled.py "$program" "$folder" kills 200
 finish

@@ -16,6 +16,7 @@ import socket
 import subprocess
 import sys
 import threading
+import time
 
 sys.dont_write_bytecode = True
 from formats import *
@@ -24,6 +25,8 @@ from worked import SIGN_KEY, TOKEN, keys
 
 KILLS_OF_A_FILE = 20
 LONGEST_RUN = 0.06
+# After so many seconds no more kills are made, so that a slow machine ends in time.
+KILLS_SECONDS = 150
 BATCH = 8
 KEEP_FAILED = 19
 ROOM = 2048
@@ -152,7 +155,8 @@ class Answered:
 
 
 def kills(program, folder, count):
-    counted = 0
+    """Kills the server so often, or as often as the time allows."""
+    counted, end = 0, time.monotonic() + KILLS_SECONDS
     for number in range(int(count)):
         if number % KILLS_OF_A_FILE == 0:
             journal, answered = f"{folder}/journal {number}", Answered()
@@ -161,11 +165,14 @@ def kills(program, folder, count):
         roots_from = answered.epoch
         yield from answered.run(server, random.random() * LONGEST_RUN)
         server = Server(program, journal)
-        is_last = (number + 1) % KILLS_OF_A_FILE == 0 or number + 1 == int(count)
+        is_over = number + 1 == int(count) or time.monotonic() > end
+        is_last = is_over or (number + 1) % KILLS_OF_A_FILE == 0
         names = [name for name in answered.promises if is_last or name not in before]
         yield from answered.check(server, 1 if is_last else roots_from, names)
         server.stop()
         counted += len(names) if not is_last else 0
+        if is_over:
+            break
     print(f"{counted} promises were asked for after a kill", file=sys.stderr)
     if not counted:
         yield "nothing was answered"
