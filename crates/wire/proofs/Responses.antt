@@ -1,42 +1,51 @@
--- A body that spells nothing of the form of its kind is no response.
-use Rattle.std.proofs.Common.{◌≡◌, ◌≢◌, ℕ, List, [], ◌∷◌, ◌++◌, Err, sym, ap, ◌∙◌, arith}
+-- The table of responses: a body that spells nothing of the form of its kind is no response.
+use Rattle.std.proofs.Common.{◌≡◌, ◌≢◌, ℕ, List, [], ◌∷◌, ◌++◌, Err, Some, refl, sym, ap, ◌∙◌}
 use Rattle.std.proofs.lemmas.List.{append-nil}
-use Rattle.encoding.specs.Fields.{IsField, Spells}
-use Rattle.encoding.specs.Reading.{Reading}
+use Rattle.encoding.specs.Fields.{Spells}
 use Rattle.encoding.proofs.Fields.{one_spelling}
 use Rattle.proofs.specs.declared.refusal.Refusal.{Refusal as ReplyRefusal}
 use Rattle.proofs.specs.declared.refusal.Refusal.TheVariants.{Malformed, Trailing, OtherRoot, BadVuf, SameIndex, OtherPrefix, PathMismatch}
 use Rattle.proofs.specs.Reading.{read_reply}
 use Rattle.proofs.specs.Refusals.{ReadsReply}
-use Rattle.proofs.specs.Replies.{Empty, Reply, reply_bytes, IsReply}
+use Rattle.proofs.specs.Replies.{Reply, reply_bytes, IsReply}
 use Rattle.proofs.proofs.Replies.{reply_field}
-use Rattle.rootchain.specs.declared.body.Body.{Body}
-use Rattle.rootchain.specs.declared.signed_promise.SignedPromise.{SignedPromise}
-use Rattle.rootchain.specs.declared.signed_root.SignedRoot.{SignedRoot}
-use Rattle.rootchain.specs.Promises.{read_signed_promise, signed_promise_bytes, IsSignedPromise}
-use Rattle.rootchain.specs.Readable.{signed_promise_field, signed_root_field}
-use Rattle.rootchain.specs.RootLists.{read_root_list, root_list_bytes, IsRootList}
-use Rattle.rootchain.specs.SignedRoots.{read_signed_root, signed_root_bytes, IsSignedRoot}
-use Rattle.rootchain.proofs.RootLists.{root_list_field}
-use Rattle.wire.specs.Responses.{Responded, Promise, Proof, Roots, Root, Refused, Responds, IsResponseKind}
+use Rattle.wire.specs.Bodies.{Content, Of, spelling, kind_among, message_of, Allowed}
+use Rattle.wire.specs.Laws.{ResponsesAreOne, ResponsesHaveKinds}
+use Rattle.wire.specs.Responses.{Responded, Promise, Proof, Roots, Root, Refused, ResponseKind, PromiseKind, ProofKind, RootsKind, RootKind, RefusedKind, response_kinds, response_parts, response_row, Responds, IsResponseKind}
+use Rattle.wire.proofs.Tables as tables
+use Rattle.wire.proofs.Tables.{IsTable}
 
--- some value of each type, so that some response is of each kind
-some_body : Body
-some_body = record { epoch = 0; previous_epoch = 0; root = []; previous_hash = []; nonce = []; vuf_key = [] }
+is_kind : (kind : ResponseKind) → (kind_among response_row response_kinds (response_row kind).byte ≡ Some kind)
+    × ((content : Content (response_row kind).form) → response_parts ((response_row kind).message content) ≡ Of kind content)
+is_kind PromiseKind = (refl, λ _. refl)
+is_kind ProofKind = (refl, λ _. refl)
+is_kind RootsKind = (refl, λ _. refl)
+is_kind RootKind = (refl, λ _. refl)
+is_kind RefusedKind = (refl, λ _. refl)
 
-some_promise : SignedPromise
-some_promise = record { promise = record { epoch = 0; body_hash = []; index = []; name = []; key = [] }; signature = [] }
+made : (responded : Responded) → message_of response_row (response_parts responded) ≡ responded
+made (Promise promise) = refl
+made (Proof proof) = refl
+made (Roots roots) = refl
+made (Root root) = refl
+made (Refused code) = refl
+
+table : IsTable response_row response_kinds response_parts
+table = record { found = λ kind. (is_kind kind).0; taken = λ kind. (is_kind kind).1; made = made }
+
+pub have_kinds : ResponsesHaveKinds
+have_kinds = (refl, tables.of_kind response_row response_kinds response_parts table)
+
+pub one_response : ResponsesAreOne
+one_response = tables.one_message response_row response_kinds response_parts table
 
 -- of the kind there are responses, and the body spells none
 abbrev pub IsNone : ℕ → List ℕ → Type 0
 IsNone kind body = IsResponseKind kind × ((responded : Responded) → ¬ Responds kind body responded)
 
-pub no_promise : (kind : ℕ) (body : List ℕ) → kind ≡ 129 → ((x : SignedPromise) → ¬ Spells signed_promise_bytes IsSignedPromise body x) → IsNone kind body
-no_promise kind body is none = ((Promise some_promise, sym is), no)
-  where
-    no : (responded : Responded) → ¬ Responds kind body responded
-    no (Promise x) r = none x r.1
-    no _ r = absurd (omega (arith, is, r.0))
+pub no_response : (is : ResponseKind) (kind : ℕ) (body : List ℕ) → kind ≡ (response_row is).byte
+    → ((content : Content (response_row is).form) → ¬ Spells (spelling (response_row is).form) (Allowed (response_row is).form) body content) → IsNone kind body
+no_response = tables.no_message response_row response_kinds response_parts table
 
 -- a proof that is refused is none, also where a proof stands in front
 not_spelled : (body : List ℕ) (refusal : ReplyRefusal) → ReadsReply body (Err refusal) → (x : Reply) → ¬ Spells reply_bytes IsReply body x
@@ -51,45 +60,7 @@ not_spelled body OtherPrefix refused x spelled = absurd refused
 not_spelled body PathMismatch refused x spelled = absurd refused
 
 pub no_proof : (kind : ℕ) (body : List ℕ) (refusal : ReplyRefusal) → kind ≡ 130 → ReadsReply body (Err refusal) → IsNone kind body
-no_proof kind body refusal is refused = ((Proof (record { body = some_body; value = []; end = Empty; siblings = [] }), sym is), no)
-  where
-    no : (responded : Responded) → ¬ Responds kind body responded
-    no (Proof x) r = not_spelled body refusal refused x r.1
-    no _ r = absurd (omega (arith, is, r.0))
-
-pub no_roots : (kind : ℕ) (body : List ℕ) → kind ≡ 131 → ((x : List SignedRoot) → ¬ Spells root_list_bytes IsRootList body x) → IsNone kind body
-no_roots kind body is none = ((Roots [], sym is), no)
-  where
-    no : (responded : Responded) → ¬ Responds kind body responded
-    no (Roots x) r = none x r.1
-    no _ r = absurd (omega (arith, is, r.0))
-
-pub no_root : (kind : ℕ) (body : List ℕ) → kind ≡ 132 → ((x : SignedRoot) → ¬ Spells signed_root_bytes IsSignedRoot body x) → IsNone kind body
-no_root kind body is none = ((Root (record { body = some_body; signature = [] }), sym is), no)
-  where
-    no : (responded : Responded) → ¬ Responds kind body responded
-    no (Root x) r = none x r.1
-    no _ r = absurd (omega (arith, is, r.0))
+no_proof kind body refusal is refused = no_response ProofKind kind body is (not_spelled body refusal refused)
 
 pub no_code : (kind : ℕ) (body : List ℕ) → kind ≡ 255 → ((code : ℕ) → body ≢ code ∷ []) → IsNone kind body
-no_code kind body is none = ((Refused 0, sym is), no)
-  where
-    no : (responded : Responded) → ¬ Responds kind body responded
-    no (Refused x) r = none x r.1.0
-    no _ r = absurd (omega (arith, is, r.0))
-
--- ---- one response
-
--- bytes spell at most one value of a form
-one_value : {A : Type 0} (f : List ℕ → Reading A) (s : A → List ℕ) (P : A → Type 0) → IsField f s P → (bytes : List ℕ) (x y : A) → Spells s P bytes x → Spells s P bytes y → x ≡ y
-one_value f s P field bytes x y one two =
-    (one_spelling f s P field x y [] [] one.1 two.1 (append-nil (s x) ∙ sym one.0 ∙ two.0 ∙ sym (append-nil (s y)))).0
-
-pub one_response : (kind : ℕ) (body : List ℕ) (responded other : Responded) → Responds kind body responded → Responds kind body other → responded ≡ other
-one_response kind body (Promise x) (Promise y) one two =
-    ap (λ (z : SignedPromise). Promise z) (one_value read_signed_promise signed_promise_bytes IsSignedPromise signed_promise_field body x y one.1 two.1)
-one_response kind body (Proof x) (Proof y) one two = ap (λ (z : Reply). Proof z) (one_value read_reply reply_bytes IsReply reply_field body x y one.1 two.1)
-one_response kind body (Roots x) (Roots y) one two = ap (λ (z : List SignedRoot). Roots z) (one_value read_root_list root_list_bytes IsRootList root_list_field body x y one.1 two.1)
-one_response kind body (Root x) (Root y) one two = ap (λ (z : SignedRoot). Root z) (one_value read_signed_root signed_root_bytes IsSignedRoot signed_root_field body x y one.1 two.1)
-one_response kind body (Refused x) (Refused y) one two = ap (λ (z : ℕ). Refused z) (let same : x ∷ [] ≡ y ∷ [] = sym one.1.0 ∙ two.1.0 in cc)
-one_response kind body first second one two = absurd (omega (arith, one.0, two.0))
+no_code kind body is none = no_response RefusedKind kind body is (λ code spelled. none code spelled.0)

@@ -1,3 +1,4 @@
+pub mod Bodies
 pub mod Frames
 pub mod FrameViews
 pub mod Laws

@@ -1,15 +1,10 @@
 -- What is asked of a directory, and how it is spelled in a frame (the bytes are this directory's own).
-use Rattle.std.specs.Prelude.{◌≡◌, ℕ, ◌==◌, if◌then◌else◌, List, [], ◌∷◌, ◌++◌, Option, Some, None, Result, Ok, Err}
-use Rattle.encoding.specs.Bytes.{Is32Bytes}
-use Rattle.encoding.specs.Endian.{big_bytes}
+use Rattle.std.specs.Prelude.{◌≡◌, ℕ, List, [], ◌∷◌, Result, Ok, Err}
 use Rattle.encoding.specs.Fields.{Spells}
-use Rattle.encoding.specs.Forms.{counted_bytes}
-use Rattle.encoding.specs.Limits.{IsWithin}
-use Rattle.encoding.specs.Reading.{Reading, read_as, read_both, read_bytes, read_counted, read_nothing, read_number}
 use Rattle.commands.specs.declared.edit.Verb.{Verb}
 use Rattle.commands.specs.declared.edit.Verb.TheVariants.{Register, Change}
-use Rattle.commands.specs.Asked as ask
-use Rattle.commands.specs.Asked.{Question, Promise, Lookup, History, Head, question, FitsIn, MayChange, MayRead}
+use Rattle.commands.specs.Asked.{Question, Promise, Lookup, History, Head, question}
+use Rattle.wire.specs.Bodies.{Row, Parts, Of, Both, Bytes, Nothing, Number, Text, frame_of, kind_among, read_by, IsCounted, MayHave}
 use Rattle.wire.specs.Frames.{Frame}
 use Rattle.wire.specs.declared.kind_bytes.TheConstants.{REGISTER, CHANGE, PROMISE, LOOKUP, HISTORY, HEAD, CLOSE}
 use Rattle.wire.specs.declared.request.Request.{Request}
@@ -28,20 +23,44 @@ request_seen (request.Query query) = Query (question query)
 request_seen (request.Put put) = Put put.verb put.name.now put.key.now
 request_seen (request.Turn token epoch) = Turn token epoch
 
--- ---- kinds and bodies
+-- ---- kinds
+
+pub data RequestKind : Type 0 where
+  PutKind : Verb → RequestKind
+  PromiseKind : RequestKind
+  LookupKind : RequestKind
+  HistoryKind : RequestKind
+  HeadKind : RequestKind
+  TurnKind : RequestKind
 
 abbrev pub put_kind : Verb → ℕ
 put_kind Register = REGISTER
 put_kind Change = CHANGE
 
--- a request as a frame. Names and keys stand behind their lengths in two bytes
+-- the kinds of requests: the byte of each, the form of its bodies, and the request with what a body holds
+abbrev pub request_row : RequestKind → Row Requested
+request_row (PutKind verb) = record { byte = put_kind verb; form = Both Text Text; message = λ held. Put verb held.0 held.1 }
+request_row PromiseKind = record { byte = PROMISE; form = Text; message = λ name. Query (Promise name) }
+request_row LookupKind = record { byte = LOOKUP; form = Both (Number 8) Text; message = λ held. Query (Lookup held.1 held.0) }
+request_row HistoryKind = record { byte = HISTORY; form = Both (Number 8) (Number 2); message = λ held. Query (History held.0 held.1) }
+request_row HeadKind = record { byte = HEAD; form = Nothing; message = λ _. Query Head }
+request_row TurnKind = record { byte = CLOSE; form = Both (Bytes 32) (Number 8); message = λ held. Turn held.0 held.1 }
+
+abbrev pub request_kinds : List RequestKind
+request_kinds = PutKind Register ∷ PutKind Change ∷ PromiseKind ∷ LookupKind ∷ HistoryKind ∷ HeadKind ∷ TurnKind ∷ []
+
+-- the kind of a request, with what its body holds
+abbrev pub request_parts : Requested → Parts request_row
+request_parts (Put verb name key) = Of (PutKind verb) (name, key)
+request_parts (Query (Promise name)) = Of PromiseKind name
+request_parts (Query (Lookup name epoch)) = Of LookupKind (epoch, name)
+request_parts (Query (History from count)) = Of HistoryKind (from, count)
+request_parts (Query Head) = Of HeadKind tt
+request_parts (Turn token epoch) = Of TurnKind (token, epoch)
+
+-- a request as a frame
 abbrev pub request_frame : Requested → Frame
-request_frame (Query (Promise name)) = record { kind = PROMISE; body = counted_bytes name }
-request_frame (Query (Lookup name epoch)) = record { kind = LOOKUP; body = big_bytes 8 epoch ++ counted_bytes name }
-request_frame (Query (History from count)) = record { kind = HISTORY; body = big_bytes 8 from ++ big_bytes 2 count }
-request_frame (Query Head) = record { kind = HEAD; body = [] }
-request_frame (Put verb name key) = record { kind = put_kind verb; body = counted_bytes name ++ counted_bytes key }
-request_frame (Turn token epoch) = record { kind = CLOSE; body = token ++ big_bytes 8 epoch }
+request_frame requested = frame_of request_row (request_parts requested)
 
 abbrev pub request_kind : Requested → ℕ
 request_kind requested = (request_frame requested).kind
@@ -49,17 +68,9 @@ request_kind requested = (request_frame requested).kind
 abbrev pub request_body : Requested → List ℕ
 request_body requested = (request_frame requested).body
 
--- ---- what is allowed
-
--- bytes of any length that fits in two bytes
-abbrev pub IsCounted : List ℕ → Type 0
-IsCounted = IsWithin 0 65535
-
--- a request whose names and keys are such texts, whose numbers fit in their bytes, and whose token has 32
+-- a request with such names and keys, whose numbers fit in their bytes, and whose token has 32
 abbrev pub MayRequest : (List ℕ → Type 0) → Requested → Type 0
-MayRequest OfText (Query question) = MayRead OfText FitsIn question
-MayRequest OfText (Put verb name key) = MayChange OfText FitsIn (ask.Put verb name key)
-MayRequest OfText (Turn token epoch) = Is32Bytes token × FitsIn 64 epoch
+MayRequest OfText requested = MayHave request_row OfText (request_parts requested)
 
 -- what a request may hold. Whether a name or a key is allowed is the directory's answer
 abbrev pub IsAsked : Requested → Type 0
@@ -82,47 +93,9 @@ ReadsRequest kind body (Err BadBody) = IsRequestKind kind × ((requested : Reque
 
 -- ---- reading
 
--- a name or a key
-abbrev pub read_text : List ℕ → Reading (List ℕ)
-read_text = read_counted 0 65535
-
--- a name and its key
-abbrev pub read_binding : List ℕ → Reading (List ℕ × List ℕ)
-read_binding = read_both read_text read_text
-
--- the kinds of requests, each with its byte and with how its body is read
-abbrev pub kinds : List (ℕ × (List ℕ → Reading Requested))
-kinds =
-    (REGISTER, read_as (λ parts. Put Register parts.0 parts.1) read_binding)
-    ∷ (CHANGE, read_as (λ parts. Put Change parts.0 parts.1) read_binding)
-    ∷ (PROMISE, read_as (λ name. Query (Promise name)) read_text)
-    ∷ (LOOKUP, read_as (λ parts. Query (Lookup parts.1 parts.0)) (read_both (read_number 8) read_text))
-    ∷ (HISTORY, read_as (λ parts. Query (History parts.0 parts.1)) (read_both (read_number 8) (read_number 2)))
-    ∷ (HEAD, read_nothing (Query Head))
-    ∷ (CLOSE, read_as (λ parts. Turn parts.0 parts.1) (read_both (read_bytes 32) (read_number 8)))
-    ∷ []
-
--- how the body of a kind is read, if it is one of these
-abbrev pub reader_among : List (ℕ × (List ℕ → Reading Requested)) → ℕ → Option (List ℕ → Reading Requested)
-reader_among [] kind = None
-reader_among (known ∷ more) kind = if kind == known.0 then Some known.1 else reader_among more kind
-
-abbrev pub body_reader : ℕ → Option (List ℕ → Reading Requested)
-body_reader kind = reader_among kinds kind
-
--- any fault in the body is BadBody
-abbrev pub or_bad_body : Reading Requested → Result (Requested × List ℕ) ReadRefusal
-or_bad_body (Ok read) = Ok read
-or_bad_body (Err fault) = Err BadBody
-
--- by the reader of its kind, or BadKind where there is none
-abbrev pub read_by : Option (List ℕ → Reading Requested) → List ℕ → Result (Requested × List ℕ) ReadRefusal
-read_by (Some read) bytes = or_bad_body (read bytes)
-read_by None bytes = Err BadKind
-
 -- the request of a kind at the front of the bytes, with the bytes that are left, or the refusal
 unfoldable pub read_request : ℕ → List ℕ → Result (Requested × List ℕ) ReadRefusal
-read_request kind bytes = read_by (body_reader kind) bytes
+read_request kind bytes = read_by request_row (kind_among request_row request_kinds kind) bytes
 
 -- what a call returned, and the bytes that it left, are what was read
 abbrev pub GivesRequest : Result Request ReadRefusal → List ℕ → Result (Requested × List ℕ) ReadRefusal → Type 0

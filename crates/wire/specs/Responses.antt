@@ -1,12 +1,11 @@
 -- What a directory responds, and how it is spelled in a frame (the bytes are this directory's own).
-use Rattle.std.specs.Prelude.{◌≡◌, ℕ, ◌≤◌, ◌<◌, List, [], ◌∷◌, length, Result, Ok, Err, ⊤}
+use Rattle.std.specs.Prelude.{◌≡◌, ℕ, ◌≤◌, List, [], ◌∷◌, length, Result, Ok, Err, ⊤}
 use Rattle.encoding.specs.Fields.{Spells}
-use Rattle.proofs.specs.Replies.{Reply, reply_bytes, IsReply}
+use Rattle.proofs.specs.Replies.{Reply, reply_bytes}
 use Rattle.rootchain.specs.declared.signed_promise.SignedPromise.{SignedPromise}
 use Rattle.rootchain.specs.declared.signed_root.SignedRoot.{SignedRoot}
-use Rattle.rootchain.specs.Promises.{signed_promise_bytes, IsSignedPromise}
-use Rattle.rootchain.specs.RootLists.{root_list_bytes, IsRootList}
-use Rattle.rootchain.specs.SignedRoots.{signed_root_bytes, IsSignedRoot}
+use Rattle.wire.specs.Bodies as form
+use Rattle.wire.specs.Bodies.{Row, Parts, Of, frame_of, IsCounted, MayHave}
 use Rattle.wire.specs.Frames.{Frame}
 use Rattle.wire.specs.declared.answer.Answer.{Answer}
 use Rattle.wire.specs.declared.answer.Answer.TheVariants as answer
@@ -31,17 +30,39 @@ response_seen (response.Roots roots) = Roots roots
 response_seen (response.Root root) = Root root
 response_seen (response.Refused code) = Refused code
 
--- the frame of a reply to a look-up, by its bytes
-abbrev pub proof_frame : List ℕ → Frame
-proof_frame text = record { kind = PROOF; body = text }
+pub data ResponseKind : Type 0 where
+  PromiseKind : ResponseKind
+  ProofKind : ResponseKind
+  RootsKind : ResponseKind
+  RootKind : ResponseKind
+  RefusedKind : ResponseKind
+
+-- the kinds of responses: the byte of each, the form of its bodies, and the response with what a body holds
+abbrev pub response_row : ResponseKind → Row Responded
+response_row PromiseKind = record { byte = PROMISED; form = form.Promise; message = Promise }
+response_row ProofKind = record { byte = PROOF; form = form.Reply; message = Proof }
+response_row RootsKind = record { byte = ROOTS; form = form.Roots; message = Roots }
+response_row RootKind = record { byte = ROOT; form = form.Root; message = Root }
+response_row RefusedKind = record { byte = REFUSED; form = form.Byte; message = Refused }
+
+abbrev pub response_kinds : List ResponseKind
+response_kinds = PromiseKind ∷ ProofKind ∷ RootsKind ∷ RootKind ∷ RefusedKind ∷ []
+
+-- the kind of a response, with what its body holds
+abbrev pub response_parts : Responded → Parts response_row
+response_parts (Promise promise) = Of PromiseKind promise
+response_parts (Proof proof) = Of ProofKind proof
+response_parts (Roots roots) = Of RootsKind roots
+response_parts (Root root) = Of RootKind root
+response_parts (Refused code) = Of RefusedKind code
 
 -- a response as a frame
 abbrev pub response_frame : Responded → Frame
-response_frame (Promise promise) = record { kind = PROMISED; body = signed_promise_bytes promise }
-response_frame (Proof proof) = proof_frame (reply_bytes proof)
-response_frame (Roots roots) = record { kind = ROOTS; body = root_list_bytes roots }
-response_frame (Root root) = record { kind = ROOT; body = signed_root_bytes root }
-response_frame (Refused code) = record { kind = REFUSED; body = code ∷ [] }
+response_frame responded = frame_of response_row (response_parts responded)
+
+-- the frame of a reply to a look-up, by its bytes
+abbrev pub proof_frame : List ℕ → Frame
+proof_frame text = record { kind = PROOF; body = text }
 
 abbrev pub response_kind : Responded → ℕ
 response_kind responded = (response_frame responded).kind
@@ -51,11 +72,7 @@ response_body responded = (response_frame responded).body
 
 -- what a response may hold
 abbrev pub IsResponse : Responded → Type 0
-IsResponse (Promise promise) = IsSignedPromise promise
-IsResponse (Proof proof) = IsReply proof
-IsResponse (Roots roots) = IsRootList roots
-IsResponse (Root root) = IsSignedRoot root
-IsResponse (Refused code) = code < 256
+IsResponse responded = MayHave response_row IsCounted (response_parts responded)
 
 -- the body spells this response, which is of the kind
 abbrev pub Responds : ℕ → List ℕ → Responded → Type 0

@@ -4,7 +4,7 @@ use Rattle.encoding.specs.Forms.{counted_bytes}
 use Rattle.wire.specs.Frames.{frame_bytes}
 use Rattle.commands.specs.Asked.{question}
 use Rattle.wire.specs.Requests.{Query}
-use Rattle.wire.proofs.Fitting.{is_formed}
+use Rattle.wire.proofs.Requests.{is_formed}
 use Rattle.wire.proofs.request.write_query.Goals as goal
 
 pub returns-in-Promise-clause-form : goal.returns-in-Promise-clause-form

@@ -1,6 +1,6 @@
 use Rattle.std.proofs.Common.{arith}
 use Rattle.wire.specs.Requests.{request_seen}
-use Rattle.wire.proofs.Fitting.{is_formed}
+use Rattle.wire.proofs.Requests.{is_formed}
 use Rattle.wire.proofs.request.Request.write.Goals as goal
 
 pub returns-in-Put-clause-form : goal.returns-in-Put-clause-form
