@@ -1,13 +1,11 @@
 -- What holds of all forms, by one induction: a body is read exactly where one is spelled, it consists of
 -- bytes, and what fits into a frame is allowed.
-use Rattle.std.proofs.Common.{◌≡◌, ℕ, ◌<◌, ◌≤◌, List, [], ◌++◌, length, refl, arith, lit≤}
-use Rattle.std.specs.Bool.{⊤}
+use Rattle.std.proofs.Common.{ℕ, ◌≤◌, List, [], length, refl, arith, lit≤}
 use Rattle.std.proofs.lemmas.List.{length-append}
 use Rattle.encoding.specs.Bytes.{IsBytes}
 use Rattle.encoding.specs.Endian.{big_bytes}
 use Rattle.encoding.specs.Fields.{IsField}
 use Rattle.encoding.specs.Forms.{counted_bytes}
-use Rattle.encoding.specs.Reading.{read_nothing}
 use Rattle.encoding.proofs.ByteLists.{IsBytes-append, IsBytes-bytes_high_first}
 use Rattle.encoding.proofs.Fields.{byte_field, bytes_field, counted_field, nothing_field, numbers_field}
 use Rattle.encoding.proofs.FieldsOf.{both, allowed}
@@ -15,10 +13,10 @@ use Rattle.proofs.proofs.Replies.{reply_field}
 use Rattle.proofs.proofs.Sizes.{reply_few}
 use Rattle.proofs.specs.Replies.{Empty}
 use Rattle.rootchain.proofs.RootLists.{root_list_field}
-use Rattle.rootchain.proofs.Sizes.{one_few, root_few, roots_few, signed_promise_few, AreFew}
+use Rattle.rootchain.proofs.Sizes.{one_few, root_few, roots_few, signed_promise_few}
 use Rattle.rootchain.specs.declared.body.Body.{Body}
 use Rattle.rootchain.specs.Readable.{signed_promise_field, signed_root_field}
-use Rattle.wire.specs.Bodies.{Form, Nothing, Byte, Number, Bytes, Text, Both, Promise, Reply, Roots, Root, Content, spelling, reader, Allowed, IsCounted, MayHold}
+use Rattle.wire.specs.Bodies.{Form, Nothing, Byte, Number, Bytes, Text, Both, Promise, Reply, Roots, Root, Content, spelling, reader, Allowed, MayHold}
 
 pub form_field : (form : Form) → IsField (reader form) (spelling form) (Allowed form)
 form_field Nothing = allowed (λ x _. tt) (λ x _. refl) (nothing_field tt)

@@ -1,6 +1,6 @@
 -- Kinds of messages as data. A body has a form, and a form is a value: what a body of it holds, how that is
 -- spelled and read, and what of it is allowed follow from it. So a kind is one row: its byte and its form.
-use Rattle.std.specs.Prelude.{◌≡◌, ℕ, ◌^◌, ◌<◌, ◌==◌, if◌then◌else◌, List, [], ◌∷◌, ◌++◌, Option, Some, None, Result, Ok, Err, ⊤}
+use Rattle.std.specs.Prelude.{ℕ, ◌^◌, ◌<◌, ◌==◌, if◌then◌else◌, List, [], ◌∷◌, ◌++◌, Option, Some, None, Result, Ok, Err, ⊤}
 use Rattle.encoding.specs.Bytes.{HasBytes}
 use Rattle.encoding.specs.Endian.{big_bytes}
 use Rattle.encoding.specs.Forms.{counted_bytes}
