@@ -1,12 +1,12 @@
 -- What the users of a whole list of messages see at the desk of an honest provider.
-use Rattle.std.proofs.Common.{◌≡◌, ℕ, List, [], ◌∷◌, Bool, true, false, cond, Some, None, All, sym, subst, inl, inr}
+use Rattle.std.proofs.Common.{◌≡◌, ℕ, List, [], ◌∷◌, Bool, true, false, cond, Some, None, All, sym, subst, inl, inr, arith}
 use Rattle.std.proofs.lemmas.List.Elements.{All-cons, All-nil}
 use Rattle.std.specs.Str.{bytes_eq}
 use Rattle.rand_core.specs.Stream.{Stream}
 use Rattle.book.specs.declared.record.Record.{Record}
 use Rattle.book.specs.declared.reply.Reply.{Reply}
 use Rattle.encoding.specs.Bytes.{IsBytes}
-use Rattle.commands.specs.Asked.{Asked, Question, Query, Edit, Put, Turn, Promise, Lookup, History, Head, FitsIn, IsAny, IsCommand, MayRead}
+use Rattle.commands.specs.Asked.{Asked, Question, Query, Edit, Put, Turn, Promise, Lookup, History, Head, IsAny, IsCommand, MayRead}
 use Rattle.book.specs.Shows.{Provider, index_of}
 use Rattle.book.specs.Sound.{IsSound}
 use Rattle.book.proofs.Honesty.{honest}
@@ -21,7 +21,7 @@ use Rattle.hub.proofs.DeskRunning.{lines_show_run}
 use Rattle.hub.proofs.Readable.{lines_read, run_for}
 
 -- a request that is a command holds names, keys and epochs within their limits
-question_is : (question : Question) → MayRead request.IsCounted FitsIn question → MayRead IsBytes IsAny question
+question_is : (question : Question) → request.IsAsked (request.Query question) → MayRead IsBytes IsAny question
 question_is (Promise name) of_name = of_name.2
 question_is (Lookup name epoch) (of_epoch, of_name) = (tt, of_name.2)
 question_is (History from count) are = (tt, tt)
@@ -33,7 +33,7 @@ request_is token (request.Put verb name key) asked (of_name, of_key) e = subst I
 request_is token (request.Turn given epoch) asked (of_token, of_epoch) e = by_token (bytes_eq given token) e
   where
     by_token : (b : Bool) → cond b (Some (Edit (Turn epoch))) None ≡ Some asked → IsCommand asked
-    by_token true same = subst IsCommand (let is : Edit (Turn epoch) ≡ asked = cc in is) of_epoch
+    by_token true same = subst IsCommand (let is : Edit (Turn epoch) ≡ asked = cc in is) (omega (arith, of_epoch))
     by_token false same = absurd cc
 
 reached_is : (token : List ℕ) (message : Message) (asked : Asked) → Reaches token message asked → IsCommand asked
