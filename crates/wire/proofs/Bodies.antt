@@ -34,17 +34,17 @@ form_field Root = signed_root_field
 some_body : Body
 some_body = record { epoch = 0; previous_epoch = 0; root = []; previous_hash = []; nonce = []; vuf_key = [] }
 
-pub some : (form : Form) → Content form
-some Nothing = tt
-some Byte = 0
-some (Number count) = 0
-some (Bytes count) = []
-some Text = []
-some (Both first second) = (some first, some second)
-some Promise = record { promise = record { epoch = 0; body_hash = []; index = []; name = []; key = [] }; signature = [] }
-some Reply = record { body = some_body; value = []; end = Empty; siblings = [] }
-some Roots = []
-some Root = record { body = some_body; signature = [] }
+pub any : (form : Form) → Content form
+any Nothing = tt
+any Byte = 0
+any (Number count) = 0
+any (Bytes count) = []
+any Text = []
+any (Both first second) = (any first, any second)
+any Promise = record { promise = record { epoch = 0; body_hash = []; index = []; name = []; key = [] }; signature = [] }
+any Reply = record { body = some_body; value = []; end = Empty; siblings = [] }
+any Roots = []
+any Root = record { body = some_body; signature = [] }
 
 counted_are_bytes : (bytes : List ℕ) → IsBytes bytes → IsBytes (counted_bytes bytes)
 counted_are_bytes bytes h = IsBytes-append (big_bytes 2 (length bytes)) bytes (IsBytes-bytes_high_first 2 (length bytes)) h

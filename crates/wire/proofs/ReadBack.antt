@@ -7,22 +7,30 @@ use Rattle.wire.specs.declared.answer.Answer.TheVariants as answer
 use Rattle.wire.specs.declared.refusal.ReadRefusal.{ReadRefusal}
 use Rattle.wire.specs.declared.refusal.ReadRefusal.TheVariants.{BadKind, BadBody}
 use Rattle.wire.specs.declared.response.Response.{Response}
+use Rattle.wire.specs.Bodies.{Parts, Of, Content, spelling, frame_of, Allowed, IsCounted, MayHave}
 use Rattle.wire.specs.Frames.{Frame, IsFrame}
 use Rattle.wire.specs.Laws.{IsReadAs}
-use Rattle.wire.specs.Responses.{Responded, Promise, Proof, Roots, Root, Refused, answer_frame, response_frame, response_seen, IsResponse, Means, ReadsResponse, Responds}
-use Rattle.wire.proofs.Responses.{one_response}
+use Rattle.wire.specs.Responses.{Responded, PromiseKind, ProofKind, RootsKind, RootKind, RefusedKind, ResponseKind, response_parts, response_row, answer_frame, proof_frame, response_frame, response_seen, IsResponse, Means, ReadsResponse, Responds}
+use Rattle.wire.proofs.Responses.{is_byte, one_response}
 
 -- ---- frames
 
-framed : {body : List ℕ} (kind most : ℕ) → kind < 256 → most < 65536 → AreFew most body → IsFrame (record { kind = kind; body = body })
-framed kind most byte fits h = (omega (arith, fits, h.few), byte, h.small)
+within : {body : List ℕ} (most : ℕ) → most < 65536 → AreFew most body → AreFew 65535 body
+within most fits h = record { few = omega (arith, fits, h.few); small = h.small }
+
+-- the body of a response is not too long for a frame
+fits : (kind : ResponseKind) (content : Content (response_row kind).form) → Allowed (response_row kind).form content → AreFew 65535 (spelling (response_row kind).form content)
+fits PromiseKind content h = within 2639 (lit≤ tt) (signed_promise_few content h)
+fits ProofKind content h = within 10681 (lit≤ tt) (reply_few content h)
+fits RootsKind content h = within 25858 (lit≤ tt) (roots_few content h)
+fits RootKind content h = within 404 (lit≤ tt) (root_few content h)
+fits RefusedKind content h = within 1 (lit≤ tt) (one_few content h)
 
 is_frame : (responded : Responded) → IsResponse responded → IsFrame (response_frame responded)
-is_frame (Promise promise) h = framed 129 2639 (lit≤ tt) (lit≤ tt) (signed_promise_few promise h)
-is_frame (Proof reply) h = framed 130 10681 (lit≤ tt) (lit≤ tt) (reply_few reply h)
-is_frame (Roots roots) h = framed 131 25858 (lit≤ tt) (lit≤ tt) (roots_few roots h)
-is_frame (Root root) h = framed 132 404 (lit≤ tt) (lit≤ tt) (root_few root h)
-is_frame (Refused code) h = framed 255 1 (lit≤ tt) (lit≤ tt) (one_few code h)
+is_frame responded h = by (response_parts responded) h (is_byte responded)
+  where
+    by : (parts : Parts response_row) → MayHave response_row IsCounted parts → (frame_of response_row parts).kind < 256 → IsFrame (frame_of response_row parts)
+    by (Of kind content) h byte = let short = fits kind content h in (omega (arith, short.few), byte, short.small)
 
 -- ---- reading
 
@@ -41,7 +49,7 @@ responses_read responded h =
 -- the frame of an answer is that of the response with its parts
 same_frame : (answer : Answer) (responded : Responded) → Means answer responded → answer_frame answer ≡ response_frame responded
 same_frame (answer.Promise promise) responded means = ap response_frame (sym means)
-same_frame (answer.Proof text) responded (reply, is, means) = ap (λ (w : List ℕ). record { kind = 130; body = w }) is ∙ ap response_frame (sym means)
+same_frame (answer.Proof text) responded (reply, is, means) = ap proof_frame is ∙ ap response_frame (sym means)
 same_frame (answer.Roots roots) responded means = ap response_frame (sym means)
 same_frame (answer.Root root) responded means = ap response_frame (sym means)
 same_frame (answer.Refused code) responded means = ap response_frame (sym means)

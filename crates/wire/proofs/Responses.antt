@@ -1,5 +1,5 @@
 -- The table of responses: a body that spells nothing of the form of its kind is no response.
-use Rattle.std.proofs.Common.{◌≡◌, ◌≢◌, ℕ, List, [], ◌∷◌, ◌++◌, Err, Some, refl, sym, ap, ◌∙◌}
+use Rattle.std.proofs.Common.{◌≡◌, ◌≢◌, ℕ, ◌<◌, List, [], ◌∷◌, ◌++◌, Err, Some, refl, sym, ap, ◌∙◌}
 use Rattle.std.proofs.lemmas.List.{append-nil}
 use Rattle.encoding.specs.Fields.{Spells}
 use Rattle.encoding.proofs.Fields.{one_spelling}
@@ -11,7 +11,7 @@ use Rattle.proofs.specs.Replies.{Reply, reply_bytes, IsReply}
 use Rattle.proofs.proofs.Replies.{reply_field}
 use Rattle.wire.specs.Bodies.{Content, Of, spelling, kind_among, message_of, Allowed}
 use Rattle.wire.specs.Laws.{ResponsesAreOne, ResponsesHaveKinds}
-use Rattle.wire.specs.Responses.{Responded, Promise, Proof, Roots, Root, Refused, ResponseKind, PromiseKind, ProofKind, RootsKind, RootKind, RefusedKind, response_kinds, response_parts, response_row, Responds, IsResponseKind}
+use Rattle.wire.specs.Responses.{Responded, Promise, Proof, Roots, Root, Refused, ResponseKind, response_kind, PromiseKind, ProofKind, RootsKind, RootKind, RefusedKind, response_kinds, response_parts, response_row, Responds, IsResponseKind}
 use Rattle.wire.proofs.Tables as tables
 use Rattle.wire.proofs.Tables.{IsTable}
 
@@ -38,6 +38,9 @@ have_kinds = (refl, tables.of_kind response_row response_kinds response_parts ta
 
 pub one_response : ResponsesAreOne
 one_response = tables.one_message response_row response_kinds response_parts table
+
+pub is_byte : (responded : Responded) → response_kind responded < 256
+is_byte = tables.is_byte response_row response_kinds response_parts table refl
 
 -- of the kind there are responses, and the body spells none
 abbrev pub IsNone : ℕ → List ℕ → Type 0

@@ -11,7 +11,7 @@ use Rattle.encoding.proofs.Fields.{ok_is, one_spelling, whole-read, whole-refuse
 use Rattle.wire.specs.declared.refusal.ReadRefusal.{ReadRefusal}
 use Rattle.wire.specs.declared.refusal.ReadRefusal.TheVariants.{BadKind, BadBody}
 use Rattle.wire.specs.Bodies.{Row, Parts, Of, Content, spelling, reader, Allowed, frame_of, kind_among, kind_of, message_of, or_bad_body, read_by, IsCounted, MayHave}
-use Rattle.wire.proofs.Bodies.{form_field, some}
+use Rattle.wire.proofs.Bodies.{any, form_field}
 
 bind_ok : {A B : Type 0} (r : Result A Fault) (next : A → Result B Fault) (y : B) → (r >>= next) ≡ Ok y → (x : A) × (r ≡ Ok x) × (next x ≡ Ok y)
 bind_ok (Ok x) next y e = (x, refl, e)
@@ -118,7 +118,7 @@ module _ {Message Kind : Type 0} (row : Kind → Row Message) (kinds : List Kind
     is_byte small message = among_small kinds (byte_of message) (kind_of row (parts message)) small (of_kind message)
 
     there_is : (kind : Kind) → IsKind (row kind).byte
-    there_is kind = ((row kind).message (some (row kind).form), ap (λ (p : Parts row). (frame_of row p).kind) (is.taken kind (some (row kind).form)))
+    there_is kind = ((row kind).message (any (row kind).form), ap (λ (p : Parts row). (frame_of row p).kind) (is.taken kind (any (row kind).form)))
 
     -- parts with the byte of this kind are of this kind
     abbrev AreOf : Kind → Parts row → Type 0

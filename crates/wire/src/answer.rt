@@ -3,7 +3,8 @@ ghost use Rattle.rootchain.specs.Promises.{signed_promise_bytes};
 ghost use Rattle.rootchain.specs.RootLists.{root_list_bytes};
 ghost use Rattle.rootchain.specs.SignedRoots.{signed_root_bytes};
 ghost use Rattle.wire.specs.Frames.{frame_bytes, frame_size};
-ghost use Rattle.wire.specs.Responses.{answer_frame, HasFewRoots};
+ghost use Rattle.wire.specs.Responses as response;
+ghost use Rattle.wire.specs.Responses.{answer_frame, response_frame, HasFewRoots};
 
 use crate::kind_bytes::{PROMISED, PROOF, REFUSED, ROOT, ROOTS};
 use crate::writing::{append_frame, begin_frame, length_bytes};
@@ -63,7 +64,7 @@ fn append_text(output: &mut Vec<u8>, kind: u8, text: &[u8]) -> Result<(), AllocE
 /// Appends the frame of a promise. A function clears the room of all its texts when it is entered, so
 /// each text that is made here has a function of its own.
 fn append_promise(output: &mut Vec<u8>, promise: &SignedPromise) -> Result<(), AllocError>
-    ensures ok { OnOk result (output.new.items ≡ output.old.items ++ frame_bytes (record { kind = 129; body = signed_promise_bytes promise.now })) }
+    ensures ok { OnOk result (output.new.items ≡ output.old.items ++ frame_bytes (response_frame (response.Promise promise.now))) }
     ensures err { OnErr result (output.new.items ≡ output.old.items) }
     ensures room { vec_len output.old + 5 + length (signed_promise_bytes promise.now) ≤ vec_capacity output.old → IsOk result }
     ensures most { length (signed_promise_bytes promise.now) ≤ 25858 }
@@ -83,7 +84,7 @@ fn append_promise(output: &mut Vec<u8>, promise: &SignedPromise) -> Result<(), A
 
 /// Appends the frame of a root.
 fn append_root(output: &mut Vec<u8>, root: &SignedRoot) -> Result<(), AllocError>
-    ensures ok { OnOk result (output.new.items ≡ output.old.items ++ frame_bytes (record { kind = 132; body = signed_root_bytes root.now })) }
+    ensures ok { OnOk result (output.new.items ≡ output.old.items ++ frame_bytes (response_frame (response.Root root.now))) }
     ensures err { OnErr result (output.new.items ≡ output.old.items) }
     ensures room { vec_len output.old + 5 + length (signed_root_bytes root.now) ≤ vec_capacity output.old → IsOk result }
     ensures most { length (signed_root_bytes root.now) ≤ 25858 }
@@ -94,7 +95,7 @@ fn append_root(output: &mut Vec<u8>, root: &SignedRoot) -> Result<(), AllocError
 /// Appends the frame of a list of roots.
 fn append_roots(output: &mut Vec<u8>, roots: &[SignedRoot]) -> Result<(), AllocError>
     requires { length roots.now ≤ 64 }
-    ensures ok { OnOk result (output.new.items ≡ output.old.items ++ frame_bytes (record { kind = 131; body = root_list_bytes roots.now })) }
+    ensures ok { OnOk result (output.new.items ≡ output.old.items ++ frame_bytes (response_frame (response.Roots roots.now))) }
     ensures err { OnErr result (output.new.items ≡ output.old.items) }
     ensures room { vec_len output.old + 5 + length (root_list_bytes roots.now) ≤ vec_capacity output.old → IsOk result }
     ensures most { length (root_list_bytes roots.now) ≤ 25858 }
