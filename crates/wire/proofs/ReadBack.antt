@@ -7,7 +7,7 @@ use Rattle.wire.specs.declared.answer.Answer.TheVariants as answer
 use Rattle.wire.specs.declared.refusal.ReadRefusal.{ReadRefusal}
 use Rattle.wire.specs.declared.refusal.ReadRefusal.TheVariants.{BadKind, BadBody}
 use Rattle.wire.specs.declared.response.Response.{Response}
-use Rattle.wire.specs.Bodies.{Parts, Of, Content, spelling, frame_of, Allowed, IsCounted, MayHave}
+use Rattle.wire.specs.Tables.{MessageParts, Of, Content, spelling, parts_frame, Allowed, IsCounted, MayHave}
 use Rattle.wire.specs.Frames.{Frame, IsFrame}
 use Rattle.wire.specs.Laws.{IsReadAs}
 use Rattle.wire.specs.Responses.{Responded, PromiseKind, ProofKind, RootsKind, RootKind, RefusedKind, ResponseKind, response_parts, response_row, answer_frame, proof_frame, response_frame, response_seen, IsResponse, Means, ReadsResponse, Responds}
@@ -29,7 +29,7 @@ fits RefusedKind content h = within 1 (lit≤ tt) (one_few content h)
 is_frame : (responded : Responded) → IsResponse responded → IsFrame (response_frame responded)
 is_frame responded h = by (response_parts responded) h (is_byte responded)
   where
-    by : (parts : Parts response_row) → MayHave response_row IsCounted parts → (frame_of response_row parts).kind < 256 → IsFrame (frame_of response_row parts)
+    by : (parts : MessageParts response_row) → MayHave response_row IsCounted parts → (parts_frame response_row parts).kind < 256 → IsFrame (parts_frame response_row parts)
     by (Of kind content) h byte = let short = fits kind content h in (omega (arith, short.few), byte, short.small)
 
 -- ---- reading

@@ -9,7 +9,7 @@ use Rattle.proofs.specs.Reading.{read_reply}
 use Rattle.proofs.specs.Refusals.{ReadsReply}
 use Rattle.proofs.specs.Replies.{Reply, reply_bytes, IsReply}
 use Rattle.proofs.proofs.Replies.{reply_field}
-use Rattle.wire.specs.Bodies.{Content, Of, spelling, kind_among, message_of, Allowed}
+use Rattle.wire.specs.Tables.{Content, Of, spelling, kind_among, parts_message, Allowed}
 use Rattle.wire.specs.Laws.{ResponsesAreOne, ResponsesHaveKinds}
 use Rattle.wire.specs.Responses.{Responded, Promise, Proof, Roots, Root, Refused, ResponseKind, response_kind, PromiseKind, ProofKind, RootsKind, RootKind, RefusedKind, response_kinds, response_parts, response_row, Responds, IsResponseKind}
 use Rattle.wire.proofs.Tables as tables
@@ -23,7 +23,7 @@ is_kind RootsKind = (refl, λ _. refl)
 is_kind RootKind = (refl, λ _. refl)
 is_kind RefusedKind = (refl, λ _. refl)
 
-made : (responded : Responded) → message_of response_row (response_parts responded) ≡ responded
+made : (responded : Responded) → parts_message response_row (response_parts responded) ≡ responded
 made (Promise promise) = refl
 made (Proof proof) = refl
 made (Roots roots) = refl

@@ -10,8 +10,8 @@ use Rattle.encoding.specs.Reading.{Reading, ◌>>=◌, read_as}
 use Rattle.encoding.proofs.Fields.{ok_is, one_spelling, whole-read, whole-refused, whole-left}
 use Rattle.wire.specs.declared.refusal.ReadRefusal.{ReadRefusal}
 use Rattle.wire.specs.declared.refusal.ReadRefusal.TheVariants.{BadKind, BadBody}
-use Rattle.wire.specs.Bodies.{Row, Parts, Of, Content, spelling, reader, Allowed, frame_of, kind_among, kind_of, message_of, or_bad_body, read_by, IsCounted, MayHave}
-use Rattle.wire.proofs.Bodies.{any, form_field}
+use Rattle.wire.specs.Tables.{KindRow, MessageParts, Of, Content, kind_among, or_bad_body, parts_frame, parts_kind, parts_message, read_by, reader, spelling, Allowed, IsCounted, MayHave}
+use Rattle.wire.proofs.Forms.{any, form_field}
 
 bind_ok : {A B : Type 0} (r : Result A Fault) (next : A → Result B Fault) (y : B) → (r >>= next) ≡ Ok y → (x : A) × (r ≡ Ok x) × (next x ≡ Ok y)
 bind_ok (Ok x) next y e = (x, refl, e)
@@ -52,17 +52,17 @@ some_is : {A : Type 0} (x y : A) → Some x ≡ Some y → x ≡ y
 some_is x y e = cc
 
 -- these rows name these messages: each kind is found by its byte, and a message has the parts that make it
-module _ {Message Kind : Type 0} (row : Kind → Row Message) (kinds : List Kind) (parts : Message → Parts row) where
+module _ {Message Kind : Type 0} (row : Kind → KindRow Message) (kinds : List Kind) (parts : Message → MessageParts row) where
   pub record IsTable : Type 0 where
     pub found : (kind : Kind) → kind_among row kinds (row kind).byte ≡ Some kind
     pub taken : (kind : Kind) (content : Content (row kind).form) → parts ((row kind).message content) ≡ Of kind content
-    pub made : (message : Message) → message_of row (parts message) ≡ message
+    pub made : (message : Message) → parts_message row (parts message) ≡ message
 
   abbrev body_of : Message → List ℕ
-  body_of message = (frame_of row (parts message)).body
+  body_of message = (parts_frame row (parts message)).body
 
   abbrev byte_of : Message → ℕ
-  byte_of message = (frame_of row (parts message)).kind
+  byte_of message = (parts_frame row (parts message)).kind
 
   abbrev IsAllowed : Message → Type 0
   IsAllowed message = MayHave row IsCounted (parts message)
@@ -108,25 +108,25 @@ module _ {Message Kind : Type 0} (row : Kind → Row Message) (kinds : List Kind
 
   module _ (is : IsTable) where
     -- the kind with a message's byte is its own
-    parts_kind : (p : Parts row) → kind_among row kinds (frame_of row p).kind ≡ Some (kind_of row p)
-    parts_kind (Of kind content) = is.found kind
+    found_by : (p : MessageParts row) → kind_among row kinds (parts_frame row p).kind ≡ Some (parts_kind row p)
+    found_by (Of kind content) = is.found kind
 
-    pub of_kind : (message : Message) → kind_among row kinds (byte_of message) ≡ Some (kind_of row (parts message))
-    of_kind message = parts_kind (parts message)
+    pub of_kind : (message : Message) → kind_among row kinds (byte_of message) ≡ Some (parts_kind row (parts message))
+    of_kind message = found_by (parts message)
 
     pub is_byte : all_small kinds ≡ true → (message : Message) → byte_of message < 256
-    is_byte small message = among_small kinds (byte_of message) (kind_of row (parts message)) small (of_kind message)
+    is_byte small message = among_small kinds (byte_of message) (parts_kind row (parts message)) small (of_kind message)
 
     there_is : (kind : Kind) → IsKind (row kind).byte
-    there_is kind = ((row kind).message (any (row kind).form), ap (λ (p : Parts row). (frame_of row p).kind) (is.taken kind (any (row kind).form)))
+    there_is kind = ((row kind).message (any (row kind).form), ap (λ (p : MessageParts row). (parts_frame row p).kind) (is.taken kind (any (row kind).form)))
 
     -- parts with the byte of this kind are of this kind
-    abbrev AreOf : Kind → Parts row → Type 0
+    abbrev AreOf : Kind → MessageParts row → Type 0
     AreOf kind p = (content : Content (row kind).form) × (p ≡ Of kind content)
 
-    are_of : (kind : Kind) (p : Parts row) → (frame_of row p).kind ≡ (row kind).byte → AreOf kind p
+    are_of : (kind : Kind) (p : MessageParts row) → (parts_frame row p).kind ≡ (row kind).byte → AreOf kind p
     are_of kind (Of other content) same =
-        let given : Parts row = Of other content in
+        let given : MessageParts row = Of other content in
         subst (λ (k : Kind). (c : Content (row k).form) × (given ≡ Of k c)) (some_is other kind (sym (is.found other) ∙ ap (kind_among row kinds) same ∙ is.found kind)) (content, refl)
 
     -- a kind's reader reads its messages
@@ -136,17 +136,17 @@ module _ {Message Kind : Type 0} (row : Kind → Row Message) (kinds : List Kind
         to : (content : Content (row kind).form) → Allowed (row kind).form content
             → (spelling (row kind).form content ≡ body_of ((row kind).message content)) × IsOfKind (row kind).byte ((row kind).message content)
         to content h =
-            subst (λ (p : Parts row). (spelling (row kind).form content ≡ (frame_of row p).body) × (MayHave row IsCounted p × ((frame_of row p).kind ≡ (row kind).byte)))
+            subst (λ (p : MessageParts row). (spelling (row kind).form content ≡ (parts_frame row p).body) × (MayHave row IsCounted p × ((parts_frame row p).kind ≡ (row kind).byte)))
             (sym (is.taken kind content)) (refl, (h, refl))
 
         from : (message : Message) → IsOfKind (row kind).byte message → (content : Content (row kind).form) × ((row kind).message content ≡ message) × Allowed (row kind).form content
         from message h =
             let of = are_of kind (parts message) h.1 in
-            (of.0, ap (message_of row) (sym of.1) ∙ is.made message, subst (MayHave row IsCounted) of.1 h.0)
+            (of.0, ap (parts_message row) (sym of.1) ∙ is.made message, subst (MayHave row IsCounted) of.1 h.0)
 
     -- ---- bodies
 
-    -- where a kind is found, its messages are read; where none is, there are no messages
+    -- where a kind is found, its messages are read; where none is, no message is of it
     abbrev Reads : ℕ → Option Kind → Type 0
     Reads byte (Some kind) = byte ≡ (row kind).byte
     Reads byte None = ¬ IsKind byte
@@ -156,7 +156,7 @@ module _ {Message Kind : Type 0} (row : Kind → Row Message) (kinds : List Kind
       where
         by : (among : Option Kind) → kind_among row kinds byte ≡ among → Reads byte among
         by (Some kind) e = among_byte kinds byte kind e
-        by None e = λ there. absurd (let wrong : None ≡ Some (kind_of row (parts there.0)) = sym e ∙ ap (kind_among row kinds) (sym there.1) ∙ of_kind there.0 in cc)
+        by None e = λ there. absurd (let wrong : None ≡ Some (parts_kind row (parts there.0)) = sym e ∙ ap (kind_among row kinds) (sym there.1) ∙ of_kind there.0 in cc)
 
     -- a body that spells no content of the form of its kind
     pub no_message : (kind : Kind) (byte : ℕ) (body : List ℕ) → byte ≡ (row kind).byte → ((content : Content (row kind).form) → ¬ Spells (spelling (row kind).form) (Allowed (row kind).form) body content)
@@ -166,7 +166,7 @@ module _ {Message Kind : Type 0} (row : Kind → Row Message) (kinds : List Kind
         no : (message : Message) → ¬ Says byte body message
         no message says =
             let of = are_of kind (parts message) (says.0 ∙ same) in
-            none of.0 (subst (λ (p : Parts row). (body ≡ (frame_of row p).body) × MayHave row IsCounted p) of.1 says.1)
+            none of.0 (subst (λ (p : MessageParts row). (body ≡ (parts_frame row p).body) × MayHave row IsCounted p) of.1 says.1)
 
     of_byte : (byte : ℕ) (kind : Kind) → byte ≡ (row kind).byte → IsField (read_as (row kind).message (reader (row kind).form)) body_of (IsOfKind byte) × IsKind byte
     of_byte byte kind same = subst (λ (b : ℕ). IsField (read_as (row kind).message (reader (row kind).form)) body_of (IsOfKind b) × IsKind b) (sym same) (kind_field kind, there_is kind)

@@ -1,4 +1,3 @@
-pub mod Bodies
 pub mod Frames
 pub mod FrameViews
 pub mod Laws
@@ -6,3 +5,4 @@ pub mod Refusals
 pub mod Requests
 pub mod Responses
 pub mod Streams
+pub mod Tables

@@ -4,7 +4,7 @@ use Rattle.encoding.specs.Fields.{Spells}
 use Rattle.commands.specs.declared.edit.Verb.{Verb}
 use Rattle.commands.specs.declared.edit.Verb.TheVariants.{Register, Change}
 use Rattle.commands.specs.Asked.{Question, Promise, Lookup, History, Head, question}
-use Rattle.wire.specs.Bodies.{Row, Parts, Of, Both, Bytes, Nothing, Number, Text, frame_of, kind_among, read_by, IsCounted, MayHave}
+use Rattle.wire.specs.Tables.{KindRow, MessageParts, Of, Nothing, Number, Bytes, Text, Both, kind_among, parts_frame, read_by, IsCounted, MayHave}
 use Rattle.wire.specs.Frames.{Frame}
 use Rattle.wire.specs.declared.kind_bytes.TheConstants.{REGISTER, CHANGE, PROMISE, LOOKUP, HISTORY, HEAD, CLOSE}
 use Rattle.wire.specs.declared.request.Request.{Request}
@@ -33,12 +33,13 @@ pub data RequestKind : Type 0 where
   HeadKind : RequestKind
   TurnKind : RequestKind
 
+-- the kind byte of a registration, or of a change
 abbrev pub put_kind : Verb → ℕ
 put_kind Register = REGISTER
 put_kind Change = CHANGE
 
 -- the kinds of requests: the byte of each, the form of its bodies, and the request with what a body holds
-abbrev pub request_row : RequestKind → Row Requested
+abbrev pub request_row : RequestKind → KindRow Requested
 request_row (PutKind verb) = record { byte = put_kind verb; form = Both Text Text; message = λ held. Put verb held.0 held.1 }
 request_row PromiseKind = record { byte = PROMISE; form = Text; message = λ name. Query (Promise name) }
 request_row LookupKind = record { byte = LOOKUP; form = Both (Number 8) Text; message = λ held. Query (Lookup held.1 held.0) }
@@ -50,7 +51,7 @@ abbrev pub request_kinds : List RequestKind
 request_kinds = PutKind Register ∷ PutKind Change ∷ PromiseKind ∷ LookupKind ∷ HistoryKind ∷ HeadKind ∷ TurnKind ∷ []
 
 -- the kind of a request, with what its body holds
-abbrev pub request_parts : Requested → Parts request_row
+abbrev pub request_parts : Requested → MessageParts request_row
 request_parts (Put verb name key) = Of (PutKind verb) (name, key)
 request_parts (Query (Promise name)) = Of PromiseKind name
 request_parts (Query (Lookup name epoch)) = Of LookupKind (epoch, name)
@@ -60,7 +61,7 @@ request_parts (Turn token epoch) = Of TurnKind (token, epoch)
 
 -- a request as a frame
 abbrev pub request_frame : Requested → Frame
-request_frame requested = frame_of request_row (request_parts requested)
+request_frame requested = parts_frame request_row (request_parts requested)
 
 abbrev pub request_kind : Requested → ℕ
 request_kind requested = (request_frame requested).kind

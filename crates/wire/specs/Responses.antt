@@ -4,8 +4,8 @@ use Rattle.encoding.specs.Fields.{Spells}
 use Rattle.proofs.specs.Replies.{Reply, reply_bytes}
 use Rattle.rootchain.specs.declared.signed_promise.SignedPromise.{SignedPromise}
 use Rattle.rootchain.specs.declared.signed_root.SignedRoot.{SignedRoot}
-use Rattle.wire.specs.Bodies as form
-use Rattle.wire.specs.Bodies.{Row, Parts, Of, frame_of, IsCounted, MayHave}
+use Rattle.wire.specs.Tables as form
+use Rattle.wire.specs.Tables.{KindRow, MessageParts, Of, parts_frame, IsCounted, MayHave}
 use Rattle.wire.specs.Frames.{Frame}
 use Rattle.wire.specs.declared.answer.Answer.{Answer}
 use Rattle.wire.specs.declared.answer.Answer.TheVariants as answer
@@ -38,7 +38,7 @@ pub data ResponseKind : Type 0 where
   RefusedKind : ResponseKind
 
 -- the kinds of responses: the byte of each, the form of its bodies, and the response with what a body holds
-abbrev pub response_row : ResponseKind → Row Responded
+abbrev pub response_row : ResponseKind → KindRow Responded
 response_row PromiseKind = record { byte = PROMISED; form = form.Promise; message = Promise }
 response_row ProofKind = record { byte = PROOF; form = form.Reply; message = Proof }
 response_row RootsKind = record { byte = ROOTS; form = form.Roots; message = Roots }
@@ -49,7 +49,7 @@ abbrev pub response_kinds : List ResponseKind
 response_kinds = PromiseKind ∷ ProofKind ∷ RootsKind ∷ RootKind ∷ RefusedKind ∷ []
 
 -- the kind of a response, with what its body holds
-abbrev pub response_parts : Responded → Parts response_row
+abbrev pub response_parts : Responded → MessageParts response_row
 response_parts (Promise promise) = Of PromiseKind promise
 response_parts (Proof proof) = Of ProofKind proof
 response_parts (Roots roots) = Of RootsKind roots
@@ -58,7 +58,7 @@ response_parts (Refused code) = Of RefusedKind code
 
 -- a response as a frame
 abbrev pub response_frame : Responded → Frame
-response_frame responded = frame_of response_row (response_parts responded)
+response_frame responded = parts_frame response_row (response_parts responded)
 
 -- the frame of a reply to a look-up, by its bytes
 abbrev pub proof_frame : List ℕ → Frame

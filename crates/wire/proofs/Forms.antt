@@ -16,9 +16,9 @@ use Rattle.rootchain.proofs.RootLists.{root_list_field}
 use Rattle.rootchain.proofs.Sizes.{one_few, root_few, roots_few, signed_promise_few}
 use Rattle.rootchain.specs.declared.body.Body.{Body}
 use Rattle.rootchain.specs.Readable.{signed_promise_field, signed_root_field}
-use Rattle.wire.specs.Bodies.{Form, Nothing, Byte, Number, Bytes, Text, Both, Promise, Reply, Roots, Root, Content, spelling, reader, Allowed, MayHold}
+use Rattle.wire.specs.Tables.{BodyForm, Nothing, Byte, Number, Bytes, Text, Both, Promise, Reply, Roots, Root, Content, spelling, reader, Allowed, MayHold}
 
-pub form_field : (form : Form) → IsField (reader form) (spelling form) (Allowed form)
+pub form_field : (form : BodyForm) → IsField (reader form) (spelling form) (Allowed form)
 form_field Nothing = allowed (λ x _. tt) (λ x _. refl) (nothing_field tt)
 form_field Byte = byte_field
 form_field (Number count) = numbers_field count
@@ -34,7 +34,7 @@ form_field Root = signed_root_field
 some_body : Body
 some_body = record { epoch = 0; previous_epoch = 0; root = []; previous_hash = []; nonce = []; vuf_key = [] }
 
-pub any : (form : Form) → Content form
+pub any : (form : BodyForm) → Content form
 any Nothing = tt
 any Byte = 0
 any (Number count) = 0
@@ -49,7 +49,7 @@ any Root = record { body = some_body; signature = [] }
 counted_are_bytes : (bytes : List ℕ) → IsBytes bytes → IsBytes (counted_bytes bytes)
 counted_are_bytes bytes h = IsBytes-append (big_bytes 2 (length bytes)) bytes (IsBytes-bytes_high_first 2 (length bytes)) h
 
-pub are_bytes : (form : Form) (content : Content form) → MayHold IsBytes form content → IsBytes (spelling form content)
+pub are_bytes : (form : BodyForm) (content : Content form) → MayHold IsBytes form content → IsBytes (spelling form content)
 are_bytes Nothing content h = λ k. omega arith
 are_bytes Byte content h = (one_few content h).small
 are_bytes (Number count) content h = IsBytes-bytes_high_first count content
@@ -62,7 +62,7 @@ are_bytes Roots content h = (roots_few content h).small
 are_bytes Root content h = (root_few content h).small
 
 -- what fits into a frame has names and keys that are short enough
-pub fits : (form : Form) (content : Content form) → MayHold IsBytes form content → length (spelling form content) ≤ 65535 → Allowed form content
+pub fits : (form : BodyForm) (content : Content form) → MayHold IsBytes form content → length (spelling form content) ≤ 65535 → Allowed form content
 fits Text content h few = (omega arith, omega (arith, length-append (big_bytes 2 (length content)) content, few), h)
 fits (Both first second) content h few =
     let sum = length-append (spelling first content.0) (spelling second content.1) in

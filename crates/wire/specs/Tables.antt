@@ -20,20 +20,20 @@ use Rattle.wire.specs.declared.refusal.ReadRefusal.TheVariants.{BadKind, BadBody
 
 -- nothing; one byte; a number in so many bytes; so many bytes; a name or a key, behind its length in two
 -- bytes; two forms, one behind the other; and the forms of what a directory signs and proves
-pub data Form : Type 0 where
-  Nothing : Form
-  Byte : Form
-  Number : ℕ → Form
-  Bytes : ℕ → Form
-  Text : Form
-  Both : Form → Form → Form
-  Promise : Form
-  Reply : Form
-  Roots : Form
-  Root : Form
+pub data BodyForm : Type 0 where
+  Nothing : BodyForm
+  Byte : BodyForm
+  Number : ℕ → BodyForm
+  Bytes : ℕ → BodyForm
+  Text : BodyForm
+  Both : BodyForm → BodyForm → BodyForm
+  Promise : BodyForm
+  Reply : BodyForm
+  Roots : BodyForm
+  Root : BodyForm
 
 -- what a body of the form holds
-abbrev pub Content : Form → Type 0
+abbrev pub Content : BodyForm → Type 0
 Content Nothing = ⊤
 Content Byte = ℕ
 Content (Number count) = ℕ
@@ -45,7 +45,7 @@ Content Reply = replies.Reply
 Content Roots = List SignedRoot
 Content Root = SignedRoot
 
-abbrev pub spelling : (form : Form) → Content form → List ℕ
+abbrev pub spelling : (form : BodyForm) → Content form → List ℕ
 spelling Nothing content = []
 spelling Byte content = content ∷ []
 spelling (Number count) content = big_bytes count content
@@ -58,7 +58,7 @@ spelling Roots content = root_list_bytes content
 spelling Root content = signed_root_bytes content
 
 -- numbers fit in their bytes, and this holds of names and keys
-abbrev pub MayHold : (List ℕ → Type 0) → (form : Form) → Content form → Type 0
+abbrev pub MayHold : (List ℕ → Type 0) → (form : BodyForm) → Content form → Type 0
 MayHold OfText Nothing content = ⊤
 MayHold OfText Byte content = content < 256
 MayHold OfText (Number count) content = content < 256 ^ count
@@ -75,10 +75,10 @@ abbrev pub IsCounted : List ℕ → Type 0
 IsCounted = IsWithin 0 65535
 
 -- what may be held where names and keys are such texts
-abbrev pub Allowed : (form : Form) → Content form → Type 0
+abbrev pub Allowed : (form : BodyForm) → Content form → Type 0
 Allowed = MayHold IsCounted
 
-abbrev pub reader : (form : Form) → List ℕ → Reading (Content form)
+abbrev pub reader : (form : BodyForm) → List ℕ → Reading (Content form)
 reader Nothing = read_nothing tt
 reader Byte = read_byte
 reader (Number count) = read_number count
@@ -93,9 +93,9 @@ reader Root = read_signed_root
 -- ---- kinds
 
 -- a kind of message: its byte, the form of its bodies, and the message with what a body holds
-pub record Row (Message : Type 0) : Type 0 where
+pub record KindRow (Message : Type 0) : Type 0 where
   pub byte : ℕ
-  pub form : Form
+  pub form : BodyForm
   pub message : Content form → Message
 
 -- any fault in the body is BadBody
@@ -103,22 +103,22 @@ abbrev pub or_bad_body : {Message : Type 0} → Reading Message → Result (Mess
 or_bad_body (Ok read) = Ok read
 or_bad_body (Err fault) = Err BadBody
 
--- of these kinds
-module _ {Message Kind : Type 0} (row : Kind → Row Message) where
+-- where kinds have such rows
+module _ {Message Kind : Type 0} (row : Kind → KindRow Message) where
   -- a kind, with what a body of it holds
-  pub data Parts : Type 0 where
-    Of : (kind : Kind) → Content (row kind).form → Parts
+  pub data MessageParts : Type 0 where
+    Of : (kind : Kind) → Content (row kind).form → MessageParts
 
-  abbrev pub kind_of : Parts → Kind
-  kind_of (Of kind content) = kind
+  abbrev pub parts_kind : MessageParts → Kind
+  parts_kind (Of kind content) = kind
 
-  abbrev pub message_of : Parts → Message
-  message_of (Of kind content) = (row kind).message content
+  abbrev pub parts_message : MessageParts → Message
+  parts_message (Of kind content) = (row kind).message content
 
-  abbrev pub frame_of : Parts → Frame
-  frame_of (Of kind content) = record { kind = (row kind).byte; body = spelling (row kind).form content }
+  abbrev pub parts_frame : MessageParts → Frame
+  parts_frame (Of kind content) = record { kind = (row kind).byte; body = spelling (row kind).form content }
 
-  abbrev pub MayHave : (List ℕ → Type 0) → Parts → Type 0
+  abbrev pub MayHave : (List ℕ → Type 0) → MessageParts → Type 0
   MayHave OfText (Of kind content) = MayHold OfText (row kind).form content
 
   -- the kind with this byte, if it is one of these
