@@ -9,6 +9,7 @@ use Rattle.proofs.specs.Reading.{read_reply}
 use Rattle.proofs.specs.Refusals.{ReadsReply}
 use Rattle.proofs.specs.Replies.{Reply, reply_bytes, IsReply}
 use Rattle.proofs.proofs.Replies.{reply_field}
+use Rattle.wire.specs.declared.kind_bytes.TheConstants.{PROOF, REFUSED}
 use Rattle.wire.specs.Tables.{Content, Of, spelling, kind_among, parts_message, Allowed}
 use Rattle.wire.specs.Laws.{ResponsesAreOne, ResponsesHaveKinds}
 use Rattle.wire.specs.Responses.{Responded, Promise, Proof, Roots, Root, Refused, ResponseKind, response_kind, PromiseKind, ProofKind, RootsKind, RootKind, RefusedKind, response_kinds, response_parts, response_row, Responds, IsResponseKind}
@@ -62,8 +63,8 @@ not_spelled body SameIndex refused x spelled = absurd refused
 not_spelled body OtherPrefix refused x spelled = absurd refused
 not_spelled body PathMismatch refused x spelled = absurd refused
 
-pub no_proof : (kind : ℕ) (body : List ℕ) (refusal : ReplyRefusal) → kind ≡ 130 → ReadsReply body (Err refusal) → IsNone kind body
+pub no_proof : (kind : ℕ) (body : List ℕ) (refusal : ReplyRefusal) → kind ≡ PROOF → ReadsReply body (Err refusal) → IsNone kind body
 no_proof kind body refusal is refused = no_response ProofKind kind body is (not_spelled body refusal refused)
 
-pub no_code : (kind : ℕ) (body : List ℕ) → kind ≡ 255 → ((code : ℕ) → body ≢ code ∷ []) → IsNone kind body
+pub no_code : (kind : ℕ) (body : List ℕ) → kind ≡ REFUSED → ((code : ℕ) → body ≢ code ∷ []) → IsNone kind body
 no_code kind body is none = no_response RefusedKind kind body is (λ code spelled. none code spelled.0)
