@@ -47,5 +47,4 @@ returns-in-Err g c =
     let es = c.args.histories.now.entries in
     let none : lookup (is_at (λ key. name_cmp c.in_ok-owned.field-0.items key.items)) es ≡ None = rw c.in-Vacant.is at c.in_ok-place.ensures.found in
     let gone : (map_without_entry (Vacant c.in-Vacant.place)).entries ≡ es = (rw c.in-Vacant.is at c.in_ok-place.ensures.removal).1 ∙ remove-missing (is_at (λ key. name_cmp c.in_ok-owned.field-0.items key.items)) es none in
-    let left : c.remove.new.self.0.entries ≡ es = c.remove.ensures.removed ∙ c.insert_entry.ensures.5 ∙ gone in
-    (ap (named (λ key. key.items)) (behind left (search rules)), inr (refl, search rules))
+    (ap (named (λ key. key.items)) (behind gone (search rules)), inr (refl, search rules))
