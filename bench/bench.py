@@ -5,8 +5,8 @@ the columns mean.
 usage: bench/bench.py root|tree|changes|replies|reconcile|epochs|journal|hub|serve|audit|client, at the top of
 the repository
 
-BEFORE, if it is set, is the top of another clone, in which directoryd and measure are built. `root`
-then times the programs of both, in turn.
+BEFORE, if it is set, is the top of another clone, in which directoryd and measure are built. `root` and
+`hub` then time the programs of both, in turn.
 """
 
 import bisect
@@ -756,11 +756,9 @@ class Sessions:
     """The runs of `measure hub` with pieces of so many bytes: for each request the times of its
     steps, which are the calls, the calls with their frames written, and the hub."""
 
-    def __init__(self, piece):
-        self.piece = piece
+    def __init__(self, piece, top=""):
+        self.piece, self.top = piece, top
         self.times = {request: ([], [], []) for request in HUB_REQUESTS}
-        for _ in range(HUB_RUNS):
-            self.run()
 
     def events(self, request):
         """The pieces of all streams."""
@@ -770,7 +768,7 @@ class Sessions:
     def run(self):
         requests = list(HUB_REQUESTS) * HUB_ROUNDS
         words = [HUB_NAMES, HUB_FRAMES, self.piece, HUB_ROUNDS]
-        _, run_steps = steps(4 * len(requests), "hub", *words)
+        _, run_steps = steps(4 * len(requests), "hub", *words, top=self.top)
         for request in requests:
             made, *sides = run_steps[:4]
             run_steps = run_steps[4:]
@@ -784,7 +782,8 @@ class Sessions:
     def row(self, request):
         called, written, run = self.times[request]
         spread = Spread(run, HUB_FRAMES)
-        row = [request, f"{self.piece:,}", f"{1 / spread.median:,.0f}", *spread.cells(1e6, 2)]
+        name = f"{request} before" if self.top else request
+        row = [name, f"{self.piece:,}", f"{1 / spread.median:,.0f}", *spread.cells(1e6, 2)]
         for calls in (called, written):
             ratio = statistics.median(mine / its for mine, its in zip(run, calls))
             row += [*Spread(calls, HUB_FRAMES).cells(1e6, 2), f"{ratio:.2f}"]
@@ -807,10 +806,15 @@ def feed_row(frames):
 
 
 def hub(_folder):
-    sides = [Sessions(piece) for piece in PIECES]
+    tops = ["", BEFORE] if BEFORE else [""]
+    both = [Sessions(piece, top) for piece in PIECES for top in tops]
+    for _ in range(HUB_RUNS):
+        for each in both:
+            each.run()
+    sides = [each for each in both if not each.top]
     spread = ["least", "median", "greatest"]
     head = ["", "piece", "frames/s", *spread, "calls", *spread[1:], "ratio"]
-    rows = [each.row(request) for request in list(HUB_REQUESTS)[1:] for each in sides]
+    rows = [each.row(request) for request in list(HUB_REQUESTS)[1:] for each in both]
     title = "a frame through the hub; its call; and its call with the reply's frame written, us"
     table(title, [*head, "written", *spread[1:], "ratio"], rows)
     head = ["piece", "frames/s", *spread]

@@ -4,6 +4,9 @@
 # frame out of a piece of 64, 1,024 and 16,384 frames.
 #
 #   bench/hub.sh
+#   BEFORE=CLONE bench/hub.sh
+#
+# The second also times the program of another clone, in which measure is built.
 #
 # Needs the kit (`rt` on the PATH) and Python 3, on Linux. Takes about two minutes once the program
 # is proved and built, which it does first. docs/SPEED.md says what the columns mean. The status is 0

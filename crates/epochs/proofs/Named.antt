@@ -1,6 +1,7 @@
 -- A map of std at keys of bytes, and the names with their histories that it holds.
 use Rattle.std.proofs.Common.{◌≡◌, ℕ, List, [], ◌∷◌, ◌++◌, Option, Some, None, Bool, true, false, Bor, cond, refl, sym, ap, ◌∙◌, subst, MatchResult, Result, Ok, Err}
 use Rattle.std.specs.BTreeMap.{insert_entry, is_at}
+use Rattle.std.specs.List.{AllByRecursion}
 use Rattle.std.specs.List.Sorted.{IsStrictlySortedBy}
 use Rattle.std.specs.Map.{keys_of, lookup, remove_entry, set_value}
 use Rattle.std.specs.Option.{option_copied, option_map, unwrap_or}
@@ -86,6 +87,15 @@ module _ {K X : Type 0} (bytes : K → List ℕ) where
   remove-inserted name key x es is none =
       subst (λ (n : List ℕ). lookup (test bytes n) es ≡ None → remove_entry (test bytes n) (insert_entry (λ a b. name_cmp (bytes a) (bytes b)) es key x) ≡ es) is (remove-same key x es) none
 
+-- to take out what is not there
+pub remove-missing : {K X : Type 0} (is : K → Bool) (es : List (K × X)) → lookup is es ≡ None → remove_entry is es ≡ es
+remove-missing is [] none = refl
+remove-missing {K = K} {X = X} is (e ∷ es) none = by (is e.0) refl (remove-missing is es)
+  where
+    by : (t : Bool) → is e.0 ≡ t → (lookup is es ≡ None → remove_entry is es ≡ es) → remove_entry is (e ∷ es) ≡ e ∷ es
+    by true t more = absurd (cc (ap (λ (t : Bool). cond t (Some e.1) (lookup is es)) (sym t) ∙ none))
+    by false t more = rw t (ap (λ (rest : List (K × X)). e ∷ rest) (more (ap (λ (t : Bool). cond t (Some e.1) (lookup is es)) (sym t) ∙ none)))
+
 -- a value that is there, put in once more
 pub put-same : {X : Type 0} (name : List ℕ) (x : X) (map : Map X) → NamesAscend map → at map name ≡ Some x → put map name x ≡ map
 put-same name x [] up found = absurd cc
@@ -109,6 +119,27 @@ At history = history.address
 module _ {K : Type 0} (bytes : K → List ℕ) where
   pub named-insert : (key : K) (history : History) (es : List (K × History)) → named bytes (insert_entry (λ a b. name_cmp (bytes a) (bytes b)) es key history) ≡ with_history (named bytes es) (bytes key) history
   named-insert key history es = λ i. record { versions = bytes-insert bytes Versions key history es i; addresses = bytes-insert bytes At key history es i }
+
+  -- the keys of a map ascend as their names
+  all-below : (key : K) (es : List (K × History)) → AllByRecursion (λ other. name_cmp (bytes key) (bytes other) ≡ Less) (keys_of es)
+      → AllByRecursion (λ other. name_cmp (bytes key) other ≡ Less) (keys_of (named bytes es).versions)
+  all-below key [] below = tt
+  all-below key (e ∷ es) below = (below.0, all-below key es below.1)
+
+  pub ascending : (es : List (K × History)) → IsStrictlySortedBy (λ a b. name_cmp (bytes a) (bytes b)) (keys_of es) → NamesAscend (named bytes es).versions
+  unfolding IsStrictlySortedBy
+  ascending [] up = tt
+  ascending (e ∷ es) up = (all-below e.0 es up.0, ascending es up.1)
+
+  -- what was found by a key of these bytes
+  pub found-at : (name : List ℕ) (key : K) (es : List (K × History)) (o : Option History) → bytes key ≡ name
+      → lookup (test bytes (bytes key)) es ≡ o → lookup (test bytes name) es ≡ o
+  found-at name key es o is found = subst (λ (n : List ℕ). lookup (test bytes n) es ≡ o) is found
+
+  -- a history that is put in at a key of these bytes
+  pub named-inserted : (name : List ℕ) (key : K) (later : History) (es es_after : List (K × History)) → bytes key ≡ name
+      → es_after ≡ insert_entry (λ a b. name_cmp (bytes a) (bytes b)) es key later → named bytes es_after ≡ with_history (named bytes es) name later
+  named-inserted name key later es es_after is set = ap (named bytes) set ∙ named-insert key later es ∙ ap (λ (n : List ℕ). with_history (named bytes es) n later) is
 
   -- a history that is there
   module _ (name : List ℕ) (es : List (K × History)) (earlier : History) (found : lookup (test bytes name) es ≡ Some earlier) where
@@ -156,6 +187,22 @@ module _ (A : Type 0) {E : Type 0} (B : E → Type 0) (name : List ℕ) (address
   )
   added-there bytes (Err why) es es_after earlier later up found set added = (
     ap (named bytes) set ∙ named-set bytes name es earlier found later up ∙ ap (with_history (named bytes es) name) added.0 ∙ named-same bytes name es earlier found up,
+    added.1,
+  )
+
+  -- the same, where the later history was put in at a key of these bytes
+  pub added-inserted : {K : Type 0} (bytes : K → List ℕ) (result : Result (Unit {0}) E) (es es_after : List (K × History)) (key : K) (earlier later : History)
+      → NamesAscend (named bytes es).versions → bytes key ≡ name → lookup (is_at (λ key. name_cmp name (bytes key))) es ≡ Some earlier
+      → es_after ≡ insert_entry (λ a b. name_cmp (bytes a) (bytes b)) es key later
+      → MatchResult result (λ _. A × (later ≡ record earlier { versions = earlier.versions ++ version ∷ [] })) (λ why. (later ≡ earlier) × B why)
+      → Added result (named bytes es) (named bytes es_after)
+  added-inserted bytes (Ok done) es es_after key earlier later up is found set added = (
+    added.0,
+    ap (named bytes) set ∙ named-insert bytes key later es ∙ ap (λ (n : List ℕ). with_history (named bytes es) n later) is ∙ ap (with_history (named bytes es) name) added.1
+        ∙ (λ i. with_history (named bytes es) name (record { address = unwrap_or (address-at bytes name es earlier found i) address; versions = unwrap_or (versions-at bytes name es earlier found i) [] ++ version ∷ [] })),
+  )
+  added-inserted bytes (Err why) es es_after key earlier later up is found set added = (
+    ap (named bytes) set ∙ named-insert bytes key later es ∙ ap (λ (n : List ℕ). with_history (named bytes es) n later) is ∙ ap (with_history (named bytes es) name) added.0 ∙ named-same bytes name es earlier found up,
     added.1,
   )
 

@@ -1,6 +1,7 @@
 ghost use Rattle.std.specs.Prelude.{◌≡◌, ◌<◌, ◌≤◌, ◌++◌, ◌∷◌, [], length, IfOk, MatchOption, MatchResult, option_and_then};
 ghost use Rattle.std.specs.List.Sorted.{IsPartitionPoint};
 ghost use Rattle.std.specs.Option.{option_map};
+ghost use Rattle.encoding.specs.Limits.{IsSmall};
 ghost use Rattle.nodehash.specs.Digests.{one_more};
 ghost use Rattle.epochs.specs.Histories.{shown, waiting};
 ghost use Rattle.epochs.specs.Versions.{AllBefore, Ascends, IsUnkept};
@@ -99,24 +100,17 @@ impl Model for History {
 }
 
 impl History {
-    /// A history of one version.
-    pub(crate) fn new(
-        alloc: Global,
-        address: &Address,
-        version: Version,
-    ) -> Result<History, AllocError>
-        ensures { IfOk result (λ history. history ≡ record { address = address.now; versions = version ∷ [] }) }
+    /// The history of a name at this index, whose value has these bytes.
+    pub(crate) fn new(value: Vec<u8>, index: Index, versions: Vec<Version>) -> History
+        requires small { IsSmall value.items }
+        requires ascend { Ascends versions.items }
+        ensures { result ≡ record { address = record { value = value.items; index = index }; versions = versions.items } }
     {
-        let bytes = address.value.bytes();
-        let mut value = Vec::with_capacity(alloc, bytes.len())?;
-        value.extend_from_slice(bytes)?;
-        let mut versions = Vec::with_capacity(alloc, 1)?;
-        versions.push_reserved(version);
-        Ok(History {
+        History {
             value,
-            index: address.index,
+            index,
             versions,
-        })
+        }
     }
 
     /// The address of the name.

@@ -8,9 +8,11 @@ ghost use Rattle.epochs.specs.Versions.{AllBefore, AreHistories, IsUnkept, versi
 use crate::address::Address;
 use crate::history::{History, Version};
 use book::{Keeper, Record, Refusal};
+use commands::Verb;
 use encoding::Name;
 use std::alloc::{AllocError, Global};
 use std::collections::BTreeMap;
+use std::collections::btree_map::Entry;
 use std::marker::Model;
 
 /// Names with their histories.
@@ -72,44 +74,95 @@ impl Names {
             (λ _. K.kept keeper.old what.now keeper.new × (self.new ≡ with_name self.old name.now address.now version))
             (λ why. (self.new ≡ self.old) × IsUnkept K.failed keeper.old what.now why keeper.new) }
     {
-        if let Some(history) = self.histories.get_mut(name.bytes()) {
-            return history.add(keeper, what, version);
+        match what {
+            Record::Bound {
+                verb: Verb::Change,
+                ..
+            } => add_to_held(
+                self.alloc,
+                &mut self.histories,
+                keeper,
+                what,
+                name,
+                address,
+                version,
+            ),
+            _ => add_to_new(
+                self.alloc,
+                &mut self.histories,
+                keeper,
+                what,
+                name,
+                address,
+                version,
+            ),
         }
-        let history = History::new(self.alloc, address, version)?;
-        put_kept(self.alloc, &mut self.histories, name, history, keeper, what)
     }
 }
 
-// Puts the history of a name into a map that lacks the name, once the record is kept.
-fn put_kept<K: Keeper>(
+// Adds a version of a name that most likely is there: no room is made for it.
+fn add_to_held<K: Keeper>(
     alloc: Global,
     histories: &mut BTreeMap<Vec<u8>, History>,
-    name: &Name,
-    history: History,
     keeper: &mut K,
     what: &Record,
+    name: &Name,
+    address: &Address,
+    version: Version,
 ) -> Result<(), Refusal>
-    requires lacks { get_by (λ key. name_cmp name.now key.items) histories.old ≡ None }
+    requires later { AllBefore version.number (versions_of (named (λ key. key.items) histories.old.entries).versions name.now) }
     ensures { MatchResult result
-        (λ _. K.kept keeper.old what.now keeper.new × (named (λ key. key.items) histories.new.entries ≡ with_history (named (λ key. key.items) histories.old.entries) name.now history))
-        (λ why. (histories.new.entries ≡ histories.old.entries) × IsUnkept K.failed keeper.old what.now why keeper.new) }
+        (λ _. K.kept keeper.old what.now keeper.new × (named (λ key. key.items) histories.new.entries ≡ with_name (named (λ key. key.items) histories.old.entries) name.now address.now version))
+        (λ why. (named (λ key. key.items) histories.new.entries ≡ named (λ key. key.items) histories.old.entries) × IsUnkept K.failed keeper.old what.now why keeper.new) }
 {
-    // The history is put in first, since memory may run out for it, and taken out again if the
-    // record is not kept. (A vacant entry would do, but nothing says what the map is once the entry
-    // is dropped with its key.)
-    histories.insert(owned(alloc, name)?, history)?;
-    let Ok(()) = keeper.keep(what) else {
-        let _ = histories.remove(name.bytes());
-        return Err(Refusal::KeepFailed);
-    };
-    Ok(())
+    if let Some(history) = histories.get_mut(name.bytes()) {
+        return history.add(keeper, what, version);
+    }
+    add_to_new(alloc, histories, keeper, what, name, address, version)
 }
 
-// The bytes of a name, in memory of their own.
-fn owned(alloc: Global, name: &Name) -> Result<Vec<u8>, AllocError>
-    ensures { IfOk result (λ own. own.items ≡ name.now) }
+// Adds a version of a name that most likely is new: it is searched for once.
+fn add_to_new<K: Keeper>(
+    alloc: Global,
+    histories: &mut BTreeMap<Vec<u8>, History>,
+    keeper: &mut K,
+    what: &Record,
+    name: &Name,
+    address: &Address,
+    version: Version,
+) -> Result<(), Refusal>
+    requires later { AllBefore version.number (versions_of (named (λ key. key.items) histories.old.entries).versions name.now) }
+    ensures { MatchResult result
+        (λ _. K.kept keeper.old what.now keeper.new × (named (λ key. key.items) histories.new.entries ≡ with_name (named (λ key. key.items) histories.old.entries) name.now address.now version))
+        (λ why. (named (λ key. key.items) histories.new.entries ≡ named (λ key. key.items) histories.old.entries) × IsUnkept K.failed keeper.old what.now why keeper.new) }
 {
-    let bytes = name.bytes();
+    let value = owned(alloc, address.value.bytes())?;
+    let mut versions = Vec::with_capacity(alloc, 1)?;
+    match histories.entry(owned(alloc, name.bytes())?)? {
+        Entry::Occupied(place) => place.into_mut().add(keeper, what, version),
+        Entry::Vacant(place) => {
+            versions.push_reserved(version);
+            let history = History::new(value, address.index, versions);
+            match keeper.keep(what) {
+                Ok(()) => {
+                    place.insert(history);
+                    Ok(())
+                }
+                // Nothing says what the map is once a vacant entry is dropped with its key, so the
+                // history is put in and taken out again.
+                Err(_) => {
+                    let _ = place.insert_entry(history).remove();
+                    Err(Refusal::KeepFailed)
+                }
+            }
+        }
+    }
+}
+
+// These bytes, in memory of their own.
+fn owned(alloc: Global, bytes: &[u8]) -> Result<Vec<u8>, AllocError>
+    ensures { IfOk result (λ own. own.items ≡ bytes.now) }
+{
     let mut own = Vec::with_capacity(alloc, bytes.len())?;
     own.extend_from_slice(bytes)?;
     Ok(own)

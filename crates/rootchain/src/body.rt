@@ -11,7 +11,7 @@ use encoding::{Cursor, Fault, FixedText, Form, Hash32};
 const HEAD: [u8; 2] = [0x52, 1];
 
 /// How many bytes a body has.
-const BODY_LEN: usize = 146;
+pub(crate) const BODY_LEN: usize = 146;
 
 /// The bytes of a body.
 pub type BodyText = FixedText<BODY_LEN>;

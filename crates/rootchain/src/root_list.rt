@@ -112,7 +112,7 @@ pub fn list_len(roots: &[SignedRoot]) -> usize
 {
     let mut len = 2;
     for root in roots {
-        len += root.write().bytes().len();
+        len += root.written_len();
     }
     len
 }

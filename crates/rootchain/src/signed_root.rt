@@ -5,6 +5,7 @@ ghost use Rattle.rootchain.specs.Bodies.{IsWellFormed};
 ghost use Rattle.rootchain.specs.Chains.{Names, Verifies};
 ghost use Rattle.rootchain.specs.SignedRoots.{read_signed_root, signed_root_bytes, IsSignedRoot};
 
+use crate::body::BODY_LEN;
 use crate::whole::whole;
 use crate::{Body, Refusal};
 use encoding::{Cursor, Fault, FixedText, Form, Hash32, Small};
@@ -45,6 +46,19 @@ impl SignedRoot {
         let mut text: SignedRootText = self.body.write().copied();
         text.push_counted(self.signature.bytes());
         text
+    }
+
+    /// How many bytes it is written in. At most 404.
+    pub(crate) fn written_len(&self) -> usize
+        ensures value { result ≡ length (signed_root_bytes self.now) }
+        ensures most { result ≤ 404 }
+    {
+        // What these ensure: a hash has 32 bytes.
+        self.body.root.bytes();
+        self.body.previous_hash.bytes();
+        self.body.nonce.bytes();
+        self.body.vuf_key.bytes();
+        BODY_LEN + 2 + self.signature.bytes().len()
     }
 
     /// A copy of the signed root.
