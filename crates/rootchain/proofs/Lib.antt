@@ -6,6 +6,7 @@ pub mod Compared
 pub mod NextRoots
 pub mod OneAnswer
 pub mod Places
+pub mod RootFeeds
 pub mod RootLists
 pub mod Sizes
 pub mod Spelled

@@ -24,8 +24,10 @@ mod compare;
 mod evidence;
 mod laws;
 mod list_refusal;
+mod piece_refusal;
 mod promise;
 mod refusal;
+mod root_feed;
 mod root_list;
 mod signed_promise;
 mod signed_root;
@@ -40,8 +42,10 @@ pub use laws::{
     promise_is_read, root_list_is_read, signed_promise_is_read, signed_root_is_read,
 };
 pub use list_refusal::ListRefusal;
+pub use piece_refusal::PieceRefusal;
 pub use promise::Promise;
 pub use refusal::Refusal;
+pub use root_feed::RootFeed;
 pub use root_list::{MAX_ROOTS, RootList, list_len, write_list};
 pub use signed_promise::SignedPromise;
 pub use signed_root::{SignedRoot, SignedRootText};
