@@ -12,5 +12,6 @@ pub mod Sizes
 pub mod Spelled
 pub mod Taking
 pub mod TakingLists
+pub mod TakingPieces
 pub mod Telling
 pub mod Walks

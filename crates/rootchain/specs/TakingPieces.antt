@@ -15,6 +15,14 @@ abbrev pub joined : List (List ℕ) → List ℕ
 joined [] = []
 joined (piece ∷ pieces) = piece ++ joined pieces
 
+-- the refusal of a piece for that of one of its roots
+abbrev pub of_piece : ListRefusal → PieceRefusal
+of_piece list.Memory = Memory
+of_piece list.BadSignature = Root list.BadSignature
+of_piece list.BeforeStart = Root list.BeforeStart
+of_piece list.Ahead = Root list.Ahead
+of_piece (list.Evidence evidence) = Root (list.Evidence evidence)
+
 module _ (hash : List ℕ → List ℕ) (verified : List ℕ → List ℕ → List ℕ → Type 0) where
   -- What comes of a piece: the roots that it makes whole are taken in order, each before the next one is
   -- looked at, up to the first that is refused. After a refusal the feed has failed; only want of memory
@@ -28,7 +36,7 @@ module _ (hash : List ℕ → List ℕ) (verified : List ℕ → List ℕ → Li
   -- the same, but where memory runs out some roots may have been taken
   abbrev pub TakesTold : {A : Type 0} → KeyedRoots → Held → List ℕ → Result A PieceRefusal → KeyedRoots → Held → Type 0
   TakesTold chain held piece (Ok _) after held' = Takes hash verified chain (told_from held piece).0 after × (held' ≡ (told_from held piece).1) × (held' ≢ Failed)
-  TakesTold chain held piece (Err Malformed) after held' = Takes hash verified chain (told_from held piece).0 after × ((told_from held piece).1 ≡ Failed)
+  TakesTold chain held piece (Err Malformed) after held' = Takes hash verified chain (told_from held piece).0 after × ((told_from held piece).1 ≡ Failed) × (held' ≡ Failed)
   TakesTold chain held piece (Err (Root why)) after held' = StopsAt hash verified chain (told_from held piece).0 why after × (why ≢ list.Memory)
   TakesTold chain held piece (Err Memory) after held' = StopsAt hash verified chain (told_from held piece).0 list.Memory after
 

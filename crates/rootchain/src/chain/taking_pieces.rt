@@ -5,7 +5,7 @@ ghost use Rattle.rootchain.specs.Chains.{IsChain};
 ghost use Rattle.rootchain.specs.RootFeeds.{told_from};
 ghost use Rattle.rootchain.specs.SignedRoots.{IsSignedRoot};
 ghost use Rattle.rootchain.specs.TakingLists.{with_roots};
-ghost use Rattle.rootchain.specs.TakingPieces.{TakesPiece, TakesTold, PieceRefusalHolds, PieceRefusalIsSpelled};
+ghost use Rattle.rootchain.specs.TakingPieces.{of_piece, TakesPiece, TakesTold, PieceRefusalHolds, PieceRefusalIsSpelled};
 
 use super::Chain;
 use crate::root_feed::Next;
@@ -38,13 +38,14 @@ impl<H: NodeHash, S: Verifier> Chain<H, S> {
         ensures chain { IsChain H.digest_of S.verified self.old }
         ensures counted { H.digests hash.new ≤ H.digests hash.old + length (told_from feed.old piece.now).0 }
     {
+        let before = self.roots.len();
         if feed.has_failed() {
             return Err(PieceRefusal::Malformed);
         }
         if self.roots.reserve(feed.owed()).is_err() {
             return Err(PieceRefusal::Memory);
         }
-        let (before, held) = (self.roots.len(), feed.copied());
+        let held = feed.copied();
         match self.take_told(hash, verifier, feed, piece) {
             Ok(()) => Ok(()),
             Err(PieceRefusal::Memory) => {
@@ -52,10 +53,11 @@ impl<H: NodeHash, S: Verifier> Chain<H, S> {
                 *feed = held;
                 Err(PieceRefusal::Memory)
             }
-            Err(why) => {
+            Err(PieceRefusal::Root(why)) => {
                 feed.fail();
-                Err(why)
+                Err(PieceRefusal::Root(why))
             }
+            Err(PieceRefusal::Malformed) => Err(PieceRefusal::Malformed),
         }
     }
 
@@ -76,10 +78,8 @@ impl<H: NodeHash, S: Verifier> Chain<H, S> {
         loop {
             match feed.next(rest) {
                 Next::Root(root, after) => {
-                    match self.take_one(hash, verifier, root) {
-                        Ok(()) => {}
-                        Err(ListRefusal::Memory) => return Err(PieceRefusal::Memory),
-                        Err(why) => return Err(PieceRefusal::Root(why)),
+                    if let Err(why) = self.take_one(hash, verifier, root) {
+                        return Err(of_piece(why));
                     }
                     rest = after;
                 }
@@ -87,5 +87,18 @@ impl<H: NodeHash, S: Verifier> Chain<H, S> {
                 Next::Failed => return Err(PieceRefusal::Malformed),
             }
         }
+    }
+}
+
+/// The refusal of a piece for that of one of its roots.
+fn of_piece(why: ListRefusal) -> PieceRefusal
+    ensures { result ≡ of_piece why }
+{
+    match why {
+        ListRefusal::Memory => PieceRefusal::Memory,
+        ListRefusal::BadSignature => PieceRefusal::Root(ListRefusal::BadSignature),
+        ListRefusal::BeforeStart => PieceRefusal::Root(ListRefusal::BeforeStart),
+        ListRefusal::Ahead => PieceRefusal::Root(ListRefusal::Ahead),
+        ListRefusal::Evidence(evidence) => PieceRefusal::Root(ListRefusal::Evidence(evidence)),
     }
 }
