@@ -38,8 +38,9 @@ pub use chain::{Chain, Place};
 pub use compare::Compare;
 pub use evidence::RootEvidence;
 pub use laws::{
-    body_is_read, chain_is_no_evidence, comparison_is_unique, epochs_ascend, place_tells_evidence,
-    promise_is_read, root_list_is_read, signed_promise_is_read, signed_root_is_read,
+    body_is_read, chain_is_no_evidence, comparison_is_unique, cuts_of_a_list_do_not_matter,
+    epochs_ascend, place_tells_evidence, promise_is_read, root_list_is_read,
+    signed_promise_is_read, signed_root_is_read,
 };
 pub use list_refusal::ListRefusal;
 pub use piece_refusal::PieceRefusal;

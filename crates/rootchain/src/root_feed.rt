@@ -3,9 +3,9 @@ ghost use Rattle.encoding.specs.Reading.{Gives};
 ghost use Rattle.rootchain.specs.FeedViews.{held_of, IsFront, IsRootOf, TellsNext};
 ghost use Rattle.rootchain.specs.RootFeeds.{front, read_signature_len, Counts, Done, Failed, IsHeld, Owes, Part};
 
+use crate::SignedRoot;
 use crate::root_list::{MAX_ROOTS, read_count};
 use crate::signed_root::SignedRootText;
-use crate::SignedRoot;
 use encoding::{Cursor, Fault, Form};
 use std::marker::Model;
 
