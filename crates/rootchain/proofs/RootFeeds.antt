@@ -6,7 +6,7 @@ use Rattle.std.specs.List.{flat_map, AllByRecursion}
 use Rattle.byteorder.specs.Endian.{big_bytes, big_number}
 use Rattle.byteorder.specs.Numbers.{length-bytes_high_first}
 use Rattle.encoding.specs.declared.fault.Fault.{Fault}
-use Rattle.encoding.specs.declared.fault.Fault.TheVariants.{Short, Trailing, OutOfRange}
+use Rattle.encoding.specs.declared.fault.Fault.TheVariants.{Short, OutOfRange}
 use Rattle.encoding.specs.Bytes.{Is32Bytes}
 use Rattle.encoding.specs.Forms.{counted_bytes}
 use Rattle.encoding.specs.Reading.{◌>>=◌, is_within, read_bytes, read_number, whole_of, Reading}

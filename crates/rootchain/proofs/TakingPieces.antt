@@ -1,15 +1,14 @@
 -- What comes of a piece, and of one piece after another.
 use Rattle.std.proofs.Common.{◌≡◌, ◌≢◌, ◌⊎◌, ℕ, List, [], ◌∷◌, ◌++◌, Result, Ok, Err, refl, sym, ap, subst, ◌∙◌, append_assoc, inl, inr}
-use Rattle.std.proofs.lemmas.List.{append-nil}
 use Rattle.rootchain.specs.declared.signed_root.SignedRoot.{SignedRoot}
 use Rattle.rootchain.specs.declared.list_refusal.ListRefusal.{ListRefusal}
 use Rattle.rootchain.specs.declared.list_refusal.ListRefusal.TheVariants as list
 use Rattle.rootchain.specs.declared.piece_refusal.PieceRefusal.{PieceRefusal}
 use Rattle.rootchain.specs.declared.piece_refusal.PieceRefusal.TheVariants.{Malformed, Root, Memory}
 use Rattle.rootchain.specs.Chains.{IsChain, KeyedRoots}
-use Rattle.rootchain.specs.RootFeeds.{told_from, Held, Counts, Done, Failed}
+use Rattle.rootchain.specs.RootFeeds.{told_from, Held, Counts, Failed}
 use Rattle.rootchain.specs.TakingLists.{StopsAt, Takes}
-use Rattle.rootchain.specs.TakingPieces.{joined, of_piece, TakesPiece, TakesPieces, TakesTold, TakesUpTo, CuttingDoesNotMatter}
+use Rattle.rootchain.specs.TakingPieces.{joined, of_piece, TakesPiece, TakesPieces, TakesTold, CuttingDoesNotMatter}
 use Rattle.rootchain.proofs.RootFeeds.{from-more, from-nothing, from-start, list-spelled}
 use Rattle.rootchain.proofs.TakingLists.{takes-chain}
 

@@ -1,4 +1,4 @@
-use Rattle.std.proofs.Common.{rules, arith, ◌≡◌, ◌≢◌, ◌∙◌, ◌<◌, Ok, Err, [], refl, ap, sym, length}
+use Rattle.std.proofs.Common.{rules, ◌≡◌, ◌≢◌, ◌<◌, Ok, Err, [], refl, length}
 use Rattle.encoding.specs.declared.fault.Fault.TheVariants.{Short}
 use Rattle.rootchain.specs.RootLists.{read_root_count}
 use Rattle.rootchain.specs.FeedViews.{TellsNext}

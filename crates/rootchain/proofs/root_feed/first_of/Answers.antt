@@ -1,5 +1,4 @@
-use Rattle.std.proofs.Common.{rules, arith, ◌≡◌, ◌+◌, ◌≤◌, ◌<◌, List, ℕ, Result, Ok, Err, length}
-use Rattle.encoding.specs.declared.fault.Fault.{Fault}
+use Rattle.std.proofs.Common.{rules, ◌≡◌, ◌+◌, Ok, Err}
 use Rattle.encoding.specs.Reading.{whole_of}
 use Rattle.rootchain.specs.RootFeeds.{read_signature_len}
 use Rattle.rootchain.specs.SignedRoots.{read_signed_root}

@@ -1,5 +1,4 @@
-use Rattle.std.proofs.Common.{rules, arith, ◌≡◌, ◌∙◌, [], refl, ap}
-use Rattle.rootchain.specs.RootFeeds.{front}
+use Rattle.std.proofs.Common.{arith, ◌≡◌, []}
 use Rattle.rootchain.proofs.RootFeeds.{front-none}
 use Rattle.rootchain.proofs.root_feed.next_of.Goals as goal
 

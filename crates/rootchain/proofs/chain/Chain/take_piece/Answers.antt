@@ -2,8 +2,8 @@ use Rattle.std.proofs.Common.{rules, arith, ◌≡◌, List, [], length, ap, sub
 use Rattle.rootchain.specs.declared.signed_root.SignedRoot.{SignedRoot}
 use Rattle.rootchain.specs.declared.list_refusal.ListRefusal.TheVariants.{Memory}
 use Rattle.rootchain.specs.Chains.{IsChain, KeyedRoots}
-use Rattle.rootchain.specs.RootFeeds.{told_from, Failed}
-use Rattle.rootchain.specs.TakingLists.{with_roots, StopsAt, Takes}
+use Rattle.rootchain.specs.RootFeeds.{told_from}
+use Rattle.rootchain.specs.TakingLists.{StopsAt, Takes}
 use Rattle.rootchain.proofs.TakingLists.{grows-nothing, stop-holds, taken-off, takes-grows}
 use Rattle.rootchain.proofs.chain.Chain.take_piece.Goals as goal
 

@@ -1,4 +1,4 @@
-use Rattle.std.proofs.Common.{rules, arith, ◌≡◌, ◌∷◌, ◌+◌, ◌∙◌, Err, List, length, ap, sym}
+use Rattle.std.proofs.Common.{rules, arith, ◌≡◌, ◌∷◌, ◌+◌, ◌∙◌, List, length, ap, sym}
 use Rattle.rootchain.specs.declared.signed_root.SignedRoot.{SignedRoot}
 use Rattle.rootchain.specs.RootFeeds.{told_from, Held}
 use Rattle.rootchain.proofs.TakingLists.{leads-step, leads-stop}
