@@ -11,12 +11,18 @@ use Rattle.client.specs.UpdatingFrom.{piece_told_as, with_chain, UpdatesFrom, Up
 use Rattle.client.specs.declared.refusal.Refusal.{Refusal}
 use Rattle.client.specs.declared.refusal.Refusal.TheVariants.{Memory}
 
+abbrev refused : Refusal → Result Unit Refusal
+refused why = Err why
+
+abbrev piece_refused : PieceRefusal → Result Unit PieceRefusal
+piece_refused why = Err why
+
 module _ (hash : List ℕ → List ℕ) (verified : List ℕ → List ℕ → List ℕ → Type 0) where
-  some-room : (why : Refusal) (reason : PieceRefusal) → why ≡ piece_told_as reason → Err {X = Unit} why ≢ Err Memory → Err {X = Unit} reason ≢ Err piece.Memory
-  some-room why reason told other e = other (ap (λ (w : Refusal). Err w) (told ∙ ap piece_told_as (reason-is e)))
+  some-room : (why : Refusal) (reason : PieceRefusal) → why ≡ piece_told_as reason → refused why ≢ refused Memory → piece_refused reason ≢ piece_refused piece.Memory
+  some-room why reason told other e = other (ap refused (told ∙ ap piece_told_as (same e)))
     where
-      reason-is : Err {X = Unit} reason ≡ Err piece.Memory → reason ≡ piece.Memory
-      reason-is e = cc
+      same : piece_refused reason ≡ piece_refused piece.Memory → reason ≡ piece.Memory
+      same e = cc
 
   pub chain-takes : (pieces : List (List ℕ)) (before : Client) (held : Held) (after : Client) (held' : Held) → UpdatesInPieces hash verified before held pieces after held'
       → TakesPieces hash verified before.chain held pieces after.chain held' × (after ≡ with_chain before after.chain)
