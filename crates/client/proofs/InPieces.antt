@@ -1,5 +1,5 @@
 -- A list of roots in pieces: the client's chain takes them, and the rest of the client stays.
-use Rattle.std.proofs.Common.{◌≡◌, ◌≢◌, ℕ, List, [], ◌∷◌, Result, Ok, Err, refl, sym, ap, subst, ◌∙◌}
+use Rattle.std.proofs.Common.{◌≡◌, ◌≢◌, ℕ, List, [], ◌∷◌, Result, Ok, Err, sym, ap, subst, ◌∙◌}
 use Rattle.rootchain.specs.Chains.{KeyedRoots}
 use Rattle.rootchain.specs.RootFeeds.{Held}
 use Rattle.rootchain.specs.TakingPieces.{TakesPiece, TakesPieces}
@@ -7,7 +7,7 @@ use Rattle.rootchain.specs.declared.piece_refusal.PieceRefusal.{PieceRefusal}
 use Rattle.rootchain.specs.declared.piece_refusal.PieceRefusal.TheVariants as piece
 use Rattle.rootchain.proofs.TakingPieces.{cuts}
 use Rattle.client.specs.Clients.{Client}
-use Rattle.client.specs.UpdatingFrom.{piece_told_as, with_chain, UpdatesFrom, UpdatesInPieces, CuttingDoesNotMatter}
+use Rattle.client.specs.UpdatingFrom.{piece_told_as, with_chain, UpdatesInPieces, CuttingDoesNotMatter}
 use Rattle.client.specs.declared.refusal.Refusal.{Refusal}
 use Rattle.client.specs.declared.refusal.Refusal.TheVariants.{Memory}
 

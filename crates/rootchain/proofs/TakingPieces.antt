@@ -7,10 +7,10 @@ use Rattle.rootchain.specs.declared.piece_refusal.PieceRefusal.{PieceRefusal}
 use Rattle.rootchain.specs.declared.piece_refusal.PieceRefusal.TheVariants.{Malformed, Root, Memory}
 use Rattle.rootchain.specs.Chains.{IsChain, KeyedRoots}
 use Rattle.rootchain.specs.RootFeeds.{told_from, Held, Counts, Failed}
-use Rattle.rootchain.specs.TakingLists.{StopsAt, Takes}
+use Rattle.rootchain.specs.TakingLists.{with_roots, StopsAt, Takes}
 use Rattle.rootchain.specs.TakingPieces.{joined, of_piece, TakesPiece, TakesPieces, TakesTold, CuttingDoesNotMatter}
 use Rattle.rootchain.proofs.RootFeeds.{from-more, from-nothing, from-start, list-spelled}
-use Rattle.rootchain.proofs.TakingLists.{takes-chain}
+use Rattle.rootchain.proofs.TakingLists.{grows-nothing, takes-chain, takes-grows}
 
 module _ (hash : List ℕ → List ℕ) (verified : List ℕ → List ℕ → List ℕ → Type 0) where
   pub told-stops : (chain : KeyedRoots) (held : Held) (piece : List ℕ) (why : ListRefusal) (after : KeyedRoots) (held' : Held) → StopsAt hash verified chain (told_from held piece).0 why after
@@ -105,3 +105,10 @@ module _ (hash : List ℕ → List ℕ) (verified : List ℕ → List ℕ → Li
   piece-chain chain held piece (Err Malformed) after held' is takes = takes-chain hash verified (told_from held piece).0 chain after is takes.0
   piece-chain chain held piece (Err (Root why)) after held' is takes = takes-chain hash verified takes.0.0 chain after is takes.0.4
   piece-chain chain held piece (Err Memory) after held' is takes = subst (IsChain hash verified) (sym takes.1) is
+
+  pub piece-grows : {A : Type 0} (chain : KeyedRoots) (held : Held) (piece : List ℕ) (answer : Result A PieceRefusal) (after : KeyedRoots) (held' : Held)
+      → TakesPiece hash verified chain held piece answer after held' → (more : List SignedRoot) × (after ≡ with_roots chain more)
+  piece-grows chain held piece (Ok _) after held' takes = takes-grows hash verified (told_from held piece).0 chain after takes.0
+  piece-grows chain held piece (Err Malformed) after held' takes = takes-grows hash verified (told_from held piece).0 chain after takes.0
+  piece-grows chain held piece (Err (Root why)) after held' takes = takes-grows hash verified takes.0.0 chain after takes.0.4
+  piece-grows chain held piece (Err Memory) after held' takes = ([], takes.1 ∙ grows-nothing chain)
