@@ -9,3 +9,4 @@ pub mod Seen
 pub mod Others
 pub mod Unlikes
 pub mod Telling
+pub mod InPieces

@@ -8,3 +8,4 @@ pub mod Refusals
 pub mod Starting
 pub mod Testing
 pub mod Updating
+pub mod UpdatingFrom

@@ -19,6 +19,7 @@ use vrfiface::VufCheck;
 
 mod dues;
 mod updating;
+mod updating_from;
 
 /// A client of one provider, under the functions of `H`, `V` and `S`: the chain of the provider's roots,
 /// the looks that were accepted under them, and the promises that are to be tested.

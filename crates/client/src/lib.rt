@@ -26,7 +26,7 @@ mod roots;
 
 pub use client::Client;
 pub use due::Due;
-pub use laws::two_values_are_never_told;
+pub use laws::{cuts_of_a_list_do_not_matter, two_values_are_never_told};
 pub use outcome::Outcome;
 pub use reconciling::reconcile;
 pub use refusal::Refusal;

@@ -9,9 +9,12 @@ use Rattle.rootchain.specs.Chains.{Ascend, IsChain}
 use Rattle.rootchain.specs.declared.signed_promise.SignedPromise.{SignedPromise}
 use Rattle.rootchain.specs.declared.signed_root.SignedRoot.{SignedRoot}
 use Rattle.rootchain.proofs.Chains.{ascend-linked}
+use Rattle.rootchain.specs.RootFeeds.{Held}
 use Rattle.rootchain.proofs.TakingLists.{takes-grows}
+use Rattle.rootchain.proofs.TakingPieces.{piece-grows}
 use Rattle.client.specs.Clients.{Client, Look}
 use Rattle.client.specs.Updating.{Updates}
+use Rattle.client.specs.UpdatingFrom.{UpdatesFrom}
 use Rattle.client.specs.declared.refusal.Refusal.{Refusal}
 use Rattle.monitor.specs.Monitors.{Monitor, begun, with_change, with_watched, IsNext, IsWatching}
 
@@ -85,3 +88,16 @@ updated-watching hash verified monitor is client bytes (Ok done) (roots, chain, 
     let up : Ascend chain.roots = ascend-linked hash chain.roots (rw same at linked).linked in
     rw (same, grown.1) (grown-watching monitor is grown.0 (rw grown.1 at up))
 updated-watching hash verified monitor is client bytes (Err why) updates linked = rw updates.0 is
+
+-- the same for a piece of a list
+pub updated-from-watching : (hash : List ℕ → List ℕ) (verified : List ℕ → List ℕ → List ℕ → Type 0) (monitor : Monitor) → IsWatching monitor
+    → (client : Client) (held held' : Held) (piece : List ℕ) (result : Result Unit Refusal) → UpdatesFrom hash verified monitor.client held piece result client held'
+    → IsChain hash verified client.chain → IsWatching (record monitor { client = client })
+updated-from-watching hash verified monitor is client held held' piece (Ok done) (chain, takes, same) linked =
+    let grown = piece-grows hash verified {A = Unit} monitor.client.chain held piece (Ok done) chain held' takes in
+    let up : Ascend chain.roots = ascend-linked hash chain.roots (rw same at linked).linked in
+    rw (same, grown.1) (grown-watching monitor is grown.0 (rw grown.1 at up))
+updated-from-watching hash verified monitor is client held held' piece (Err why) (chain, reason, takes, same, told) linked =
+    let grown = piece-grows hash verified {A = Unit} monitor.client.chain held piece (Err reason) chain held' takes in
+    let up : Ascend chain.roots = ascend-linked hash chain.roots (rw same at linked).linked in
+    rw (same, grown.1) (grown-watching monitor is grown.0 (rw grown.1 at up))

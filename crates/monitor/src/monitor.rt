@@ -5,6 +5,7 @@ ghost use Rattle.proofs.specs.Views.{key_stated};
 ghost use Rattle.proofs.specs.Watches.{expected};
 ghost use Rattle.client.specs.Promising.{IsGiven};
 ghost use Rattle.client.specs.Updating.{RefusalHolds, Updates};
+ghost use Rattle.client.specs.UpdatingFrom.{UpdatesFrom};
 ghost use Rattle.monitor.specs.Expecting.{Expects, ExpectsAbove, IsExpected, MayExpect, ReadsChange};
 ghost use Rattle.monitor.specs.Monitors.{begun, IsWatching};
 ghost use Rattle.monitor.specs.Stepping.{IsNextEpoch, Steps, Tells};
@@ -14,7 +15,7 @@ use client::Client;
 use encoding::{KeyData, Name};
 use nodehash::NodeHash;
 use proofs::Statement;
-use rootchain::{Promise, SignedPromise};
+use rootchain::{Promise, RootFeed, SignedPromise};
 use sigiface::Verifier;
 use std::alloc::Global;
 use std::marker::Model;
@@ -125,6 +126,25 @@ impl<H: NodeHash, V: VufCheck, S: Verifier> Monitor<H, V, S> {
         ensures evidence { IfErr result (RefusalHolds H.digest_of S.verified self.old.client.chain.key) }
     {
         self.client.update(hash, verifier, bytes)
+    }
+
+    /// Takes each root that the next piece of a list makes whole, as `Client::update_from`.
+    ///
+    /// # Errors
+    ///
+    /// Those of `Client::update_from`.
+    pub fn update_from(
+        &mut self,
+        hash: &mut H,
+        verifier: &S,
+        feed: &mut RootFeed,
+        piece: &[u8],
+    ) -> Result<(), client::Refusal>
+        ensures updates { UpdatesFrom H.digest_of S.verified self.old.client feed.old piece.now result self.new.client feed.new }
+        ensures others { self.new ≡ record self.old { client = self.new.client } }
+        ensures evidence { IfErr result (RefusalHolds H.digest_of S.verified self.old.client.chain.key) }
+    {
+        self.client.update_from(hash, verifier, feed, piece)
     }
 
     /// Expects this key above the epoch of the signed promise that these bytes spell. The client keeps the

@@ -6,10 +6,12 @@ pub mod Compared
 pub mod NextRoots
 pub mod OneAnswer
 pub mod Places
+pub mod RootFeeds
 pub mod RootLists
 pub mod Sizes
 pub mod Spelled
 pub mod Taking
 pub mod TakingLists
+pub mod TakingPieces
 pub mod Telling
 pub mod Walks

@@ -98,7 +98,7 @@ module _ (hash : List ℕ → List ℕ) (verified : List ℕ → List ℕ → Li
       let same : after.key ≡ chain.key = ap (λ (c : KeyedRoots). c.key) (takes-grows stops.0 chain after stops.4).1 in
       subst (λ (key : List ℕ). ListRefusalHolds hash verified key why) same (refusal-holds after stops.1 why (takes-chain stops.0 chain after is stops.4) stops.5)
 
-  refusal-spelled : (chain : KeyedRoots) (root : SignedRoot) (why : ListRefusal) → 0 < length chain.roots → All IsSignedRoot chain.roots → IsSignedRoot root → IsRefusedRoot hash verified chain root why → ListRefusalIsSpelled why
+  pub refusal-spelled : (chain : KeyedRoots) (root : SignedRoot) (why : ListRefusal) → 0 < length chain.roots → All IsSignedRoot chain.roots → IsSignedRoot root → IsRefusedRoot hash verified chain root why → ListRefusalIsSpelled why
   refusal-spelled chain root (Evidence evidence) some own given refusal =
       place-given hash IsSignedRoot chain root (place.Evidence evidence) some (λ held among. subst IsSignedRoot among.2 (own among.0 held among.1)) given refusal.1
   refusal-spelled chain root BadSignature some own given refusal = tt

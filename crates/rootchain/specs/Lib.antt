@@ -2,14 +2,17 @@ pub mod Bodies
 pub mod Chains
 pub mod Comparisons
 pub mod Evidence
+pub mod FeedViews
 pub mod Places
 pub mod Promises
 pub mod Readable
 pub mod Refusals
+pub mod RootFeeds
 pub mod RootLists
 pub mod SignedRoots
 pub mod Taking
 pub mod TakingLists
+pub mod TakingPieces
 pub mod Walks
 pub use Rattle.encoding.specs.Forms
 pub use Rattle.encoding.specs.Reading

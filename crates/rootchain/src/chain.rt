@@ -125,3 +125,4 @@ impl<H: NodeHash, S: Verifier> Chain<H, S> {
 
 mod taking;
 mod taking_lists;
+mod taking_pieces;

@@ -24,8 +24,10 @@ mod compare;
 mod evidence;
 mod laws;
 mod list_refusal;
+mod piece_refusal;
 mod promise;
 mod refusal;
+mod root_feed;
 mod root_list;
 mod signed_promise;
 mod signed_root;
@@ -36,12 +38,15 @@ pub use chain::{Chain, Place};
 pub use compare::Compare;
 pub use evidence::RootEvidence;
 pub use laws::{
-    body_is_read, chain_is_no_evidence, comparison_is_unique, epochs_ascend, place_tells_evidence,
-    promise_is_read, root_list_is_read, signed_promise_is_read, signed_root_is_read,
+    body_is_read, chain_is_no_evidence, comparison_is_unique, cuts_of_a_list_do_not_matter,
+    epochs_ascend, place_tells_evidence, promise_is_read, root_list_is_read,
+    signed_promise_is_read, signed_root_is_read,
 };
 pub use list_refusal::ListRefusal;
+pub use piece_refusal::PieceRefusal;
 pub use promise::Promise;
 pub use refusal::Refusal;
+pub use root_feed::RootFeed;
 pub use root_list::{MAX_ROOTS, RootList, list_len, write_list};
 pub use signed_promise::SignedPromise;
 pub use signed_root::{SignedRoot, SignedRootText};

@@ -73,7 +73,7 @@ impl<'a> RootList<'a> {
 
 /// The number of roots at the front of a list.
 #[tactic(auto, unfolding(crate::specs::RootLists::read_root_count))]
-fn read_count(cursor: &mut Cursor<'_>) -> Result<usize, Fault>
+pub(crate) fn read_count(cursor: &mut Cursor<'_>) -> Result<usize, Fault>
     ensures { Gives (λ count. count) result cursor.new (read_root_count cursor.old) }
 {
     let count = usize::from(cursor.u16()?);

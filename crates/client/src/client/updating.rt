@@ -36,7 +36,7 @@ impl<H: NodeHash, V: VufCheck, S: Verifier> Client<H, V, S> {
 }
 
 /// The client's refusal for its chain's refusal of a list.
-fn tell(why: ListRefusal) -> Refusal
+pub(super) fn tell(why: ListRefusal) -> Refusal
     ensures { result ≡ told_as why }
 {
     match why {

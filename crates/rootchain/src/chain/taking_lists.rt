@@ -64,8 +64,15 @@ impl<H: NodeHash, S: Verifier> Chain<H, S> {
     }
 
     /// Takes one root of a list.
-    fn take_one(&mut self, hash: &mut H, verifier: &S, root: SignedRoot) -> Result<(), ListRefusal>
+    pub(super) fn take_one(
+        &mut self,
+        hash: &mut H,
+        verifier: &S,
+        root: SignedRoot,
+    ) -> Result<(), ListRefusal>
         ensures one { TakesOne H.digest_of S.verified self.old root result self.new }
+        ensures spelled { AllByRecursion IsSignedRoot self.old.roots → IsSignedRoot root → IfErr result ListRefusalIsSpelled }
+        ensures form { AllByRecursion IsSignedRoot self.old.roots → IsSignedRoot root → AllByRecursion IsSignedRoot self.new.roots }
         ensures counted { H.digests hash.new ≤ H.digests hash.old + 1 }
     {
         match self.take(hash, verifier, root) {

@@ -1,0 +1,42 @@
+-- What comes of a list of roots in pieces: each root is taken once it is whole (after CONIKS, section 4).
+use Rattle.std.specs.Prelude.{◌≡◌, ◌≢◌, ℕ, List, [], ◌∷◌, Result, Ok, Err}
+use Rattle.rootchain.specs.Chains.{KeyedRoots}
+use Rattle.rootchain.specs.RootFeeds.{Held, Counts}
+use Rattle.rootchain.specs.RootLists.{SpellsRoots}
+use Rattle.rootchain.specs.TakingPieces.{joined, TakesPiece, TakesUpTo}
+use Rattle.rootchain.specs.declared.refusal.Refusal.TheVariants as root
+use Rattle.rootchain.specs.declared.signed_root.SignedRoot.{SignedRoot}
+use Rattle.rootchain.specs.declared.piece_refusal.PieceRefusal.{PieceRefusal}
+use Rattle.rootchain.specs.declared.piece_refusal.PieceRefusal.TheVariants as piece
+use Rattle.client.specs.Clients.{Client}
+use Rattle.client.specs.Updating.{told_as}
+use Rattle.client.specs.declared.refusal.Refusal.{Refusal}
+use Rattle.client.specs.declared.refusal.Refusal.TheVariants.{Root, Memory}
+
+-- the client's refusal for its chain's refusal of a piece
+abbrev pub piece_told_as : PieceRefusal → Refusal
+piece_told_as piece.Malformed = Root root.Malformed
+piece_told_as (piece.Root why) = told_as why
+piece_told_as piece.Memory = Memory
+
+abbrev pub with_chain : Client → KeyedRoots → Client
+with_chain client chain = record client { chain = chain }
+
+module _ (hash : List ℕ → List ℕ) (verified : List ℕ → List ℕ → List ℕ → Type 0) where
+  -- the answer to a piece, and the client and the feed after it: its chain takes the piece
+  abbrev pub UpdatesFrom : {A : Type 0} → Client → Held → List ℕ → Result A Refusal → Client → Held → Type 0
+  UpdatesFrom {A} before held bytes (Ok done) after held' = (chain : KeyedRoots) × TakesPiece hash verified {A = A} before.chain held bytes (Ok done) chain held' × (after ≡ with_chain before chain)
+  UpdatesFrom {A} before held bytes (Err why) after held' = (chain : KeyedRoots) × (reason : PieceRefusal) × TakesPiece hash verified {A = A} before.chain held bytes (Err reason) chain held'
+      × (after ≡ with_chain before chain) × (why ≡ piece_told_as reason)
+
+  -- the pieces as they come, in calls of which none is refused for want of memory
+  abbrev pub UpdatesInPieces : Client → Held → List (List ℕ) → Client → Held → Type 0
+  UpdatesInPieces before held [] after held' = (after ≡ before) × (held' ≡ held)
+  UpdatesInPieces before held (piece ∷ pieces) after held' = (answer : Result Unit Refusal) × (middle : Client) × (between : Held)
+      × UpdatesFrom before held piece answer middle between × (answer ≢ Err Memory) × UpdatesInPieces middle between pieces after held'
+
+  -- Where the bytes of a list are cut does not matter: the chain takes each root up to the first that is refused.
+  abbrev pub CuttingDoesNotMatter : Type 0
+  CuttingDoesNotMatter = (before : Client) (roots : List SignedRoot) (pieces : List (List ℕ)) (after : Client) (held' : Held)
+      → SpellsRoots (joined pieces) roots → UpdatesInPieces before (Counts []) pieces after held'
+      → TakesUpTo hash verified before.chain roots after.chain held' × (after ≡ with_chain before after.chain)

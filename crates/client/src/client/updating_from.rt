@@ -1,0 +1,51 @@
+ghost use Rattle.std.specs.Prelude.{◌≡◌, IfErr};
+ghost use Rattle.rootchain.specs.Chains.{IsChain};
+ghost use Rattle.client.specs.Updating.{RefusalHolds};
+ghost use Rattle.client.specs.UpdatingFrom.{piece_told_as, UpdatesFrom};
+
+use super::Client;
+use super::updating::tell;
+use crate::Refusal;
+use nodehash::NodeHash;
+use rootchain::{PieceRefusal, RootFeed};
+use sigiface::Verifier;
+use vrfiface::VufCheck;
+
+impl<H: NodeHash, V: VufCheck, S: Verifier> Client<H, V, S> {
+    /// Takes each root that the next piece of a list makes whole, as `update` does, before the next one is
+    /// looked at.
+    ///
+    /// # Errors
+    ///
+    /// `Root` with `Malformed` if the feed failed before, else `Memory` if there is no memory for all roots
+    /// that are still to come: neither the client nor the feed changes. Else the refusal of the first root
+    /// that `update` would refuse, or `Root` with `Malformed` if the bytes after the roots before are none
+    /// of a list: the client keeps these roots, and the feed has failed.
+    pub fn update_from(
+        &mut self,
+        hash: &mut H,
+        verifier: &S,
+        feed: &mut RootFeed,
+        piece: &[u8],
+    ) -> Result<(), Refusal>
+        ensures updates { UpdatesFrom H.digest_of S.verified self.old feed.old piece.now result self.new feed.new }
+        ensures chain { IsChain H.digest_of S.verified self.new.chain }
+        ensures evidence { IfErr result (RefusalHolds H.digest_of S.verified self.old.chain.key) }
+    {
+        match self.chain.take_piece(hash, verifier, feed, piece) {
+            Ok(()) => Ok(()),
+            Err(why) => Err(tell_piece(why)),
+        }
+    }
+}
+
+/// The client's refusal for its chain's refusal of a piece.
+fn tell_piece(why: PieceRefusal) -> Refusal
+    ensures { result ≡ piece_told_as why }
+{
+    match why {
+        PieceRefusal::Malformed => Refusal::Root(rootchain::Refusal::Malformed),
+        PieceRefusal::Root(why) => tell(why),
+        PieceRefusal::Memory => Refusal::Memory,
+    }
+}

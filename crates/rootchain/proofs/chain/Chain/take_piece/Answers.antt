@@ -1,0 +1,60 @@
+use Rattle.std.proofs.Common.{rules, arith, ◌≡◌, List, [], length, ap, subst, ◌∙◌}
+use Rattle.rootchain.specs.declared.signed_root.SignedRoot.{SignedRoot}
+use Rattle.rootchain.specs.declared.list_refusal.ListRefusal.TheVariants.{Memory}
+use Rattle.rootchain.specs.Chains.{IsChain, KeyedRoots}
+use Rattle.rootchain.specs.RootFeeds.{told_from}
+use Rattle.rootchain.specs.TakingLists.{StopsAt, Takes}
+use Rattle.rootchain.proofs.TakingLists.{grows-nothing, stop-holds, taken-off, takes-grows}
+use Rattle.rootchain.proofs.chain.Chain.take_piece.Goals as goal
+
+pub returns-in-Ok-clause-grows : goal.returns-in-Ok-clause-grows
+returns-in-Ok-clause-grows g c =
+    let same : record { key = c.self.inside.key; roots = c.reserve.new.self.items } ≡ c.args.self.now =
+    ap (λ (rs : List SignedRoot). record { key = c.self.inside.key; roots = rs }) c.reserve.ensures.items ∙ c.self.view_is in
+    let takes : Takes g.H.NodeHash.digest_of g.S.Verifier.verified c.args.self.now (told_from c.args.feed.now c.args.piece.now).0 c.take_told.new.self =
+    subst (λ (chain : KeyedRoots). Takes g.H.NodeHash.digest_of g.S.Verifier.verified chain (told_from c.args.feed.now c.args.piece.now).0 c.take_told.new.self) same c.in-Ok.ensures.told.0 in
+    takes-grows g.H.NodeHash.digest_of g.S.Verifier.verified (told_from c.args.feed.now c.args.piece.now).0 c.args.self.now c.take_told.new.self takes
+
+pub returns-in-Err-Malformed-clause-grows : goal.returns-in-Err-Malformed-clause-grows
+returns-in-Err-Malformed-clause-grows g c =
+    let same : record { key = c.self.inside.key; roots = c.reserve.new.self.items } ≡ c.args.self.now =
+    ap (λ (rs : List SignedRoot). record { key = c.self.inside.key; roots = rs }) c.reserve.ensures.items ∙ c.self.view_is in
+    let takes : Takes g.H.NodeHash.digest_of g.S.Verifier.verified c.args.self.now (told_from c.args.feed.now c.args.piece.now).0 c.take_told.new.self =
+    subst (λ (chain : KeyedRoots). Takes g.H.NodeHash.digest_of g.S.Verifier.verified chain (told_from c.args.feed.now c.args.piece.now).0 c.take_told.new.self) same (rw c.in-Err-Malformed.field-0-is at c.in-Err-Malformed.ensures.told).0 in
+    takes-grows g.H.NodeHash.digest_of g.S.Verifier.verified (told_from c.args.feed.now c.args.piece.now).0 c.args.self.now c.take_told.new.self takes
+
+pub returns-in-Err-Root-clause-grows : goal.returns-in-Err-Root-clause-grows
+returns-in-Err-Root-clause-grows g c =
+    let same : record { key = c.self.inside.key; roots = c.reserve.new.self.items } ≡ c.args.self.now =
+    ap (λ (rs : List SignedRoot). record { key = c.self.inside.key; roots = rs }) c.reserve.ensures.items ∙ c.self.view_is in
+    let stops : StopsAt g.H.NodeHash.digest_of g.S.Verifier.verified c.args.self.now (told_from c.args.feed.now c.args.piece.now).0 c.in-Err-Root.why c.take_told.new.self =
+    subst (λ (chain : KeyedRoots). StopsAt g.H.NodeHash.digest_of g.S.Verifier.verified chain (told_from c.args.feed.now c.args.piece.now).0 c.in-Err-Root.why c.take_told.new.self) same (rw c.in-Err-Root.field-0-is at c.in-Err-Root.ensures.told).0 in
+    takes-grows g.H.NodeHash.digest_of g.S.Verifier.verified stops.0 c.args.self.now c.take_told.new.self stops.4
+
+pub returns-in-Err-Root-clause-evidence : goal.returns-in-Err-Root-clause-evidence
+returns-in-Err-Root-clause-evidence g c =
+    let same : record { key = c.self.inside.key; roots = c.reserve.new.self.items } ≡ c.args.self.now =
+    ap (λ (rs : List SignedRoot). record { key = c.self.inside.key; roots = rs }) c.reserve.ensures.items ∙ c.self.view_is in
+    let stops : StopsAt g.H.NodeHash.digest_of g.S.Verifier.verified c.args.self.now (told_from c.args.feed.now c.args.piece.now).0 c.in-Err-Root.why c.take_told.new.self =
+    subst (λ (chain : KeyedRoots). StopsAt g.H.NodeHash.digest_of g.S.Verifier.verified chain (told_from c.args.feed.now c.args.piece.now).0 c.in-Err-Root.why c.take_told.new.self) same (rw c.in-Err-Root.field-0-is at c.in-Err-Root.ensures.told).0 in
+    let is : IsChain g.H.NodeHash.digest_of g.S.Verifier.verified c.args.self.now = rw (← c.self.view_is) c.self.invariant in
+    stop-holds g.H.NodeHash.digest_of g.S.Verifier.verified c.args.self.now (told_from c.args.feed.now c.args.piece.now).0 c.in-Err-Root.why c.take_told.new.self is stops
+
+-- ---- memory ran out: the roots that were taken are taken off again
+
+pub returns-in-Err-Memory-clause-takes : goal.returns-in-Err-Memory-clause-takes
+returns-in-Err-Memory-clause-takes g c =
+    let same : record { key = c.self.inside.key; roots = c.reserve.new.self.items } ≡ c.args.self.now =
+    ap (λ (rs : List SignedRoot). record { key = c.self.inside.key; roots = rs }) c.reserve.ensures.items ∙ c.self.view_is in
+    let stops : StopsAt g.H.NodeHash.digest_of g.S.Verifier.verified c.args.self.now (told_from c.args.feed.now c.args.piece.now).0 Memory c.take_told.new.self =
+    subst (λ (chain : KeyedRoots). StopsAt g.H.NodeHash.digest_of g.S.Verifier.verified chain (told_from c.args.feed.now c.args.piece.now).0 Memory c.take_told.new.self) same (rw c.in-Err-Memory.field-0-is at c.in-Err-Memory.ensures.told) in
+    let grown = takes-grows g.H.NodeHash.digest_of g.S.Verifier.verified stops.0 c.args.self.now c.take_told.new.self stops.4 in
+    let had : c.len-before.result ≡ length c.args.self.now.roots =
+    omega (arith, c.len-before.ensures, c.self.inside.roots.ok.0, ap (λ (chain : KeyedRoots). length chain.roots) c.self.view_is) in (
+      search rules,
+      rw (c.truncate.ensures.items) (taken-off c.args.self.now c.take_told.new.self c.self-2.inside.key c.self-2.inside.roots.items grown.0 c.len-before.result c.self-2.view_is grown.1 had),
+      c.copied-held.ensures,
+    )
+
+pub returns-in-Err-Memory-clause-grows : goal.returns-in-Err-Memory-clause-grows
+returns-in-Err-Memory-clause-grows g c = ([], (returns-in-Err-Memory-clause-takes g c).1 ∙ grows-nothing c.args.self.now)

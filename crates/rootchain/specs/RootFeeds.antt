@@ -1,0 +1,80 @@
+-- A list of signed roots whose bytes come in pieces: the roots that are whole are told, one after another,
+-- and the bytes of the next one are held (after CONIKS, section 3).
+use Rattle.std.specs.Prelude.{◌≡◌, ℕ, zero, suc, ◌+◌, ◌<◌, ◌≤◌, nat_lt, if◌then◌else◌, List, [], ◌∷◌, ◌++◌, length, take, drop, Result, Ok, Err}
+use Rattle.encoding.specs.declared.fault.Fault.{Fault}
+use Rattle.encoding.specs.declared.fault.Fault.TheVariants.{Short, Trailing, OutOfRange}
+use Rattle.encoding.specs.Reading.{Reading, read_bytes, read_number, read_then, whole_of}
+use Rattle.rootchain.specs.declared.signed_root.SignedRoot.{SignedRoot}
+use Rattle.rootchain.specs.RootLists.{read_root_count}
+use Rattle.rootchain.specs.SignedRoots.{read_signed_root}
+
+-- ---- the first root
+
+-- what stands first in bytes: a root and the bytes after it, less than a root, or what no root begins with
+pub data Front : Type 0 where
+  Whole : SignedRoot → List ℕ → Front
+  Part : Front
+  Bad : Front
+
+-- the length of a root's signature, which stands behind its body
+unfoldable pub read_signature_len : List ℕ → Reading ℕ
+read_signature_len = read_then (read_bytes 146) (λ _. read_number 2)
+
+-- a root that has come whole, and the bytes after it
+abbrev pub front_read : Result SignedRoot Fault → List ℕ → Front
+front_read (Ok root) rest = Whole root rest
+front_read (Err fault) rest = Bad
+
+abbrev pub front_sized : Reading ℕ → List ℕ → Front
+front_sized (Err fault) bytes = Part
+front_sized (Ok (size, _)) bytes =
+    if nat_lt 256 size then Bad
+    else if nat_lt (length bytes) (148 + size) then Part
+    else front_read (whole_of (read_signed_root (take (148 + size) bytes))) (drop (148 + size) bytes)
+
+-- A root is looked at once it is whole: its length is known once that of its signature has come.
+abbrev pub front : List ℕ → Front
+front bytes = front_sized (read_signature_len bytes) bytes
+
+-- ---- all roots
+
+pub data Held : Type 0 where
+  -- these bytes of the number of roots
+  Counts : List ℕ → Held
+  -- so many roots are still to come, and these bytes of the first of them are there
+  Owes : ℕ → List ℕ → Held
+  -- bytes came that no list has there
+  Failed : Held
+
+-- the list has come, and nothing after it
+abbrev pub Done : Held
+Done = Owes 0 []
+
+abbrev pub told_by : Front → ℕ → List ℕ → (List ℕ → List SignedRoot × Held) → List SignedRoot × Held
+told_by Part left bytes next = ([], Owes left bytes)
+told_by Bad left bytes next = ([], Failed)
+told_by (Whole root rest) left bytes next = let more = next rest in (root ∷ more.0, more.1)
+
+-- the roots that are whole in these bytes, of so many that are still to come; and what is then held
+abbrev pub told : ℕ → List ℕ → List SignedRoot × Held
+told zero [] = ([], Done)
+told zero (_ ∷ _) = ([], Failed)
+told (suc left) bytes = told_by (front bytes) (suc left) bytes (told left)
+
+abbrev pub told_counted : Reading ℕ → List ℕ → List SignedRoot × Held
+told_counted (Ok (count, rest)) bytes = told count rest
+told_counted (Err Short) bytes = ([], Counts bytes)
+told_counted (Err Trailing) bytes = ([], Failed)
+told_counted (Err OutOfRange) bytes = ([], Failed)
+
+-- the roots that a piece makes whole, and what is held after it
+abbrev pub told_from : Held → List ℕ → List SignedRoot × Held
+told_from (Counts bytes) piece = told_counted (read_root_count (bytes ++ piece)) (bytes ++ piece)
+told_from (Owes left bytes) piece = told left (bytes ++ piece)
+told_from Failed piece = ([], Failed)
+
+-- what may be held: less than the number, or less than a root
+abbrev pub IsHeld : Held → Type 0
+IsHeld (Counts bytes) = length bytes < 2
+IsHeld (Owes left bytes) = (left ≤ 64) × (front bytes ≡ Part) × (left ≡ 0 → bytes ≡ [])
+IsHeld Failed = Unit

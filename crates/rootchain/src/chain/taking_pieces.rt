@@ -1,0 +1,104 @@
+ghost use Rattle.std.specs.Prelude.{◌≡◌, ◌+◌, ◌≤◌, List, length, IfErr};
+ghost use Rattle.std.specs.List.{AllByRecursion};
+ghost use Rattle.rootchain.specs.declared.signed_root.SignedRoot.{SignedRoot};
+ghost use Rattle.rootchain.specs.Chains.{IsChain};
+ghost use Rattle.rootchain.specs.RootFeeds.{told_from};
+ghost use Rattle.rootchain.specs.SignedRoots.{IsSignedRoot};
+ghost use Rattle.rootchain.specs.TakingLists.{with_roots};
+ghost use Rattle.rootchain.specs.TakingPieces.{of_piece, TakesPiece, TakesTold, PieceRefusalHolds, PieceRefusalIsSpelled};
+
+use super::Chain;
+use crate::root_feed::Next;
+use crate::{ListRefusal, PieceRefusal, RootFeed};
+use nodehash::NodeHash;
+use sigiface::Verifier;
+
+impl<H: NodeHash, S: Verifier> Chain<H, S> {
+    /// Takes each root that the next piece of a list makes whole, as `take_list` does, before the next one
+    /// is looked at.
+    ///
+    /// # Errors
+    ///
+    /// `Malformed` if the feed failed before, else `Memory` if there is no memory for all roots that are
+    /// still to come: neither the chain nor the feed changes. Else the refusal of the first root that
+    /// `take_list` would refuse, or `Malformed` if the bytes after the roots before are none of a list: the
+    /// chain keeps these roots, and the feed has failed.
+    pub fn take_piece(
+        &mut self,
+        hash: &mut H,
+        verifier: &S,
+        feed: &mut RootFeed,
+        piece: &[u8],
+    ) -> Result<(), PieceRefusal>
+        ensures takes { TakesPiece H.digest_of S.verified self.old feed.old piece.now result self.new feed.new }
+        ensures grows { (more : List SignedRoot) × (self.new ≡ with_roots self.old more) }
+        ensures evidence { IfErr result (PieceRefusalHolds H.digest_of S.verified self.old.key) }
+        ensures spelled { AllByRecursion IsSignedRoot self.old.roots → IfErr result PieceRefusalIsSpelled }
+        ensures form { AllByRecursion IsSignedRoot self.old.roots → AllByRecursion IsSignedRoot self.new.roots }
+        ensures chain { IsChain H.digest_of S.verified self.old }
+        ensures counted { H.digests hash.new ≤ H.digests hash.old + length (told_from feed.old piece.now).0 }
+    {
+        let before = self.roots.len();
+        if feed.has_failed() {
+            return Err(PieceRefusal::Malformed);
+        }
+        if self.roots.reserve(feed.owed()).is_err() {
+            return Err(PieceRefusal::Memory);
+        }
+        let held = feed.copied();
+        match self.take_told(hash, verifier, feed, piece) {
+            Ok(()) => Ok(()),
+            Err(PieceRefusal::Memory) => {
+                self.roots.truncate(before);
+                *feed = held;
+                Err(PieceRefusal::Memory)
+            }
+            Err(PieceRefusal::Root(why)) => {
+                feed.fail();
+                Err(PieceRefusal::Root(why))
+            }
+            Err(PieceRefusal::Malformed) => Err(PieceRefusal::Malformed),
+        }
+    }
+
+    /// Takes the roots that a piece makes whole, up to the first that is refused.
+    fn take_told(
+        &mut self,
+        hash: &mut H,
+        verifier: &S,
+        feed: &mut RootFeed,
+        piece: &[u8],
+    ) -> Result<(), PieceRefusal>
+        ensures told { TakesTold H.digest_of S.verified self.old feed.old piece.now result self.new feed.new }
+        ensures spelled { AllByRecursion IsSignedRoot self.old.roots → IfErr result PieceRefusalIsSpelled }
+        ensures form { AllByRecursion IsSignedRoot self.old.roots → AllByRecursion IsSignedRoot self.new.roots }
+        ensures counted { H.digests hash.new ≤ H.digests hash.old + length (told_from feed.old piece.now).0 }
+    {
+        let mut rest = piece;
+        loop {
+            match feed.next(rest) {
+                Next::Root(root, after) => {
+                    if let Err(why) = self.take_one(hash, verifier, root) {
+                        return Err(of_piece(why));
+                    }
+                    rest = after;
+                }
+                Next::Wait => return Ok(()),
+                Next::Failed => return Err(PieceRefusal::Malformed),
+            }
+        }
+    }
+}
+
+/// The refusal of a piece for that of one of its roots.
+fn of_piece(why: ListRefusal) -> PieceRefusal
+    ensures { result ≡ of_piece why }
+{
+    match why {
+        ListRefusal::Memory => PieceRefusal::Memory,
+        ListRefusal::BadSignature => PieceRefusal::Root(ListRefusal::BadSignature),
+        ListRefusal::BeforeStart => PieceRefusal::Root(ListRefusal::BeforeStart),
+        ListRefusal::Ahead => PieceRefusal::Root(ListRefusal::Ahead),
+        ListRefusal::Evidence(evidence) => PieceRefusal::Root(ListRefusal::Evidence(evidence)),
+    }
+}

@@ -1,0 +1,18 @@
+use crate::ListRefusal;
+use thiserror::Error;
+
+/// Why a chain refuses a piece of a list of roots.
+#[derive(Debug, Drop, PartialEq, Eq, Error)]
+pub enum PieceRefusal {
+    /// The list has no such bytes there, or the feed failed before.
+    #[error("the bytes are not of the form")]
+    Malformed,
+
+    /// A root is refused as in a whole list, but never for want of memory.
+    #[error("{0}")]
+    Root(ListRefusal),
+
+    /// There is no memory for the roots that are still to come.
+    #[error("out of memory")]
+    Memory,
+}

@@ -1,0 +1,233 @@
+ghost use Rattle.std.specs.Prelude.{◌≡◌, ◌⊎◌, ◌↔◌, ◌+◌, ◌≤◌, ◌++◌, [], length, IsTrue};
+ghost use Rattle.encoding.specs.Reading.{Gives};
+ghost use Rattle.rootchain.specs.FeedViews.{held_of, IsFront, IsRootOf, TellsNext};
+ghost use Rattle.rootchain.specs.RootFeeds.{front, read_signature_len, Counts, Done, Failed, IsHeld, Owes, Part};
+
+use crate::SignedRoot;
+use crate::root_list::{MAX_ROOTS, read_count};
+use crate::signed_root::SignedRootText;
+use encoding::{Cursor, Fault, Form};
+use std::marker::Model;
+
+/// How many bytes the number of roots has.
+const COUNT_LEN: usize = 2;
+
+/// How many bytes a body has.
+const BODY_LEN: usize = 146;
+
+/// How many bytes a body and the length of the signature behind it have.
+const FIXED_LEN: usize = 148;
+
+/// The length of the longest signature.
+const MAX_SIGNATURE_LEN: usize = 256;
+
+/// What a feed has next.
+#[derive(Debug, Drop)]
+pub(crate) enum Next<'a> {
+    /// A whole root, and the bytes of the piece that are left.
+    Root(SignedRoot, &'a [u8]),
+    /// Less than a root.
+    Wait,
+    /// Bytes that no list has there.
+    Failed,
+}
+
+/// What comes next in a list.
+#[derive(Clone, Copy, Debug)]
+enum Stage {
+    /// The number of roots.
+    Count,
+    /// So many roots.
+    Roots(usize),
+    /// Nothing more: bytes came that no list has there.
+    Failed,
+}
+
+/// A list of signed roots whose bytes come in pieces, cut anywhere. It holds the bytes of the next root,
+/// at most 404, and is not on the heap.
+#[derive(Debug, Drop)]
+pub struct RootFeed {
+    stage: Stage,
+    held: SignedRootText,
+}
+
+impl Model for RootFeed {
+    ghost use Rattle.rootchain.specs.FeedViews.{held_of};
+    ghost use Rattle.rootchain.specs.RootFeeds.{Held, IsHeld};
+
+    ghost Value = { Held };
+
+    ghost view = { λ feed. held_of feed.stage feed.held };
+
+    ghost invariant = { λ feed. IsHeld (held_of feed.stage feed.held) };
+}
+
+impl RootFeed {
+    /// A list of which nothing has come.
+    pub fn new() -> RootFeed
+        ensures { result ≡ Counts [] }
+    {
+        RootFeed {
+            stage: Stage::Count,
+            held: SignedRootText::new(),
+        }
+    }
+
+    /// Whether the list has come whole, and nothing after it.
+    pub fn done(&self) -> bool
+        ensures { IsTrue result ↔ (self.now ≡ Done) }
+    {
+        matches!(self.stage, Stage::Roots(0))
+    }
+
+    /// Whether bytes came that no list has there, or a root was refused.
+    pub(crate) fn has_failed(&self) -> bool
+        ensures { IsTrue result ↔ (self.now ≡ Failed) }
+    {
+        matches!(self.stage, Stage::Failed)
+    }
+
+    /// The most roots that are still to come.
+    pub(crate) fn owed(&self) -> usize {
+        match self.stage {
+            Stage::Count => MAX_ROOTS,
+            Stage::Roots(left) => left,
+            Stage::Failed => 0,
+        }
+    }
+
+    /// Takes no more pieces from here on.
+    pub(crate) fn fail(&mut self)
+        ensures { self.new ≡ Failed }
+    {
+        self.stage = Stage::Failed;
+    }
+
+    /// A copy of the feed.
+    pub(crate) fn copied(&self) -> RootFeed
+        ensures { result ≡ self.now }
+    {
+        let mut held = SignedRootText::new();
+        held.push_slice(self.held.bytes());
+        RootFeed {
+            stage: self.stage,
+            held,
+        }
+    }
+
+    /// Takes the first root that the piece makes whole. If there is none, the feed takes the piece.
+    pub(crate) fn next<'a>(&mut self, piece: &'a [u8]) -> Next<'a>
+        ensures tells { TellsNext self.old piece.entry.now result self.new }
+        ensures form { IsRootOf result }
+    {
+        advance(&mut self.stage, &mut self.held, piece)
+    }
+}
+
+/// `RootFeed::next` on the fields of a feed.
+fn advance<'a>(stage: &mut Stage, held: &mut SignedRootText, piece: &'a [u8]) -> Next<'a>
+    requires { IsHeld (held_of stage.old held.old) }
+    ensures tells { TellsNext (held_of stage.old held.old) piece.entry.now result (held_of stage.new held.new) }
+    ensures held { IsHeld (held_of stage.new held.new) }
+    ensures form { IsRootOf result }
+{
+    match *stage {
+        Stage::Failed => Next::Failed,
+        Stage::Roots(left) => next_of(stage, left, held, piece),
+        Stage::Count => {
+            let rest = fill(held, COUNT_LEN, piece);
+            match read_count(&mut Cursor::new(held.bytes())) {
+                Ok(count) => {
+                    *held = SignedRootText::new();
+                    next_of(stage, count, held, rest)
+                }
+                Err(fault) => {
+                    if fault == Fault::Short {
+                        return Next::Wait;
+                    }
+                    *stage = Stage::Failed;
+                    Next::Failed
+                }
+            }
+        }
+    }
+}
+
+/// The next of so many roots that are still to come.
+fn next_of<'a>(
+    stage: &mut Stage,
+    left: usize,
+    held: &mut SignedRootText,
+    piece: &'a [u8],
+) -> Next<'a>
+    requires { IsHeld (Owes left held.old) }
+    ensures tells { TellsNext (Owes left held.old) piece.entry.now result (held_of stage.new held.new) }
+    ensures held { IsHeld (held_of stage.new held.new) }
+    ensures form { IsRootOf result }
+{
+    if left == 0 {
+        if piece.is_empty() {
+            *stage = Stage::Roots(0);
+            return Next::Wait;
+        }
+        *stage = Stage::Failed;
+        return Next::Failed;
+    }
+    let next = first_of(held, piece);
+    *stage = match next {
+        Next::Root(_, _) => Stage::Roots(left - 1),
+        Next::Wait => Stage::Roots(left),
+        Next::Failed => Stage::Failed,
+    };
+    next
+}
+
+/// What stands first in the bytes that are held and those of the piece. Holds what is less than a root.
+fn first_of<'a>(held: &mut SignedRootText, piece: &'a [u8]) -> Next<'a>
+    requires { front held.old ≡ Part }
+    ensures front { IsFront (held.old ++ piece.entry.now) result held.new }
+    ensures form { IsRootOf result }
+{
+    let rest = fill(held, FIXED_LEN, piece);
+    let Ok(signature_len) = read_signature_len(&mut Cursor::new(held.bytes())) else {
+        return Next::Wait;
+    };
+    if MAX_SIGNATURE_LEN < signature_len {
+        return Next::Failed;
+    }
+    let len = FIXED_LEN + signature_len;
+    let rest = fill(held, len, rest);
+    if held.bytes().len() < len {
+        return Next::Wait;
+    }
+    match SignedRoot::read_whole(held.bytes()) {
+        Ok(root) => {
+            *held = SignedRootText::new();
+            Next::Root(root, rest)
+        }
+        Err(_) => Next::Failed,
+    }
+}
+
+/// The length of the signature of the root at the front of bytes.
+#[tactic(auto, unfolding(crate::specs::RootFeeds::read_signature_len))]
+fn read_signature_len(cursor: &mut Cursor<'_>) -> Result<usize, Fault>
+    ensures { Gives (λ len. len) result cursor.new (read_signature_len cursor.old) }
+{
+    cursor.take(BODY_LEN)?;
+    Ok(usize::from(cursor.u16()?))
+}
+
+/// Moves bytes of the piece to those that are held until these are so many, and returns what is left.
+fn fill<'a>(held: &mut SignedRootText, len: usize, piece: &'a [u8]) -> &'a [u8]
+    requires { len ≤ 404 }
+    ensures joined { held.new ++ result.now ≡ held.old ++ piece.entry.now }
+    ensures full { (len ≤ length held.new) ⊎ (result.now ≡ []) }
+    ensures most { length held.old ≤ len → length held.new ≤ len }
+    ensures stays { len ≤ length held.old → held.new ≡ held.old }
+{
+    let missing = len.saturating_sub(held.bytes().len());
+    let (front, rest) = piece.split_at(missing.min(piece.len()));
+    held.push_slice(front);
+    rest
+}
