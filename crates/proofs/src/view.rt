@@ -113,7 +113,7 @@ impl<'a> ReplyView<'a> {
     }
 
     /// The body of the signed root that the reply is of.
-    pub(crate) fn body(&self) -> &Body
+    pub fn body(&self) -> &Body
         ensures { result.now ≡ self.now.body }
     {
         &self.parts.body

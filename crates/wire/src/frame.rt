@@ -9,9 +9,9 @@ pub const MAX_FRAME_LEN: usize = 65536;
 
 /// A frame where it lies in the bytes of a stream.
 #[derive(Drop)]
-pub(crate) struct FrameView<'a> {
-    pub(crate) kind: u8,
-    pub(crate) body: &'a [u8],
+pub struct FrameView<'a> {
+    pub kind: u8,
+    pub body: &'a [u8],
 }
 
 /// The frame at the front of the bytes.
@@ -31,7 +31,7 @@ fn read_frame<'a>(cursor: &mut Cursor<'a>) -> Result<FrameView<'a>, Fault>
 
 /// What the bytes of a stream begin with.
 #[derive(Drop)]
-pub(crate) enum Front<'a> {
+pub enum Front<'a> {
     /// A frame that is whole.
     Whole(FrameView<'a>),
     /// Less than a frame.
@@ -42,7 +42,7 @@ pub(crate) enum Front<'a> {
 
 /// What these bytes begin with.
 #[tactic(auto, using(crate::proofs::Faults::begins_with_whole, crate::proofs::Faults::is_bad))]
-pub(crate) fn front_of<'a>(bytes: &'a [u8]) -> Front<'a>
+pub fn front_of<'a>(bytes: &'a [u8]) -> Front<'a>
     ensures { BeginsWith bytes.entry.now result }
 {
     let mut cursor = Cursor::new(bytes);

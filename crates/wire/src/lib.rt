@@ -28,7 +28,7 @@ mod writing;
 
 pub use answer::{Answer, MAX_ANSWER_LEN};
 pub use feed::{Feed, Next};
-pub use frame::MAX_FRAME_LEN;
+pub use frame::{FrameView, Front, MAX_FRAME_LEN, front_of};
 pub use laws::{
     answers_are_read, body_spells_one_request, body_spells_one_response, cutting_does_not_matter,
     frames_are_read, kinds_have_their_bytes, messages_are_computed, stream_splits_once,
