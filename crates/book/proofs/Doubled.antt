@@ -1,9 +1,9 @@
 -- The reply to a look-up that meets another name with its index is refused.
 use Rattle.std.proofs.Common.{◌≡◌, ℕ, ◌<◌, List, [], ◌∷◌, length, map, Option, Some, None, Bool, true, false, Contains, refl, sym, ap, subst, inl, inr, ◌∙◌, arith}
 use Rattle.std.specs.BTreeMap.{is_at}
-use Rattle.encoding.specs.Bytes.{Is32Bytes}
+use Rattle.encoding.specs.Bytes.{bytes_cmp, Is32Bytes}
 use Rattle.encoding.specs.Limits.{IsName}
-use Rattle.prefixtree.specs.Placement.{Items, commitment_of, index_cmp, put, put_all}
+use Rattle.prefixtree.specs.Placement.{Items, commitment_of, put, put_all}
 use Rattle.prefixtree.specs.declared.path.End.TheVariants as path
 use Rattle.rootchain.specs.Bodies.{IsBody}
 use Rattle.rootchain.specs.declared.body.Body.{Body}
@@ -14,7 +14,7 @@ use Rattle.proofs.specs.declared.refusal.Refusal.TheVariants.{Malformed, Trailin
 use Rattle.book.specs.Books.{Binding, Page}
 use Rattle.book.specs.Fresh.{KeepsLaws}
 use Rattle.book.specs.Maps.{Map, at}
-use Rattle.book.specs.Shows.{Provider, index_of, placement, shown_end, IsReplyOf}
+use Rattle.book.specs.Shows.{Provider, index_of, placement, reply_end, IsReplyOf}
 use Rattle.book.proofs.Entries.{at_put_other, at_put_same, found-entry, is_name, is_no_name}
 use Rattle.book.proofs.Found.{IsPage}
 use Rattle.book.proofs.Members.{first-or-later, none-there}
@@ -27,9 +27,9 @@ abbrev IsThere : Items → List ℕ → Type 0
 IsThere items index = (commitment : List ℕ) × (commitment_of items index ≡ Some commitment)
 
 there-put : (items : Items) (index other commitment : List ℕ) → IsThere items index → IsThere (put items other commitment) index
-there-put items index other commitment there = by (is_at (index_cmp other) index) refl
+there-put items index other commitment there = by (is_at (bytes_cmp other) index) refl
   where
-    by : (t : Bool) → is_at (index_cmp other) index ≡ t → IsThere (put items other commitment) index
+    by : (t : Bool) → is_at (bytes_cmp other) index ≡ t → IsThere (put items other commitment) index
     by true is = let e = is_name other index is in (commitment, ap (commitment_of (put items other commitment)) e ∙ at_put_same other commitment items)
     by false is = (there.0, at_put_other other commitment items index (is_no_name other index is) ∙ there.1)
 
@@ -64,8 +64,8 @@ module _ (provider : Provider) where
         refused : (commitment : List ℕ) → answer.end ≡ path.Present commitment → IsDoubled body text
         refused commitment end = record { reply = reply; spells = (answer.spelled ∙ ap (λ (own : End). reply_bytes (record { body = body; value = provider.value name; end = own; siblings = answer.siblings })) shown, reply_form); refused = first }
           where
-            shown : shown_end (index_of provider name) (at page.bindings name) answer.end ≡ Other (index_of provider name) commitment
-            shown = ap (λ (found : Option Binding). shown_end (index_of provider name) found answer.end) none ∙ ap (shown_end (index_of provider name) None) end
+            shown : reply_end (index_of provider name) (at page.bindings name) answer.end ≡ Other (index_of provider name) commitment
+            shown = ap (λ (found : Option Binding). reply_end (index_of provider name) found answer.end) none ∙ ap (reply_end (index_of provider name) None) end
 
             reply : Reply
             reply = record { body = body; value = provider.value name; end = Other (index_of provider name) commitment; siblings = answer.siblings }

@@ -14,17 +14,18 @@ use Rattle.std.proofs.lemmas.Map.{lookup-none}
 use Rattle.std.proofs.lemmas.Map.Entries.{none_below_head}
 use Rattle.prefixtree.proofs.Order.{same-equal}
 use Rattle.book.specs.Books.{Binding}
-use Rattle.epochs.specs.Histories.{Version, chosen, or_else, shown, waiting, with_some}
-use Rattle.book.specs.Maps.{Map, at, name_cmp, overwritten, put}
+use Rattle.epochs.specs.Histories.{Version, chosen, or_else, binding_at, waiting, with_some}
+use Rattle.book.specs.Maps.{Map, at, overwritten, put}
 use Rattle.epochs.specs.Versions.{AllBefore, AllWithin, AreHistories, Ascends, NamesWithin, versions_of, with_version}
 use Rattle.book.proofs.Entries.{Ascends as NamesAscend, ascends_put, at_put_other, at_put_same, first_alone, is_name, rest_ascends}
 use Rattle.epochs.proofs.Histories.{Above, chosen-above, chosen-overwritten, put-front, shown-next}
+use Rattle.encoding.specs.Bytes.{bytes_cmp}
 
 -- ---- what holds of the entries' values
 module _ {V : Type 0} (Q : V → Type 0) where
   pub all-put : (name : List ℕ) (x : V) (map : Map V) → Q x → AllByRecursion (λ e. Q e.1) map → AllByRecursion (λ e. Q e.1) (put map name x)
   all-put name x [] q all = (q, tt)
-  all-put name x (e ∷ es) q all = by (name_cmp name e.0) (all-put name x es q all.1)
+  all-put name x (e ∷ es) q all = by (bytes_cmp name e.0) (all-put name x es q all.1)
     where
       by : (r : Ordering) → AllByRecursion (λ e. Q e.1) (put es name x)
           → AllByRecursion (λ e. Q e.1) (match_ordering r ((name, x) ∷ e ∷ es) ((e.0, x) ∷ es) (e ∷ put es name x))
@@ -34,7 +35,7 @@ module _ {V : Type 0} (Q : V → Type 0) where
 
   pub all-at : (map : Map V) (name : List ℕ) (none : V) → Q none → AllByRecursion (λ e. Q e.1) map → Q (unwrap_or (at map name) none)
   all-at [] name none q all = q
-  all-at (e ∷ es) name none q all = by (is_at (name_cmp name) e.0) (all-at es name none q all.1)
+  all-at (e ∷ es) name none q all = by (is_at (bytes_cmp name) e.0) (all-at es name none q all.1)
     where
       by : (t : Bool) → Q (unwrap_or (at es name) none) → Q (unwrap_or (cond t (Some e.1) (at es name)) none)
       by true more = all.0
@@ -53,7 +54,7 @@ none_or : {X : Type 0} (V : Type 0) (f : List V → Option X) (o : Option (List 
 none_or V f None none = none
 none_or V f (Some x) none = refl
 
-shown-append : (p : ℕ) (version : Version) (earlier : List Version) → p < version.number → shown p (earlier ++ version ∷ []) ≡ shown p earlier
+shown-append : (p : ℕ) (version : Version) (earlier : List Version) → p < version.number → binding_at p (earlier ++ version ∷ []) ≡ binding_at p earlier
 shown-append p version [] late = rw (lt-leb version.number p late) refl
 shown-append p version (v ∷ vs) late = ap (λ (o : Option Binding). or_else o (if nat_le v.number p then Some v.binding else None)) (shown-append p version vs late)
 
@@ -68,9 +69,9 @@ waiting-past n (v ∷ vs) within = rw (waiting-past n vs within.1, ne_eqb v.numb
 within-append : (n : ℕ) (version : Version) (earlier : List Version) → version.number ≤ n → AllWithin n earlier → AllWithin n (earlier ++ version ∷ [])
 within-append n version earlier le within = all-append _ earlier version within le
 
-shown_later : (p : ℕ) (versions : List Version) → IsSome (shown p versions) → IsSome (shown (suc p) versions)
+shown_later : (p : ℕ) (versions : List Version) → IsSome (binding_at p versions) → IsSome (binding_at (suc p) versions)
 shown_later p [] some = some
-shown_later p (v ∷ vs) some = by (shown p vs) refl (shown_later p vs) some
+shown_later p (v ∷ vs) some = by (binding_at p vs) refl (shown_later p vs) some
   where
     kept : {X : Type 0} (o p : Option X) → IsSome o → IsSome (or_else o p)
     kept None p some = absurd (cc some)
@@ -81,22 +82,22 @@ shown_later p (v ∷ vs) some = by (shown p vs) refl (shown_later p vs) some
     last None true is some = rw (le-leb v.number (suc p) (omega (arith, leb-true v.number p is))) refl
     last None false is some = absurd (cc some)
 
-    by : (o : Option Binding) → shown p vs ≡ o → (IsSome o → IsSome (shown (suc p) vs)) → IsSome (or_else o (if nat_le v.number p then Some v.binding else None))
-        → IsSome (or_else (shown (suc p) vs) (if nat_le v.number (suc p) then Some v.binding else None))
-    by (Some x) is more some = kept (shown (suc p) vs) _ (more refl)
-    by None is more some = last (shown (suc p) vs) (nat_le v.number p) refl some
+    by : (o : Option Binding) → binding_at p vs ≡ o → (IsSome o → IsSome (binding_at (suc p) vs)) → IsSome (or_else o (if nat_le v.number p then Some v.binding else None))
+        → IsSome (or_else (binding_at (suc p) vs) (if nat_le v.number (suc p) then Some v.binding else None))
+    by (Some x) is more some = kept (binding_at (suc p) vs) _ (more refl)
+    by None is more some = last (binding_at (suc p) vs) (nat_le v.number p) refl some
 
 -- ---- of all names
 module _ {V X : Type 0} (f : V → Option X) where
-  pub none_below : (name : List ℕ) (e : List ℕ × V) (es : Map V) → NamesAscend (e ∷ es) → name_cmp name e.0 ≡ Less → at (e ∷ es) name ≡ None
-  none_below name e es up is = lookup-none (is_at (name_cmp name)) (e ∷ es) (none_below_head nat_list_cmp_total name e es up is)
+  pub none_below : (name : List ℕ) (e : List ℕ × V) (es : Map V) → NamesAscend (e ∷ es) → bytes_cmp name e.0 ≡ Less → at (e ∷ es) name ≡ None
+  none_below name e es up is = lookup-none (is_at (bytes_cmp name)) (e ∷ es) (none_below_head nat_list_cmp_total name e es up is)
 
   -- what is chosen of names, where what is put in gives what was chosen before
   pub chosen-put_same : (name : List ℕ) (x : V) (map : Map V) → NamesAscend map → f x ≡ option_and_then f (at map name) → chosen f (put map name x) ≡ chosen f map
   chosen-put_same name x [] up same = ap (λ (o : Option X). with_some o name []) same
-  chosen-put_same name x (e ∷ es) up same = by (name_cmp name e.0) refl (chosen-put_same name x es (rest_ascends e es up))
+  chosen-put_same name x (e ∷ es) up same = by (bytes_cmp name e.0) refl (chosen-put_same name x es (rest_ascends e es up))
     where
-      by : (r : Ordering) → name_cmp name e.0 ≡ r → (f x ≡ option_and_then f (at es name) → chosen f (put es name x) ≡ chosen f es)
+      by : (r : Ordering) → bytes_cmp name e.0 ≡ r → (f x ≡ option_and_then f (at es name) → chosen f (put es name x) ≡ chosen f es)
           → chosen f (match_ordering r ((name, x) ∷ e ∷ es) ((e.0, x) ∷ es) (e ∷ put es name x)) ≡ chosen f (e ∷ es)
       by Less is more = ap (λ (o : Option X). with_some o name (chosen f (e ∷ es))) (same ∙ ap (option_and_then f) (none_below name e es up is))
       by Equal is more = ap (λ (o : Option X). with_some o e.0 (chosen f es)) (same ∙ ap (λ (r : Ordering). option_and_then f (cond (is_eq r) (Some e.1) (at es name))) is)
@@ -106,26 +107,26 @@ module _ {V X : Type 0} (f : V → Option X) where
   pub chosen-put_new : (name : List ℕ) (x : V) (y : X) (map : Map V) → NamesAscend map → f x ≡ Some y → chosen f (put map name x) ≡ put (chosen f map) name y
   unfolding IsStrictlySortedBy
   chosen-put_new name x y [] up new = ap (λ (o : Option X). with_some o name []) new
-  chosen-put_new name x y (e ∷ es) up new = by (name_cmp name e.0) refl (chosen-put_new name x y es up.1 new)
+  chosen-put_new name x y (e ∷ es) up new = by (bytes_cmp name e.0) refl (chosen-put_new name x y es up.1 new)
     where
-      over : (o : Option X) → name_cmp name e.0 ≡ Equal → with_some (Some y) e.0 (chosen f es) ≡ put (with_some o e.0 (chosen f es)) name y
+      over : (o : Option X) → bytes_cmp name e.0 ≡ Equal → with_some (Some y) e.0 (chosen f es) ≡ put (with_some o e.0 (chosen f es)) name y
       over None is =
           let same : e.0 ≡ name = sym (same-equal name e.0 is) in
           ap (λ (n : List ℕ). with_some (Some y) n (chosen f es)) same ∙ sym (put-front name y (chosen f es) (subst (λ (n : List ℕ). Above n (chosen f es)) same (chosen-above f e.0 es up.0)))
       over (Some z) is = sym (ap (λ (r : Ordering). match_ordering r ((name, y) ∷ (e.0, z) ∷ chosen f es) ((e.0, y) ∷ chosen f es) ((e.0, z) ∷ put (chosen f es) name y)) is)
 
-      past : (o : Option X) → name_cmp name e.0 ≡ Greater → with_some o e.0 (put (chosen f es) name y) ≡ put (with_some o e.0 (chosen f es)) name y
+      past : (o : Option X) → bytes_cmp name e.0 ≡ Greater → with_some o e.0 (put (chosen f es) name y) ≡ put (with_some o e.0 (chosen f es)) name y
       past None is = refl
       past (Some z) is = sym (ap (λ (r : Ordering). match_ordering r ((name, y) ∷ (e.0, z) ∷ chosen f es) ((e.0, y) ∷ chosen f es) ((e.0, z) ∷ put (chosen f es) name y)) is)
 
-      above : name_cmp name e.0 ≡ Less → Above name (e ∷ es)
+      above : bytes_cmp name e.0 ≡ Less → Above name (e ∷ es)
       above is = (is, past_first (keys_of es) up.0)
         where
-          past_first : (names : List (List ℕ)) → AllByRecursion (λ other. name_cmp e.0 other ≡ Less) names → AllByRecursion (λ other. name_cmp name other ≡ Less) names
+          past_first : (names : List (List ℕ)) → AllByRecursion (λ other. bytes_cmp e.0 other ≡ Less) names → AllByRecursion (λ other. bytes_cmp name other ≡ Less) names
           past_first [] all = tt
           past_first (n ∷ names) all = (nat_list_cmp_total.trans name e.0 n is all.0, past_first names all.1)
 
-      by : (r : Ordering) → name_cmp name e.0 ≡ r → chosen f (put es name x) ≡ put (chosen f es) name y
+      by : (r : Ordering) → bytes_cmp name e.0 ≡ r → chosen f (put es name x) ≡ put (chosen f es) name y
           → chosen f (match_ordering r ((name, x) ∷ e ∷ es) ((e.0, x) ∷ es) (e ∷ put es name x)) ≡ put (chosen f (e ∷ es)) name y
       by Less is more = ap (λ (o : Option X). with_some o name (chosen f (e ∷ es))) new ∙ sym (put-front name y (chosen f (e ∷ es)) (chosen-above f name (e ∷ es) (above is)))
       by Equal is more = ap (λ (o : Option X). with_some o e.0 (chosen f es)) new ∙ over (f e.1) is
@@ -142,9 +143,9 @@ module _ {V X : Type 0} (f : V → Option X) where
 
   pub at-chosen : (map : Map V) (name : List ℕ) → NamesAscend map → at (chosen f map) name ≡ option_and_then f (at map name)
   at-chosen [] name up = refl
-  at-chosen (e ∷ es) name up = by (f e.1) refl (is_at (name_cmp name) e.0) refl (at-chosen es name (rest_ascends e es up))
+  at-chosen (e ∷ es) name up = by (f e.1) refl (is_at (bytes_cmp name) e.0) refl (at-chosen es name (rest_ascends e es up))
     where
-      by : (o : Option X) → f e.1 ≡ o → (t : Bool) → is_at (name_cmp name) e.0 ≡ t → at (chosen f es) name ≡ option_and_then f (at es name)
+      by : (o : Option X) → f e.1 ≡ o → (t : Bool) → is_at (bytes_cmp name) e.0 ≡ t → at (chosen f es) name ≡ option_and_then f (at es name)
           → at (with_some o e.0 (chosen f es)) name ≡ option_and_then f (cond t (Some e.1) (at es name))
       by None gives true is more = more ∙ ap (option_and_then f) (ap (at es) (sym (is_name name e.0 is)) ∙ first_alone e es up) ∙ sym gives
       by None gives false is more = more
@@ -172,10 +173,10 @@ module _ (names : Map (List Version)) (name : List ℕ) (version : Version) wher
   }
 
   -- an earlier page stays as it was
-  pub shown_stays : (p : ℕ) → NamesAscend names → p < version.number → chosen (shown p) (with_version names name version) ≡ chosen (shown p) names
+  pub shown_stays : (p : ℕ) → NamesAscend names → p < version.number → chosen (binding_at p) (with_version names name version) ≡ chosen (binding_at p) names
   shown_stays p up late =
-      chosen-put_same (shown p) name (versions_of names name ++ version ∷ []) names up
-      (shown-append p version (versions_of names name) late ∙ none_or Version (shown p) (at names name) refl)
+      chosen-put_same (binding_at p) name (versions_of names name ++ version ∷ []) names up
+      (shown-append p version (versions_of names name) late ∙ none_or Version (binding_at p) (at names name) refl)
 
   -- what waits for the page of the version is as it was, and the version
   pub waiting_added : (p : ℕ) → NamesAscend names → version.number ≡ p → chosen (waiting p) (with_version names name version) ≡ put (chosen (waiting p) names) name version.binding
@@ -208,16 +209,16 @@ pub nothing_waits : (n : ℕ) (names : Map (List Version)) → NamesWithin n nam
 nothing_waits n names within = all_none (waiting (suc n)) names (all_so _ _ (λ e. waiting-past n e.1) names within)
 
 -- the next page is this one, overwritten by what waits
-pub next_shows : (p : ℕ) (names : Map (List Version)) → AreHistories names → chosen (shown (suc p)) names ≡ overwritten (chosen (shown p) names) (chosen (waiting (suc p)) names)
+pub next_shows : (p : ℕ) (names : Map (List Version)) → AreHistories names → chosen (binding_at (suc p)) names ≡ overwritten (chosen (binding_at p) names) (chosen (waiting (suc p)) names)
 next_shows p names are =
-    chosen_alike (shown (suc p)) (λ versions. or_else (waiting (suc p) versions) (shown p versions)) names (all_so _ _ (λ e. shown-next p e.1) names are.versions_ascend)
-    ∙ sym (chosen-overwritten (shown p) (waiting (suc p)) names are.names_ascend)
+    chosen_alike (binding_at (suc p)) (λ versions. or_else (waiting (suc p) versions) (binding_at p versions)) names (all_so _ _ (λ e. shown-next p e.1) names are.versions_ascend)
+    ∙ sym (chosen-overwritten (binding_at p) (waiting (suc p)) names are.names_ascend)
 
 -- a name that a page has, the next one has too
-pub names_stay : (p : ℕ) (names : Map (List Version)) (name : List ℕ) → NamesAscend names → IsSome (at (chosen (shown p) names) name) → IsSome (at (chosen (shown (suc p)) names) name)
+pub names_stay : (p : ℕ) (names : Map (List Version)) (name : List ℕ) → NamesAscend names → IsSome (at (chosen (binding_at p) names) name) → IsSome (at (chosen (binding_at (suc p)) names) name)
 names_stay p names name up some =
-    rw (at-chosen (shown (suc p)) names name up) (by (at names name) (rw (at-chosen (shown p) names name up) at some))
+    rw (at-chosen (binding_at (suc p)) names name up) (by (at names name) (rw (at-chosen (binding_at p) names name up) at some))
   where
-    by : (o : Option (List Version)) → IsSome (option_and_then (shown p) o) → IsSome (option_and_then (shown (suc p)) o)
+    by : (o : Option (List Version)) → IsSome (option_and_then (binding_at p) o) → IsSome (option_and_then (binding_at (suc p)) o)
     by None some = some
     by (Some versions) some = shown_later p versions some

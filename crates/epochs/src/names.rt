@@ -1,9 +1,10 @@
 ghost use Rattle.std.specs.Prelude.{◌≡◌, [], IfOk, MatchResult, None};
 ghost use Rattle.std.specs.BTreeMap.{get_by};
 ghost use Rattle.std.specs.Option.{option_map};
-ghost use Rattle.book.specs.Maps.{at, name_cmp};
+ghost use Rattle.book.specs.Maps.{at};
 ghost use Rattle.epochs.specs.Addresses.{named, with_history, with_name};
 ghost use Rattle.epochs.specs.Versions.{AllBefore, AreHistories, IsUnkept, versions_of};
+ghost use Rattle.encoding.specs.Bytes.{bytes_cmp};
 
 use crate::address::Address;
 use crate::history::{History, Version};

@@ -3,11 +3,12 @@ use Rattle.std.specs.Prelude.{ℕ, List, Option, Some, None, nat_le, is_some, le
 use Rattle.std.specs.Ordering.{nat_cmp}
 use Rattle.std.specs.BTreeMap.{is_at}
 use Rattle.std.specs.Map.{lookup}
-use Rattle.wire.specs.Streams.{Held}
+use Rattle.wire.specs.Streams.{Remainder}
 use Rattle.hub.specs.declared.event.Event.{Event}
 use Rattle.hub.specs.declared.event.Event.TheVariants as event
-use Rattle.hub.specs.declared.refusal.HubRefusal.{HubRefusal}
-use Rattle.hub.specs.declared.refusal.HubRefusal.TheVariants.{TooManySessions, SessionOpen, NoSession}
+use Rattle.hub.specs.declared.hub_refusal.HubRefusal.{HubRefusal}
+use Rattle.hub.specs.declared.hub_refusal.HubRefusal.TheVariants.{TooManySessions, SessionOpen, NoSession}
+use Rattle.hub.specs.declared.sessions.TheConstants.{MAX_SESSIONS}
 
 -- an event, regardless of where its bytes lie
 pub data Happening : Type 0 where
@@ -35,11 +36,11 @@ at sessions session = lookup (is_at (nat_cmp session)) sessions
 
 -- the refusal that applies, memory aside: at most 1,024 sessions are open
 abbrev pub due : {X : Type 0} → BySession X → Happening → Option HubRefusal
-due sessions (Open session) = if nat_le 1024 (length sessions) then Some TooManySessions else (if is_some (at sessions session) then Some SessionOpen else None)
+due sessions (Open session) = if nat_le MAX_SESSIONS (length sessions) then Some TooManySessions else (if is_some (at sessions session) then Some SessionOpen else None)
 due sessions (Bytes session piece) = if is_some (at sessions session) then None else Some NoSession
 due sessions (End session) = if is_some (at sessions session) then None else Some NoSession
 
 -- what contracts see of a hub: the service, and what the stream of each open session holds
-pub record Hubbed (S : Type 0) : Type 0 where
+pub record HubState (S : Type 0) : Type 0 where
   pub service : S
-  pub sessions : BySession Held
+  pub sessions : BySession Remainder

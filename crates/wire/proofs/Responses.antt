@@ -12,7 +12,7 @@ use Rattle.proofs.proofs.Replies.{reply_field}
 use Rattle.wire.specs.declared.kind_bytes.TheConstants.{PROOF, REFUSED}
 use Rattle.wire.specs.Tables.{Content, Of, spelling, kind_among, parts_message, Allowed}
 use Rattle.wire.specs.Laws.{ResponsesAreOne, ResponsesHaveKinds}
-use Rattle.wire.specs.Responses.{Responded, Promise, Proof, Roots, Root, Refused, ResponseKind, response_kind, PromiseKind, ProofKind, RootsKind, RootKind, RefusedKind, response_kinds, response_parts, response_row, Responds, IsResponseKind}
+use Rattle.wire.specs.Responses.{ResponseContent, Promise, Proof, Roots, Root, Refused, ResponseKind, response_kind, PromiseKind, ProofKind, RootsKind, RootKind, RefusedKind, response_kinds, response_parts, response_row, Responds, IsResponseKind}
 use Rattle.wire.proofs.Tables as tables
 use Rattle.wire.proofs.Tables.{IsTable}
 
@@ -24,7 +24,7 @@ is_kind RootsKind = (refl, λ _. refl)
 is_kind RootKind = (refl, λ _. refl)
 is_kind RefusedKind = (refl, λ _. refl)
 
-made : (responded : Responded) → parts_message response_row (response_parts responded) ≡ responded
+made : (responded : ResponseContent) → parts_message response_row (response_parts responded) ≡ responded
 made (Promise promise) = refl
 made (Proof proof) = refl
 made (Roots roots) = refl
@@ -40,12 +40,12 @@ have_kinds = (refl, tables.of_kind response_row response_kinds response_parts ta
 pub one_response : ResponsesAreOne
 one_response = tables.one_message response_row response_kinds response_parts table
 
-pub is_byte : (responded : Responded) → response_kind responded < 256
+pub is_byte : (responded : ResponseContent) → response_kind responded < 256
 is_byte = tables.is_byte response_row response_kinds response_parts table refl
 
 -- of the kind there are responses, and the body spells none
 abbrev pub IsNone : ℕ → List ℕ → Type 0
-IsNone kind body = IsResponseKind kind × ((responded : Responded) → ¬ Responds kind body responded)
+IsNone kind body = IsResponseKind kind × ((responded : ResponseContent) → ¬ Responds kind body responded)
 
 pub no_response : (is : ResponseKind) (kind : ℕ) (body : List ℕ) → kind ≡ (response_row is).byte
     → ((content : Content (response_row is).form) → ¬ Spells (spelling (response_row is).form) (Allowed (response_row is).form) body content) → IsNone kind body

@@ -8,11 +8,12 @@ use Rattle.encoding.specs.Reading.{is_within, read_number}
 use Rattle.encoding.proofs.ByteLists.{IsBytes-append, IsBytes-back}
 use Rattle.encoding.proofs.Fields.{numbers_field, one_spelling, refused_read}
 use Rattle.wire.specs.Frames.{Frame, frame_bytes, frame_of, read_frame, read_framed, IsFrame}
-use Rattle.wire.specs.Streams.{Held, Message, Rest, Failed, Whole, BadFrame, whole_messages, BeginsFrame, HasBadLength, IsFrameSize, IsSpent, Spells, Splits, Takes, Tells, TellsAll}
+use Rattle.wire.specs.Streams.{Remainder, Message, Rest, Failed, Whole, BadFrame, whole_messages, BeginsFrame, HasBadLength, IsFrameSize, IsSpent, Spells, Splits, Takes, Tells, TellsAll}
 use Rattle.wire.specs.Laws.{joined, Hears}
 use Rattle.wire.proofs.Frames.{frame_field, size_limits, size_within}
 use Rattle.wire.proofs.Faults.{frame_faults, IsBadSize}
 use Rattle.wire.proofs.Streams.{hears-joined, none-bytes, nothing_yet}
+use Rattle.wire.specs.declared.frame.TheConstants.{MAX_FRAME_LEN}
 
 -- ---- less than a frame
 
@@ -38,11 +39,11 @@ by_none : (bytes : List ℕ) → read_number 4 bytes ≡ Err Short → read_fram
 unfolding read_frame
 by_none bytes e = rw e refl
 
-by_size : (bytes : List ℕ) (size : ℕ) (rest : List ℕ) → read_number 4 bytes ≡ Ok (size, rest) → is_within 1 65536 size ≡ true → read_frame bytes ≡ read_framed size rest
+by_size : (bytes : List ℕ) (size : ℕ) (rest : List ℕ) → read_number 4 bytes ≡ Ok (size, rest) → is_within 1 MAX_FRAME_LEN size ≡ true → read_frame bytes ≡ read_framed size rest
 unfolding read_frame
 by_size bytes size rest e within = rw (e, within) refl
 
-by_bad : (bytes : List ℕ) (size : ℕ) (rest : List ℕ) → read_number 4 bytes ≡ Ok (size, rest) → is_within 1 65536 size ≡ false → read_frame bytes ≡ Err OutOfRange
+by_bad : (bytes : List ℕ) (size : ℕ) (rest : List ℕ) → read_number 4 bytes ≡ Ok (size, rest) → is_within 1 MAX_FRAME_LEN size ≡ false → read_frame bytes ≡ Err OutOfRange
 unfolding read_frame
 by_bad bytes size rest e within = rw (e, within) refl
 
@@ -54,10 +55,10 @@ begins_short bytes (inr (size, part, limits, e, short)) =
     ∙ frame_missing size part short
 
 -- the test fails where the number is none of a frame
-not_within : (size : ℕ) → ¬ IsFrameSize size → is_within 1 65536 size ≡ false
-not_within size not = by (is_within 1 65536 size) refl
+not_within : (size : ℕ) → ¬ IsFrameSize size → is_within 1 MAX_FRAME_LEN size ≡ false
+not_within size not = by (is_within 1 MAX_FRAME_LEN size) refl
   where
-    by : (b : Bool) → is_within 1 65536 size ≡ b → b ≡ false
+    by : (b : Bool) → is_within 1 MAX_FRAME_LEN size ≡ b → b ≡ false
     by true e = absurd (not (size_limits size e))
     by false e = refl
 
@@ -68,7 +69,7 @@ bad_refused bytes (size, more, fits, not, e) =
 pub short_begins : (bytes : List ℕ) → IsBytes bytes → read_frame bytes ≡ Err Short → BeginsFrame bytes
 short_begins bytes small e = by (ltb (length bytes) 4) refl
   where
-    by_part : (size : ℕ) (rest : List ℕ) → read_number 4 bytes ≡ Ok (size, rest) → (b : Bool) → is_within 1 65536 size ≡ b → (c : Bool) → ltb (length rest) size ≡ c → BeginsFrame bytes
+    by_part : (size : ℕ) (rest : List ℕ) → read_number 4 bytes ≡ Ok (size, rest) → (b : Bool) → is_within 1 MAX_FRAME_LEN size ≡ b → (c : Bool) → ltb (length rest) size ≡ c → BeginsFrame bytes
     by_part size rest four true within true short =
         inr (size, rest, size_limits size within, ((numbers_field 4).spelled bytes (size, rest) small four).0, ltb-true (length rest) size short)
     by_part size rest four true within false long =
@@ -80,7 +81,7 @@ short_begins bytes small e = by (ltb (length bytes) 4) refl
     by true few = inl (ltb-true (length bytes) 4 few)
     by false long =
         let four = four_there bytes (ltb-false (length bytes) 4 long) in
-        by_part four.0.0 four.0.1 four.1 (is_within 1 65536 four.0.0) refl (ltb (length four.0.1) four.0.0) refl
+        by_part four.0.0 four.0.1 four.1 (is_within 1 MAX_FRAME_LEN four.0.0) refl (ltb (length four.0.1) four.0.0) refl
 
 pub bad_begins : (bytes : List ℕ) → IsBytes bytes → read_frame bytes ≡ Err OutOfRange → HasBadLength bytes
 unfolding IsBadSize
@@ -90,7 +91,7 @@ bad_begins bytes small e =
       | inr a ↦ by a.1
     ]
   where
-    by : ((n : ℕ) × (left : List ℕ) × (read_number 4 bytes ≡ Ok (n, left)) × (is_within 1 65536 n ≡ false)) → HasBadLength bytes
+    by : ((n : ℕ) × (left : List ℕ) × (read_number 4 bytes ≡ Ok (n, left)) × (is_within 1 MAX_FRAME_LEN n ≡ false)) → HasBadLength bytes
     by (n, left, read, without) =
         let t = (numbers_field 4).spelled bytes (n, left) small read in
         (n, left, omega (arith, t.1), (λ size. let wrong = sym without ∙ size_within n size.0 size.1 in cc), t.0)
@@ -116,7 +117,7 @@ split_once stream (f ∷ fs) (g ∷ gs) rest left one two =
 -- ---- messages
 
 -- a frame in front, and what the rest of the stream spells
-frame_first : (stream left : List ℕ) (frame : Frame) (messages : List Message) (held : Held) → stream ≡ frame_bytes frame ++ left → IsFrame frame
+frame_first : (stream left : List ℕ) (frame : Frame) (messages : List Message) (held : Remainder) → stream ≡ frame_bytes frame ++ left → IsFrame frame
     → Spells left messages held → Spells stream (Whole frame ∷ messages) held
 frame_first stream left frame messages held e is (frames, rest, splits, how) = (
   frame ∷ frames,
@@ -130,27 +131,27 @@ frame_first stream left frame messages held e is (frames, rest, splits, how) = (
     ending (inl h) = inl (h.0, ap (λ (w : List Message). Whole frame ∷ w) h.1, h.2)
     ending (inr h) = inr (h.0, ap (λ (w : List Message). Whole frame ∷ w) h.1, h.2)
 
-pub tells_spells : (stream : List ℕ) (messages : List Message) (after : Held) → IsBytes stream → TellsAll (Rest stream) messages after → Spells stream messages after
+pub tells_spells : (stream : List ℕ) (messages : List Message) (after : Remainder) → IsBytes stream → TellsAll (Rest stream) messages after → Spells stream messages after
 tells_spells stream [] after small (same, spent) =
     let begins = short_begins stream small (subst IsSpent same spent) in
     ([], stream, (refl, tt, inl begins), inl (begins, refl, same))
 tells_spells stream (Whole frame ∷ more) after small ((between, (left, read, is), rest), spent) =
     let t = frame_field.spelled stream (frame, left) small read in
     frame_first stream left frame more after t.0 t.1
-    (tells_spells left more after (IsBytes-back (frame_bytes frame) left (subst IsBytes t.0 small)) (subst (λ (held : Held). Tells held more after) is rest, spent))
+    (tells_spells left more after (IsBytes-back (frame_bytes frame) left (subst IsBytes t.0 small)) (subst (λ (held : Remainder). Tells held more after) is rest, spent))
 tells_spells stream (BadFrame ∷ []) after small ((between, (read, is), rest), spent) =
     let bad = bad_begins stream small read in
     ([], stream, (refl, tt, inr bad), inr (bad, refl, rest ∙ is))
 tells_spells stream (BadFrame ∷ message ∷ more) after small ((between, (read, is), (next, takes, rest)), spent) =
-    absurd (subst (λ (held : Held). Takes held message next) is takes)
+    absurd (subst (λ (held : Remainder). Takes held message next) is takes)
 
 -- ---- pieces
 
-pieces_bytes : (held : Held) (pieces : List (List ℕ)) (messages : List Message) (after : Held) → Hears held pieces messages after → IsBytes (joined pieces)
+pieces_bytes : (held : Remainder) (pieces : List (List ℕ)) (messages : List Message) (after : Remainder) → Hears held pieces messages after → IsBytes (joined pieces)
 pieces_bytes held [] messages after hears = none-bytes
 pieces_bytes held (piece ∷ more) messages after (now, later, between, split, p, told, rest) =
     IsBytes-append piece (joined more) p (pieces_bytes between more later after rest)
 
-pub pieces_spell : (pieces : List (List ℕ)) (messages : List Message) (after : Held) → Hears (Rest []) pieces messages after → Spells (joined pieces) messages after
+pub pieces_spell : (pieces : List (List ℕ)) (messages : List Message) (after : Remainder) → Hears (Rest []) pieces messages after → Spells (joined pieces) messages after
 pieces_spell pieces messages after hears =
     tells_spells (joined pieces) messages after (pieces_bytes (Rest []) pieces messages after hears) (hears-joined (Rest []) pieces messages after none-bytes nothing_yet hears)

@@ -3,22 +3,22 @@ use Rattle.std.specs.Prelude.{◌≡◌, ℕ, List, [], ◌∷◌, Result, Ok, E
 use Rattle.encoding.specs.Fields.{Spells}
 use Rattle.commands.specs.declared.edit.Verb.{Verb}
 use Rattle.commands.specs.declared.edit.Verb.TheVariants.{Register, Change}
-use Rattle.commands.specs.Asked.{Question, Promise, Lookup, History, Head, question}
+use Rattle.commands.specs.Operations.{Question, Promise, Lookup, History, Head, question}
 use Rattle.wire.specs.Tables.{KindRow, MessageParts, Of, Nothing, Number, Bytes, Text, Both, kind_among, parts_frame, read_by, IsCounted, MayHave}
 use Rattle.wire.specs.Frames.{Frame}
 use Rattle.wire.specs.declared.kind_bytes.TheConstants.{REGISTER, CHANGE, PROMISE, LOOKUP, HISTORY, HEAD, CLOSE}
 use Rattle.wire.specs.declared.request.Request.{Request}
 use Rattle.wire.specs.declared.request.Request.TheVariants as request
-use Rattle.wire.specs.declared.refusal.ReadRefusal.{ReadRefusal}
-use Rattle.wire.specs.declared.refusal.ReadRefusal.TheVariants.{BadKind, BadBody}
+use Rattle.wire.specs.declared.refusals.ReadRefusal.{ReadRefusal}
+use Rattle.wire.specs.declared.refusals.ReadRefusal.TheVariants.{BadKind, BadBody}
 
 -- a request, regardless of where its bytes lie: a command, where a new page has the operator's token beside it
-pub data Requested : Type 0 where
-  Query : Question → Requested
-  Put : Verb → List ℕ → List ℕ → Requested
-  Turn : List ℕ → ℕ → Requested
+pub data RequestContent : Type 0 where
+  Query : Question → RequestContent
+  Put : Verb → List ℕ → List ℕ → RequestContent
+  Turn : List ℕ → ℕ → RequestContent
 
-abbrev pub request_seen : Request → Requested
+abbrev pub request_seen : Request → RequestContent
 request_seen (request.Query query) = Query (question query)
 request_seen (request.Put put) = Put put.verb put.name.now put.key.now
 request_seen (request.Turn token epoch) = Turn token epoch
@@ -39,7 +39,7 @@ put_kind Register = REGISTER
 put_kind Change = CHANGE
 
 -- the kinds of requests: the byte of each, the form of its bodies, and the request with what a body holds
-abbrev pub request_row : RequestKind → KindRow Requested
+abbrev pub request_row : RequestKind → KindRow RequestContent
 request_row (PutKind verb) = record { byte = put_kind verb; form = Both Text Text; message = λ held. Put verb held.0 held.1 }
 request_row PromiseKind = record { byte = PROMISE; form = Text; message = λ name. Query (Promise name) }
 request_row LookupKind = record { byte = LOOKUP; form = Both (Number 8) Text; message = λ held. Query (Lookup held.1 held.0) }
@@ -51,7 +51,7 @@ abbrev pub request_kinds : List RequestKind
 request_kinds = PutKind Register ∷ PutKind Change ∷ PromiseKind ∷ LookupKind ∷ HistoryKind ∷ HeadKind ∷ TurnKind ∷ []
 
 -- the kind of a request, with what its body holds
-abbrev pub request_parts : Requested → MessageParts request_row
+abbrev pub request_parts : RequestContent → MessageParts request_row
 request_parts (Put verb name key) = Of (PutKind verb) (name, key)
 request_parts (Query (Promise name)) = Of PromiseKind name
 request_parts (Query (Lookup name epoch)) = Of LookupKind (epoch, name)
@@ -60,45 +60,45 @@ request_parts (Query Head) = Of HeadKind tt
 request_parts (Turn token epoch) = Of TurnKind (token, epoch)
 
 -- a request as a frame
-abbrev pub request_frame : Requested → Frame
+abbrev pub request_frame : RequestContent → Frame
 request_frame requested = parts_frame request_row (request_parts requested)
 
-abbrev pub request_kind : Requested → ℕ
+abbrev pub request_kind : RequestContent → ℕ
 request_kind requested = (request_frame requested).kind
 
-abbrev pub request_body : Requested → List ℕ
+abbrev pub request_body : RequestContent → List ℕ
 request_body requested = (request_frame requested).body
 
 -- a request with such names and keys, whose numbers fit in their bytes, and whose token has 32
-abbrev pub MayRequest : (List ℕ → Type 0) → Requested → Type 0
+abbrev pub MayRequest : (List ℕ → Type 0) → RequestContent → Type 0
 MayRequest OfText requested = MayHave request_row OfText (request_parts requested)
 
 -- what a request may hold. Whether a name or a key is allowed is the directory's answer
-abbrev pub IsAsked : Requested → Type 0
+abbrev pub IsAsked : RequestContent → Type 0
 IsAsked = MayRequest IsCounted
 
 -- the body spells this request, which is of the kind
-abbrev pub Asks : ℕ → List ℕ → Requested → Type 0
+abbrev pub Asks : ℕ → List ℕ → RequestContent → Type 0
 Asks kind body requested = (request_kind requested ≡ kind) × Spells request_body IsAsked body requested
 
 -- some request is of the kind
 abbrev pub IsRequestKind : ℕ → Type 0
-IsRequestKind kind = (requested : Requested) × (request_kind requested ≡ kind)
+IsRequestKind kind = (requested : RequestContent) × (request_kind requested ≡ kind)
 
 -- What reading answers: the request that the body spells; BadKind where no request is of the kind, and
 -- BadBody where some is, but the body spells none of them.
 abbrev pub ReadsRequest : ℕ → List ℕ → Result Request ReadRefusal → Type 0
 ReadsRequest kind body (Ok read) = Asks kind body (request_seen read)
 ReadsRequest kind body (Err BadKind) = ¬ IsRequestKind kind
-ReadsRequest kind body (Err BadBody) = IsRequestKind kind × ((requested : Requested) → ¬ Asks kind body requested)
+ReadsRequest kind body (Err BadBody) = IsRequestKind kind × ((requested : RequestContent) → ¬ Asks kind body requested)
 
 -- ---- reading
 
 -- the request of a kind at the front of the bytes, with the bytes that are left, or the refusal
-unfoldable pub read_request : ℕ → List ℕ → Result (Requested × List ℕ) ReadRefusal
+unfoldable pub read_request : ℕ → List ℕ → Result (RequestContent × List ℕ) ReadRefusal
 read_request kind bytes = read_by request_row (kind_among request_row request_kinds kind) bytes
 
 -- what a call returned, and the bytes that it left, are what was read
-abbrev pub GivesRequest : Result Request ReadRefusal → List ℕ → Result (Requested × List ℕ) ReadRefusal → Type 0
+abbrev pub GivesRequest : Result Request ReadRefusal → List ℕ → Result (RequestContent × List ℕ) ReadRefusal → Type 0
 GivesRequest (Ok request) rest reading = reading ≡ Ok (request_seen request, rest)
 GivesRequest (Err refusal) rest reading = reading ≡ Err refusal

@@ -3,12 +3,12 @@ use Rattle.std.specs.BTreeMap.{is_at}
 use Rattle.std.specs.BTreeMap.Entry.{map_without_entry}
 use Rattle.std.specs.declared.collections.btree_map.Entry.TheVariants.{Vacant}
 use Rattle.std.specs.Map.{lookup}
-use Rattle.book.specs.Maps.{name_cmp}
 use Rattle.book.specs.declared.refusal.Refusal.{Refusal}
 use Rattle.epochs.specs.Addresses.{named, with_history}
 use Rattle.epochs.specs.Versions.{IsUnkept}
 use Rattle.epochs.proofs.Named.{added-inserted, added-new, ascending, found-at, named-inserted, remove-missing, versions-there}
 use Rattle.epochs.proofs.names.add_to_new.Goals as goal
+use Rattle.encoding.specs.Bytes.{bytes_cmp}
 
 behind : {X : Type 0} {x y z : X} → y ≡ z → x ≡ y → x ≡ z
 behind after before = before ∙ after
@@ -45,6 +45,6 @@ returns-in-Ok g c =
 pub returns-in-Err : goal.returns-in-Err
 returns-in-Err g c =
     let es = c.args.histories.now.entries in
-    let none : lookup (is_at (λ key. name_cmp c.in_ok-owned.field-0.items key.items)) es ≡ None = rw c.in-Vacant.is at c.in_ok-place.ensures.found in
-    let gone : (map_without_entry (Vacant c.in-Vacant.place)).entries ≡ es = (rw c.in-Vacant.is at c.in_ok-place.ensures.removal).1 ∙ remove-missing (is_at (λ key. name_cmp c.in_ok-owned.field-0.items key.items)) es none in
+    let none : lookup (is_at (λ key. bytes_cmp c.in_ok-owned.field-0.items key.items)) es ≡ None = rw c.in-Vacant.is at c.in_ok-place.ensures.found in
+    let gone : (map_without_entry (Vacant c.in-Vacant.place)).entries ≡ es = (rw c.in-Vacant.is at c.in_ok-place.ensures.removal).1 ∙ remove-missing (is_at (λ key. bytes_cmp c.in_ok-owned.field-0.items key.items)) es none in
     (ap (named (λ key. key.items)) (behind gone (search rules)), inr (refl, search rules))
