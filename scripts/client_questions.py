@@ -5,7 +5,7 @@ from dataclasses import replace
 from formats import *
 from session_scripts import key_of
 from session_subjects import *
-from sessions import SIGN_KEY, Client
+from sessions import SIGNING_KEY, Client
 
 SUBJECTS, subject = subjects()
 
@@ -18,7 +18,7 @@ def of_updates(q, rng):
     before = KEYED.page(2)
     fork, skip = KEYED.page(7, a, nonce=run(1)), KEYED.page(8, a)
     link, ahead = KEYED.page(12, KEYED.page(9, b, nonce=run(2))), KEYED.page(12, KEYED.page(11, c))
-    forged = KEYED.page(7, a, sign_key=OTHER_KEY)
+    forged = KEYED.page(7, a, signing_key=OTHER_KEY)
     lets(q, a=a, b=b, c=c)
     q.note("No client and no monitor is there yet.")
     for verb in ["client head", "monitor name", "monitor next", "monitor client", "monitor reconcile"]:
@@ -26,15 +26,15 @@ def of_updates(q, rng):
     q.ask("client update", roots(a))
     q.ask("monitor new", b"a", "none")
     q.note("A client starts at a signed root.")
-    for root in [b"R", b"", written(a)[:-1], written(a) + b"\0", written(KEYED.page(3, sign_key=OTHER_KEY))]:
-        q.ask("client start", SIGN_KEY, root)
+    for root in [b"R", b"", written(a)[:-1], written(a) + b"\0", written(KEYED.page(3, signing_key=OTHER_KEY))]:
+        q.ask("client start", SIGNING_KEY, root)
     for size in [31, 33, 100, 256]:
-        q.ask("client start", SIGN_KEY, long_signature(a, size))
+        q.ask("client start", SIGNING_KEY, long_signature(a, size))
     q.ask("client start", OTHER_KEY, written(a))
-    q.ask("client start", SIGN_KEY, written(a))
+    q.ask("client start", SIGNING_KEY, written(a))
     q.ask("client key")
     q.ask("client head")
-    q.ask("client start", SIGN_KEY, b"R")
+    q.ask("client start", SIGNING_KEY, b"R")
     q.note("What is refused, and leaves the client as it was.")
     for data in [
         b"", b"\0", roots(a)[:-1], roots(a) + b"\0", u16(65) + written(a) * 65, u16(2) + written(a),
@@ -58,7 +58,7 @@ def of_updates(q, rng):
     q.ask("client update", roots(link))
     q.ask("client update", roots(KEYED.page(12, b)))
     q.ask("client update", roots(before))
-    q.ask("client start", SIGN_KEY, written(early))
+    q.ask("client start", SIGNING_KEY, written(early))
     for page in [KEYED.page(1), KEYED.page(2), KEYED.page(2, nonce=run(4)), KEYED.page(3)]:
         q.ask("client update", roots(page))
     q.ask("client head")
@@ -71,7 +71,7 @@ def of_long_lists(q, rng):
     q.let("roots", b"".join(written(page) for page in pages))
     for others, ones in [(pages, pages[:9]), (pages[:9], pages[8:]), (pages[:9], pages[9:]), (pages[:9], pages[10:])]:
         for part in (others, ones):
-            q.ask("client start", SIGN_KEY, written(part[0]))
+            q.ask("client start", SIGNING_KEY, written(part[0]))
             q.ask("client update", roots(*part))
             q.ask("client update", roots(*part[-3:]))
             q.ask("client head")
@@ -91,7 +91,7 @@ def of_late_starts(q, rng):
         promise = a.promise(b"a", b"k")
         replies = [page.reply(b"a").write() for page in (a, b)]
         lets(q, a=a, b=b)
-        q.ask("client start", SIGN_KEY, written(a))
+        q.ask("client start", SIGNING_KEY, written(a))
         q.ask("client keep", promise)
         q.ask("client look", b"a", first, replies[0])
         q.ask("client update", roots(a, b))
@@ -124,7 +124,7 @@ def of_looks(q, rng):
         lets(q, a=a, b=b, c=c)
         for name in [b"a", b"bob", b"dave"]:
             q.let(name.decode() + "_7", b.reply(name).write())
-        q.ask(f"{client} start", SIGN_KEY, written(a))
+        q.ask(f"{client} start", SIGNING_KEY, written(a))
         q.ask(f"{client} look", b"a", 7, b.reply(b"a").write())
         q.ask(f"{client} look", b"a", 0, a.reply(b"a").write())
         q.ask(f"{client} update", roots(b, c))
@@ -164,7 +164,7 @@ def of_looks(q, rng):
     ]:
         page, reply = folded(KEYED, name, end, [u8(levels % 256) * 32] * levels)
         lets(q, page=page)
-        q.ask("client start", SIGN_KEY, written(page))
+        q.ask("client start", SIGNING_KEY, written(page))
         q.ask("client look", name, 1, reply.write())
         q.ask("client look", name, 0, replace(reply, siblings=reply.siblings[:-1]).write())
         q.ask("client look", name, 0, replace(reply, siblings=(*reply.siblings, ZERO32)).write())
@@ -175,7 +175,7 @@ def of_looks(q, rng):
     q.note("The longest reply of a name of 255 bytes that is its own value.")
     page, reply = folded(SUMS, b"a" * 255, Opening(run(1), b"k" * 2048), [run(2)] * 256)
     assert len(reply.write()) == 10680
-    q.ask("client-sum start", SIGN_KEY, written(page))
+    q.ask("client-sum start", SIGNING_KEY, written(page))
     q.ask("client-sum look", b"a" * 255, 0, reply.write())
     q.ask("client-sum look", b"a" * 254, 0, reply.write())
     q.ask("client-sum reconcile-self")
@@ -188,7 +188,7 @@ def of_many_looks(q, rng):
     a = q.let("a", page.reply(b"a").write())
     b, c = q.let("b", page.reply(b"b").write()), q.let("c", page.reply(b"c").write())
     for turn, count in enumerate([300, 9]):
-        q.ask("client start", SIGN_KEY, written(page))
+        q.ask("client start", SIGNING_KEY, written(page))
         for _ in range(count):
             q.ask("client look", b"a", 0, a)
         for _ in range(9):
@@ -211,7 +211,7 @@ def of_promises(q, rng):
         lets(q, a=a, b=b, c=c)
         first, second = q.let("first", a.promise(b"a", b"k1")), q.let("second", b.promise(b"a", b"k1"))
         replies = [q.let(f"reply{page.epoch}", page.reply(b"a").write()) for page in (a, b, c)]
-        q.ask(f"{client} start", SIGN_KEY, written(a))
+        q.ask(f"{client} start", SIGNING_KEY, written(a))
         q.ask(f"{client} due", b"a", replies[0])
         q.ask(f"{client} due", b"a", b"")
         q.ask(f"{client} due-epoch", b"a")
@@ -251,13 +251,13 @@ def of_promises(q, rng):
         q.ask(f"{client} keep", a.promise(b"b", b"k1"))
         q.ask(f"{client} due", b"b", b.reply(b"b").write())
         q.ask(f"{client} due-epoch", b"b")
-        q.ask(f"{client} start", SIGN_KEY, written(a))
+        q.ask(f"{client} start", SIGNING_KEY, written(a))
         q.ask(f"{client} update", roots(b))
         q.ask(f"{client} keep", a.promise(b"a", b"k1", index=run(7)))
         q.ask(f"{client} due", b"a", replies[1])
         q.ask(f"{client} due", b"a", replies[1])
         q.note("Of promises for one name, that of the least epoch is tested, and of equals the first kept.")
-        q.ask(f"{client} start", SIGN_KEY, written(a))
+        q.ask(f"{client} start", SIGNING_KEY, written(a))
         q.ask(f"{client} update", roots(b, c))
         for promise in [second, first, a.promise(b"a", b"k9"), first, c.promise(b"a", b"k2")]:
             q.ask(f"{client} keep", promise)
@@ -269,7 +269,7 @@ def of_promises(q, rng):
     a = KEYED.page(1)
     b, c = KEYED.page(2, a, {name: key}), KEYED.page(2, a, {name: b"l" * 2048})
     for page in (b, c):
-        q.ask("client start", SIGN_KEY, written(a))
+        q.ask("client start", SIGNING_KEY, written(a))
         q.ask("client update", roots(page))
         q.ask("client keep", a.promise(name, key))
         q.ask("client due", name, page.reply(name).write())
@@ -279,7 +279,7 @@ def of_promises(q, rng):
     lets(q, a=a, b=b)
     one, other = q.let("one", a.promise(b"a", b"k")), q.let("other", a.promise(b"b", b"k"))
     replies = q.let("ra", b.reply(b"a").write()), q.let("rb", b.reply(b"b").write())
-    q.ask("client start", SIGN_KEY, written(a))
+    q.ask("client start", SIGNING_KEY, written(a))
     q.ask("client update", roots(b))
     for turn in range(300):
         q.ask("client keep", other if turn == 20 else one)
@@ -298,7 +298,7 @@ def of_users(q, rng):
     promise = keeping.register(b"a", b"k").write()
     for directory in (other, keeping):
         directory.close(2)
-        q.ask("client start", SIGN_KEY, first.write())
+        q.ask("client start", SIGNING_KEY, first.write())
         q.ask("client keep", promise)
         q.ask("client update", write_list(directory.history(2, 1)))
         q.ask("client due", b"a", directory.lookup(b"a", 2).write())
@@ -309,8 +309,8 @@ def of_users(q, rng):
     q.note("A client that keeps promises, takes roots and looks names up, some of them too early or too late.")
     directory, names, epochs, promises = started(), [b"alice", b"bob"], [1], []
     q.let("root1", first.write())
-    q.ask("client start", SIGN_KEY, first.write())
-    user = Client(SIGN_KEY, first.write(), sha256, directory.vuf)
+    q.ask("client start", SIGNING_KEY, first.write())
+    user = Client(SIGNING_KEY, first.write(), sha256, directory.vuf)
 
     def told(verb, call, *words):
         q.ask(f"client {verb}", *words)
@@ -348,7 +348,7 @@ def of_reconciled_chains(q, rng):
     def compared(provider, ones, others):
         client = provider.client
         for pages in (others, ones):
-            q.ask(f"{client} start", SIGN_KEY, written(pages[0]))
+            q.ask(f"{client} start", SIGNING_KEY, written(pages[0]))
             q.ask(f"{client} update", roots(*pages[1:]))
             if pages is others:
                 q.ask(f"{client} put-aside")
@@ -368,7 +368,7 @@ def of_reconciled_chains(q, rng):
         if ones != others:
             compared(KEYED, others, ones)
     q.ask("client reconcile-self")
-    q.ask("client start", OTHER_KEY, written(KEYED.page(3, sign_key=OTHER_KEY)))
+    q.ask("client start", OTHER_KEY, written(KEYED.page(3, signing_key=OTHER_KEY)))
     q.ask("client reconcile")
     q.note("Two bodies of one sum at epoch 7, under one root at epoch 9.")
     a = SUMS.page(3)
@@ -403,7 +403,7 @@ def of_reconciled_looks(q, rng):
         q.let(name, reply.write())
 
     def begun(*names):
-        q.ask("client-sum start", SIGN_KEY, written(page))
+        q.ask("client-sum start", SIGNING_KEY, written(page))
         for place, name in enumerate(names):
             q.ask("client-sum look", b"a", 3 * (place % 2), texts[name].write())
 
@@ -434,7 +434,7 @@ def of_reconciled_looks(q, rng):
         (["dc", "ba"], ["ab", "cd"]), (["ba", "dc"], ["cd", "ab"]), (["ab", "cd", "dc"], ["ab", "cd", "ba"]),
     ]:
         for keys in (others, ones):
-            q.ask("client-sum start", SIGN_KEY, written(two))
+            q.ask("client-sum start", SIGNING_KEY, written(two))
             for key in keys:
                 q.ask("client-sum look", b"a" if key in ("ab", "ba") else b"b", 0, answers[key.encode()])
             if keys is others:
@@ -444,7 +444,7 @@ def of_reconciled_looks(q, rng):
     other = SUMS.page(3)
     begun("ab", "ba")
     q.ask("client-sum put-aside")
-    q.ask("client-sum start", SIGN_KEY, written(other))
+    q.ask("client-sum start", SIGNING_KEY, written(other))
     q.ask("client-sum look", b"a", 3, other.reply(b"a").write())
     q.ask("client-sum reconcile")
 
@@ -461,7 +461,7 @@ def of_watching(q, rng):
     lets(q, a=a, b=b, c=c, d=d)
     ra, rb, rc, rd = (q.let(f"r{page.epoch}", page.reply(b"a").write()) for page in (a, b, c, d))
     first = q.let("first", a.promise(b"a", b"k"))
-    q.ask("client start", SIGN_KEY, written(a))
+    q.ask("client start", SIGNING_KEY, written(a))
     q.ask("monitor new", b"", "none")
     q.ask("monitor new", b"a" * 256, "none")
     q.ask("monitor new", b"a", b"")
@@ -529,7 +529,7 @@ def of_expectations(q, rng):
     lets(q, a=a, b=b, c=c)
     ra, rb, rc = (q.let(f"r{page.epoch}", page.reply(b"a").write()) for page in (a, b, c))
     for start in ["none", b"k" * 101, b"k" * 100, b"m", b"l" * 2048]:
-        q.ask("client start", SIGN_KEY, written(a))
+        q.ask("client start", SIGNING_KEY, written(a))
         q.ask("client update", roots(b, c))
         q.ask("monitor new", b"a", start)
         q.ask("monitor expected", 3)
@@ -539,7 +539,7 @@ def of_expectations(q, rng):
     keys = [(a, b"l" * 2048), (b, b"m"), (c, b"n")]
     promised = [(key, page.promise(b"a", key)) for page, key in keys]
     for order in [[0, 1, 2], [1, 0, 2], [2, 1, 0], [0, 2, 1], [0, "step", 0, "step", 0, 1, "step", 1, 2, 2]]:
-        q.ask("client start", SIGN_KEY, written(a))
+        q.ask("client start", SIGNING_KEY, written(a))
         q.ask("client update", roots(b, c))
         q.ask("monitor new", b"a", b"k" * 101)
         replies = [ra, rb, rc]
@@ -557,12 +557,12 @@ def of_expectations(q, rng):
     q.ask("monitor update", roots(d))
     q.ask("monitor step", d.reply(b"a").write())
     for other in [[a, b, c], [a], [a, KEYED.page(7, a)], [KEYED.page(3)], [d]]:
-        q.ask("client start", SIGN_KEY, written(other[0]))
+        q.ask("client start", SIGNING_KEY, written(other[0]))
         q.ask("client update", roots(*other[1:]))
         q.ask("client look", b"a", other[0].epoch, other[0].reply(b"a").write())
         q.ask("client put-aside")
         q.ask("monitor reconcile")
-    q.ask("client start", OTHER_KEY, written(KEYED.page(3, sign_key=OTHER_KEY)))
+    q.ask("client start", OTHER_KEY, written(KEYED.page(3, signing_key=OTHER_KEY)))
     q.ask("client put-aside")
     q.ask("monitor reconcile")
 
@@ -570,7 +570,7 @@ def of_expectations(q, rng):
     q.note("A name of 255 bytes.")
     name, key = b"a" * 255, b"k" * 2048
     b = KEYED.page(7, a, {name: key})
-    q.ask("client start", SIGN_KEY, written(a))
+    q.ask("client start", SIGNING_KEY, written(a))
     q.ask("client update", roots(b))
     q.ask("monitor new", name, "none")
     q.ask("monitor name")

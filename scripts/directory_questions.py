@@ -3,15 +3,15 @@
 from asking import index, joined, run
 from formats import *
 from session_scripts import HEAD, key_of, name_of, split
-from session_subjects import HUB_TOKEN, OTHER_KEY, SALT_KEY, SIGN_KEY, TOP, VUF_KEY, closing, message, subjects
+from session_subjects import HUB_TOKEN, OTHER_KEY, SALT_KEY, SIGNING_KEY, TOP, VUF_KEY, closing, message, subjects
 
 SUBJECTS, subject = subjects()
 
 # Directories -----------------------------------------------------------------------------------------
 
 
-def new_directory(q, epoch=1, nonce=ZERO32, sign_key=SIGN_KEY, vuf_key=VUF_KEY, salt_key=SALT_KEY):
-    q.ask("directory new", epoch, nonce, sign_key, vuf_key, salt_key)
+def new_directory(q, epoch=1, nonce=ZERO32, signing_key=SIGNING_KEY, vuf_key=VUF_KEY, salt_key=SALT_KEY):
+    q.ask("directory new", epoch, nonce, signing_key, vuf_key, salt_key)
 
 
 @subject("a directory: each call, and each refusal in its order")
@@ -135,7 +135,7 @@ def of_beginnings(q, rng):
         q.ask("directory lookup", b"alice", 0)
         q.ask("directory lookup", b"bob", TOP)
         q.ask("directory promise", b"alice")
-    for keys in [{"sign_key": OTHER_KEY}, {"vuf_key": OTHER_KEY}, {"salt_key": OTHER_KEY}]:
+    for keys in [{"signing_key": OTHER_KEY}, {"vuf_key": OTHER_KEY}, {"salt_key": OTHER_KEY}]:
         new_directory(q, **keys)
         q.ask("directory register", b"alice", b"k1")
         q.ask("directory close", 2)
@@ -225,8 +225,8 @@ def commands(rng, count):
 
 @subject("a directory by the sum of bytes: two names of one index")
 def of_indices(q, rng):
-    q.ask("directory-sum new", 0, ZERO32, SIGN_KEY, SALT_KEY)
-    q.ask("directory-sum new", 1, ZERO32, SIGN_KEY, SALT_KEY)
+    q.ask("directory-sum new", 0, ZERO32, SIGNING_KEY, SALT_KEY)
+    q.ask("directory-sum new", 1, ZERO32, SIGNING_KEY, SALT_KEY)
     q.ask("directory-sum register", b"ab", b"k")
     q.ask("directory-sum register", b"ba", b"k")
     q.ask("directory-sum register", b"ab", b"l")

@@ -4,7 +4,7 @@ from dataclasses import replace
 
 from formats import *
 from session_subjects import *
-from sessions import SIGN_KEY
+from sessions import SIGNING_KEY
 
 LETTERS = bytes([0xAB]) * 32  # a key whose digits are letters
 SUBJECTS, subject = subjects()
@@ -28,28 +28,28 @@ def of_observing(q, rng):
     ]
     spoilt = [
         b"", b"R", written(b)[:-1], written(b) + b"\0", long_signature(b, 31), long_signature(b, 33),
-        long_signature(b, 256), KEYED.page(7, a, sign_key=OTHER_KEY).root.write(),
+        long_signature(b, 256), KEYED.page(7, a, signing_key=OTHER_KEY).root.write(),
     ]
     q.note("Compared by an auditor that knows no provider.")
     q.ask("auditor new")
-    q.ask("auditor chain", SIGN_KEY)
+    q.ask("auditor chain", SIGNING_KEY)
     for page in others[:3]:
-        q.ask("auditor compare", SIGN_KEY, written(page))
+        q.ask("auditor compare", SIGNING_KEY, written(page))
     for data in spoilt:
-        q.ask("auditor compare", SIGN_KEY, data)
-        q.ask("auditor observe", SIGN_KEY, data)
-    q.ask("auditor chain", SIGN_KEY)
+        q.ask("auditor compare", SIGNING_KEY, data)
+        q.ask("auditor observe", SIGNING_KEY, data)
+    q.ask("auditor chain", SIGNING_KEY)
     q.note("A chain of three roots.")
     for page in (a, b, c):
-        q.ask("auditor compare", SIGN_KEY, written(page))
-        q.ask("auditor observe", SIGN_KEY, written(page))
-        q.ask("auditor chain", SIGN_KEY)
+        q.ask("auditor compare", SIGNING_KEY, written(page))
+        q.ask("auditor observe", SIGNING_KEY, written(page))
+        q.ask("auditor chain", SIGNING_KEY)
     for verb in ["compare", "observe"]:
         for page in others:
-            q.ask(f"auditor {verb}", SIGN_KEY, written(page))
+            q.ask(f"auditor {verb}", SIGNING_KEY, written(page))
         for data in spoilt:
-            q.ask(f"auditor {verb}", SIGN_KEY, data)
-        q.ask("auditor chain", SIGN_KEY)
+            q.ask(f"auditor {verb}", SIGNING_KEY, data)
+        q.ask("auditor chain", SIGNING_KEY)
         q.ask("auditor chain", OTHER_KEY)
     q.note("Only a root's bytes under a key of the provider verify.")
     q.ask("auditor observe", OTHER_KEY, written(a))
@@ -60,7 +60,7 @@ def of_observing(q, rng):
 def of_providers(q, rng):
     keys = [bytes([number]) * 32 for number in range(256)]
     q.ask("auditor new")
-    chains = [KEYED.pages([1, 2 + number % 3], sign_key=key) for number, key in enumerate(keys)]
+    chains = [KEYED.pages([1, 2 + number % 3], signing_key=key) for number, key in enumerate(keys)]
     lets(q, a=chains[0][0])
     for number, (key, pages) in enumerate(zip(keys, chains)):
         q.ask("auditor observe", key, written(pages[0]))
@@ -74,7 +74,7 @@ def of_providers(q, rng):
         for page in chains[number]:
             q.ask("auditor observe", keys[number], written(page))
         q.ask("auditor chain", keys[number])
-        q.ask("auditor observe", keys[number], written(KEYED.page(2, nonce=run(1), sign_key=keys[number])))
+        q.ask("auditor observe", keys[number], written(KEYED.page(2, nonce=run(1), signing_key=keys[number])))
     q.ask("auditor chain", OTHER_KEY[:31] + b"\0")
     q.ask("auditor new")
     q.ask("auditor chain", keys[0])
@@ -82,15 +82,15 @@ def of_providers(q, rng):
 
 @subject("auditors whose first root is of a later epoch")
 def of_late_starts(q, rng):
-    key = SIGN_KEY.hex().encode()
+    key = SIGNING_KEY.hex().encode()
     for first, second in [(2, 3), (12, 13), (13, 400), (400, 2**32), (2**32, TOP), (TOP, TOP)]:
         a = KEYED.page(first, KEYED.page(1))
         b = KEYED.page(second, a) if first < second else a
         q.ask("auditor new")
         for verb in ["compare", "observe"]:
             for page in (a, b, KEYED.page(1)):
-                q.ask(f"auditor {verb}", SIGN_KEY, written(page))
-        q.ask("auditor chain", SIGN_KEY)
+                q.ask(f"auditor {verb}", SIGNING_KEY, written(page))
+        q.ask("auditor chain", SIGNING_KEY)
         if first in (13, 400):
             q.ask("evidence audit", key, b"".join(written(page).hex().encode() + b"\n" for page in (a, b)))
 
@@ -101,25 +101,25 @@ def of_long_chains(q, rng):
     q.let("roots", b"".join(written(page) for page in pages))
     q.ask("auditor new")
     for page in pages:
-        q.ask("auditor observe", SIGN_KEY, written(page))
-    q.ask("auditor chain", SIGN_KEY)
+        q.ask("auditor observe", SIGNING_KEY, written(page))
+    q.ask("auditor chain", SIGNING_KEY)
     others = [KEYED.page(14), KEYED.page(TOP, pages[-3]), KEYED.page(60, pages[15])]
     for page in [pages[0], pages[13], pages[-1], *others]:
-        q.ask("auditor compare", SIGN_KEY, written(page))
-        q.ask("auditor observe", SIGN_KEY, written(page))
+        q.ask("auditor compare", SIGNING_KEY, written(page))
+        q.ask("auditor observe", SIGNING_KEY, written(page))
     q.note("First roots beyond epoch 12.")
     for page in [pages[12], pages[-1]]:
         q.ask("auditor new")
-        q.ask("auditor observe", SIGN_KEY, written(page))
-        q.ask("auditor chain", SIGN_KEY)
+        q.ask("auditor observe", SIGNING_KEY, written(page))
+        q.ask("auditor chain", SIGNING_KEY)
 
 
 @subject("an auditor of signatures of other lengths than 32, and of a chain of hundreds of roots")
 def of_wide_roots(q, rng):
     pages = KEYED.pages(range(1, 301))
     for size in [1, 31, 33, 35, 255, 256]:
-        q.ask("auditor any", SIGN_KEY, *(pages[at].root.body.write() + counted(b"\7" * size) for at in [0, 1, 0, 3]))
-    q.ask("auditor any", SIGN_KEY, *(page.root.body.write() + counted(b"\7") for page in pages))
+        q.ask("auditor any", SIGNING_KEY, *(pages[at].root.body.write() + counted(b"\7" * size) for at in [0, 1, 0, 3]))
+    q.ask("auditor any", SIGNING_KEY, *(page.root.body.write() + counted(b"\7") for page in pages))
 
 
 # Evidence that is judged ------------------------------------------------------------------------------------
@@ -138,28 +138,28 @@ def of_judging(q, rng):
     for kind, parts in cheats():
         for place, part in enumerate(parts):
             q.let("xyz"[place], part)
-        q.ask("auditor judge", SIGN_KEY, kind, *parts)
+        q.ask("auditor judge", SIGNING_KEY, kind, *parts)
         q.ask("auditor judge", OTHER_KEY, kind, *parts)
         turned = [*parts[:2], parts[2] + b"\0"] if kind == BROKEN else parts[::-1]
-        q.ask("auditor judge", SIGN_KEY, kind, *turned)
+        q.ask("auditor judge", SIGNING_KEY, kind, *turned)
         for other in (FORK, LINK, SKIP):
             if other != kind and kind != BROKEN:
-                q.ask("auditor judge", SIGN_KEY, other, *parts)
+                q.ask("auditor judge", SIGNING_KEY, other, *parts)
         for place in (0, 1):
             twice = [parts[place], parts[place]]
             if kind != BROKEN:
-                q.ask("auditor judge", SIGN_KEY, kind, *twice)
+                q.ask("auditor judge", SIGNING_KEY, kind, *twice)
             part = parts[place]
             for other in [spoilt_byte(part, -1), spoilt_byte(part, -32), part[:-1], part + b"\0"]:
-                q.ask("auditor judge", SIGN_KEY, kind, *parts[:place], other, *parts[place + 1 :])
+                q.ask("auditor judge", SIGNING_KEY, kind, *parts[:place], other, *parts[place + 1 :])
         if kind == BROKEN:
             reply = parts[2]
             for other in [reply[:-1], spoilt_byte(reply, 150), spoilt_byte(reply, -1), b"", bytes(10700), bytes(10701)]:
-                q.ask("auditor judge", SIGN_KEY, kind, *parts[:2], other)
+                q.ask("auditor judge", SIGNING_KEY, kind, *parts[:2], other)
     q.note("Roots that stand well, promises that were kept, and promises that show nothing.")
     for kind in (FORK, LINK, SKIP):
         for one, other in [(a, b), (b, c), (a, c), (c, a), (a, a)]:
-            q.ask("auditor judge", SIGN_KEY, kind, written(one), written(other))
+            q.ask("auditor judge", SIGNING_KEY, kind, written(one), written(other))
     kept = KEYED.page(8, b, {b"a": b"k9"})
     absent = KEYED.page(8, b)
     late = KEYED.page(10, c)
@@ -175,15 +175,15 @@ def of_judging(q, rng):
         (b.promise(b"a", b"k9"), absent, kept.reply(b"a")),
         (b.promise(b"a", b"k9"), kept, absent.reply(b"a")),
     ]:
-        q.ask("auditor judge", SIGN_KEY, BROKEN, promise, written(page), reply.write())
+        q.ask("auditor judge", SIGNING_KEY, BROKEN, promise, written(page), reply.write())
     q.note("Parts of many bytes.")
     name, key = b"a" * 255, b"k" * 2048
     page, reply = folded(KEYED, name, Opening(run(1), b"l" * 2048), [ZERO32] * 256)
     body = replace(page.body, epoch=8, previous_epoch=7, previous_hash=sha256(b.body.write()))
-    root, reply = SignedRoot.signed(body, SIGN_KEY).write(), replace(reply, body=body).write()
-    q.ask("auditor judge", SIGN_KEY, BROKEN, b.promise(name, key), root, reply)
-    q.ask("auditor judge", SIGN_KEY, BROKEN, b.promise(name, b"l" * 2048), root, reply)
-    q.ask("auditor judge", SIGN_KEY, FORK, long_signature(b, 256), long_signature(b, 255))
+    root, reply = SignedRoot.signed(body, SIGNING_KEY).write(), replace(reply, body=body).write()
+    q.ask("auditor judge", SIGNING_KEY, BROKEN, b.promise(name, key), root, reply)
+    q.ask("auditor judge", SIGNING_KEY, BROKEN, b.promise(name, b"l" * 2048), root, reply)
+    q.ask("auditor judge", SIGNING_KEY, FORK, long_signature(b, 256), long_signature(b, 255))
 
 
 # Evidence as JSON, and the programs `judge` and `audit` --------------------------------------------------------
@@ -200,7 +200,7 @@ def json_parts(kind, parts):
 
 @subject("evidence as JSON")
 def of_json(q, rng):
-    key = q.let("key", SIGN_KEY.hex().encode())
+    key = q.let("key", SIGNING_KEY.hex().encode())
     for kind, parts in cheats():
         first, second = json_parts(kind, parts)
         for name, data in [("first", first), ("second", second)]:
@@ -252,7 +252,7 @@ def of_json(q, rng):
 def of_files(q, rng):
     a, b = KEYED.page(7), KEYED.page(7, nonce=run(1))
     one, other = written(a).hex(), written(b).hex()
-    key = q.let("key", SIGN_KEY.hex().encode())
+    key = q.let("key", SIGNING_KEY.hex().encode())
     q.let("one", one.encode())
     q.let("other", other.encode())
     q.note("Read as evidence.")
@@ -270,7 +270,7 @@ def of_files(q, rng):
         q.ask("evidence read", text.encode())
         q.ask("evidence judge", key, text.encode())
     letters = LETTERS.hex().encode()
-    fork = [written(page.provider.page(7, nonce=page.body.nonce, sign_key=LETTERS)) for page in (a, b)]
+    fork = [written(page.provider.page(7, nonce=page.body.nonce, signing_key=LETTERS)) for page in (a, b)]
     for text in [letters, letters.upper()]:
         q.ask("evidence judge", text, json_of(FORK, *fork))
         q.ask("evidence judge", text, good[0].encode())
@@ -328,7 +328,7 @@ def of_files(q, rng):
 
 @subject("audited lines")
 def of_auditing(q, rng):
-    key = q.let("key", SIGN_KEY.hex().encode())
+    key = q.let("key", SIGNING_KEY.hex().encode())
     a = KEYED.page(3, KEYED.page(2))
     b = KEYED.page(7, a)
     c = KEYED.page(9, b)
@@ -348,7 +348,7 @@ def of_auditing(q, rng):
         lines["a"] + line(ahead) + line(before) + lines["b"] + line(ahead) + lines["c"] + line(before) + lines["c"],
         chain + line(fork), chain + line(skip), chain + line(link),
         chain + line(fork) + line(skip) + line(link) + lines["c"],
-        line(KEYED.page(3, sign_key=OTHER_KEY)) + chain, chain + b"\n" + lines["c"],
+        line(KEYED.page(3, signing_key=OTHER_KEY)) + chain, chain + b"\n" + lines["c"],
         chain + b"started\n" + lines["c"], lines["a"][:-2] + b"\n" + lines["a"],
         b" " + lines["a"] + lines["a"], lines["a"][:-1] + b" \n" + lines["a"],
         lines["a"][:-1] + b"\r\n" + lines["a"], lines["a"][:-1] + b"00\n" + lines["a"],
@@ -384,5 +384,5 @@ def of_auditing(q, rng):
         q.ask("evidence audit", text, chain)
     letters = LETTERS.hex().encode()
     for text in [letters, letters.upper()]:
-        q.ask("evidence audit", text, line(KEYED.page(3, sign_key=LETTERS)) + chain)
+        q.ask("evidence audit", text, line(KEYED.page(3, signing_key=LETTERS)) + chain)
     q.ask("evidence audit", b"\xff", chain)

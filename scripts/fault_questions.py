@@ -153,14 +153,14 @@ def by_all_lines(data, piece, text):
 
 # The provider --------------------------------------------------------------------------------------------
 
-SIGN_KEY, VUF_KEY, SALT_KEY, TOKEN = (bytes([k]) * 32 for k in (1, 2, 0, 4))
+SIGNING_KEY, VUF_KEY, SALT_KEY, TOKEN = (bytes([k]) * 32 for k in (1, 2, 0, 4))
 
 
 class LossyDirectory(sessions.Directory):
     """A directory whose record of this number is not kept. Nothing is changed then, and no salt is used."""
 
     def __init__(self, lost):
-        super().__init__(1, ZERO32, sha256, KeyedVuf(VUF_KEY), SIGN_KEY, salts(SALT_KEY))
+        super().__init__(1, ZERO32, sha256, KeyedVuf(VUF_KEY), SIGNING_KEY, salts(SALT_KEY))
         self.records, self.lost = 0, lost
 
     def keep(self):
@@ -179,7 +179,7 @@ class LossyDirectory(sessions.Directory):
 
 
 def new_recorded():
-    return sessions.Recorded(1, ZERO32, sha256, KeyedVuf(VUF_KEY), SIGN_KEY, salts(SALT_KEY))
+    return sessions.Recorded(1, ZERO32, sha256, KeyedVuf(VUF_KEY), SIGNING_KEY, salts(SALT_KEY))
 
 
 def replied(directory, requests):
@@ -210,7 +210,7 @@ def stops(journal, ends, piece):
 
 def left_by(data, asked, beginnings):
     """What the bytes that were written open to."""
-    found = sessions.open_journal(data, sha256, KeyedVuf(VUF_KEY), SIGN_KEY, salts(SALT_KEY, count_records(data)))
+    found = sessions.open_journal(data, sha256, KeyedVuf(VUF_KEY), SIGNING_KEY, salts(SALT_KEY, count_records(data)))
     if found is None:
         return "nothing"
     return f"after {beginnings.index(replied(found[0], asked))}"
@@ -416,12 +416,12 @@ def signed_root(epoch, previous=None, nonce=b"\4" * 32):
     """A root under the signing key, after another one."""
     hashed = sha256(previous.body.write()) if previous else b"\7" * 32
     body = Body(epoch, previous.epoch if previous else epoch - 1, b"\3" * 32, hashed, nonce, b"\5" * 32)
-    return SignedRoot.signed(body, SIGN_KEY)
+    return SignedRoot.signed(body, SIGNING_KEY)
 
 
 def of_audits(q):
     q.note("An audit answers each line before the next one is read.")
-    key = q.let("key", digits(SIGN_KEY))
+    key = q.let("key", digits(SIGNING_KEY))
     roots = [signed_root(3)]
     for epoch in (7, 9, 12, 13, 20, 21):
         roots.append(signed_root(epoch, roots[-1]))
@@ -523,7 +523,7 @@ def of_keepers(q):
         q.ask("hub 4096", b"".join(frames))
     frames = [request_frame(*request) for request in messages_of(LOST_OPERATIONS)]
     q.ask("hub 1", b"".join(frames))
-    q.ask("hub 4096", frames[0] + request_frame("close", SIGN_KEY, 2) + frames[5] + frames[0])
+    q.ask("hub 4096", frames[0] + request_frame("close", SIGNING_KEY, 2) + frames[5] + frames[0])
     q.ask("hub 15", HEAD * 3)
 
 

@@ -985,9 +985,9 @@ def opened(end, salt, key):
 VERBS = {"register": 1, "change": 2}
 
 
-def start_record(epoch, nonce, signature_key, vuf_key):
+def start_record(epoch, nonce, signing_key, vuf_key):
     """4e, 01, epoch, nonce, the two public keys: 106 bytes. The first record, and only there."""
-    return b"N\x01" + u64(epoch) + nonce + signature_key + vuf_key
+    return b"N\x01" + u64(epoch) + nonce + signing_key + vuf_key
 
 
 def bound_record(verb, salt, name, key):

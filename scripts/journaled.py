@@ -21,7 +21,7 @@ import time
 sys.dont_write_bytecode = True
 from formats import *
 from send_frames import connected
-from worked import SIGN_KEY, TOKEN, keys
+from worked import SIGNING_KEY, TOKEN, keys
 
 KILLS_OF_A_FILE = 20
 LONGEST_RUN = 0.06
@@ -151,7 +151,7 @@ class Answered:
         except Refusal:
             return False
         end = accepted.reply.end
-        return root.verifies(SIGN_KEY) and isinstance(end, Opening) and end.key == key
+        return root.verifies(SIGNING_KEY) and isinstance(end, Opening) and end.key == key
 
 
 def kills(program, folder, count):

@@ -3,33 +3,33 @@
 from asking import changed_at, run
 from formats import *
 from session_scripts import key_of, name_of
-from session_subjects import OTHER_KEY, SALT_KEY, SIGN_KEY, TOP, VUF_KEY, subjects
+from session_subjects import OTHER_KEY, SALT_KEY, SIGNING_KEY, TOP, VUF_KEY, subjects
 from sessions import Recorded, open_journal
 
 SUBJECTS, subject = subjects()
 
 
 def recorded(epoch=1, nonce=ZERO32):
-    return Recorded(epoch, nonce, sha256, KeyedVuf(VUF_KEY), SIGN_KEY, salts(SALT_KEY))
+    return Recorded(epoch, nonce, sha256, KeyedVuf(VUF_KEY), SIGNING_KEY, salts(SALT_KEY))
 
 
-def ask_open(q, data, sign_key=SIGN_KEY, vuf_key=VUF_KEY, salt_key=SALT_KEY):
-    q.ask("directory open", sign_key, vuf_key, salt_key, data)
+def ask_open(q, data, signing_key=SIGNING_KEY, vuf_key=VUF_KEY, salt_key=SALT_KEY):
+    q.ask("directory open", signing_key, vuf_key, salt_key, data)
 
 
-def start(epoch=1, sign_key=SIGN_KEY, vuf_key=VUF_KEY):
-    return start_record(epoch, ZERO32, sign_key, vuf_key)
+def start(epoch=1, signing_key=SIGNING_KEY, vuf_key=VUF_KEY):
+    return start_record(epoch, ZERO32, signing_key, vuf_key)
 
 
 REGISTER, TURN = bound_record("register", run(0x10), b"a", b"k"), turned_record(2)
 WORKED = start() + REGISTER + TURN
-KEYS = [{"sign_key": OTHER_KEY}, {"vuf_key": OTHER_KEY}, {"sign_key": VUF_KEY, "vuf_key": SIGN_KEY}]
+KEYS = [{"signing_key": OTHER_KEY}, {"vuf_key": OTHER_KEY}, {"signing_key": VUF_KEY, "vuf_key": SIGNING_KEY}]
 
 
 @subject("a journal: a start, a registration and a closing")
 def of_worked(q, rng):
-    q.ask("directory open", SIGN_KEY[1:], VUF_KEY, SALT_KEY, b"")
-    q.ask("directory open", SIGN_KEY, VUF_KEY, SALT_KEY)
+    q.ask("directory open", SIGNING_KEY[1:], VUF_KEY, SALT_KEY, b"")
+    q.ask("directory open", SIGNING_KEY, VUF_KEY, SALT_KEY)
     q.let("journal", WORKED)
     q.note("cut to each length")
     for size in range(len(WORKED) + 1):
@@ -155,7 +155,7 @@ def of_refused_records(q, rng):
 @subject("a journal by the sum of bytes: two names of one index")
 def of_indices(q, rng):
     def ask_sum(data):
-        q.ask("directory-sum open", SIGN_KEY, SALT_KEY, data)
+        q.ask("directory-sum open", SIGNING_KEY, SALT_KEY, data)
 
     front = q.let("front", start(vuf_key=PlainVuf.public))
     first, second, third = (bound_record("register", run(0x20), name, b"k") for name in (b"ab", b"ba", b"c"))
@@ -204,7 +204,7 @@ def ask_on(q, salt_key=SALT_KEY):
 
 def opens_to(directory):
     """Whether the journal opens to the directory."""
-    found, taken = open_journal(directory.journal, sha256, directory.vuf, SIGN_KEY, iter(()))
+    found, taken = open_journal(directory.journal, sha256, directory.vuf, SIGNING_KEY, iter(()))
     pages = [page.root for page in found.pages], [page.root for page in directory.pages]
     return taken == len(directory.journal) and pages[0] == pages[1] and found.waiting == directory.waiting
 
@@ -213,7 +213,7 @@ def opens_to(directory):
 def of_going_on(q, rng):
     directory = recorded(nonce=run(0xA0))
     q.note("the run itself")
-    q.ask("directory new", 1, run(0xA0), SIGN_KEY, VUF_KEY, SALT_KEY)
+    q.ask("directory new", 1, run(0xA0), SIGNING_KEY, VUF_KEY, SALT_KEY)
     ask_all(q)
     journals = [directory.journal]
     for verb, *words in LIFE:
@@ -239,7 +239,7 @@ def of_going_on(q, rng):
 @subject("a journal of some lives, each with the salts of its own stream")
 def of_lives(q, rng):
     directory = recorded()
-    q.ask("directory new", 1, ZERO32, SIGN_KEY, VUF_KEY, SALT_KEY)
+    q.ask("directory new", 1, ZERO32, SIGNING_KEY, VUF_KEY, SALT_KEY)
     for life in range(6):
         for name in [b"x%d" % life, b"y%d" % life]:
             q.ask("directory register", name, b"k")

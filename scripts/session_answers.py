@@ -93,19 +93,19 @@ class SessionAnswers(Lines):
 
     # directory
 
-    def new_directory(self, epoch, nonce, sign_key, vuf_key, salt_key):
+    def new_directory(self, epoch, nonce, signing_key, vuf_key, salt_key):
         if self.values is self.keyed:
-            return keyed_directory(epoch, nonce, sign_key, vuf_key, salt_key)
-        return summed_directory(epoch, nonce, sign_key, salt_key)
+            return keyed_directory(epoch, nonce, signing_key, vuf_key, salt_key)
+        return summed_directory(epoch, nonce, signing_key, salt_key)
 
     def directory(self):
         return there(self.values.directory)
 
     def directory_new(self, w):
         """`new EPOCH NONCE SIGN VUF SALT`, without VUF by the sum: the head."""
-        epoch, nonce, sign_key = w.number(), w.hash(), w.hash()
+        epoch, nonce, signing_key = w.number(), w.hash(), w.hash()
         vuf_key = w.hash() if self.values is self.keyed else None
-        self.values.directory = self.new_directory(epoch, nonce, sign_key, vuf_key, w.hash())
+        self.values.directory = self.new_directory(epoch, nonce, signing_key, vuf_key, w.hash())
         return self.directory_head(w)
 
     def directory_head(self, w):
@@ -151,11 +151,11 @@ class SessionAnswers(Lines):
     def directory_open(self, w):
         """`open SIGN VUF SALT BYTES`, without VUF by the sum: `nothing`; or `taken`, how many bytes, and the head. The
         salts to come are those of the stream that has the number of the records."""
-        sign_key = w.hash()
+        signing_key = w.hash()
         vuf = KeyedVuf(w.hash()) if self.values is self.keyed else PlainVuf
         salt_key, data = w.hash(), w.bytes()
         stream = salts(salt_key, count_records(data))
-        found = open_journal(data, self.values.digest, vuf, sign_key, stream)
+        found = open_journal(data, self.values.digest, vuf, signing_key, stream)
         if found is None:
             return ["nothing"]
         self.values.directory, taken = found
@@ -165,7 +165,7 @@ class SessionAnswers(Lines):
         """`run EPOCH NONCE MESSAGE..`: a new directory; each message is the kind and the body of a request."""
         epoch, nonce = w.number(), w.hash()
         requests = [self.request(message) for message in w.all_bytes()]
-        replies = self.new_directory(epoch, nonce, SIGN_KEY, VUF_KEY, SALT_KEY).run(requests)
+        replies = self.new_directory(epoch, nonce, SIGNING_KEY, VUF_KEY, SALT_KEY).run(requests)
         return [str(len(replies)), told(b"".join(response_frame(*reply) for reply in replies))]
 
     @staticmethod
@@ -180,7 +180,7 @@ class SessionAnswers(Lines):
     @staticmethod
     def new_hub(w, hub=Hub):
         epoch, nonce = w.number(), w.hash()
-        return hub(keyed_directory(epoch, nonce, SIGN_KEY, VUF_KEY, SALT_KEY), HUB_TOKEN)
+        return hub(keyed_directory(epoch, nonce, SIGNING_KEY, VUF_KEY, SALT_KEY), HUB_TOKEN)
 
     def hub_new(self, w):
         """`new EPOCH NONCE`, under the keys of this module."""
@@ -223,7 +223,7 @@ class SessionAnswers(Lines):
 
     def hub_seen_sum(self, w):
         """`seen-sum EPOCH NONCE ..`: the same by the sum of bytes."""
-        directory = summed_directory(w.number(), w.hash(), SIGN_KEY, SALT_KEY)
+        directory = summed_directory(w.number(), w.hash(), SIGNING_KEY, SALT_KEY)
         return self.seen(SeenHub(directory, HUB_TOKEN), self.events(w))
 
     @staticmethod
@@ -263,7 +263,7 @@ class SessionAnswers(Lines):
         epoch, nonce, stream = w.number(), w.optional(w.text), w.bytes()
         if epoch == 0:
             raise BadQuestion
-        keys = [key.hex().encode() for key in (SIGN_KEY, VUF_KEY, SALT_KEY, HUB_TOKEN)]
+        keys = [key.hex().encode() for key in (SIGNING_KEY, VUF_KEY, SALT_KEY, HUB_TOKEN)]
         return self.served(*keys, epoch, nonce, stream)
 
     def serve_keys(self, w):

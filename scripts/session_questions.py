@@ -18,7 +18,7 @@ from evidence_questions import json_of
 from formats import *
 from session_answers import REFUSALS, SessionAnswers
 from session_subjects import *
-from sessions import SALT_KEY, SIGN_KEY, VUF_KEY
+from sessions import SALT_KEY, SIGNING_KEY, VUF_KEY
 
 SUBJECTS, subject = subjects()
 for part in (directory_questions, client_questions, evidence_questions, opening_questions):
@@ -27,7 +27,7 @@ for part in (directory_questions, client_questions, evidence_questions, opening_
 
 @subject("in a few lines: directories, hubs, clients, monitors, auditors and evidence")
 def of_few_lines(q, rng):
-    q.ask("directory new", 1, ZERO32, SIGN_KEY, VUF_KEY, SALT_KEY)
+    q.ask("directory new", 1, ZERO32, SIGNING_KEY, VUF_KEY, SALT_KEY)
     q.ask("directory register", b"a", b"k")
     q.ask("directory close", 2)
     q.ask("directory change", b"a", b"l")
@@ -37,7 +37,7 @@ def of_few_lines(q, rng):
     q.ask("directory history", 0, 64)
     records = bound_record("register", ZERO32, b"a", b"k") + turned_record(2)
     records += bound_record("change", ZERO32, b"a", b"l")
-    q.ask("directory open", SIGN_KEY, VUF_KEY, SALT_KEY, start_record(1, ZERO32, SIGN_KEY, VUF_KEY) + records)
+    q.ask("directory open", SIGNING_KEY, VUF_KEY, SALT_KEY, start_record(1, ZERO32, SIGNING_KEY, VUF_KEY) + records)
     q.ask("directory register", b"b", b"k")
     q.ask("directory close", 3)
     requests = [("register", b"a", b"k"), ("close", HUB_TOKEN, 2), ("lookup", 2, b"a")]
@@ -56,13 +56,13 @@ def of_few_lines(q, rng):
     lets(q, a=a, b=b, c=c)
     ra, rb, rc = (page.reply(b"a").write() for page in (a, b, c))
     promise = a.promise(b"a", b"k")
-    q.ask("client start", SIGN_KEY, written(a))
+    q.ask("client start", SIGNING_KEY, written(a))
     q.ask("client keep", promise)
     q.ask("client update", roots(b, c))
     q.ask("client look", b"a", 0, rc)
     q.ask("client due", b"a", rb)
     q.ask("client put-aside")
-    q.ask("client start", SIGN_KEY, written(a))
+    q.ask("client start", SIGNING_KEY, written(a))
     q.ask("client update", roots(b, c))
     q.ask("client reconcile")
     q.ask("monitor new", b"a", "none")
@@ -71,10 +71,10 @@ def of_few_lines(q, rng):
         q.ask("monitor step", reply)
     q.ask("auditor new")
     for page in [a, b, c, KEYED.page(2)]:
-        q.ask("auditor observe", SIGN_KEY, written(page))
-    key = q.let("key", SIGN_KEY.hex().encode())
+        q.ask("auditor observe", SIGNING_KEY, written(page))
+    key = q.let("key", SIGNING_KEY.hex().encode())
     kind, parts = next(cheats())
-    q.ask("auditor judge", SIGN_KEY, kind, *parts)
+    q.ask("auditor judge", SIGNING_KEY, kind, *parts)
     q.ask("evidence json", kind, *parts)
     text = json_of(kind, *parts)
     q.ask("evidence read", text)

@@ -5,7 +5,7 @@ from dataclasses import replace
 from asking import run
 from formats import *
 from session_answers import HUB_TOKEN
-from sessions import SALT_KEY, SIGN_KEY, VUF_KEY, keyed_directory
+from sessions import SALT_KEY, SIGNING_KEY, VUF_KEY, keyed_directory
 
 OTHER_KEY = bytes([9]) * 32
 TOP = MAX_EPOCH
@@ -28,7 +28,7 @@ def subjects():
 
 def started(epoch=1, nonce=ZERO32):
     """The directory of the program."""
-    return keyed_directory(epoch, nonce, SIGN_KEY, VUF_KEY, SALT_KEY)
+    return keyed_directory(epoch, nonce, SIGNING_KEY, VUF_KEY, SALT_KEY)
 
 
 def message(*request):
@@ -65,11 +65,11 @@ class Page:
             end = opened(end, ZERO32, self.bindings[name])
         return Reply(self.body, self.provider.vuf.value(name), end, tuple(siblings))
 
-    def promise(self, name, key, sign_key=SIGN_KEY, **changes):
+    def promise(self, name, key, signing_key=SIGNING_KEY, **changes):
         """A promise over this root, with these fields in place of the honest ones."""
         body_hash = self.provider.digest(self.body.write())
         promise = Promise(self.epoch, body_hash, self.provider.index_of(name), name, key)
-        return SignedPromise.signed(replace(promise, **changes), sign_key).write()
+        return SignedPromise.signed(replace(promise, **changes), signing_key).write()
 
 
 class Provider:
@@ -84,7 +84,7 @@ class Provider:
     def commitment(self, name, key):
         return self.digest(commitment_text(ZERO32, name, key))
 
-    def page(self, epoch, before=None, bindings=None, items=None, sign_key=SIGN_KEY, nonce=ZERO32, **changes):
+    def page(self, epoch, before=None, bindings=None, items=None, signing_key=SIGNING_KEY, nonce=ZERO32, **changes):
         """The page of an epoch behind another one, with more items in its tree, and a body changed in these
         fields."""
         bindings = bindings or {}
@@ -94,7 +94,7 @@ class Provider:
         if before:
             previous, previous_hash = before.epoch, self.digest(before.body.write())
         body = replace(Body(epoch, previous, tree.root(), previous_hash, nonce, self.vuf.public), **changes)
-        return Page(self, SignedRoot.signed(body, sign_key), bindings, tree)
+        return Page(self, SignedRoot.signed(body, signing_key), bindings, tree)
 
     def pages(self, epochs, **changes):
         """Pages one behind the other."""
@@ -142,7 +142,7 @@ def folded(provider, name, end, siblings):
 
 def replace_nonce(page, nonce):
     """The page with another nonce in its body."""
-    root = SignedRoot.signed(replace(page.body, nonce=nonce), SIGN_KEY)
+    root = SignedRoot.signed(replace(page.body, nonce=nonce), SIGNING_KEY)
     return Page(page.provider, root, page.bindings, page.tree)
 
 

@@ -177,17 +177,17 @@ class Page(NamedTuple):
 class Directory:
     """A directory that places names by `digest` and `vuf`, signs with a key, and takes salts from a stream."""
 
-    def __init__(self, epoch, nonce, digest, vuf, sign_key, salts):
+    def __init__(self, epoch, nonce, digest, vuf, signing_key, salts):
         if epoch == 0:
             raise DirectoryRefusal(11)
-        self.digest, self.vuf, self.sign_key, self.salts = digest, vuf, sign_key, salts
+        self.digest, self.vuf, self.signing_key, self.salts = digest, vuf, signing_key, salts
         self.waiting, self.indices = {}, {}
         body = Body(epoch, 0, ZERO32, ZERO32, nonce, vuf.public)
         self.pages = [self.page_of(body, {}, Tree(digest, nonce))]
 
     def page_of(self, body, bindings, tree):
         """The page of these bindings. The root of the body is that of the tree."""
-        root = SignedRoot.signed(replace(body, root=tree.root()), self.sign_key)
+        root = SignedRoot.signed(replace(body, root=tree.root()), self.signing_key)
         return Page(bindings, tree, root)
 
     def last(self):
@@ -233,7 +233,7 @@ class Directory:
             raise DirectoryRefusal(13)
         key = self.waiting[name].key
         promise = Promise(self.head().epoch, self.head_hash(), self.index_of(name), name, key)
-        return SignedPromise.signed(promise, self.sign_key)
+        return SignedPromise.signed(promise, self.signing_key)
 
     def close(self, epoch):
         """Adds a page: the bindings of the last one, overwritten by what waits."""
@@ -310,14 +310,14 @@ def check_lengths(name, key=b"k"):
         raise DirectoryRefusal(5)
 
 
-def keyed_directory(epoch, nonce, sign_key, vuf_key, salt_key):
+def keyed_directory(epoch, nonce, signing_key, vuf_key, salt_key):
     """A directory of the program."""
-    return Directory(epoch, nonce, sha256, KeyedVuf(vuf_key), sign_key, salts(salt_key))
+    return Directory(epoch, nonce, sha256, KeyedVuf(vuf_key), signing_key, salts(salt_key))
 
 
-def summed_directory(epoch, nonce, sign_key, salt_key):
+def summed_directory(epoch, nonce, signing_key, salt_key):
     """A directory by the sum of bytes, in which the value of a name is the name."""
-    return Directory(epoch, nonce, byte_sum, PlainVuf, sign_key, salts(salt_key))
+    return Directory(epoch, nonce, byte_sum, PlainVuf, signing_key, salts(salt_key))
 
 
 # Journals ---------------------------------------------------------------------------------------
@@ -326,9 +326,9 @@ def summed_directory(epoch, nonce, sign_key, salt_key):
 class Recorded(Directory):
     """A directory that writes a journal."""
 
-    def __init__(self, epoch, nonce, digest, vuf, sign_key, salts):
-        super().__init__(epoch, nonce, digest, vuf, sign_key, salts)
-        self.journal = start_record(epoch, nonce, sign_key, vuf.public)
+    def __init__(self, epoch, nonce, digest, vuf, signing_key, salts):
+        super().__init__(epoch, nonce, digest, vuf, signing_key, salts)
+        self.journal = start_record(epoch, nonce, signing_key, vuf.public)
 
     def register(self, name, key, salt=None):
         return self.recorded("register", name, super().register(name, key, salt))
@@ -347,7 +347,7 @@ class Recorded(Directory):
         return root
 
 
-def open_journal(data, digest, vuf, sign_key, salts):
+def open_journal(data, digest, vuf, signing_key, salts):
     """The directory after the whole records that begin the bytes, and how many bytes these have. None where
     the bytes are a start that was cut short."""
     cursor = Cursor(data)
@@ -359,9 +359,9 @@ def open_journal(data, digest, vuf, sign_key, salts):
         raise JournalRefusal(1) from None
     if epoch == 0:
         raise JournalRefusal(1)
-    if keys != [sign_key, vuf.public]:
+    if keys != [signing_key, vuf.public]:
         raise JournalRefusal(2)
-    directory = Directory(epoch, nonce, digest, vuf, sign_key, salts)
+    directory = Directory(epoch, nonce, digest, vuf, signing_key, salts)
     while (record := next_record(cursor)) is not None:
         replay(directory, *record)
     if not is_cut_record(data[cursor.at :]):
@@ -503,10 +503,10 @@ class SeenHub(Hub):
         return len(set(map(self.directory.index_of, self.names))) == len(self.names)
 
 
-def serve_directory(sign_key, vuf_key, salt_key, token, epoch, nonce, stream):
+def serve_directory(signing_key, vuf_key, salt_key, token, epoch, nonce, stream):
     """The output of one session of a new directory. Keys, token and nonce are texts; the nonce may be None."""
-    sign_key, vuf_key, salt_key, token = map(option_hex32, (sign_key, vuf_key, salt_key, token))
-    hub = Hub(keyed_directory(epoch, option_nonce(nonce), sign_key, vuf_key, salt_key), token)
+    signing_key, vuf_key, salt_key, token = map(option_hex32, (signing_key, vuf_key, salt_key, token))
+    hub = Hub(keyed_directory(epoch, option_nonce(nonce), signing_key, vuf_key, salt_key), token)
     hub.open(1)
     return hub.bytes(1, stream)
 
@@ -782,7 +782,7 @@ def audited_line(auditor, key, line):
 
 # The play script --------------------------------------------------------------------------------
 
-SIGN_KEY, VUF_KEY, SALT_KEY, TOKEN = bytes([1]) * 32, bytes([2]) * 32, ZERO32, ZERO32
+SIGNING_KEY, VUF_KEY, SALT_KEY, TOKEN = bytes([1]) * 32, bytes([2]) * 32, ZERO32, ZERO32
 
 
 class NotACommand(Exception):
@@ -851,11 +851,11 @@ class Played:
     """A run of a script: a hub, a client, an auditor, and monitors in the order of their lines."""
 
     def __init__(self):
-        self.hub = Hub(keyed_directory(1, ZERO32, SIGN_KEY, VUF_KEY, SALT_KEY), TOKEN)
+        self.hub = Hub(keyed_directory(1, ZERO32, SIGNING_KEY, VUF_KEY, SALT_KEY), TOKEN)
         self.hub.open(0)
         self.client = self.new_client()
         self.auditor = Auditor(sha256)
-        self.auditor.observe(SIGN_KEY, self.client.head().write())
+        self.auditor.observe(SIGNING_KEY, self.client.head().write())
         self.monitors = []
 
     def ask(self, *request):
@@ -866,7 +866,7 @@ class Played:
     def new_client(self):
         """A client that starts at the head."""
         _, root = self.ask("head")
-        return Client(SIGN_KEY, root.write(), sha256, KeyedVuf(VUF_KEY))
+        return Client(SIGNING_KEY, root.write(), sha256, KeyedVuf(VUF_KEY))
 
     def line(self, line):
         """The lines that a line of the script prints."""
@@ -929,7 +929,7 @@ class Played:
             for taker in [self.client, *self.monitors]:
                 taker.update(write_list(roots))
             for root in roots:
-                assert self.auditor.observe(SIGN_KEY, root.write()) == EXTENDED
+                assert self.auditor.observe(SIGNING_KEY, root.write()) == EXTENDED
         return [line for monitor in self.monitors for line in self.steps(monitor)]
 
     def steps(self, monitor):

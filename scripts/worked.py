@@ -9,7 +9,7 @@ from formats import *
 from send_frames import connected, frames
 from sessions import Auditor, Hub, audited_line, keyed_directory
 
-SIGN_KEY, VUF_KEY, SALT_KEY, TOKEN = (bytes([k]) * 32 for k in (1, 2, 3, 4))
+SIGNING_KEY, VUF_KEY, SALT_KEY, TOKEN = (bytes([k]) * 32 for k in (1, 2, 3, 4))
 
 # Requests: a kind and the parts of its body ----------------------------------------------------------
 
@@ -74,7 +74,7 @@ class Exchange(NamedTuple):
 
 def exchanges(asked=ASKED):
     """What a new directory answers."""
-    hub = Hub(keyed_directory(1, ZERO32, SIGN_KEY, VUF_KEY, SALT_KEY), TOKEN)
+    hub = Hub(keyed_directory(1, ZERO32, SIGNING_KEY, VUF_KEY, SALT_KEY), TOKEN)
     hub.open(0)
     for words, (kind, parts), is_shown in asked:
         sent = [u32(1 + len(b"".join(parts))), u8(kind), *parts]
@@ -234,7 +234,7 @@ ZEROS, NONCE = ZERO32, bytes(range(0xA0, 0xC0))
 
 
 def signed(body):
-    return SignedRoot.signed(body, SIGN_KEY)
+    return SignedRoot.signed(body, SIGNING_KEY)
 
 
 def body_after(earlier, epoch, nonce=NONCE, root=ZEROS):
@@ -257,7 +257,7 @@ def audited():
     lines = [signed(body).write() for body in roots]
     lines[-1:-1] = [SignedRoot.signed(SEVENTH, VUF_KEY).write(), signed(SEVENTH).write()[:-1]]
     auditor = Auditor(sha256)
-    return [(line.hex(), audited_line(auditor, SIGN_KEY, line.hex().encode())) for line in lines]
+    return [(line.hex(), audited_line(auditor, SIGNING_KEY, line.hex().encode())) for line in lines]
 
 
 def evidence():
@@ -271,7 +271,7 @@ def evidence():
 
     def promised(key):
         promise = Promise(7, sha256(SEVENTH.write()), sha256(value), b"alice", key)
-        return BrokenPromise(SignedPromise.signed(promise, SIGN_KEY), signed(eighth), proof)
+        return BrokenPromise(SignedPromise.signed(promise, SIGNING_KEY), signed(eighth), proof)
 
     seventh, other = signed(SEVENTH), signed(OTHER_SEVENTH)
     return [
@@ -289,7 +289,7 @@ def evidence():
 def judged():
     """The status of `judge`, the kind and the file, a line each."""
     for given in evidence():
-        status = 0 if judge(sha256, KeyedVuf, SIGN_KEY, given) else 3
+        status = 0 if judge(sha256, KeyedVuf, SIGNING_KEY, given) else 3
         yield f"{status} {given.kind} {evidence_json(given)}"
 
 
@@ -297,7 +297,7 @@ def judged():
 
 
 def keys():
-    named = zip(("sign-key", "vuf-key", "salt-key", "token"), (SIGN_KEY, VUF_KEY, SALT_KEY, TOKEN))
+    named = zip(("sign-key", "vuf-key", "salt-key", "token"), (SIGNING_KEY, VUF_KEY, SALT_KEY, TOKEN))
     return " ".join(f"--{option} {key.hex()}" for option, key in named)
 
 

@@ -9,7 +9,7 @@ use Rattle.rootchain.specs.declared.body.Body.{Body}
 use Rattle.proofs.specs.Replies.{reply_bytes}
 use Rattle.book.specs.Books.{Page}
 use Rattle.book.specs.Maps.{at}
-use Rattle.book.specs.Shows.{Provider, index_of, placement, shown_end, IsReplyOf}
+use Rattle.book.specs.Shows.{Provider, index_of, placement, reply_end, IsReplyOf}
 use Rattle.book.proofs.Placed.{is_placement}
 
 -- what a function gives below a number
@@ -51,6 +51,6 @@ has-path hash nonce items index placed sized =
 pub has-reply : (provider : Provider) → ((text : List ℕ) → Is32Bytes (provider.hash text)) → (page : Page) (body : Body) (name : List ℕ) → (text : List ℕ) × IsReplyOf provider page body name (at page.bindings name) text
 has-reply provider size page body name =
     let p = has-path provider.hash page.nonce (placement provider page.bindings) (index_of provider name) (is_placement provider size page.bindings) (size (provider.value name)) in (
-      reply_bytes (record { body = body; value = provider.value name; end = shown_end (index_of provider name) (at page.bindings name) p.end; siblings = p.siblings }),
+      reply_bytes (record { body = body; value = provider.value name; end = reply_end (index_of provider name) (at page.bindings name) p.end; siblings = p.siblings }),
       record { siblings = p.siblings; end = p.end; path = p.path; spelled = refl },
     )

@@ -6,7 +6,7 @@ use Rattle.std.specs.Prelude.{is_some}
 use Rattle.std.specs.List.{AllAdjacentBelow, AllByRecursion}
 use Rattle.std.proofs.lemmas.List.Elements.{All-contains_itself, All-weaker, recursion_from_All}
 use Rattle.encoding.specs.Bytes.{Is32Bytes}
-use Rattle.commands.specs.Asked.{Asked}
+use Rattle.commands.specs.Operations.{Operation}
 use Rattle.book.specs.Books.{Binding, Book, Page, pages}
 use Rattle.book.specs.Honest.{IsUsed}
 use Rattle.book.specs.Maps.{Map, at}
@@ -86,7 +86,7 @@ module _ (provider : Provider) (book : Book) (sound : IsSound (index_of provider
   named-of P map each = recursion_from_All _ map (All-weaker (Contains map) (λ (entry : List ℕ × Binding). P entry.0 × ⊤) (λ entry there. (each entry.0 (entry-named map entry there), tt)) map (All-contains_itself map))
 
   -- each name of it is held
-  pub begins-named : (commands : List Asked) → IsNamed (IsUsed book commands) book
+  pub begins-named : (commands : List Operation) → IsNamed (IsUsed book commands) book
   begins-named commands = record {
     pages = all-pages (λ page. AreNamed (IsUsed book commands) page.bindings) book.last (pages book)
         (λ page stays. named-of (IsUsed book commands) page.bindings (λ name has. inl (inl (stays name (has-some page.bindings name has)))))

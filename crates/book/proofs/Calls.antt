@@ -6,7 +6,7 @@ use Rattle.book.specs.declared.refusal.Refusal.TheVariants.{Memory, KeepFailed}
 use Rattle.book.specs.declared.reply.Reply.{Reply}
 use Rattle.book.specs.declared.reply.Reply.TheVariants as reply
 use Rattle.book.specs.Answers.{Answer, refusal}
-use Rattle.commands.specs.Asked.{Asked}
+use Rattle.commands.specs.Operations.{Operation}
 use Rattle.book.specs.Books.{Book}
 use Rattle.book.specs.Shows.{Provider, index_of}
 use Rattle.book.specs.Steps.{Outcome, Answers, Refuses, step}
@@ -15,12 +15,12 @@ use Rattle.book.proofs.Stepping.{Does, does_steps, due_steps}
 
 module _ (provider : Provider) {K : Type 0} (kept failed : K → Record → K → Type 0) where
   -- what the book refuses is refused
-  pub refuses : (book : Book) (keeper : K) (asked : Asked) (why : Refusal) → refusal (index_of provider) book asked ≡ Some why → Turn provider kept failed book keeper asked (reply.Refused why) book keeper
+  pub refuses : (book : Book) (keeper : K) (asked : Operation) (why : Refusal) → refusal (index_of provider) book asked ≡ Some why → Turn provider kept failed book keeper asked (reply.Refused why) book keeper
   refuses book keeper asked why due =
       let is : Refuses why ≡ (step (index_of provider) book asked).0 = sym (ap (λ (x : Outcome × Book). x.0) (due_steps (index_of provider) book asked why due)) in
       (refl, subst (λ (outcome : Outcome). Declines provider kept failed outcome (kept_of book asked) keeper why keeper) is (refl, refl))
 
-  module _ (book after : Book) (asked : Asked) (answer : Answer) (none : refusal (index_of provider) book asked ≡ None) (does : Does book asked answer after) where
+  module _ (book after : Book) (asked : Operation) (answer : Answer) (none : refusal (index_of provider) book asked ≡ None) (does : Does book asked answer after) where
     is-answer : Answers answer ≡ (step (index_of provider) book asked).0
     is-answer = sym (ap (λ (x : Outcome × Book). x.0) (does_steps (index_of provider) book asked answer after none does))
 

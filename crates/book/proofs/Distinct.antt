@@ -10,7 +10,7 @@ use Rattle.std.proofs.lemmas.Slice.Eq.{bytes_eq-Decides}
 use Rattle.book.specs.Answers.{Answer, bad_index, bad_verb, has_its_index, next_page, refusal, with_page, with_pending}
 use Rattle.commands.specs.declared.edit.Verb.{Verb}
 use Rattle.commands.specs.declared.edit.Verb.TheVariants.{Register, Change}
-use Rattle.commands.specs.Asked.{Asked, Query, Edit, Put, Turn}
+use Rattle.commands.specs.Operations.{Operation, Query, Edit, Put, Turn}
 use Rattle.book.specs.Books.{Binding, Book, pages}
 use Rattle.book.specs.Maps.{Map, at, name_cmp, overwritten, put}
 use Rattle.book.specs.Shows.{Provider, index_of}
@@ -127,7 +127,7 @@ module _ (provider : Provider) where
       now : AreApart (Holds (with_page book (next_page book epoch)))
       now one other a b same = page one other (shown one a) (shown other b) same
 
-  pub apart-after : (book after : Book) (asked : Asked) (answer : Answer) → IsApart book → refusal (index_of provider) book asked ≡ None → Does book asked answer after → IsApart after
+  pub apart-after : (book after : Book) (asked : Operation) (answer : Answer) → IsApart book → refusal (index_of provider) book asked ≡ None → Does book asked answer after → IsApart after
   apart-after book after (Query question) answer apart none does = subst IsApart (sym does.1) apart
   apart-after book after (Edit (Put verb name key)) answer apart none does =
       let has = put_passed (index_of provider) book verb name key none in

@@ -14,7 +14,7 @@ use Rattle.proofs.specs.declared.refusal.Refusal.TheVariants.{Malformed, Trailin
 use Rattle.book.specs.Books.{Binding, Page}
 use Rattle.book.specs.Fresh.{KeepsLaws}
 use Rattle.book.specs.Maps.{Map, at}
-use Rattle.book.specs.Shows.{Provider, index_of, placement, shown_end, IsReplyOf}
+use Rattle.book.specs.Shows.{Provider, index_of, placement, reply_end, IsReplyOf}
 use Rattle.book.proofs.Entries.{at_put_other, at_put_same, found-entry, is_name, is_no_name}
 use Rattle.book.proofs.Found.{IsPage}
 use Rattle.book.proofs.Members.{first-or-later, none-there}
@@ -64,8 +64,8 @@ module _ (provider : Provider) where
         refused : (commitment : List ℕ) → answer.end ≡ path.Present commitment → IsDoubled body text
         refused commitment end = record { reply = reply; spells = (answer.spelled ∙ ap (λ (own : End). reply_bytes (record { body = body; value = provider.value name; end = own; siblings = answer.siblings })) shown, reply_form); refused = first }
           where
-            shown : shown_end (index_of provider name) (at page.bindings name) answer.end ≡ Other (index_of provider name) commitment
-            shown = ap (λ (found : Option Binding). shown_end (index_of provider name) found answer.end) none ∙ ap (shown_end (index_of provider name) None) end
+            shown : reply_end (index_of provider name) (at page.bindings name) answer.end ≡ Other (index_of provider name) commitment
+            shown = ap (λ (found : Option Binding). reply_end (index_of provider name) found answer.end) none ∙ ap (reply_end (index_of provider name) None) end
 
             reply : Reply
             reply = record { body = body; value = provider.value name; end = Other (index_of provider name) commitment; siblings = answer.siblings }

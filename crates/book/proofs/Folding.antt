@@ -6,9 +6,9 @@ use Rattle.book.specs.declared.refusal.Refusal.{Refusal}
 use Rattle.book.specs.declared.reply.Reply.{Reply}
 use Rattle.book.specs.declared.reply.Reply.TheVariants as reply
 use Rattle.book.specs.Answers.{Answer}
-use Rattle.commands.specs.Asked.{Asked}
+use Rattle.commands.specs.Operations.{Operation}
 use Rattle.book.specs.Books.{Book}
-use Rattle.book.specs.Folds.{Fate, Done, Wanting, Lost, Tells, fated, fated_step, folded}
+use Rattle.book.specs.Folds.{Fate, Done, Wanting, Lost, Tells, under_fate, step_under_fate, folded}
 use Rattle.book.specs.Shows.{Provider, index_of}
 use Rattle.book.specs.Steps.{Outcome, Answers, Refuses, step}
 use Rattle.book.specs.Turns.{Declines, Run, Shows, Turn, kept_of}
@@ -17,11 +17,11 @@ use Rattle.book.proofs.Stepping.{due_steps, refused_due}
 -- what a step leaves with a reply, under some fate
 record IsFated (book : Book) (what : Option Record) (stepped : Outcome × Book) (said : Reply) (after : Book) : Type 0 where
   pub fate : Fate
-  pub leaves : (fated fate book what stepped).1 ≡ after
-  pub tells : Tells (fated fate book what stepped).0 said
+  pub leaves : (under_fate fate book what stepped).1 ≡ after
+  pub tells : Tells (under_fate fate book what stepped).0 said
 
 -- what a step that answers gives is done, whether or not there is a record to keep
-is-done : (book after : Book) (answer : Answer) (what : Option Record) → fated Done book what (Answers answer, after) ≡ (Answers answer, after)
+is-done : (book after : Book) (answer : Answer) (what : Option Record) → under_fate Done book what (Answers answer, after) ≡ (Answers answer, after)
 is-done book after answer None = refl
 is-done book after answer (Some kept) = refl
 
@@ -33,17 +33,17 @@ module _ (provider : Provider) where
   tells-shown after answer (reply.Last root) shows = subst (λ (a : Answer). Tells (Answers a) (reply.Last root)) (sym shows.1) tt
   tells-shown after answer (reply.Refused why) shows = absurd shows
 
-  answered-fated : (book after : Book) (asked : Asked) (said : Reply) (answer : Answer) → step (index_of provider) book asked ≡ (Answers answer, after) → Shows provider after answer said
+  answered-fated : (book after : Book) (asked : Operation) (said : Reply) (answer : Answer) → step (index_of provider) book asked ≡ (Answers answer, after) → Shows provider after answer said
       → IsFated book (kept_of book asked) (step (index_of provider) book asked) said after
   answered-fated book after asked said answer is shows =
-      let e : fated Done book (kept_of book asked) (step (index_of provider) book asked) ≡ (Answers answer, after) = ap (fated Done book (kept_of book asked)) is ∙ is-done book after answer (kept_of book asked) in
+      let e : under_fate Done book (kept_of book asked) (step (index_of provider) book asked) ≡ (Answers answer, after) = ap (under_fate Done book (kept_of book asked)) is ∙ is-done book after answer (kept_of book asked) in
       record {
         fate = Done;
         leaves = ap (λ (x : Outcome × Book). x.1) e;
         tells = subst (λ (outcome : Outcome). Tells outcome said) (sym (ap (λ (x : Outcome × Book). x.0) e)) (tells-shown after answer said shows);
       }
 
-  refused-book : (book : Book) (asked : Asked) (why : Refusal) → (step (index_of provider) book asked).0 ≡ Refuses why → (step (index_of provider) book asked).1 ≡ book
+  refused-book : (book : Book) (asked : Operation) (why : Refusal) → (step (index_of provider) book asked).0 ≡ Refuses why → (step (index_of provider) book asked).1 ≡ book
   refused-book book asked why is = ap (λ (x : Outcome × Book). x.1) (due_steps (index_of provider) book asked why (refused_due (index_of provider) book asked why is))
 
   module _ {K : Type 0} (kept failed : K → Record → K → Type 0) where
@@ -55,7 +55,7 @@ module _ (provider : Provider) where
     declined-fated book before later (Some lost) (Answers answer) next why same (inl wants) = record { fate = Wanting; leaves = refl; tells = wants.0 }
     declined-fated book before later (Some lost) (Answers answer) next why same (inr fails) = record { fate = Lost; leaves = refl; tells = fails.0 }
 
-    turn-fated : (book after : Book) (before later : K) (asked : Asked) (said : Reply) → Turn provider kept failed book before asked said after later
+    turn-fated : (book after : Book) (before later : K) (asked : Operation) (said : Reply) → Turn provider kept failed book before asked said after later
         → IsFated book (kept_of book asked) (step (index_of provider) book asked) said after
     turn-fated book after before later asked (reply.Refused why) turn =
         subst (IsFated book (kept_of book asked) (step (index_of provider) book asked) (reply.Refused why)) (sym turn.0)
@@ -66,13 +66,13 @@ module _ (provider : Provider) where
     turn-fated book after before later asked (reply.Last root) turn = answered-fated book after asked (reply.Last root) turn.0 turn.1 turn.3
 
     -- fates under which the fold ends in this book, with outcomes that these replies tell
-    pub record AreFates (book : Book) (commands : List Asked) (replies : List Reply) (after : Book) : Type 0 where
+    pub record AreFates (book : Book) (commands : List Operation) (replies : List Reply) (after : Book) : Type 0 where
       pub fates : List Fate
       pub long : length fates ≡ length commands
       pub ends : (folded (index_of provider) book commands fates).1 ≡ after
       pub told : AllZip Tells (folded (index_of provider) book commands fates).0 replies
 
-    pub run-folded : (commands : List Asked) (replies : List Reply) (book after : Book) (before later : K) → Run provider kept failed book before commands replies after later → AreFates book commands replies after
+    pub run-folded : (commands : List Operation) (replies : List Reply) (book after : Book) (before later : K) → Run provider kept failed book before commands replies after later → AreFates book commands replies after
     run-folded [] [] book after before later run = record { fates = []; long = refl; ends = sym run.0; told = tt }
     run-folded [] (said ∷ replies) book after before later run = absurd run
     run-folded (asked ∷ commands) [] book after before later run = absurd run
@@ -81,5 +81,5 @@ module _ (provider : Provider) where
       where
         joined : {middle : Book} → IsFated book (kept_of book asked) (step (index_of provider) book asked) said middle → AreFates middle commands replies after → AreFates book (asked ∷ commands) (said ∷ replies) after
         joined turn more =
-            let m : AreFates (fated_step (index_of provider) turn.fate book asked).1 commands replies after = subst (λ (b : Book). AreFates b commands replies after) (sym turn.leaves) more in
+            let m : AreFates (step_under_fate (index_of provider) turn.fate book asked).1 commands replies after = subst (λ (b : Book). AreFates b commands replies after) (sym turn.leaves) more in
             record { fates = turn.fate ∷ m.fates; long = ap (λ (n : ℕ). suc n) m.long; ends = m.ends; told = (turn.tells, m.told) }

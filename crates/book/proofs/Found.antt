@@ -20,7 +20,7 @@ use Rattle.book.specs.Books.{Binding, Page}
 use Rattle.book.specs.Fresh.{KeepsLaws}
 use Rattle.book.specs.Honest.{key_at}
 use Rattle.book.specs.Maps.{Map, at}
-use Rattle.book.specs.Shows.{Provider, index_of, placement, shown_end, IsReplyOf}
+use Rattle.book.specs.Shows.{Provider, index_of, placement, reply_end, IsReplyOf}
 use Rattle.book.proofs.Entries.{Ascends, found-entry}
 use Rattle.book.proofs.PathEnds.{leaf_there, no_leaf_there, other_sizes}
 use Rattle.book.proofs.Placed.{Alone, commitment, is_placement, have_sizes, placed_none, placed_some}
@@ -52,9 +52,9 @@ module _ (provider : Provider) (name : List ℕ) where
 
   -- the end that is shown fits the path's, is well formed, and states what was found
   pub record Fits (found : Option Binding) (end : PathEnd) : Type 0 where
-    pub fits : end_of_path provider.hash name (shown_end index found end) ≡ end
-    pub form : IsEnd (shown_end index found end)
-    pub states : stated (shown_end index found end) ≡ key_of found
+    pub fits : end_of_path provider.hash name (reply_end index found end) ≡ end
+    pub form : IsEnd (reply_end index found end)
+    pub states : stated (reply_end index found end) ≡ key_of found
 
   module _ (size : (text : List ℕ) → Is32Bytes (provider.hash text)) (bindings : Map Binding) (n : ℕ) where
     abbrev items : Items
@@ -109,7 +109,7 @@ module _ (provider : Provider) (accepted verified : List ℕ → List ℕ → Li
       items = placement provider page.bindings
 
       reply : Reply
-      reply = record { body = body; value = provider.value name; end = shown_end (index_of provider name) (at page.bindings name) answer.end; siblings = answer.siblings }
+      reply = record { body = body; value = provider.value name; end = reply_end (index_of provider name) (at page.bindings name) answer.end; siblings = answer.siblings }
 
       fits : Fits provider name (at page.bindings name) answer.end
       fits = fits-path provider name laws.digest_size page.bindings (length answer.siblings) (at page.bindings name) answer.end refl is.ascends is.bindings salted alone answer.path.level.few answer.path.last

@@ -6,7 +6,7 @@ use Rattle.book.specs.declared.record.Record.{Record}
 use Rattle.book.specs.declared.refusal.Refusal.TheVariants.{EpochNotLater}
 use Rattle.book.specs.declared.reply.Reply.{Reply}
 use Rattle.book.specs.Answers.{Answer, next_page, refusal, with_page}
-use Rattle.commands.specs.Asked.{Asked, Query, Edit, Put, Turn}
+use Rattle.commands.specs.Operations.{Operation, Query, Edit, Put, Turn}
 use Rattle.book.specs.Books.{Book, Page, pages}
 use Rattle.book.specs.Maps.{overwritten}
 use Rattle.book.specs.Shows.{Provider, index_of}
@@ -40,13 +40,13 @@ module _ (first : Book) where
   same-pages : (book after : Book) → HasGrown book → pages after ≡ pages book → HasGrown after
   same-pages book after grown same = record { more = grown.more; is = same ∙ grown.is; ascend = subst (AllPairs IsBefore) (sym same) grown.ascend }
 
-  grown-after : (index_of : List ℕ → List ℕ) (book after : Book) (asked : Asked) (answer : Answer) → HasGrown book → refusal index_of book asked ≡ None → Does book asked answer after → HasGrown after
+  grown-after : (index_of : List ℕ → List ℕ) (book after : Book) (asked : Operation) (answer : Answer) → HasGrown book → refusal index_of book asked ≡ None → Does book asked answer after → HasGrown after
   grown-after index_of book after (Query question) answer grown none does = same-pages book after grown (ap pages does.1)
   grown-after index_of book after (Edit (Put verb name key)) answer grown none does = same-pages book after grown (ap pages does.1)
   grown-after index_of book after (Edit (Turn epoch)) answer grown none does =
       subst HasGrown (sym does.1) (grown-page book epoch grown (above-last epoch book.last.epoch (passed (nat_le epoch book.last.epoch, EpochNotLater) [] none).0))
 
-pub run-grows : (provider : Provider) {K : Type 0} (kept failed : K → Record → K → Type 0) (commands : List Asked) (replies : List Reply) (book after : Book) (before later : K)
+pub run-grows : (provider : Provider) {K : Type 0} (kept failed : K → Record → K → Type 0) (commands : List Operation) (replies : List Reply) (book after : Book) (before later : K)
     → AllPairs IsBefore (pages book) → Run provider kept failed book before commands replies after later → HasGrown book after
 run-grows provider kept failed commands replies book after before later ascend run =
     carried provider kept failed (HasGrown book) commands replies book after before later

@@ -23,13 +23,13 @@ use Rattle.proofs.proofs.Passing.{accepts-passed, one_reply}
 use Rattle.book.specs.declared.record.Record.{Record}
 use Rattle.book.specs.declared.reply.Reply.{Reply}
 use Rattle.book.specs.declared.reply.Reply.TheVariants as reply
-use Rattle.commands.specs.Asked.{Asked, IsCommand, Query, Lookup}
+use Rattle.commands.specs.Operations.{Operation, IsCommand, Query, Lookup}
 use Rattle.book.specs.Books.{Binding, Book, Page, pages}
 use Rattle.proofs.specs.BrokenPromises.{IsBrokenPromise}
 use Rattle.book.specs.Fresh.{KeepsLaws}
 use Rattle.book.specs.Honest.{key_at, IsAbout, IsAnswer, IsDouble, IsHonest, IsKept, IsSaid, IsSaidAt, ListsInOrder, Tells, UsersDiffer}
 use Rattle.book.specs.Maps.{Map, at}
-use Rattle.book.specs.Shows.{Provider, Sealed, index_of, promise, roots, sealed_behind, sealed_pages, IsRootOf}
+use Rattle.book.specs.Shows.{Provider, SignedPage, index_of, promise, roots, sealed_behind, sealed_pages, IsRootOf}
 use Rattle.book.specs.Turns.{Run}
 use Rattle.proofs.specs.Watches.{expected}
 use Rattle.book.specs.Sound.{IsSound as IsSoundBook}
@@ -146,21 +146,21 @@ module _ (provider : Provider) where
     is-sealed page root is = All-contains (IsSealed provider accepted verified key laws) (sealed_pages provider after) _ (All-from_recursion (IsSealed provider accepted verified key laws) (sealed_pages provider after) are-sealed) is
 
     chain-of : (earlier : List Page) (last : Page) → Climb 0 (earlier ++ last ∷ []) → AllByRecursion (IsSealed provider accepted verified key laws) (sealed_behind provider 0 (replicate 32 0) (earlier ++ last ∷ []))
-        → IsChain provider.hash verified (record { key = key; roots = map (λ (each : Sealed). each.root) (sealed_behind provider 0 (replicate 32 0) (earlier ++ last ∷ [])) })
+        → IsChain provider.hash verified (record { key = key; roots = map (λ (each : SignedPage). each.root) (sealed_behind provider 0 (replicate 32 0) (earlier ++ last ∷ [])) })
     chain-of [] last climb are = sealed-chain provider accepted verified key laws 0 (replicate 32 0) last [] climb are
     chain-of (first ∷ earlier) last climb are = sealed-chain provider accepted verified key laws 0 (replicate 32 0) first (earlier ++ last ∷ []) climb are
 
     in-chain : (page : Page) (root : SignedRoot) → IsRootOf provider after page root → Contains (roots provider after) root
-    in-chain page root is = mapped-there (λ (each : Sealed). each.root) (sealed_pages provider after) (record { page = page; root = root }) is
+    in-chain page root is = mapped-there (λ (each : SignedPage). each.root) (sealed_pages provider after) (record { page = page; root = root }) is
 
-    told : (latest : ℕ) (command : Asked) (said : Reply) (root : SignedRoot) → Seen provider latest after command said → Tells said root → Contains (roots provider after) root
+    told : (latest : ℕ) (command : Operation) (said : Reply) (root : SignedRoot) → Seen provider latest after command said → Tells said root → Contains (roots provider after) root
     told latest command (reply.Promised promised) root s tells = absurd tells
     told latest command (reply.Found text) root s tells = absurd tells
     told latest command (reply.Told told_roots) root s tells = consecutive-there (roots provider after) told_roots.items s root tells
     told latest command (reply.Last last) root s tells = subst (Contains (roots provider after)) tells (in-chain s.0 last s.1)
     told latest command (reply.Refused why) root s tells = absurd tells
 
-    listed : (latest : ℕ) (command : Asked) (said : Reply) → Seen provider latest after command said → ListsInOrder (roots provider after) said
+    listed : (latest : ℕ) (command : Operation) (said : Reply) → Seen provider latest after command said → ListsInOrder (roots provider after) said
     listed latest command (reply.Promised promised) s = tt
     listed latest command (reply.Found text) s = tt
     listed latest command (reply.Told told_roots) s = s
@@ -172,7 +172,7 @@ module _ (provider : Provider) where
         (All-contains (λ (each : Page). All (λ (entry : List ℕ × Binding). Is32Bytes entry.1.salt) each.bindings) (pages after) page salts
         (sealed-page provider 0 (replicate 32 0) (pages after) (record { page = page; root = root }) is))
 
-    signed-form : (all : List Sealed) → AllByRecursion (IsSealed provider accepted verified key laws) all → AllByRecursion IsSignedRoot (map (λ (each : Sealed). each.root) all)
+    signed-form : (all : List SignedPage) → AllByRecursion (IsSealed provider accepted verified key laws) all → AllByRecursion IsSignedRoot (map (λ (each : SignedPage). each.root) all)
     signed-form [] are = tt
     signed-form (each ∷ all) are = ((are.0.form, are.0.small), signed-form all are.1)
 
@@ -198,7 +198,7 @@ module _ (provider : Provider) where
           watched = λ watch. (λ accepts. sym (forth (expected watch s.page.epoch) accepts), λ same. back (expected watch s.page.epoch) (sym same));
         }
 
-    kept : (command : Asked) (promised : SignedPromise) → SeenPromise provider after command promised → IsKept provider accepted verified key after command promised
+    kept : (command : Operation) (promised : SignedPromise) → SeenPromise provider after command promised → IsKept provider accepted verified key after command promised
     kept command promised s = subst (IsKept provider accepted verified key after command) (sym s.same) (record {
       asked = s.by;
       form = ((
@@ -216,7 +216,7 @@ module _ (provider : Provider) where
     })
 
     -- a promise that is kept is not broken by a reply that is right
-    unbroken : (command : Asked) (promised : SignedPromise) (latest : ℕ) (name : List ℕ) (epoch : ℕ) (text : List ℕ) (root : SignedRoot) → IsKept provider accepted verified key after command promised → (s : SeenFound provider latest after name epoch text)
+    unbroken : (command : Operation) (promised : SignedPromise) (latest : ℕ) (name : List ℕ) (epoch : ℕ) (text : List ℕ) (root : SignedRoot) → IsKept provider accepted verified key after command promised → (s : SeenFound provider latest after name epoch text)
         → Alone provider name s.page.bindings → IsBrokenPromise provider.hash accepted verified key promised root text → ⊥
     unbroken command promised latest name epoch text root k s alone b =
         let r = right latest name epoch text s alone in
@@ -234,7 +234,7 @@ module _ (provider : Provider) where
         ∙ r.states ∙ ap (key_at s.page) (sym same) ∙ has)
 
     -- what is found for the name of a promise under the next root
-    is-due : (command : Asked) (promised : SignedPromise) (latest epoch : ℕ) (text : List ℕ) (root : SignedRoot) (statement : Option (List ℕ)) → IsKept provider accepted verified key after command promised
+    is-due : (command : Operation) (promised : SignedPromise) (latest epoch : ℕ) (text : List ℕ) (root : SignedRoot) (statement : Option (List ℕ)) → IsKept provider accepted verified key after command promised
         → (s : SeenFound provider latest after promised.promise.name epoch text) → Alone provider promised.promise.name s.page.bindings → root.body.previous_epoch ≡ promised.promise.epoch
         → Accepts provider.hash accepted root.body promised.promise.name text statement → (statement ≡ Some promised.promise.key) × HasIndex provider.hash text promised.promise.index
     is-due command promised latest epoch text root statement k s alone behind accepts =
@@ -273,9 +273,9 @@ module _ (provider : Provider) where
     never-accepted latest name epoch text d body other statement accepts =
         d.refused.fails ((accepts-passed provider.hash accepted body other text d.reply d.spelled statement accepts).1 SameIndex)
 
-    pub honest-sound : (before : Book) (commands : List Asked) (replies : List Reply) → ((latest : ℕ) (asked : Asked) (said : Reply) → IsSaidAt before.last.epoch commands replies latest asked said → Seen provider latest after asked said)
+    pub honest-sound : (before : Book) (commands : List Operation) (replies : List Reply) → ((latest : ℕ) (asked : Operation) (said : Reply) → IsSaidAt before.last.epoch commands replies latest asked said → Seen provider latest after asked said)
         → IsApart provider after
-        → (UsersDiffer provider before commands → (asked : Asked) → Contains commands asked → (name : List ℕ) → IsAbout asked name → (page : Page) (root : SignedRoot) → IsRootOf provider after page root → Alone provider name page.bindings)
+        → (UsersDiffer provider before commands → (asked : Operation) → Contains commands asked → (name : List ℕ) → IsAbout asked name → (page : Page) (root : SignedRoot) → IsRootOf provider after page root → Alone provider name page.bindings)
         → IsHonest provider accepted verified key before after commands replies
     honest-sound before commands replies shown apart users = record {
       chain = whole;
@@ -315,13 +315,13 @@ module _ (provider : Provider) where
         whole : IsRoots provider.hash verified key (roots provider after)
         whole = chain-of after.earlier after.last sound.climb are-sealed
 
-        seen : (asked : Asked) (said : Reply) → IsSaid commands replies asked said → (latest : ℕ) × Seen provider latest after asked said
+        seen : (asked : Operation) (said : Reply) → IsSaid commands replies asked said → (latest : ℕ) × Seen provider latest after asked said
         seen asked said is = let t = at-said before.last.epoch commands replies asked said is in (t.0, shown t.0 asked said t.1)
 
         looked : (latest : ℕ) (name : List ℕ) (epoch : ℕ) (text : List ℕ) → IsSaidAt before.last.epoch commands replies latest (Query (Lookup name epoch)) (reply.Found text) → SeenFound provider latest after name epoch text
         looked latest name epoch text is = shown latest (Query (Lookup name epoch)) (reply.Found text) is name epoch refl
 
-        holds : (command : Asked) (promised : SignedPromise) → IsSaid commands replies command (reply.Promised promised) → IsKept provider accepted verified key after command promised
+        holds : (command : Operation) (promised : SignedPromise) → IsSaid commands replies command (reply.Promised promised) → IsKept provider accepted verified key after command promised
         holds command promised is = kept command promised (seen command (reply.Promised promised) is).1
 
         either : (latest : ℕ) (name : List ℕ) (epoch : ℕ) (text : List ℕ) (s : SeenFound provider latest after name epoch text) → Alone provider name s.page.bindings ⊎ IsDouble provider accepted verified key after latest name epoch text
@@ -334,7 +334,7 @@ module _ (provider : Provider) where
         ]
 
   pub honest : {K : Type 0} (accepted verified : List ℕ → List ℕ → List ℕ → Type 0) (key : List ℕ) → KeepsLaws accepted verified key provider → (kept failed : K → Record → K → Type 0)
-      (book after : Book) (before later : K) (commands : List Asked) (replies : List Reply)
+      (book after : Book) (before later : K) (commands : List Operation) (replies : List Reply)
       → IsSoundBook (index_of provider) book → IsSoundBook (index_of provider) after → All IsCommand commands → Run provider kept failed book before commands replies after later
       → IsHonest provider accepted verified key book after commands replies
   honest accepted verified key laws kept failed book after before later commands replies sound sound_after are run =

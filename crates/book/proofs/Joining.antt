@@ -3,7 +3,7 @@ use Rattle.std.proofs.Common.{◌≡◌, ℕ, List, [], ◌∷◌, ◌++◌, ref
 use Rattle.rand_core.specs.Stream.{Stream, fill_bytes}
 use Rattle.book.specs.declared.record.Record.{Record}
 use Rattle.book.specs.declared.reply.Reply.{Reply}
-use Rattle.commands.specs.Asked.{Asked}
+use Rattle.commands.specs.Operations.{Operation}
 use Rattle.book.specs.Books.{Book}
 use Rattle.book.specs.Salted.{salted}
 use Rattle.book.specs.Shows.{Provider}
@@ -14,7 +14,7 @@ unfolding fill_bytes
 first-salt salt more salts = refl
 
 module _ (provider : Provider) {K : Type 0} (kept failed : K → Record → K → Type 0) where
-  pub runs-join : (commands others : List Asked) (replies answers : List Reply) (book middle after : Book) (before between later : K)
+  pub runs-join : (commands others : List Operation) (replies answers : List Reply) (book middle after : Book) (before between later : K)
       → Run provider kept failed book before commands replies middle between → Run provider kept failed middle between others answers after later
       → Run provider kept failed book before (commands ++ others) (replies ++ answers) after later
   runs-join [] others [] answers book middle after before between later one two =

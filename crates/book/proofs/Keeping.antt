@@ -4,7 +4,7 @@ use Rattle.book.specs.declared.record.Record.{Record}
 use Rattle.book.specs.declared.refusal.Refusal.{Refusal}
 use Rattle.book.specs.declared.reply.Reply.{Reply}
 use Rattle.book.specs.declared.reply.Reply.TheVariants as reply
-use Rattle.commands.specs.Asked.{Asked}
+use Rattle.commands.specs.Operations.{Operation}
 use Rattle.book.specs.Books.{Book}
 use Rattle.book.specs.Keeps.{fails_next, keeps_next}
 use Rattle.book.specs.Shows.{Provider, index_of}
@@ -23,7 +23,7 @@ module _ (provider : Provider) {K : Type 0} (kept failed : K → Record → K �
   declines-listed (Answers answer) (Some what) before why after rest (inl wants) = (rest, inl (wants.0, refl))
   declines-listed (Answers answer) (Some what) before why after rest (inr fails) = (false ∷ rest, inr (fails.0, refl))
 
-  turn-listed : (book after : Book) (before later : K) (asked : Asked) (said : Reply) (rest : List Bool) → Turn provider kept failed book before asked said after later
+  turn-listed : (book after : Book) (before later : K) (asked : Operation) (said : Reply) (rest : List Bool) → Turn provider kept failed book before asked said after later
       → (keeps : List Bool) × Turn provider keeps_next fails_next book keeps asked said after rest
   turn-listed book after before later asked (reply.Refused why) rest turn =
       let d = declines-listed (step (index_of provider) book asked).0 (kept_of book asked) before why later rest turn.1 in (d.0, (turn.0, d.1))
@@ -36,7 +36,7 @@ module _ (provider : Provider) {K : Type 0} (kept failed : K → Record → K �
   turn-listed book after before later asked (reply.Last root) rest turn =
       let k = keeps-listed (kept_of book asked) before later rest turn.2 in (k.0, (turn.0, turn.1, k.1, turn.3))
 
-  pub run-listed : (commands : List Asked) (replies : List Reply) (book after : Book) (before later : K) → Run provider kept failed book before commands replies after later
+  pub run-listed : (commands : List Operation) (replies : List Reply) (book after : Book) (before later : K) → Run provider kept failed book before commands replies after later
       → (keeps : List Bool) × Run provider keeps_next fails_next book keeps commands replies after []
   run-listed [] [] book after before later run = ([], (run.0, refl))
   run-listed [] (said ∷ replies) book after before later run = absurd run

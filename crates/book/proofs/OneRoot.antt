@@ -3,7 +3,7 @@ use Rattle.std.proofs.Common.{◌≡◌, ℕ, suc, ◌<◌, List, [], ◌∷◌,
 use Rattle.std.specs.List.{AllZip}
 use Rattle.rootchain.specs.declared.signed_root.SignedRoot.{SignedRoot}
 use Rattle.book.specs.Books.{Book, Page, pages}
-use Rattle.book.specs.Shows.{Provider, Sealed, sealed_behind, IsRootOf}
+use Rattle.book.specs.Shows.{Provider, SignedPage, sealed_behind, IsRootOf}
 use Rattle.book.proofs.Members.{first-or-later, none-there}
 use Rattle.book.proofs.Sealing.{sealed-page}
 use Rattle.book.proofs.Soundness.{IsBefore}
@@ -15,7 +15,7 @@ without-first : (first : Page) (more : List Page) → AllPairs IsBefore (first �
 without-first first more ascend = λ i j d less within. ascend (suc i) (suc j) d (omega (arith, less)) (omega (arith, within))
 
 module _ (provider : Provider) where
-  abbrev sealed : Page → SignedRoot → Sealed
+  abbrev sealed : Page → SignedRoot → SignedPage
   sealed page root = record { page = page; root = root }
 
   one-behind : (epoch : ℕ) (before : List ℕ) (all : List Page) → AllPairs IsBefore all → (page : Page) (root other : SignedRoot)
@@ -23,11 +23,11 @@ module _ (provider : Provider) where
   one-behind epoch before [] ascend page root other is also = absurd (none-there _ is)
   one-behind epoch before (first ∷ more) ascend page root other is also = elim (first-or-later _ _ _ is) [
     | inl same ↦ elim (first-or-later _ _ _ also) [
-      | inl too ↦ ap (λ (each : Sealed). each.root) (sym same ∙ too)
-      | inr later ↦ absurd (clash _ other (ap (λ (each : Sealed). each.page) same) later)
+      | inl too ↦ ap (λ (each : SignedPage). each.root) (sym same ∙ too)
+      | inr later ↦ absurd (clash _ other (ap (λ (each : SignedPage). each.page) same) later)
     ]
     | inr later ↦ elim (first-or-later _ _ _ also) [
-      | inl too ↦ absurd (clash _ root (ap (λ (each : Sealed). each.page) too) later)
+      | inl too ↦ absurd (clash _ root (ap (λ (each : SignedPage). each.page) too) later)
       | inr farther ↦ one-behind first.epoch _ more (without-first first more ascend) page root other later farther
     ]
   ]

@@ -4,7 +4,7 @@ use Rattle.std.specs.List.{AllZip}
 use Rattle.rootchain.specs.Bodies.{body_bytes}
 use Rattle.rootchain.specs.declared.signed_root.SignedRoot.{SignedRoot}
 use Rattle.book.specs.Books.{Book, Page, pages}
-use Rattle.book.specs.Shows.{Provider, Sealed, body_behind, roots, sealed_behind, IsRootOf}
+use Rattle.book.specs.Shows.{Provider, SignedPage, body_behind, roots, sealed_behind, IsRootOf}
 use Rattle.book.proofs.Members.{first-there, later-there}
 
 module _ {X Y : Type 0} (R : X → Y → Type 0) where
@@ -36,17 +36,17 @@ module _ {X Y : Type 0} (R : X → Y → Type 0) where
   zip-at (suc k) (x ∷ xs) (y ∷ ys) d e p all = zip-at k xs ys d e (omega arith) all.1
 
 module _ (provider : Provider) where
-  abbrev IsIn : List Sealed → Page → SignedRoot → Type 0
+  abbrev IsIn : List SignedPage → Page → SignedRoot → Type 0
   IsIn all page root = Contains all (record { page = page; root = root })
 
-  zipped : (epoch : ℕ) (before : List ℕ) (pages : List Page) → AllZip (IsIn (sealed_behind provider epoch before pages)) pages (map (λ (each : Sealed). each.root) (sealed_behind provider epoch before pages))
+  zipped : (epoch : ℕ) (before : List ℕ) (pages : List Page) → AllZip (IsIn (sealed_behind provider epoch before pages)) pages (map (λ (each : SignedPage). each.root) (sealed_behind provider epoch before pages))
   zipped epoch before [] = tt
-  zipped epoch before (page ∷ pages) = (first-there _ _, zip-weaker (IsIn rest) (IsIn (_ ∷ rest)) (λ other root is. later-there _ rest _ is) pages (map (λ (each : Sealed). each.root) rest) (zipped page.epoch next pages))
+  zipped epoch before (page ∷ pages) = (first-there _ _, zip-weaker (IsIn rest) (IsIn (_ ∷ rest)) (λ other root is. later-there _ rest _ is) pages (map (λ (each : SignedPage). each.root) rest) (zipped page.epoch next pages))
     where
       next : List ℕ
       next = provider.hash (body_bytes (body_behind provider epoch before page))
 
-      rest : List Sealed
+      rest : List SignedPage
       rest = sealed_behind provider page.epoch next pages
 
   -- each page of a book stands beside its root

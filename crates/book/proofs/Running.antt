@@ -13,13 +13,13 @@ use Rattle.book.specs.declared.reply.Reply.{Reply}
 use Rattle.book.specs.declared.reply.Reply.TheVariants as reply
 use Rattle.book.specs.declared.refusal.Refusal.{Refusal}
 use Rattle.book.specs.declared.refusal.Refusal.TheVariants.{BadName, NoSuchEpoch, EpochNotLater}
-use Rattle.book.specs.Answers.{Answer, is_within, Promised, Found, Told, refusal, told, with_pending}
-use Rattle.commands.specs.Asked.{Asked, IsCommand, Question, Query, Edit, Put, Promise, Lookup, History, Head, MayRead, IsAny}
-use Rattle.commands.specs.Asked as ask
+use Rattle.book.specs.Answers.{Answer, is_within, Promised, Found, Told, refusal, page_range, with_pending}
+use Rattle.commands.specs.Operations.{Operation, IsCommand, Question, Query, Edit, Put, Promise, Lookup, History, Head, MayRead, IsAny}
+use Rattle.commands.specs.Operations as ask
 use Rattle.book.specs.Books.{Binding, Book, Page, page_at, pages}
 use Rattle.book.specs.Honest.{latest_after, AreConsecutive, IsAskedBy, IsPromisedBy, IsSaid, IsSaidAt}
 use Rattle.book.specs.Maps.{at}
-use Rattle.book.specs.Shows.{Provider, Sealed, index_of, promise, roots, sealed_behind, sealed_pages, signed_promise, IsReplyOf, IsRootOf}
+use Rattle.book.specs.Shows.{Provider, SignedPage, index_of, promise, roots, sealed_behind, sealed_pages, signed_promise, IsReplyOf, IsRootOf}
 use Rattle.book.specs.Steps.{Answers, step}
 use Rattle.book.specs.Turns.{Shows, Turn, Run}
 use Rattle.book.proofs.Entries.{at_put_same, found-entry}
@@ -29,27 +29,27 @@ use Rattle.book.proofs.Stepping.{Does, Finds, finds, put_passed, stepped}
 use Rattle.book.proofs.Stretches.{consecutive-more, told-consecutive}
 use Rattle.book.proofs.Turning.{Goes, Holds, IsSound, above-last, asked-page, goes-nowhere, goes-on, goes-page, goes-pending, holds-now, is-key, is-name, later, not-there, passed, two-passed}
 
-root-epoch : (provider : Provider) (epoch : ℕ) (before : List ℕ) (pages : List Page) (each : Sealed) → Contains (sealed_behind provider epoch before pages) each → each.root.body.epoch ≡ each.page.epoch
+root-epoch : (provider : Provider) (epoch : ℕ) (before : List ℕ) (pages : List Page) (each : SignedPage) → Contains (sealed_behind provider epoch before pages) each → each.root.body.epoch ≡ each.page.epoch
 root-epoch provider epoch before [] each is = absurd (none-there each is)
 root-epoch provider epoch before (page ∷ pages) each is = elim (first-or-later _ _ each is) [
-  | inl same ↦ subst (λ (x : Sealed). x.root.body.epoch ≡ x.page.epoch) same refl
+  | inl same ↦ subst (λ (x : SignedPage). x.root.body.epoch ≡ x.page.epoch) same refl
   | inr later ↦ root-epoch provider page.epoch _ pages each later
 ]
 
 -- a closing that is refused makes no page
-refused-latest : (latest : ℕ) (asked : Asked) (why : Refusal) → latest_after latest asked (reply.Refused why) ≡ latest
+refused-latest : (latest : ℕ) (asked : Operation) (why : Refusal) → latest_after latest asked (reply.Refused why) ≡ latest
 refused-latest latest (Query question) why = refl
 refused-latest latest (Edit (Put verb name key)) why = refl
 refused-latest latest (Edit (ask.Turn epoch)) why = refl
 
 -- which command a reply came to, and when
-pub at-said : (now : ℕ) (commands : List Asked) (replies : List Reply) (asked : Asked) (said : Reply) → IsSaid commands replies asked said → (latest : ℕ) × IsSaidAt now commands replies latest asked said
+pub at-said : (now : ℕ) (commands : List Operation) (replies : List Reply) (asked : Operation) (said : Reply) → IsSaid commands replies asked said → (latest : ℕ) × IsSaidAt now commands replies latest asked said
 at-said now [] replies asked said is = absurd is
 at-said now (command ∷ commands) [] asked said is = absurd is
 at-said now (command ∷ commands) (answer ∷ replies) asked said (inl here) = (now, inl (refl, here.0, here.1))
 at-said now (command ∷ commands) (answer ∷ replies) asked said (inr later) = let t = at-said (latest_after now command answer) commands replies asked said later in (t.0, inr t.1)
 
-pub said-at : (now : ℕ) (commands : List Asked) (replies : List Reply) (latest : ℕ) (asked : Asked) (said : Reply) → IsSaidAt now commands replies latest asked said → IsSaid commands replies asked said
+pub said-at : (now : ℕ) (commands : List Operation) (replies : List Reply) (latest : ℕ) (asked : Operation) (said : Reply) → IsSaidAt now commands replies latest asked said → IsSaid commands replies asked said
 said-at now [] replies latest asked said is = absurd is
 said-at now (command ∷ commands) [] latest asked said is = absurd is
 said-at now (command ∷ commands) (answer ∷ replies) latest asked said (inl here) = inl (here.1, here.2)
@@ -63,18 +63,18 @@ module _ (provider : Provider) where
     pub keyed : IsKeyData binding.key
 
   -- what a command's answer says of the book after it
-  record Answered (book after : Book) (asked : Asked) (answer : Answer) : Type 0 where
+  record Answered (book after : Book) (asked : Operation) (answer : Answer) : Type 0 where
     pub goes : Goes provider book after
     pub promised : (name : List ℕ) (binding : Binding) → answer ≡ Promised name binding → IsPromisedIn after name binding × IsPromisedBy asked name binding.key
     pub found : (name : List ℕ) (epoch : ℕ) → asked ≡ Query (Lookup name epoch) → (page : Page) (other : List ℕ) (binding : Option Binding) → answer ≡ Found page other binding → (other ≡ name) × IsName name × IsAskedBy book.last.epoch epoch page × (binding ≡ at page.bindings name)
-    pub told : (some : List Page) → answer ≡ Told some → (from : ℕ) × (count : ℕ) × (some ≡ told after from count)
+    pub told : (some : List Page) → answer ≡ Told some → (from : ℕ) × (count : ℕ) × (some ≡ page_range after from count)
 
   promised-now : (book : Book) (name : List ℕ) (binding : Binding) → IsSound book → at book.pending name ≡ Some binding → IsPromisedIn book name binding
   promised-now book name binding sound found =
       let e = found-entry (λ entry. IsName entry.0 × IsBinding entry.1) book.pending name binding found sound.pending in
       record { holds = holds-now provider book name binding sound found; named = subst IsName e.2 e.1.0; keyed = subst IsBinding e.3 e.1.1 }
 
-  pends : (book : Book) (asked : Asked) (name key : List ℕ) → IsPromisedBy asked name key → IsSound book → IsName name → IsKeyData key → at book.pending name ≡ None
+  pends : (book : Book) (asked : Operation) (name key : List ℕ) → IsPromisedBy asked name key → IsSound book → IsName name → IsKeyData key → at book.pending name ≡ None
       → Answered book (with_pending book name key) asked (Promised name (record { key = key; salt = book.salt }))
   pends book asked name key by sound named keyed none = record {
     goes = goes;
@@ -131,7 +131,7 @@ module _ (provider : Provider) where
     goes = goes-nowhere provider book sound;
     promised = λ other binding same. let e = sym finds ∙ same in absurd cc;
     found = λ other also is page named binding same. let e = sym finds ∙ same in absurd cc;
-    told = λ some same. let e : Told (told book from count) ≡ Told some = sym finds ∙ same in let f : told book from count ≡ some = cc in (from, count, sym f);
+    told = λ some same. let e : Told (page_range book from count) ≡ Told some = sym finds ∙ same in let f : page_range book from count ≡ some = cc in (from, count, sym f);
   }
   queried book Head answer sound are none finds = record {
     goes = goes-nowhere provider book sound;
@@ -140,7 +140,7 @@ module _ (provider : Provider) where
     told = λ some same. let e = sym finds ∙ same in absurd cc;
   }
 
-  answered : (book after : Book) (asked : Asked) (answer : Answer) → IsSound book → IsCommand asked → refusal (index_of provider) book asked ≡ None → Does book asked answer after → Answered book after asked answer
+  answered : (book after : Book) (asked : Operation) (answer : Answer) → IsSound book → IsCommand asked → refusal (index_of provider) book asked ≡ None → Does book asked answer after → Answered book after asked answer
   answered book after (Query question) answer sound are none does =
       subst (λ (b : Book). Answered book b (Query question) answer) (sym does.1) (queried book question answer sound are none (finds book question answer does.0))
   answered book after (Edit (Put verb name key)) answer sound are none does =
@@ -158,7 +158,7 @@ module _ (provider : Provider) where
 
   -- ---- what is seen of a reply
 
-  pub record SeenPromise (after : Book) (asked : Asked) (promised : SignedPromise) : Type 0 where
+  pub record SeenPromise (after : Book) (asked : Operation) (promised : SignedPromise) : Type 0 where
     pub page : Page
     pub root : SignedRoot
     pub name : List ℕ
@@ -178,14 +178,14 @@ module _ (provider : Provider) where
     pub named : IsName name
     pub answer : IsReplyOf provider page root.body name (at page.bindings name) text
 
-  abbrev pub Seen : ℕ → Book → Asked → Reply → Type 0
+  abbrev pub Seen : ℕ → Book → Operation → Reply → Type 0
   Seen latest after asked (reply.Promised promised) = SeenPromise after asked promised
   Seen latest after asked (reply.Found text) = (name : List ℕ) (epoch : ℕ) → asked ≡ Query (Lookup name epoch) → SeenFound latest after name epoch text
   Seen latest after asked (reply.Told told) = AreConsecutive (roots provider after) told.items
   Seen latest after asked (reply.Last root) = (page : Page) × IsRootOf provider after page root
   Seen latest after asked (reply.Refused why) = ⊤
 
-  seen : (book after : Book) (asked : Asked) (answer : Answer) (said : Reply) → Answered book after asked answer → Shows provider after answer said → Seen book.last.epoch after asked said
+  seen : (book after : Book) (asked : Operation) (answer : Answer) (said : Reply) → Answered book after asked answer → Shows provider after answer said → Seen book.last.epoch after asked said
   seen book after asked answer (reply.Promised promised) a shows = record {
     page = after.last;
     root = shows.2;
@@ -207,7 +207,7 @@ module _ (provider : Provider) where
   seen book after asked answer (reply.Last root) a shows = (shows.0, shows.2)
   seen book after asked answer (reply.Refused why) a shows = tt
 
-  seen-later : (latest : ℕ) (book after : Book) (asked : Asked) (said : Reply) → Goes provider book after → Seen latest book asked said → Seen latest after asked said
+  seen-later : (latest : ℕ) (book after : Book) (asked : Operation) (said : Reply) → Goes provider book after → Seen latest book asked said → Seen latest after asked said
   seen-later latest book after asked (reply.Promised promised) goes s = record {
     page = s.page;
     root = s.root;
@@ -225,13 +225,13 @@ module _ (provider : Provider) where
       record { page = f.page; root = f.root; is = later provider book after goes f.page f.root f.is; asked = f.asked; named = f.named; answer = f.answer }
   seen-later latest book after asked (reply.Told told_roots) goes s =
       subst (λ (all : List SignedRoot). AreConsecutive all told_roots.items)
-      (sym (ap (map (λ (each : Sealed). each.root)) goes.grows ∙ map-append (λ (each : Sealed). each.root) (sealed_pages provider book) goes.more))
-      (consecutive-more (roots provider book) told_roots.items (map (λ (each : Sealed). each.root) goes.more) s)
+      (sym (ap (map (λ (each : SignedPage). each.root)) goes.grows ∙ map-append (λ (each : SignedPage). each.root) (sealed_pages provider book) goes.more))
+      (consecutive-more (roots provider book) told_roots.items (map (λ (each : SignedPage). each.root) goes.more) s)
   seen-later latest book after asked (reply.Last root) goes s = (s.0, later provider book after goes s.0 root s.1)
   seen-later latest book after asked (reply.Refused why) goes s = tt
 
   -- the last page after a command that was answered so
-  last-now : (book after : Book) (asked : Asked) (answer : Answer) (said : Reply) → Does book asked answer after → Shows provider after answer said → after.last.epoch ≡ latest_after book.last.epoch asked said
+  last-now : (book after : Book) (asked : Operation) (answer : Answer) (said : Reply) → Does book asked answer after → Shows provider after answer said → after.last.epoch ≡ latest_after book.last.epoch asked said
   last-now book after (Query question) answer said does shows = ap (λ (b : Book). b.last.epoch) does.1
   last-now book after (Edit (Put verb name key)) answer said does shows = ap (λ (b : Book). b.last.epoch) does.1
   last-now book after (Edit (ask.Turn epoch)) answer (reply.Promised promised) does shows = let e = sym does.0 ∙ shows.3 in absurd cc
@@ -241,19 +241,19 @@ module _ (provider : Provider) where
   last-now book after (Edit (ask.Turn epoch)) answer (reply.Refused why) does shows = absurd shows
 
   module _ {K : Type 0} (kept failed : K → Record → K → Type 0) where
-    pub record Turned (book after : Book) (asked : Asked) (said : Reply) : Type 0 where
+    pub record Turned (book after : Book) (asked : Operation) (said : Reply) : Type 0 where
       pub goes : Goes provider book after
       pub shown : Seen book.last.epoch after asked said
       pub latest : after.last.epoch ≡ latest_after book.last.epoch asked said
 
-    turned-so : (book after : Book) (asked : Asked) (answer : Answer) (said : Reply) → IsSound book → IsCommand asked → step (index_of provider) book asked ≡ (Answers answer, after)
+    turned-so : (book after : Book) (asked : Operation) (answer : Answer) (said : Reply) → IsSound book → IsCommand asked → step (index_of provider) book asked ≡ (Answers answer, after)
         → Shows provider after answer said → Turned book after asked said
     turned-so book after asked answer said sound are steps shows =
         let s = stepped (index_of provider) book asked answer after steps in
         let a = answered book after asked answer sound are s.none s.does in
         record { goes = a.goes; shown = seen book after asked answer said a shows; latest = last-now book after asked answer said s.does shows }
 
-    turned : (book after : Book) (before later : K) (asked : Asked) (said : Reply) → IsSound book → IsCommand asked → Turn provider kept failed book before asked said after later → Turned book after asked said
+    turned : (book after : Book) (before later : K) (asked : Operation) (said : Reply) → IsSound book → IsCommand asked → Turn provider kept failed book before asked said after later → Turned book after asked said
     turned book after before later asked (reply.Refused why) sound are turn =
         subst (λ (b : Book). Turned book b asked (reply.Refused why)) (sym turn.0)
         (record { goes = goes-nowhere provider book sound; shown = tt; latest = sym (refused-latest book.last.epoch asked why) })
@@ -262,22 +262,22 @@ module _ (provider : Provider) where
     turned book after before later asked (reply.Told told_roots) sound are turn = turned-so book after asked turn.0 (reply.Told told_roots) sound are turn.1 turn.3
     turned book after before later asked (reply.Last root) sound are turn = turned-so book after asked turn.0 (reply.Last root) sound are turn.1 turn.3
 
-    pub record Ran (book after : Book) (commands : List Asked) (replies : List Reply) : Type 0 where
+    pub record Ran (book after : Book) (commands : List Operation) (replies : List Reply) : Type 0 where
       pub goes : Goes provider book after
-      pub shown : (latest : ℕ) (asked : Asked) (said : Reply) → IsSaidAt book.last.epoch commands replies latest asked said → Seen latest after asked said
+      pub shown : (latest : ℕ) (asked : Operation) (said : Reply) → IsSaidAt book.last.epoch commands replies latest asked said → Seen latest after asked said
 
-    joined : (asked : Asked) (said : Reply) (commands : List Asked) (replies : List Reply) (book middle after : Book) → Turned book middle asked said → Ran middle after commands replies
+    joined : (asked : Operation) (said : Reply) (commands : List Operation) (replies : List Reply) (book middle after : Book) → Turned book middle asked said → Ran middle after commands replies
         → Ran book after (asked ∷ commands) (said ∷ replies)
     joined asked said commands replies book middle after turn more = record { goes = goes-on provider book middle after turn.goes more.goes; shown = shown }
       where
-        shown : (latest : ℕ) (command : Asked) (answer : Reply) → IsSaidAt book.last.epoch (asked ∷ commands) (said ∷ replies) latest command answer → Seen latest after command answer
+        shown : (latest : ℕ) (command : Operation) (answer : Reply) → IsSaidAt book.last.epoch (asked ∷ commands) (said ∷ replies) latest command answer → Seen latest after command answer
         shown latest command answer (inl here) =
             subst (λ (n : ℕ). Seen n after command answer) here.0
-            (subst (λ (c : Asked). Seen book.last.epoch after c answer) here.1
+            (subst (λ (c : Operation). Seen book.last.epoch after c answer) here.1
             (subst (Seen book.last.epoch after asked) here.2 (seen-later book.last.epoch middle after asked said more.goes turn.shown)))
         shown latest command answer (inr next) = more.shown latest command answer (subst (λ (n : ℕ). IsSaidAt n commands replies latest command answer) (sym turn.latest) next)
 
-    pub ran : (commands : List Asked) (replies : List Reply) (book after : Book) (before later : K) → IsSound book → AllByRecursion IsCommand commands → Run provider kept failed book before commands replies after later
+    pub ran : (commands : List Operation) (replies : List Reply) (book after : Book) (before later : K) → IsSound book → AllByRecursion IsCommand commands → Run provider kept failed book before commands replies after later
         → Ran book after commands replies
     ran [] [] book after before later sound are run = record { goes = subst (Goes provider book) (sym run.0) (goes-nowhere provider book sound); shown = λ latest asked said is. absurd is }
     ran [] (said ∷ replies) book after before later sound are run = absurd run

@@ -12,7 +12,7 @@ use Rattle.rootchain.specs.declared.signed_root.SignedRoot.{SignedRoot}
 use Rattle.book.specs.Books.{Page}
 use Rattle.rootchain.specs.Evidence.{IsFork, IsLink, IsSkip}
 use Rattle.book.specs.Fresh.{KeepsLaws}
-use Rattle.book.specs.Shows.{Provider, Sealed, body_behind, placement, sealed_behind, signed}
+use Rattle.book.specs.Shows.{Provider, SignedPage, body_behind, placement, sealed_behind, signed}
 use Rattle.book.proofs.Found.{IsPage}
 use Rattle.book.proofs.Members.{first-or-later, first-there, later-there, neighbours, none-there}
 use Rattle.book.proofs.Sizes.{node-size}
@@ -27,14 +27,14 @@ climb-push epoch [] last page climb above = (climb.0, (above, tt))
 climb-push epoch (first ∷ pages) last page climb above = (climb.0, climb-push first.epoch pages last page climb.1 above)
 
 module _ (provider : Provider) where
-  abbrev Root : Sealed → SignedRoot
+  abbrev Root : SignedPage → SignedRoot
   Root each = each.root
 
   abbrev next_hash : ℕ → List ℕ → Page → List ℕ
   next_hash epoch before page = provider.hash (body_bytes (body_behind provider epoch before page))
 
   -- a page more is sealed behind the last one
-  pub record IsNext (last : Page) (all more : List Sealed) (page : Page) : Type 0 where
+  pub record IsNext (last : Page) (all more : List SignedPage) (page : Page) : Type 0 where
     pub root : SignedRoot
     pub previous : root.body.previous_epoch ≡ last.epoch
     pub epoch : root.body.epoch ≡ page.epoch
@@ -49,14 +49,14 @@ module _ (provider : Provider) where
         root = next.root;
         previous = next.previous;
         epoch = next.epoch;
-        is = ap (λ (more : List Sealed). record { page = first; root = signed provider (body_behind provider epoch before first) } ∷ more) next.is;
+        is = ap (λ (more : List SignedPage). record { page = first; root = signed provider (body_behind provider epoch before first) } ∷ more) next.is;
       }
 
   -- what is sealed is a page
-  pub sealed-page : (epoch : ℕ) (before : List ℕ) (pages : List Page) (each : Sealed) → Contains (sealed_behind provider epoch before pages) each → Contains pages each.page
+  pub sealed-page : (epoch : ℕ) (before : List ℕ) (pages : List Page) (each : SignedPage) → Contains (sealed_behind provider epoch before pages) each → Contains pages each.page
   sealed-page epoch before [] each is = absurd (none-there each is)
   sealed-page epoch before (page ∷ pages) each is = elim (first-or-later _ _ each is) [
-    | inl same ↦ subst (Contains (page ∷ pages)) (ap (λ (x : Sealed). x.page) same) (first-there page pages)
+    | inl same ↦ subst (Contains (page ∷ pages)) (ap (λ (x : SignedPage). x.page) same) (first-there page pages)
     | inr later ↦ later-there page pages each.page (sealed-page page.epoch _ pages each later)
   ]
 
@@ -67,7 +67,7 @@ module _ (provider : Provider) where
 
   module _ (accepted verified : List ℕ → List ℕ → List ℕ → Type 0) (key : List ℕ) (laws : KeepsLaws accepted verified key provider) where
     -- what the root of a page holds
-    pub record IsSealed (each : Sealed) : Type 0 where
+    pub record IsSealed (each : SignedPage) : Type 0 where
       pub epoch : each.root.body.epoch ≡ each.page.epoch
       pub root : each.root.body.root ≡ root_of provider.hash each.page.nonce (placement provider each.page.bindings)
       pub nonce : each.root.body.nonce ≡ each.page.nonce
@@ -109,7 +109,7 @@ module _ (provider : Provider) where
         (map Root (sealed_behind provider next.epoch (next_hash page.epoch (next_hash epoch before page) next) pages))
         ((refl, refl), climb.1.0) (linked page.epoch (next_hash epoch before page) (next ∷ pages) climb.1) k d p
 
-    verified-roots : (sealed : List Sealed) → AllByRecursion IsSealed sealed → AllByRecursion (Verifies verified key) (map Root sealed)
+    verified-roots : (sealed : List SignedPage) → AllByRecursion IsSealed sealed → AllByRecursion (Verifies verified key) (map Root sealed)
     verified-roots [] are = tt
     verified-roots (each ∷ more) are = (are.0.signature, verified-roots more are.1)
 

@@ -12,11 +12,11 @@ use Rattle.book.specs.declared.refusal.Refusal.TheVariants.{Memory, KeepFailed}
 use Rattle.book.specs.declared.reply.Reply.{Reply}
 use Rattle.book.specs.declared.reply.Reply.TheVariants as reply
 use Rattle.book.specs.Answers.{Answer, Promised, Found, Told, Last}
-use Rattle.commands.specs.Asked.{Asked}
+use Rattle.commands.specs.Operations.{Operation}
 use Rattle.book.specs.Books.{Binding, Book, Page, pages}
-use Rattle.book.specs.Seen as seen
-use Rattle.book.specs.Seen.{Seen, FailAlike, seen as seen_of}
-use Rattle.book.specs.Shows.{Provider, index_of, placement, promise, shown_end, signed_promise, IsReplyOf, IsRootOf}
+use Rattle.book.specs.Replies as seen
+use Rattle.book.specs.Replies.{ReplyContent, FailAlike, seen as seen_of}
+use Rattle.book.specs.Shows.{Provider, index_of, placement, promise, reply_end, signed_promise, IsReplyOf, IsRootOf}
 use Rattle.book.specs.Steps.{Outcome, Answers, Refuses, step}
 use Rattle.book.specs.Turns.{Declines, Run, Shows, Turn, kept_of}
 use Rattle.book.proofs.Growing.{run-grows}
@@ -28,13 +28,13 @@ module _ (provider : Provider) where
   one-text page body name found text other is also =
       let same = one-path provider.hash page.nonce (placement provider page.bindings) (index_of provider name) is.siblings also.siblings is.end also.end is.path also.path in
       is.spelled
-      ∙ ap₂ (λ (siblings : List (List ℕ)) (end : PathEnd). reply_bytes (record { body = body; value = provider.value name; end = shown_end (index_of provider name) found end; siblings = siblings })) same.0 same.1
+      ∙ ap₂ (λ (siblings : List (List ℕ)) (end : PathEnd). reply_bytes (record { body = body; value = provider.value name; end = reply_end (index_of provider name) found end; siblings = siblings })) same.0 same.1
       ∙ sym also.spelled
 
   -- ---- one form of a reply
 
   -- what a reply shows, by the answer
-  abbrev ShowsSo : Book → Answer → Seen → Type 0
+  abbrev ShowsSo : Book → Answer → ReplyContent → Type 0
   ShowsSo book (Promised name binding) said = (root : SignedRoot) × IsRootOf provider book book.last root × (said ≡ seen.Promised (signed_promise provider (promise provider root.body name binding)))
   ShowsSo book (Found page name found) said = (root : SignedRoot) × (text : List ℕ) × IsRootOf provider book page root × IsReplyOf provider page root.body name found text × (said ≡ seen.Found text)
   ShowsSo book (Told told) said = (roots : List SignedRoot) × AllZip (IsRootOf provider book) told roots × (said ≡ seen.Told roots)
@@ -48,7 +48,7 @@ module _ (provider : Provider) where
   shows-so book answer (reply.Last root) (page, is, rooted) = subst (λ (a : Answer). ShowsSo book a (seen.Last root)) (sym is) (root, rooted, refl)
   shows-so book answer (reply.Refused why) shows = absurd shows
 
-  one-seen : (book : Book) → AllPairs IsBefore (pages book) → (answer : Answer) (said other : Seen) → ShowsSo book answer said → ShowsSo book answer other → said ≡ other
+  one-seen : (book : Book) → AllPairs IsBefore (pages book) → (answer : Answer) (said other : ReplyContent) → ShowsSo book answer said → ShowsSo book answer other → said ≡ other
   one-seen book ascend (Promised name binding) said other (root, is, so) (beside, also, too) =
       so ∙ ap (λ (r : SignedRoot). seen.Promised (signed_promise provider (promise provider r.body name binding))) (one-root provider book ascend book.last root beside is also) ∙ sym too
   one-seen book ascend (Found page name found) said other (root, text, is, shows, so) (beside, written, also, show, too) =
@@ -59,14 +59,14 @@ module _ (provider : Provider) where
 
   -- ---- one outcome of a turn
 
-  no-refusal : (book : Book) (answer : Answer) (said : Seen) (why : Refusal) → ShowsSo book answer said → said ≡ seen.Refused why → ⊥
+  no-refusal : (book : Book) (answer : Answer) (said : ReplyContent) (why : Refusal) → ShowsSo book answer said → said ≡ seen.Refused why → ⊥
   no-refusal book (Promised name binding) said why shows is = let e = sym shows.2 ∙ is in absurd cc
   no-refusal book (Found page name found) said why shows is = let e = sym shows.4 ∙ is in absurd cc
   no-refusal book (Told told) said why shows is = let e = sym shows.2 ∙ is in absurd cc
   no-refusal book (Last page) said why shows is = let e = sym shows.2 ∙ is in absurd cc
 
   -- the step refuses, or its answer is shown, or the record was not kept
-  data IsStep (book : Book) (asked : Asked) (said : Seen) (after : Book) : Type 0 where
+  data IsStep (book : Book) (asked : Operation) (said : ReplyContent) (after : Book) : Type 0 where
     refuses : (why : Refusal) → (step (index_of provider) book asked).0 ≡ Refuses why → said ≡ seen.Refused why → after ≡ book → IsStep book asked said after
     answers : (answer : Answer) → step (index_of provider) book asked ≡ (Answers answer, after) → ShowsSo after answer said → IsStep book asked said after
     fails : (answer : Answer) → (step (index_of provider) book asked).0 ≡ Answers answer → said ≡ seen.Refused KeepFailed → after ≡ book → IsStep book asked said after
@@ -81,7 +81,7 @@ module _ (provider : Provider) where
       | inr keep ↦ inr (answer, refl, keep.0)
     ]
 
-    turn-steps : (book after : Book) (keeper later : K) (asked : Asked) (said : Reply) → seen_of said ≢ seen.Refused Memory → Turn provider kept failed book keeper asked said after later → IsStep book asked (seen_of said) after
+    turn-steps : (book after : Book) (keeper later : K) (asked : Operation) (said : Reply) → seen_of said ≢ seen.Refused Memory → Turn provider kept failed book keeper asked said after later → IsStep book asked (seen_of said) after
     turn-steps book after keeper later asked (reply.Refused why) fine (same, declines) =
         elim (due-or-failed (step (index_of provider) book asked).0 (kept_of book asked) keeper later why fine declines) [
           | inl due ↦ refuses why due refl same
@@ -101,10 +101,10 @@ module _ (provider : Provider) where
   no-both : (why : Refusal) (answer : Answer) → Refuses why ≡ Answers answer → ⊥
   no-both why answer same = absurd cc
 
-  first-of : (outcome : Outcome) (book after : Book) (asked : Asked) → step (index_of provider) book asked ≡ (outcome, after) → (step (index_of provider) book asked).0 ≡ outcome
+  first-of : (outcome : Outcome) (book after : Book) (asked : Operation) → step (index_of provider) book asked ≡ (outcome, after) → (step (index_of provider) book asked).0 ≡ outcome
   first-of outcome book after asked is = ap (λ (s : Outcome × Book). s.0) is
 
-  one-step : (book after left : Book) (asked : Asked) (said other : Seen) → AllPairs IsBefore (pages after) → (said ≡ seen.Refused KeepFailed) ↔ (other ≡ seen.Refused KeepFailed)
+  one-step : (book after left : Book) (asked : Operation) (said other : ReplyContent) → AllPairs IsBefore (pages after) → (said ≡ seen.Refused KeepFailed) ↔ (other ≡ seen.Refused KeepFailed)
       → IsStep book asked said after → IsStep book asked other left → (after ≡ left) × (said ≡ other)
   one-step book after left asked said other ascend alike (refuses why is so same) (refuses due also too stays) =
       (same ∙ sym stays, so ∙ ap (λ (w : Refusal). seen.Refused w) (one-refusal why due (sym is ∙ also)) ∙ sym too)
@@ -126,7 +126,7 @@ module _ (provider : Provider) where
   -- ---- one run
 
   module _ {K L : Type 0} (kept failed : K → Record → K → Type 0) (keeps lacks : L → Record → L → Type 0) where
-    pub run-settled : (commands : List Asked) (replies others : List Reply) (book after left : Book) (keeper later : K) (beside behind : L) → AllPairs IsBefore (pages book)
+    pub run-settled : (commands : List Operation) (replies others : List Reply) (book after left : Book) (keeper later : K) (beside behind : L) → AllPairs IsBefore (pages book)
         → AllZip FailAlike replies others
         → Run provider kept failed book keeper commands replies after later → Run provider keeps lacks book beside commands others left behind
         → (after ≡ left) × (map seen_of replies ≡ map seen_of others)
@@ -142,4 +142,4 @@ module _ (provider : Provider) where
         (turn-steps keeps lacks book place beside among asked other alike.0.1 other_turn) in
         let more = run-settled commands replies others middle after left between later among behind grown alike.1 run
         (subst (λ (b : Book). Run provider keeps lacks b among commands others left behind) (sym one.0) also) in
-        (more.0, ap₂ (λ (s : Seen) (ss : List Seen). s ∷ ss) one.1 more.1)
+        (more.0, ap₂ (λ (s : ReplyContent) (ss : List ReplyContent). s ∷ ss) one.1 more.1)

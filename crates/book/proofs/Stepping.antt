@@ -3,16 +3,16 @@ use Rattle.std.proofs.Common.{◌≡◌, List, ℕ, [], ◌∷◌, false, Option
 use Rattle.std.specs.Prelude.{is_none, is_some}
 use Rattle.book.specs.declared.refusal.Refusal.{Refusal}
 use Rattle.book.specs.declared.refusal.Refusal.TheVariants.{BadName, BadKey, PendingExists, NoSuchEpoch, NoPromise}
-use Rattle.book.specs.Answers.{Answer, Promised, Found, Told, Last, bad_index, bad_verb, is_within, next_page, refusal, told, with_page, with_pending}
+use Rattle.book.specs.Answers.{Answer, Promised, Found, Told, Last, bad_index, bad_verb, is_within, next_page, refusal, page_range, with_page, with_pending}
 use Rattle.commands.specs.declared.edit.Verb.{Verb}
-use Rattle.commands.specs.Asked.{Asked, Question, Query, Edit, Put, Turn, Promise, Lookup, History, Head}
+use Rattle.commands.specs.Operations.{Operation, Question, Query, Edit, Put, Turn, Promise, Lookup, History, Head}
 use Rattle.book.specs.Books.{Binding, Book, Page, page_at}
 use Rattle.book.specs.Maps.{at}
 use Rattle.book.specs.Steps.{Outcome, Answers, Refuses, done, found_in, promise_of, read, step, unless_refused}
 use Rattle.book.proofs.Turning.{passed, two-passed}
 
 -- what a book that does not refuse answers, and the book after it
-abbrev pub Does : Book → Asked → Answer → Book → Type 0
+abbrev pub Does : Book → Operation → Answer → Book → Type 0
 Does book (Query question) answer after = (read book question ≡ Answers answer) × (after ≡ book)
 Does book (Edit (Put verb name key)) answer after = (answer ≡ Promised name (record { key = key; salt = book.salt })) × (after ≡ with_pending book name key)
 Does book (Edit (Turn epoch)) answer after = (answer ≡ Last (next_page book epoch)) × (after ≡ with_page book (next_page book epoch))
@@ -21,7 +21,7 @@ Does book (Edit (Turn epoch)) answer after = (answer ≡ Last (next_page book ep
 abbrev pub Finds : Book → Question → Answer → Type 0
 Finds book (Promise name) answer = (binding : Binding) × (at book.pending name ≡ Some binding) × (answer ≡ Promised name binding)
 Finds book (Lookup name epoch) answer = (page : Page) × (page_at book epoch ≡ Some page) × (answer ≡ Found page name (at page.bindings name))
-Finds book (History from count) answer = answer ≡ Told (told book from count)
+Finds book (History from count) answer = answer ≡ Told (page_range book from count)
 Finds book Head answer = answer ≡ Last book.last
 
 abbrev made : Outcome → Book → Outcome × Book
@@ -44,12 +44,12 @@ never why answer p q e = by (ap (λ (x : Outcome × Book). x.0) e)
     by : Refuses why ≡ Answers answer → ⊥
     by f = absurd cc
 
-does_done : (book : Book) (asked : Asked) (answer : Answer) (after : Book) → Does book asked answer after → done book asked ≡ (Answers answer, after)
+does_done : (book : Book) (asked : Operation) (answer : Answer) (after : Book) → Does book asked answer after → done book asked ≡ (Answers answer, after)
 does_done book (Query question) answer after does = ap (λ (outcome : Outcome). made outcome book) does.0 ∙ ap (made (Answers answer)) (sym does.1)
 does_done book (Edit (Put verb name key)) answer after does = both_same answer _ _ after does.0 does.1
 does_done book (Edit (Turn epoch)) answer after does = both_same answer _ _ after does.0 does.1
 
-done_does : (book : Book) (asked : Asked) (answer : Answer) (after : Book) → done book asked ≡ (Answers answer, after) → Does book asked answer after
+done_does : (book : Book) (asked : Operation) (answer : Answer) (after : Book) → done book asked ≡ (Answers answer, after) → Does book asked answer after
 done_does book (Query question) answer after e = (ap (λ (x : Outcome × Book). x.0) e, sym (ap (λ (x : Outcome × Book). x.1) e))
 done_does book (Edit (Put verb name key)) answer after e = same_both answer _ _ after e
 done_does book (Edit (Turn epoch)) answer after e = same_both answer _ _ after e
@@ -68,7 +68,7 @@ finds book (Lookup name epoch) answer e = by (page_at book epoch) refl e
     by : (found : Option Page) → page_at book epoch ≡ found → found_in name found ≡ Answers answer → Finds book (Lookup name epoch) answer
     by None is f = absurd cc
     by (Some page) is f = (page, is, answers_same answer (Found page name (at page.bindings name)) f)
-finds book (History from count) answer e = answers_same answer (Told (told book from count)) e
+finds book (History from count) answer e = answers_same answer (Told (page_range book from count)) e
 finds book Head answer e = answers_same answer (Last book.last) e
 
 -- ---- what is refused
@@ -79,20 +79,20 @@ there (Some x) e = (x, refl)
 
 module _ (index_of : List ℕ → List ℕ) where
   -- where nothing refuses, the step is what is done
-  pub none_steps : (book : Book) (asked : Asked) → refusal index_of book asked ≡ None → step index_of book asked ≡ done book asked
+  pub none_steps : (book : Book) (asked : Operation) → refusal index_of book asked ≡ None → step index_of book asked ≡ done book asked
   none_steps book asked none = ap (λ (due : Option Refusal). unless_refused due book asked) none
 
-  pub does_steps : (book : Book) (asked : Asked) (answer : Answer) (after : Book) → refusal index_of book asked ≡ None → Does book asked answer after → step index_of book asked ≡ (Answers answer, after)
+  pub does_steps : (book : Book) (asked : Operation) (answer : Answer) (after : Book) → refusal index_of book asked ≡ None → Does book asked answer after → step index_of book asked ≡ (Answers answer, after)
   does_steps book asked answer after none does = none_steps book asked none ∙ does_done book asked answer after does
 
-  pub due_steps : (book : Book) (asked : Asked) (why : Refusal) → refusal index_of book asked ≡ Some why → step index_of book asked ≡ (Refuses why, book)
+  pub due_steps : (book : Book) (asked : Operation) (why : Refusal) → refusal index_of book asked ≡ Some why → step index_of book asked ≡ (Refuses why, book)
   due_steps book asked why due = ap (λ (first : Option Refusal). unless_refused first book asked) due
 
-  pub record IsDone (book : Book) (asked : Asked) (answer : Answer) (after : Book) : Type 0 where
+  pub record IsDone (book : Book) (asked : Operation) (answer : Answer) (after : Book) : Type 0 where
     pub none : refusal index_of book asked ≡ None
     pub does : Does book asked answer after
 
-  pub stepped : (book : Book) (asked : Asked) (answer : Answer) (after : Book) → step index_of book asked ≡ (Answers answer, after) → IsDone book asked answer after
+  pub stepped : (book : Book) (asked : Operation) (answer : Answer) (after : Book) → step index_of book asked ≡ (Answers answer, after) → IsDone book asked answer after
   stepped book asked answer after e = by (refusal index_of book asked) refl e
     where
       by : (due : Option Refusal) → refusal index_of book asked ≡ due → unless_refused due book asked ≡ (Answers answer, after) → IsDone book asked answer after
@@ -116,19 +116,19 @@ module _ (index_of : List ℕ → List ℕ) where
       record { named = one.0; keyed = one.1; page = two.0; pending = three.0; index = (passed (bad_index index_of verb book name) [] three.1).0 }
 
   -- what is not refused is answered
-  pub answer_of : (book : Book) (asked : Asked) → refusal index_of book asked ≡ None → (answer : Answer) × ((done book asked).0 ≡ Answers answer)
+  pub answer_of : (book : Book) (asked : Operation) → refusal index_of book asked ≡ None → (answer : Answer) × ((done book asked).0 ≡ Answers answer)
   answer_of book (Query (Promise name)) none =
       let t = there (at book.pending name) (two-passed (not (is_within 1 255 name)) (is_none (at book.pending name)) BadName NoPromise [] none).1 in
       (Promised name t.0, ap (promise_of name) t.1)
   answer_of book (Query (Lookup name epoch)) none =
       let t = there (page_at book epoch) (two-passed (not (is_within 1 255 name)) (is_none (page_at book epoch)) BadName NoSuchEpoch [] none).1 in
       (Found t.0 name (at (t.0).bindings name), ap (found_in name) t.1)
-  answer_of book (Query (History from count)) none = (Told (told book from count), refl)
+  answer_of book (Query (History from count)) none = (Told (page_range book from count), refl)
   answer_of book (Query Head) none = (Last book.last, refl)
   answer_of book (Edit (Put verb name key)) none = (Promised name (record { key = key; salt = book.salt }), refl)
   answer_of book (Edit (Turn epoch)) none = (Last (next_page book epoch), refl)
 
-  pub refused_due : (book : Book) (asked : Asked) (why : Refusal) → (step index_of book asked).0 ≡ Refuses why → refusal index_of book asked ≡ Some why
+  pub refused_due : (book : Book) (asked : Operation) (why : Refusal) → (step index_of book asked).0 ≡ Refuses why → refusal index_of book asked ≡ Some why
   refused_due book asked why e = by (refusal index_of book asked) refl e
     where
       by : (due : Option Refusal) → refusal index_of book asked ≡ due → (unless_refused due book asked).0 ≡ Refuses why → refusal index_of book asked ≡ Some why

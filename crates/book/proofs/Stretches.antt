@@ -6,7 +6,7 @@ use Rattle.std.proofs.lemmas.Bool.{leb-true, le-leb}
 use Rattle.std.proofs.lemmas.List.Elements.{All-from_recursion, Contains-append_left, Contains-append_right}
 use Rattle.std.proofs.lemmas.List.Kept.{AllPairs-cons}
 use Rattle.rootchain.specs.declared.signed_root.SignedRoot.{SignedRoot}
-use Rattle.book.specs.Answers.{told}
+use Rattle.book.specs.Answers.{page_range}
 use Rattle.book.specs.Books.{Book, Page, pages}
 use Rattle.book.specs.Honest.{AreConsecutive}
 use Rattle.book.specs.Shows.{Provider, roots, IsRootOf}
@@ -65,7 +65,7 @@ consecutive-there all some (front, back, is) root there =
     subst (λ (roots : List SignedRoot). Contains roots root) (sym is) (Contains-append_right front (some ++ back) root (Contains-append_left some back root there))
 
 module _ (provider : Provider) where
-  pub told-consecutive : (book : Book) → Climb 0 (pages book) → (from count : ℕ) (items : List SignedRoot) → AllZip (IsRootOf provider book) (told book from count) items
+  pub told-consecutive : (book : Book) → Climb 0 (pages book) → (from count : ℕ) (items : List SignedRoot) → AllZip (IsRootOf provider book) (page_range book from count) items
       → AreConsecutive (roots provider book) items
   told-consecutive book climb from count items is =
       let late = late-are-last from 0 (pages book) climb in

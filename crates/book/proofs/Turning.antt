@@ -14,7 +14,7 @@ use Rattle.book.specs.Answers.{first, is_within, with_pending, next_page, with_p
 use Rattle.book.specs.Books.{Binding, Book, Page, page_at, pages}
 use Rattle.book.specs.Honest.{key_at, IsAskedBy}
 use Rattle.book.specs.Maps.{at, name_cmp}
-use Rattle.book.specs.Shows.{Provider, Sealed, body_behind, signed, sealed_behind, sealed_pages, IsRootOf}
+use Rattle.book.specs.Shows.{Provider, SignedPage, body_behind, signed, sealed_behind, sealed_pages, IsRootOf}
 use Rattle.book.proofs.Entries.{Ascends, all_overwritten, all_put, ascends_none, ascends_overwritten, ascends_put, at_put_other, is_name, is_no_name, overwrites}
 use Rattle.book.proofs.Found.{AreBindings, IsBinding, IsPage}
 use Rattle.book.proofs.Members.{first-or-later, found-passes, none-there}
@@ -121,7 +121,7 @@ module _ (provider : Provider) where
     pub next : (page : Page) (root : SignedRoot) → IsRootOf provider book page root → root.body.previous_epoch ≡ epoch → key_at page name ≡ Some key
     pub waits : ((book.last.epoch ≡ epoch) × Waits book name key) ⊎ (epoch < book.last.epoch)
 
-  abbrev sealed_with : Page → SignedRoot → Sealed
+  abbrev sealed_with : Page → SignedRoot → SignedPage
   sealed_with page root = record { page = page; root = root }
 
   climb-last : (epoch : ℕ) (pages : List Page) (last : Page) → Climb epoch (pages ++ last ∷ []) → epoch < last.epoch
@@ -129,14 +129,14 @@ module _ (provider : Provider) where
   climb-last epoch (page ∷ pages) last climb = omega (arith, climb.0, climb-last page.epoch pages last climb.1)
 
   -- no root stands behind the last one
-  none-behind : (epoch : ℕ) (before : List ℕ) (pages : List Page) (last : Page) → Climb epoch (pages ++ last ∷ []) → (each : Sealed) → Contains (sealed_behind provider epoch before (pages ++ last ∷ [])) each
+  none-behind : (epoch : ℕ) (before : List ℕ) (pages : List Page) (last : Page) → Climb epoch (pages ++ last ∷ []) → (each : SignedPage) → Contains (sealed_behind provider epoch before (pages ++ last ∷ [])) each
       → each.root.body.previous_epoch < last.epoch
   none-behind epoch before [] last climb each is = elim (first-or-later (sealed_with last (signed provider (body_behind provider epoch before last))) [] each is) [
-    | inl same ↦ let e = ap (λ (x : Sealed). x.root.body.previous_epoch) same in omega (arith, climb.0, e)
+    | inl same ↦ let e = ap (λ (x : SignedPage). x.root.body.previous_epoch) same in omega (arith, climb.0, e)
     | inr later ↦ absurd (none-there each later)
   ]
   none-behind epoch before (page ∷ pages) last climb each is = elim (first-or-later _ _ each is) [
-    | inl same ↦ let e = ap (λ (x : Sealed). x.root.body.previous_epoch) same in omega (arith, climb-last epoch (page ∷ pages) last climb, e)
+    | inl same ↦ let e = ap (λ (x : SignedPage). x.root.body.previous_epoch) same in omega (arith, climb-last epoch (page ∷ pages) last climb, e)
     | inr later ↦ none-behind page.epoch _ pages last climb.1 each later
   ]
 
@@ -149,14 +149,14 @@ module _ (provider : Provider) where
   -- ---- from one book to a later one
 
   pub record Goes (book after : Book) : Type 0 where
-    pub more : List Sealed
+    pub more : List SignedPage
     pub grows : sealed_pages provider after ≡ sealed_pages provider book ++ more
     pub holds : (name key : List ℕ) (epoch : ℕ) → Holds book name key epoch → Holds after name key epoch
     pub sound : IsSound after
 
   -- a root stays that of its page
   pub later : (book after : Book) → Goes book after → (page : Page) (root : SignedRoot) → IsRootOf provider book page root → IsRootOf provider after page root
-  later book after goes page root is = subst (λ (all : List Sealed). Contains all (sealed_with page root)) (sym goes.grows) (Contains-append_left (sealed_pages provider book) goes.more _ is)
+  later book after goes page root is = subst (λ (all : List SignedPage). Contains all (sealed_with page root)) (sym goes.grows) (Contains-append_left (sealed_pages provider book) goes.more _ is)
 
   pub goes-nowhere : (book : Book) → IsSound book → Goes book book
   goes-nowhere book sound = record { more = []; grows = sym (append-nil (sealed_pages provider book)); holds = λ name key epoch held. held; sound = sound }
@@ -164,7 +164,7 @@ module _ (provider : Provider) where
   pub goes-on : (book middle after : Book) → Goes book middle → Goes middle after → Goes book after
   goes-on book middle after one two = record {
     more = one.more ++ two.more;
-    grows = two.grows ∙ ap (λ (all : List Sealed). all ++ two.more) one.grows ∙ append_assoc (sealed_pages provider book) one.more two.more;
+    grows = two.grows ∙ ap (λ (all : List SignedPage). all ++ two.more) one.grows ∙ append_assoc (sealed_pages provider book) one.more two.more;
     holds = λ name key epoch held. two.holds name key epoch (one.holds name key epoch held);
     sound = two.sound;
   }
@@ -202,7 +202,7 @@ module _ (provider : Provider) where
 
       cases : (page : Page) (root : SignedRoot) → IsRootOf provider (with_page book (next_page book epoch)) page root
           → IsRootOf provider book page root ⊎ (sealed_with (next_page book epoch) next.root ≡ sealed_with page root)
-      cases page root is = Contains-push_cases (sealed_pages provider book) _ _ (subst (λ (all : List Sealed). Contains all (record { page = page; root = root })) next.is is)
+      cases page root is = Contains-push_cases (sealed_pages provider book) _ _ (subst (λ (all : List SignedPage). Contains all (record { page = page; root = root })) next.is is)
 
       before : (asked : ℕ) (name key : List ℕ) → ((book.last.epoch ≡ asked) × Waits book name key) ⊎ (asked < book.last.epoch) → asked < epoch
       before asked name key (inl now) = omega (arith, now.0)
@@ -217,6 +217,6 @@ module _ (provider : Provider) where
           → IsRootOf provider book page root ⊎ (sealed_with (next_page book epoch) next.root ≡ sealed_with page root) → key_at page name ≡ Some key
       kept name key asked held page root behind (inl old) = held.next page root old behind
       kept name key asked held page root behind (inr new) =
-          let r = ap (λ (each : Sealed). each.root.body.previous_epoch) new in
-          let p : next_page book epoch ≡ page = ap (λ (each : Sealed). each.page) new in
+          let r = ap (λ (each : SignedPage). each.root.body.previous_epoch) new in
+          let p : next_page book epoch ≡ page = ap (λ (each : SignedPage). each.page) new in
           subst (λ (each : Page). key_at each name ≡ Some key) p (waited asked name key held.waits (sym next.previous ∙ r ∙ behind))

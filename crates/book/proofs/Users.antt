@@ -7,7 +7,7 @@ use Rattle.rootchain.specs.declared.signed_root.SignedRoot.{SignedRoot}
 use Rattle.book.specs.declared.record.Record.{Record}
 use Rattle.book.specs.declared.reply.Reply.{Reply}
 use Rattle.book.specs.Answers.{Answer, with_pending, next_page, with_page}
-use Rattle.commands.specs.Asked.{Asked, Query, Edit, Put, Turn}
+use Rattle.commands.specs.Operations.{Operation, Query, Edit, Put, Turn}
 use Rattle.book.specs.Books.{Binding, Book, Page, pages}
 use Rattle.book.specs.Honest.{IsAbout, IsSaid, IsUsed, UsersDiffer}
 use Rattle.book.specs.Maps.{Map}
@@ -39,21 +39,21 @@ module _ (P : List ℕ → Type 0) where
     pending = tt;
   }
 
-  named-after : (book after : Book) (asked : Asked) (answer : Answer) → IsNamed P book → ((name : List ℕ) → IsAbout asked name → P name) → Does book asked answer after → IsNamed P after
+  named-after : (book after : Book) (asked : Operation) (answer : Answer) → IsNamed P book → ((name : List ℕ) → IsAbout asked name → P name) → Does book asked answer after → IsNamed P after
   named-after book after (Query question) answer named about does = subst (IsNamed P) (sym does.1) named
   named-after book after (Edit (Put verb name key)) answer named about does = subst (IsNamed P) (sym does.1) (named-pending book name key named (about name refl))
   named-after book after (Edit (Turn epoch)) answer named about does = subst (IsNamed P) (sym does.1) (named-page book epoch named)
 
-pub said-asked : (commands : List Asked) (replies : List Reply) (asked : Asked) (said : Reply) → IsSaid commands replies asked said → Contains commands asked
+pub said-asked : (commands : List Operation) (replies : List Reply) (asked : Operation) (said : Reply) → IsSaid commands replies asked said → Contains commands asked
 said-asked [] replies asked said is = absurd is
 said-asked (command ∷ commands) [] asked said is = absurd is
 said-asked (command ∷ commands) (answer ∷ replies) asked said (inl here) = subst (Contains (command ∷ commands)) here.0 (first-there command commands)
 said-asked (command ∷ commands) (answer ∷ replies) asked said (inr later) = later-there command commands asked (said-asked commands replies asked said later)
 
 module _ (provider : Provider) where
-  pub users-apart : {K : Type 0} (kept failed : K → Record → K → Type 0) (book after : Book) (before later : K) (commands : List Asked) (replies : List Reply)
+  pub users-apart : {K : Type 0} (kept failed : K → Record → K → Type 0) (book after : Book) (before later : K) (commands : List Operation) (replies : List Reply)
       → IsNamed (IsUsed book commands) book → Run provider kept failed book before commands replies after later → UsersDiffer provider book commands
-      → (asked : Asked) → Contains commands asked → (name : List ℕ) → IsAbout asked name → (page : Page) (root : SignedRoot) → IsRootOf provider after page root
+      → (asked : Operation) → Contains commands asked → (name : List ℕ) → IsAbout asked name → (page : Page) (root : SignedRoot) → IsRootOf provider after page root
       → (entry : List ℕ × Binding) → Contains page.bindings entry → index_of provider entry.0 ≡ index_of provider name → entry.0 ≡ name
   users-apart kept failed book after before later commands replies begins run differ asked there name about page root rooted entry held same =
       let named = carried provider kept failed (IsNamed (IsUsed book commands)) commands replies book after before later

@@ -6,7 +6,7 @@ use Rattle.book.specs.declared.refusal.Refusal.{Refusal}
 use Rattle.book.specs.declared.refusal.Refusal.TheVariants.{BadName, BadKey, NameTaken, NoSuchName, PendingExists, IndexTaken, NoSuchEpoch, EpochNotLater, NoPromise, BadRange}
 use Rattle.commands.specs.declared.edit.Verb.{Verb}
 use Rattle.commands.specs.declared.edit.Verb.TheVariants.{Register, Change}
-use Rattle.commands.specs.Asked.{Asked, Question, Revision, Query, Edit, Put, Turn, Promise, Lookup, History, Head}
+use Rattle.commands.specs.Operations.{Operation, Question, Revision, Query, Edit, Put, Turn, Promise, Lookup, History, Head}
 use Rattle.book.specs.Books.{Binding, Book, Page, page_at, pages}
 use Rattle.book.specs.Maps.{Map, at, overwritten, put}
 
@@ -51,8 +51,8 @@ abbrev pub with_page : Book → Page → Book
 with_page book page = record book { earlier = pages book; last = page; pending = [] }
 
 -- the first pages of at least this epoch, so many or all that there are
-abbrev pub told : Book → ℕ → ℕ → List Page
-told book from count = take count (filter (λ page. nat_le from page.epoch) (pages book))
+abbrev pub page_range : Book → ℕ → ℕ → List Page
+page_range book from count = take count (filter (λ page. nat_le from page.epoch) (pages book))
 
 -- the last page already has a name that is to be registered, or lacks one whose key is to be changed
 abbrev pub bad_verb : Verb → Option Binding → Bool × Refusal
@@ -86,6 +86,6 @@ module _ (index_of : List ℕ → List ℕ) where
   edit_refusal book (Turn epoch) = first ((nat_le epoch book.last.epoch, EpochNotLater) ∷ [])
 
   -- the first refusal of a command
-  abbrev pub refusal : Book → Asked → Option Refusal
+  abbrev pub refusal : Book → Operation → Option Refusal
   refusal book (Query question) = query_refusal book question
   refusal book (Edit revision) = edit_refusal book revision

@@ -5,7 +5,7 @@ use Rattle.book.specs.declared.refusal.Refusal.TheVariants.{Memory, KeepFailed}
 use Rattle.book.specs.declared.reply.Reply.{Reply}
 use Rattle.book.specs.declared.reply.Reply.TheVariants as reply
 use Rattle.book.specs.Answers.{Promised, Found, Told, Last}
-use Rattle.commands.specs.Asked.{Asked}
+use Rattle.commands.specs.Operations.{Operation}
 use Rattle.book.specs.Books.{Book}
 use Rattle.book.specs.Steps.{Outcome, Answers, Refuses, step}
 use Rattle.book.specs.Turns.{kept_of}
@@ -18,12 +18,12 @@ pub data Fate : Type 0 where
   Lost : Fate
 
 -- what comes of a command under its fate, by the record to keep, and by what the step gives
-abbrev pub fated : Fate → Book → Option Record → Outcome × Book → Outcome × Book
-fated fate book None (outcome, after) = (outcome, after)
-fated fate book (Some kept) (Refuses why, after) = (Refuses why, after)
-fated Done book (Some kept) (Answers answer, after) = (Answers answer, after)
-fated Wanting book (Some kept) (Answers answer, after) = (Refuses Memory, book)
-fated Lost book (Some kept) (Answers answer, after) = (Refuses KeepFailed, book)
+abbrev pub under_fate : Fate → Book → Option Record → Outcome × Book → Outcome × Book
+under_fate fate book None (outcome, after) = (outcome, after)
+under_fate fate book (Some kept) (Refuses why, after) = (Refuses why, after)
+under_fate Done book (Some kept) (Answers answer, after) = (Answers answer, after)
+under_fate Wanting book (Some kept) (Answers answer, after) = (Refuses Memory, book)
+under_fate Lost book (Some kept) (Answers answer, after) = (Refuses KeepFailed, book)
 
 -- an outcome before others
 abbrev pub before : Outcome → List Outcome × Book → List Outcome × Book
@@ -31,14 +31,14 @@ before outcome (outcomes, after) = (outcome ∷ outcomes, after)
 
 module _ (index_of : List ℕ → List ℕ) where
   -- the step of a command, under its fate
-  abbrev pub fated_step : Fate → Book → Asked → Outcome × Book
-  fated_step fate book asked = fated fate book (kept_of book asked) (step index_of book asked)
+  abbrev pub step_under_fate : Fate → Book → Operation → Outcome × Book
+  step_under_fate fate book asked = under_fate fate book (kept_of book asked) (step index_of book asked)
 
   -- steps one after another, each from the book that the one before left
-  abbrev pub folded : Book → List Asked → List Fate → List Outcome × Book
+  abbrev pub folded : Book → List Operation → List Fate → List Outcome × Book
   folded book [] fates = ([], book)
   folded book (asked ∷ more) [] = ([], book)
-  folded book (asked ∷ more) (fate ∷ fates) = before (fated_step fate book asked).0 (folded (fated_step fate book asked).1 more fates)
+  folded book (asked ∷ more) (fate ∷ fates) = before (step_under_fate fate book asked).0 (folded (step_under_fate fate book asked).1 more fates)
 
 -- the reply is a refusal of the same name, or one of the answer's kind
 abbrev pub Tells : Outcome → Reply → Type 0

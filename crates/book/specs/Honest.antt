@@ -13,7 +13,7 @@ use Rattle.proofs.specs.Replies.{Reply as ReplyRead, Spells}
 use Rattle.proofs.specs.declared.refusal.Refusal.TheVariants.{SameIndex}
 use Rattle.book.specs.declared.reply.Reply.{Reply}
 use Rattle.book.specs.declared.reply.Reply.TheVariants as reply
-use Rattle.commands.specs.Asked.{Asked, Query, Edit, Put, Turn, Promise, Lookup, History, Head}
+use Rattle.commands.specs.Operations.{Operation, Query, Edit, Put, Turn, Promise, Lookup, History, Head}
 use Rattle.book.specs.Books.{Binding, Book, Page}
 use Rattle.rootchain.specs.Evidence.{AreEvidence}
 use Rattle.proofs.specs.BrokenPromises.{IsBrokenPromise}
@@ -23,14 +23,14 @@ use Rattle.book.specs.Sound.{IsHeld}
 use Rattle.proofs.specs.Watches.{Watch, expected}
 
 -- this reply came to this command
-abbrev pub IsSaid : List Asked → List Reply → Asked → Reply → Type 0
+abbrev pub IsSaid : List Operation → List Reply → Operation → Reply → Type 0
 IsSaid [] replies command answered = ⊥
 IsSaid (asked ∷ more) [] command answered = ⊥
 IsSaid (asked ∷ more) (said ∷ replies) command answered = ((asked ≡ command) × (said ≡ answered)) ⊎ IsSaid more replies command answered
 
 -- the epoch of the last page after a command that was answered so, by that of the last page before it: a
 -- closing that is answered with a root makes a page
-abbrev pub latest_after : ℕ → Asked → Reply → ℕ
+abbrev pub latest_after : ℕ → Operation → Reply → ℕ
 latest_after latest (Query question) said = latest
 latest_after latest (Edit (Put verb name key)) said = latest
 latest_after latest (Edit (Turn epoch)) said = closed said
@@ -44,7 +44,7 @@ latest_after latest (Edit (Turn epoch)) said = closed said
 
 -- this reply came to this command while the last page was of the epoch `latest`; before all the commands it
 -- is of the epoch `now`
-abbrev pub IsSaidAt : ℕ → List Asked → List Reply → ℕ → Asked → Reply → Type 0
+abbrev pub IsSaidAt : ℕ → List Operation → List Reply → ℕ → Operation → Reply → Type 0
 IsSaidAt now [] replies latest command answered = ⊥
 IsSaidAt now (asked ∷ more) [] latest command answered = ⊥
 IsSaidAt now (asked ∷ more) (said ∷ replies) latest command answered =
@@ -79,7 +79,7 @@ ListsInOrder all (reply.Last root) = ⊤
 ListsInOrder all (reply.Refused why) = ⊤
 
 -- the command is about this name
-abbrev pub IsAbout : Asked → List ℕ → Type 0
+abbrev pub IsAbout : Operation → List ℕ → Type 0
 IsAbout (Query (Promise name)) other = name ≡ other
 IsAbout (Query (Lookup name epoch)) other = name ≡ other
 IsAbout (Query (History from count)) other = ⊥
@@ -89,7 +89,7 @@ IsAbout (Edit (Turn epoch)) other = ⊥
 
 -- a promise that answers the command is for this name and key: the command's name, and its key where it
 -- brings one
-abbrev pub IsPromisedBy : Asked → List ℕ → List ℕ → Type 0
+abbrev pub IsPromisedBy : Operation → List ℕ → List ℕ → Type 0
 IsPromisedBy (Query (Promise name)) for bound = for ≡ name
 IsPromisedBy (Query (Lookup name epoch)) for bound = ⊥
 IsPromisedBy (Query (History from count)) for bound = ⊥
@@ -98,12 +98,12 @@ IsPromisedBy (Edit (Put verb name key)) for bound = (for ≡ name) × (bound ≡
 IsPromisedBy (Edit (Turn epoch)) for bound = ⊥
 
 -- the book holds the name, or a command is about it
-abbrev pub IsUsed : Book → List Asked → List ℕ → Type 0
-IsUsed book commands name = IsHeld book name ⊎ ((command : Asked) × Contains commands command × IsAbout command name)
+abbrev pub IsUsed : Book → List Operation → List ℕ → Type 0
+IsUsed book commands name = IsHeld book name ⊎ ((command : Operation) × Contains commands command × IsAbout command name)
 
 module _ (provider : Provider) where
   -- two names that are held or asked about, and have one index, are one name
-  abbrev pub UsersDiffer : Book → List Asked → Type 0
+  abbrev pub UsersDiffer : Book → List Operation → Type 0
   UsersDiffer book commands = (name other : List ℕ) → IsUsed book commands name → IsUsed book commands other
       → index_of provider name ≡ index_of provider other → name ≡ other
 
@@ -136,7 +136,7 @@ module _ (provider : Provider) where
       pub refused : IsFirst (Passes provider.hash accepted root.body name reply) SameIndex
 
     -- the promise is what the command asks for, signed over the root of a page, and the next page has its key
-    pub record IsKept (command : Asked) (promised : SignedPromise) : Type 0 where
+    pub record IsKept (command : Operation) (promised : SignedPromise) : Type 0 where
       pub asked : IsPromisedBy command promised.promise.name promised.promise.key
       pub form : IsSignedPromise promised
       pub signed : verified key (promise_bytes promised.promise) promised.signature
@@ -151,15 +151,15 @@ module _ (provider : Provider) where
 
   module _ (accepted verified : List ℕ → List ℕ → List ℕ → Type 0) (key : List ℕ) where
     -- what the users see of the commands and replies of a run from one book to another
-    pub record IsHonest (before after : Book) (commands : List Asked) (replies : List Reply) : Type 0 where
+    pub record IsHonest (before after : Book) (commands : List Operation) (replies : List Reply) : Type 0 where
       -- the signed roots of all pages are a chain
       pub chain : IsChain provider.hash verified (record { key = key; roots = roots provider after })
       -- each has a spelling
       pub forms : All IsSignedRoot (roots provider after)
       -- each root that is told is one of it
-      pub told : (command : Asked) (said : Reply) (root : SignedRoot) → IsSaid commands replies command said → Tells said root → Contains (roots provider after) root
+      pub told : (command : Operation) (said : Reply) (root : SignedRoot) → IsSaid commands replies command said → Tells said root → Contains (roots provider after) root
       -- the roots of a list that is told are consecutive
-      pub listed : (command : Asked) (said : Reply) → IsSaid commands replies command said → ListsInOrder (roots provider after) said
+      pub listed : (command : Operation) (said : Reply) → IsSaid commands replies command said → ListsInOrder (roots provider after) said
       -- who took some that are consecutive, from whichever on, has a chain, and takes the next one, if there is
       -- one, behind the last that was taken
       pub followed : (front taken back : List SignedRoot) → roots provider after ≡ front ++ (taken ++ back) → 0 < length taken
@@ -175,13 +175,13 @@ module _ (provider : Provider) where
       pub apart : UsersDiffer before commands → (latest : ℕ) (name : List ℕ) (epoch : ℕ) (text : List ℕ) → IsSaidAt before.last.epoch commands replies latest (Query (Lookup name epoch)) (reply.Found text)
           → IsAnswer accepted verified key after latest name epoch text
       -- each promise is kept
-      pub kept : (command : Asked) (promised : SignedPromise) → IsSaid commands replies command (reply.Promised promised) → IsKept accepted verified key after command promised
+      pub kept : (command : Operation) (promised : SignedPromise) → IsSaid commands replies command (reply.Promised promised) → IsKept accepted verified key after command promised
       -- what is found for its name under the next root states its key, at its index
-      pub due : (command : Asked) (promised : SignedPromise) (epoch : ℕ) (text : List ℕ) (root : SignedRoot) (statement : Option (List ℕ))
+      pub due : (command : Operation) (promised : SignedPromise) (epoch : ℕ) (text : List ℕ) (root : SignedRoot) (statement : Option (List ℕ))
           → IsSaid commands replies command (reply.Promised promised) → IsSaid commands replies (Query (Lookup promised.promise.name epoch)) (reply.Found text)
           → root.body.previous_epoch ≡ promised.promise.epoch → Accepts provider.hash accepted root.body promised.promise.name text statement
           → (statement ≡ Some promised.promise.key) × HasIndex provider.hash text promised.promise.index
       -- and no promise is shown broken, by whatever reply and root
-      pub unbroken : (command : Asked) (promised : SignedPromise) (name : List ℕ) (epoch : ℕ) (text : List ℕ) (root : SignedRoot)
+      pub unbroken : (command : Operation) (promised : SignedPromise) (name : List ℕ) (epoch : ℕ) (text : List ℕ) (root : SignedRoot)
           → IsSaid commands replies command (reply.Promised promised) → IsSaid commands replies (Query (Lookup name epoch)) (reply.Found text)
           → ¬ IsBrokenPromise provider.hash accepted verified key promised root text

@@ -8,7 +8,7 @@ pub mod Maps
 pub mod Refusals
 pub mod Replays
 pub mod Salted
-pub mod Seen
+pub mod Replies
 pub mod Shows
 pub mod Sound
 pub mod Steps

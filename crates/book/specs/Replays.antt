@@ -6,7 +6,7 @@ use Rattle.book.specs.declared.record.Record.TheVariants.{Start, Bound, Turned}
 use Rattle.book.specs.declared.refusal.Refusal.{Refusal}
 use Rattle.book.specs.declared.refusal.Refusal.TheVariants.{Memory}
 use Rattle.commands.specs.declared.edit.Verb.{Verb}
-use Rattle.commands.specs.Asked.{Revision, Edit, Put, Turn}
+use Rattle.commands.specs.Operations.{Revision, Edit, Put, Turn}
 use Rattle.book.specs.Answers.{first, put_tests, refusal}
 use Rattle.book.specs.Books.{Binding, Book}
 use Rattle.book.specs.Maps.{put}
@@ -14,13 +14,13 @@ use Rattle.book.specs.Steps.{Outcome, Answers, Refuses, step}
 
 -- what a record was kept of; a start is kept of no command
 abbrev pub kept_edit : Record → Option Revision
-kept_edit (Start epoch nonce signature_key vuf_key) = None
+kept_edit (Start epoch nonce signing_key vuf_key) = None
 kept_edit (Bound verb salt name key) = Some (Put verb name key)
 kept_edit (Turned epoch) = Some (Turn epoch)
 
 -- the book whose next salt is the record's, where it has one
 abbrev pub with_salt_of : Record → Book → Book
-with_salt_of (Start epoch nonce signature_key vuf_key) book = book
+with_salt_of (Start epoch nonce signing_key vuf_key) book = book
 with_salt_of (Bound verb salt name key) book = record book { salt = salt }
 with_salt_of (Turned epoch) book = book
 

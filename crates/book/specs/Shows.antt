@@ -17,7 +17,7 @@ use Rattle.book.specs.Books.{Binding, Book, Page, pages}
 use Rattle.book.specs.Maps.{Map}
 
 -- a page and its signed root
-pub record Sealed : Type 0 where
+pub record SignedPage : Type 0 where
   pub page : Page
   pub root : SignedRoot
 
@@ -32,11 +32,11 @@ pub record Provider : Type 0 where
 -- the end of a path, opened where the page has the name. A leaf of the name's index that is another
 -- name's is told as that very leaf. (In a sound book no page has two names of one index, so that the leaf
 -- of a name that the page has is its own.)
-abbrev pub shown_end : List ℕ → Option Binding → PathEnd → End
-shown_end index (Some binding) (path.Present commitment) = Present binding.salt binding.key
-shown_end index None (path.Present commitment) = Other index commitment
-shown_end index found path.Empty = Empty
-shown_end index found (path.Other other commitment) = Other other commitment
+abbrev pub reply_end : List ℕ → Option Binding → PathEnd → End
+reply_end index (Some binding) (path.Present commitment) = Present binding.salt binding.key
+reply_end index None (path.Present commitment) = Other index commitment
+reply_end index found path.Empty = Empty
+reply_end index found (path.Other other commitment) = Other other commitment
 
 module _ (provider : Provider) where
   abbrev pub index_of : List ℕ → List ℕ
@@ -63,19 +63,19 @@ module _ (provider : Provider) where
 
   -- pages with their signed roots, each behind the one before; before the first is one of this epoch
   -- and hash
-  abbrev pub sealed_behind : ℕ → List ℕ → List Page → List Sealed
+  abbrev pub sealed_behind : ℕ → List ℕ → List Page → List SignedPage
   sealed_behind previous_epoch previous_hash [] = []
   sealed_behind previous_epoch previous_hash (page ∷ more) =
       record { page = page; root = signed (body_behind previous_epoch previous_hash page) }
       ∷ sealed_behind page.epoch (provider.hash (body_bytes (body_behind previous_epoch previous_hash page))) more
 
   -- the pages of a book with their signed roots; before the first is none
-  abbrev pub sealed_pages : Book → List Sealed
+  abbrev pub sealed_pages : Book → List SignedPage
   sealed_pages book = sealed_behind 0 (replicate 32 0) (pages book)
 
   -- the signed roots of a book
   abbrev pub roots : Book → List SignedRoot
-  roots book = map (λ (each : Sealed). each.root) (sealed_pages book)
+  roots book = map (λ (each : SignedPage). each.root) (sealed_pages book)
 
   -- the root is that of this page of the book
   abbrev pub IsRootOf : Book → Page → SignedRoot → Type 0
@@ -99,4 +99,4 @@ module _ (provider : Provider) where
     pub siblings : List (List ℕ)
     pub end : PathEnd
     pub path : IsPath provider.hash page.nonce (placement page.bindings) (index_of name) siblings end
-    pub spelled : text ≡ reply_bytes (record { body = body; value = provider.value name; end = shown_end (index_of name) found end; siblings = siblings })
+    pub spelled : text ≡ reply_bytes (record { body = body; value = provider.value name; end = reply_end (index_of name) found end; siblings = siblings })

@@ -10,14 +10,14 @@ use Rattle.book.specs.declared.refusal.Refusal.TheVariants.{Memory, KeepFailed}
 use Rattle.book.specs.declared.reply.Reply.{Reply}
 use Rattle.book.specs.declared.reply.Reply.TheVariants as reply
 use Rattle.book.specs.Answers.{Answer, Promised, Found, Told, Last}
-use Rattle.commands.specs.Asked.{Asked, Query, Edit, Put}
-use Rattle.commands.specs.Asked as ask
+use Rattle.commands.specs.Operations.{Operation, Query, Edit, Put}
+use Rattle.commands.specs.Operations as ask
 use Rattle.book.specs.Books.{Binding, Book, Page}
 use Rattle.book.specs.Steps.{Outcome, Answers, Refuses, step}
 use Rattle.book.specs.Shows.{Provider, index_of, promise, signed_promise, IsReplyOf, IsRootOf}
 
 -- what is kept of a command before it changes the book
-abbrev pub kept_of : Book → Asked → Option Record
+abbrev pub kept_of : Book → Operation → Option Record
 kept_of book (Query question) = None
 kept_of book (Edit (Put verb name key)) = Some (record_of_a.Bound verb book.salt name key)
 kept_of book (Edit (ask.Turn epoch)) = Some (record_of_a.Turned epoch)
@@ -48,14 +48,14 @@ module _ (provider : Provider) where
 
     -- a call: a refusal leaves the book; else the answer and the book after it are the step's, the record
     -- was kept, and the reply shows the answer
-    abbrev pub Turn : Book → K → Asked → Reply → Book → K → Type 0
+    abbrev pub Turn : Book → K → Operation → Reply → Book → K → Type 0
     Turn book keeper asked (reply.Refused why) book_after keeper_after =
         (book_after ≡ book) × Declines (step (index_of provider) book asked).0 (kept_of book asked) keeper why keeper_after
     Turn book keeper asked answered book_after keeper_after = (answer : Answer)
         × (step (index_of provider) book asked ≡ (Answers answer, book_after)) × Keeps keeper (kept_of book asked) keeper_after × Shows book_after answer answered
 
     -- calls one after another
-    abbrev pub Run : Book → K → List Asked → List Reply → Book → K → Type 0
+    abbrev pub Run : Book → K → List Operation → List Reply → Book → K → Type 0
     Run book keeper [] [] book_after keeper_after = (book_after ≡ book) × (keeper_after ≡ keeper)
     Run book keeper (asked ∷ more) (answered ∷ replies) book_after keeper_after = (middle : Book) × (keeper_between : K)
         × Turn book keeper asked answered middle keeper_between × Run middle keeper_between more replies book_after keeper_after
@@ -63,14 +63,14 @@ module _ (provider : Provider) where
     Run book keeper (asked ∷ more) [] book_after keeper_after = ⊥
 
   -- the command is answered so, and is one that leaves the book as it is
-  abbrev pub IsRead : Book → Asked → Answer → Type 0
+  abbrev pub IsRead : Book → Operation → Answer → Type 0
   IsRead book asked answer = step (index_of provider) book asked ≡ (Answers answer, book)
 
   -- the command is refused so
-  abbrev pub IsRefused : Book → Asked → Refusal → Type 0
+  abbrev pub IsRefused : Book → Operation → Refusal → Type 0
   IsRefused book asked why = step (index_of provider) book asked ≡ (Refuses why, book)
 
   -- a call that keeps no record and leaves the book as it is: the reply shows the answer, or is the refusal
-  abbrev pub Reads : Book → Asked → Reply → Type 0
+  abbrev pub Reads : Book → Operation → Reply → Type 0
   Reads book asked (reply.Refused why) = IsRefused book asked why
   Reads book asked answered = (answer : Answer) × IsRead book asked answer × Shows book answer answered

@@ -3,7 +3,7 @@ ghost use Rattle.std.specs.List.{AllZip};
 ghost use Rattle.encoding.specs.Bytes.{Is32Bytes};
 ghost use Rattle.rand_core.specs.Stream.{fill_bytes, Stream};
 ghost use Rattle.book.specs.Answers.{Answer};
-ghost use Rattle.commands.specs.Asked.{Asked, Edit, IsCommand, Turn};
+ghost use Rattle.commands.specs.Operations.{Operation, Edit, IsCommand, Turn};
 ghost use Rattle.rootchain.specs.declared.body.Body.{Body};
 ghost use Rattle.book.specs.Books.{Book, Page, pages};
 ghost use Rattle.book.specs.Folds.{Fate, Tells, folded};
@@ -12,7 +12,7 @@ ghost use Rattle.book.specs.Honest.{IsHonest};
 ghost use Rattle.book.specs.Keeps.{fails_next, keeps_next};
 ghost use Rattle.book.specs.Maps.{at, overwritten};
 ghost use Rattle.book.specs.Salted.{salted};
-ghost use Rattle.book.specs.Seen.{seen, FailAlike};
+ghost use Rattle.book.specs.Replies.{seen, FailAlike};
 ghost use Rattle.book.specs.Shows.{index_of, IsReplyOf, Provider};
 ghost use Rattle.book.specs.Sound.{IsSound};
 ghost use Rattle.book.specs.Steps.{Answers, step};
@@ -28,7 +28,7 @@ use vrfiface::VufCheck;
 /// the reply to a look-up that meets another name with its index is not accepted: checking refuses it
 /// for just that.
 pub fn honest<V: VufCheck, S: Verifier, K: Keeper>()
-    ensures { (provider : Provider) (key : List ℕ) (book after : Book) (keeper keeper_after : K) (commands : List Asked) (replies : List Reply)
+    ensures { (provider : Provider) (key : List ℕ) (book after : Book) (keeper keeper_after : K) (commands : List Operation) (replies : List Reply)
         → KeepsLaws V.accepted S.verified key provider
         → IsSound (index_of provider) book → IsSound (index_of provider) after
         → All IsCommand commands
@@ -38,14 +38,14 @@ pub fn honest<V: VufCheck, S: Verifier, K: Keeper>()
 
 /// A run with any keeper is one with a list that says of each record whether it was kept.
 pub fn keeps_are_listed<K: Keeper>()
-    ensures { (provider : Provider) (book after : Book) (keeper keeper_after : K) (commands : List Asked) (replies : List Reply)
+    ensures { (provider : Provider) (book after : Book) (keeper keeper_after : K) (commands : List Operation) (replies : List Reply)
         → Run provider K.kept K.failed book keeper commands replies after keeper_after
         → (keeps : List Bool) × Run provider keeps_next fails_next book keeps commands replies after [] }
 {}
 
 /// Runs one after another are a run.
 pub fn runs_join<K: Keeper>()
-    ensures { (provider : Provider) (book middle after : Book) (keeper keeper_between keeper_after : K) (commands others : List Asked) (replies answers : List Reply)
+    ensures { (provider : Provider) (book middle after : Book) (keeper keeper_between keeper_after : K) (commands others : List Operation) (replies answers : List Reply)
         → Run provider K.kept K.failed book keeper commands replies middle keeper_between
         → Run provider K.kept K.failed middle keeper_between others answers after keeper_after
         → Run provider K.kept K.failed book keeper (commands ++ others) (replies ++ answers) after keeper_after }
@@ -54,7 +54,7 @@ pub fn runs_join<K: Keeper>()
 /// The commands settle a run, whatever keeps the records: where no call runs out of memory, and the
 /// keepers fail alike, another run of the same commands has the same replies, and leaves the same book.
 pub fn runs_are_settled<K: Keeper, L: Keeper>()
-    ensures { (provider : Provider) (book after left : Book) (keeper later : K) (beside behind : L) (commands : List Asked) (replies others : List Reply)
+    ensures { (provider : Provider) (book after left : Book) (keeper later : K) (beside behind : L) (commands : List Operation) (replies others : List Reply)
         → IsSound (index_of provider) book
         → AllZip FailAlike replies others
         → Run provider K.kept K.failed book keeper commands replies after later
@@ -67,7 +67,7 @@ pub fn runs_are_settled<K: Keeper, L: Keeper>()
 /// kind. What a reply shows is in the run.
 pub fn runs_are_folds<K: Keeper>()
     ensures { (provider : Provider) (book after : Book) (keeper keeper_after : K)
-        → (commands : List Asked) (replies : List Reply)
+        → (commands : List Operation) (replies : List Reply)
         → Run provider K.kept K.failed book keeper commands replies after keeper_after
         → (fates : List Fate) × (length fates ≡ length commands)
         × ((folded (index_of provider) book commands fates).1 ≡ after)
@@ -88,7 +88,7 @@ pub fn closing_overwrites()
 /// ascend.
 pub fn pages_grow<K: Keeper>()
     ensures { (provider : Provider) (book after : Book) (keeper keeper_after : K)
-        → (commands : List Asked) (replies : List Reply)
+        → (commands : List Operation) (replies : List Reply)
         → IsSound (index_of provider) book
         → Run provider K.kept K.failed book keeper commands replies after keeper_after
         → (more : List Page) × (pages after ≡ pages book ++ more)

@@ -9,7 +9,7 @@ pub enum Record {
     Start {
         epoch: u64,
         nonce: Hash32,
-        signature_key: Hash32,
+        signing_key: Hash32,
         vuf_key: Hash32,
     },
     /// A key that is put to a name, with the salt of the commitment.

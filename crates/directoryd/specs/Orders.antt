@@ -8,8 +8,8 @@ use Rattle.clap.specs.ValueTests.{is_unsigned_in}
 use Rattle.clap.specs.Words.{Row, Text, fault_of, first_of, subcommand_of}
 use Rattle.items.specs.declared.orders.HashChoice.{HashChoice}
 use Rattle.items.specs.declared.orders.HashChoice.TheVariants.{Sha256, Sum}
-use Rattle.items.specs.Asked.{Asked, values_of}
-use Rattle.server.specs.Asked.{Asked as AskedDirectory, values_of as directory_values}
+use Rattle.items.specs.TreeOptions.{TreeOptions, values_of}
+use Rattle.server.specs.DirectoryOptions.{DirectoryOptions, values_of as directory_values}
 use Rattle.directoryd.specs.declared.order.subcommands.Order.{Order}
 use Rattle.directoryd.specs.declared.order.subcommands.Order.TheVariants.{Root, Prove, Audit, Judge, Serve, Listen}
 use Rattle.directoryd.specs.CommandLine.{directory_app, greatest, IsHashNames}
@@ -17,15 +17,15 @@ use Rattle.directoryd.specs.CommandLine.{directory_app, greatest, IsHashNames}
 -- what is ordered: a root; the path of the index that a text gives; an audit under the key that a text
 -- gives; the verdict, under such a key, on the file of this name; a directory for one session; or one for
 -- so many connections, at the address that a text gives
-pub data Ordered : Type 0 where
-  the_root : Asked → Ordered
-  the_path : Text → Asked → Ordered
-  the_audit : Text → Ordered
-  the_verdict : Text → Text → Ordered
-  the_session : AskedDirectory → Ordered
-  the_connections : AskedDirectory → ℕ → Text → Ordered
+pub data Task : Type 0 where
+  the_root : TreeOptions → Task
+  the_path : Text → TreeOptions → Task
+  the_audit : Text → Task
+  the_verdict : Text → Text → Task
+  the_session : DirectoryOptions → Task
+  the_connections : DirectoryOptions → ℕ → Text → Task
 
-abbrev pub values_in : Order → Ordered
+abbrev pub values_in : Order → Task
 values_in (Root order) = the_root (values_of order)
 values_in (Prove order) = the_path order.index.now (values_of order.root)
 values_in (Audit order) = the_audit order.key.now
@@ -46,13 +46,13 @@ abbrev pub number_from : ℕ → Text → ℕ
 number_from least text = if is_unsigned_in least greatest text then digits_value 10 (without_leading_plus text) else least
 
 -- the values of a tree's options
-abbrev pub asked_in : List Row → Asked
+abbrev pub asked_in : List Row → TreeOptions
 asked_in rows = record { hash = hash_named (first_of (codes "hash") rows); nonce = first_of (codes "nonce") rows }
 
 -- the values of a directory's options
-abbrev pub directory_in : List Row → AskedDirectory
+abbrev pub directory_in : List Row → DirectoryOptions
 directory_in rows = record {
-  sign_key = text_in (codes "sign-key") rows;
+  signing_key = text_in (codes "sign-key") rows;
   vuf_key = text_in (codes "vuf-key") rows;
   salt_key = text_in (codes "salt-key") rows;
   token = text_in (codes "token") rows;
@@ -62,8 +62,8 @@ directory_in rows = record {
 }
 
 -- what a subcommand orders by its name: a path, an audit, a verdict, a session, connections, or else a root
-abbrev pub ordered_in : Text → List Row → Ordered
-ordered_in name rows =
+abbrev pub task_in : Text → List Row → Task
+task_in name rows =
     if bytes_eq name (codes "prove") then the_path (text_in (codes "index") rows) (asked_in rows)
     else (if bytes_eq name (codes "audit") then the_audit (text_in (codes "key") rows)
     else (if bytes_eq name (codes "judge") then the_verdict (text_in (codes "key") rows) (text_in (codes "file") rows)
@@ -73,9 +73,9 @@ ordered_in name rows =
     else the_root (asked_in rows)))))
 
 -- what the words order: the values that clap's function of the words gives to the options
-abbrev pub ordered : ValueParser → List Text → Option Ordered
-ordered names words = option_map (λ found. ordered_in found.0 found.1) (subcommand_of (directory_app names) words)
+abbrev pub task : ValueParser → List Text → Option Task
+task names words = option_map (λ found. task_in found.0 found.1) (subcommand_of (directory_app names) words)
 
 -- clap's function finds no fault in the words, and this is what they order
-abbrev pub IsOrdered : List Text → Ordered → Type 0
-IsOrdered words what = (names : ValueParser) × IsHashNames names × (fault_of (directory_app names) words ≡ []) × (ordered names words ≡ Some what)
+abbrev pub IsTask : List Text → Task → Type 0
+IsTask words what = (names : ValueParser) × IsHashNames names × (fault_of (directory_app names) words ≡ []) × (task names words ≡ Some what)

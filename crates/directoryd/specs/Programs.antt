@@ -21,7 +21,7 @@ use Rattle.server.specs.Listening.{ListenTells}
 use Rattle.server.specs.Programs.{DirectoryServes}
 use Rattle.directoryd.specs.declared.ending.Ending.{Ending}
 use Rattle.directoryd.specs.CommandLine.{status_of, Refuses}
-use Rattle.directoryd.specs.Orders.{IsOrdered, Ordered, the_root, the_path, the_audit, the_verdict, the_session, the_connections}
+use Rattle.directoryd.specs.Orders.{IsTask, Task, the_root, the_path, the_audit, the_verdict, the_session, the_connections}
 
 -- a program gives a text for its input, and returns this status if the text was written
 abbrev pub EndsAt : ℕ → (List ℕ → Result (List ℕ) ProgramFault → Type 0) → Option (List ℕ) → Option (List ℕ) → Option (List ℕ) → Result ℕ ProgramFault → Type 0
@@ -45,7 +45,7 @@ verdict_outcome (Err fault) = Err fault
 -- What is ordered is done: a root is written, or the path of an index; an input is audited; a file is
 -- judged; a directory begins, or goes on from its journal, and serves one session; or one serves connections, and
 -- writes its address to the errors. The line about a journal is on the errors too.
-abbrev pub Obeys : Ordered → Option (List ℕ) → Option (List ℕ) → Option (List ℕ) → Option (List ℕ) → Option (List ℕ) → Result ℕ ProgramFault → Type 0
+abbrev pub Obeys : Task → Option (List ℕ) → Option (List ℕ) → Option (List ℕ) → Option (List ℕ) → Option (List ℕ) → Result ℕ ProgramFault → Type 0
 Obeys (the_root asked) input out out-new err err-new outcome = EndsAt 0 (λ input said. root_answer asked input ≡ said) input out out-new outcome × Keeps err err-new
 Obeys (the_path index asked) input out out-new err err-new outcome = EndsAt 0 (Proves asked.hash (nonce_of asked.nonce) (hex32 index)) input out out-new outcome × Keeps err err-new
 Obeys (the_audit key) input out out-new err err-new outcome = IsZero outcome × Keeps err err-new × AuditsText key input out (without_status outcome) out-new
@@ -76,7 +76,7 @@ WantsMemory out out-new err err-new outcome = (outcome ≡ Err OutOfMemory) × K
 
 -- what the words order is done
 abbrev pub DoesOrder : List Text → Option (List ℕ) → Option (List ℕ) → Option (List ℕ) → Option (List ℕ) → Option (List ℕ) → Result ℕ ProgramFault → Type 0
-DoesOrder words input out out-new err err-new outcome = (what : Ordered) × IsOrdered words what × Obeys what input out out-new err err-new outcome
+DoesOrder words input out out-new err err-new outcome = (what : Task) × IsTask words what × Obeys what input out out-new err err-new outcome
 
 -- clap refuses the words, or they ask for help
 abbrev pub Refused : List Text → Option (List ℕ) → Option (List ℕ) → Option (List ℕ) → Option (List ℕ) → Result ℕ ProgramFault → Type 0

@@ -9,7 +9,7 @@ ghost use Rattle.directoryd.specs.Orders.{values_in};
 ghost use Rattle.directoryd.specs.Programs.{verdict_outcome, EndsAs, Obeys, Runs, Starts};
 
 use crate::order::{Order, order};
-use crate::refusal::{refuse, refuse_bytes};
+use crate::refusing::{refuse, refuse_bytes};
 use crate::{audit, judge_at, listen, prove, root, serve_directory};
 use audits::JudgeOrder;
 use std::alloc::Global;

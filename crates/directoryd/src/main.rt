@@ -4,7 +4,7 @@
 
 mod ending;
 mod order;
-mod refusal;
+mod refusing;
 
 pub use audits::{audit, evidence_json, judge_at, judge_file, read_evidence};
 pub use ending::{Ending, end};

@@ -4,9 +4,9 @@ ghost use Rattle.clap.specs.Words.{app_of, found_of, kind_of, rows_of, rule_of};
 ghost use Rattle.clap.specs.declared.builder.command.Command.TheViews.{out-Command};
 ghost use Rattle.clap.specs.declared.error.kind.ErrorKind.TheVariants.{OutOfMemory};
 ghost use Rattle.directoryd.specs.CommandLine.{audit_app, directory_app, hash_rule, journal_rule, judge_app, listen_app, nonce_rule, number_rule, positional_rule, prove_app, required_rule, root_app, serve_app, text_rule, with_directory, with_keys, IsHashNames, Refuses};
-ghost use Rattle.items.specs.Asked.{values_of};
-ghost use Rattle.server.specs.Asked.{values_of as directory_values};
-ghost use Rattle.directoryd.specs.Orders.{asked_in, directory_in, hash_named, number_from, ordered_in, text_in, values_in, IsOrdered};
+ghost use Rattle.items.specs.TreeOptions.{values_of};
+ghost use Rattle.server.specs.DirectoryOptions.{values_of as directory_values};
+ghost use Rattle.directoryd.specs.Orders.{asked_in, directory_in, hash_named, number_from, task_in, text_in, values_in, IsTask};
 
 mod subcommands;
 
@@ -67,7 +67,7 @@ Example: directoryd listen --sign-key $SIGN --vuf-key $VUF --salt-key $SALT --to
 
 static KEY_HELP: &str = "The provider's public key, 64 hexadecimal digits";
 
-static SIGN_KEY_HELP: &str = "The key that signs roots and promises, 64 hexadecimal digits";
+static SIGNING_KEY_HELP: &str = "The key that signs roots and promises, 64 hexadecimal digits";
 
 static VUF_KEY_HELP: &str = "The key that gives names their indices, 64 hexadecimal digits";
 
@@ -247,7 +247,7 @@ fn add_keys<'a>(alloc: Global, command: Command<'a>) -> Result<Command<'a>, Allo
     ensures local { IfOk result (λ c. (out-Command c).has_globals ≡ (out-Command command.entry).has_globals) }
 {
     let with_keys = command
-        .arg(required_arg(alloc, "sign-key", SIGN_KEY_HELP))?
+        .arg(required_arg(alloc, "sign-key", SIGNING_KEY_HELP))?
         .arg(required_arg(alloc, "vuf-key", VUF_KEY_HELP))?
         .arg(required_arg(alloc, "salt-key", SALT_KEY_HELP))?
         .arg(required_arg(alloc, "token", TOKEN_HELP))?;
@@ -361,7 +361,7 @@ fn directory_order<'a>(found: &ArgMatches<'a>) -> DirectoryOrder<'a>
     ensures { directory_values result ≡ directory_in (rows_of (found_of found.now)) }
 {
     DirectoryOrder {
-        sign_key: text(found, "sign-key"),
+        signing_key: text(found, "sign-key"),
         vuf_key: text(found, "vuf-key"),
         salt_key: text(found, "salt-key"),
         token: text(found, "token"),
@@ -373,7 +373,7 @@ fn directory_order<'a>(found: &ArgMatches<'a>) -> DirectoryOrder<'a>
 
 /// What a subcommand orders.
 fn named_order<'a>(name: &str, found: &ArgMatches<'a>) -> Order<'a>
-    ensures { values_in result ≡ ordered_in name.now (rows_of (found_of found.now)) }
+    ensures { values_in result ≡ task_in name.now (rows_of (found_of found.now)) }
 {
     match name {
         "prove" => Order::Prove(ProveOrder {
@@ -403,7 +403,7 @@ fn named_order<'a>(name: &str, found: &ArgMatches<'a>) -> Order<'a>
 ///
 /// clap's, of words that it refuses or that ask for help, or of memory that ran out.
 pub fn order<'a, S: AsStr>(alloc: Global, words: &'a [S]) -> Result<Order<'a>, Error>
-    ensures ok { IfOk result (λ order. IsOrdered (map S.text words.entry.now) (values_in order)) }
+    ensures ok { IfOk result (λ order. IsTask (map S.text words.entry.now) (values_in order)) }
     ensures err { IfErr result (λ fault. (kind_of fault ≡ OutOfMemory) ⊎ Refuses (map S.text words.entry.now) fault) }
 {
     let matches = command(alloc)?.try_get_matches_from(words)?;

@@ -14,7 +14,7 @@ use Rattle.book.specs.Sound.{IsHeld}
 use Rattle.book.proofs.Entries.{found-entry}
 use Rattle.epochs.specs.declared.address.Address.{Address}
 use Rattle.epochs.specs.Addresses.{AreAddresses, Names, address_of, with_name}
-use Rattle.epochs.specs.Histories.{Version, chosen, shown, waiting}
+use Rattle.epochs.specs.Histories.{Version, chosen, binding_at, waiting}
 use Rattle.epochs.specs.Parts.{Keeps, Parts, last_of, pending_of}
 use Rattle.epochs.specs.Versions.{AreHistories}
 use Rattle.epochs.proofs.Parts.{book_of}
@@ -83,13 +83,13 @@ module _ (provider : Provider) (parts : Parts) (salt : List ℕ) (left : Stream)
     pub waits_there : waiting len versions ≡ at (pending_of parts) name
     waits_there = ap (λ (n : ℕ). waiting n versions) long ∙ chosen-found (waiting (length parts.roots)) parts.names name keeps.histories (Some versions) is
 
-    shows-there : shown (len - 1) versions ≡ at (last_of parts).bindings name
-    shows-there = ap (λ (n : ℕ). shown (n - 1) versions) long ∙ chosen-found (shown (length parts.roots - 1)) parts.names name keeps.histories (Some versions) is
+    shows-there : binding_at (len - 1) versions ≡ at (last_of parts).bindings name
+    shows-there = ap (λ (n : ℕ). binding_at (n - 1) versions) long ∙ chosen-found (binding_at (length parts.roots - 1)) parts.names name keeps.histories (Some versions) is
 
     pub is_waiting : {X : Type 0} (of : X → Binding) (found : Option X) (some : Bool) → some ≡ is_some found → option_map of found ≡ waiting len versions → some ≡ is_some (at (pending_of parts) name)
     is_waiting of found some some-is has = some-is ∙ same-some of found _ (has ∙ waits_there)
 
-    pub is_shown : {X : Type 0} (of : X → Binding) (found : Option X) (some : Bool) → some ≡ is_some found → option_map of found ≡ shown (len - 1) versions → some ≡ is_some (at (last_of parts).bindings name)
+    pub is_shown : {X : Type 0} (of : X → Binding) (found : Option X) (some : Bool) → some ≡ is_some found → option_map of found ≡ binding_at (len - 1) versions → some ≡ is_some (at (last_of parts).bindings name)
     is_shown of found some some-is has = some-is ∙ same-some of found _ (has ∙ shows-there)
 
   -- of one that has none
@@ -98,7 +98,7 @@ module _ (provider : Provider) (parts : Parts) (salt : List ℕ) (left : Stream)
     none_waits = chosen-found (waiting (length parts.roots)) parts.names name keeps.histories None none
 
     pub none_shown : None ≡ at (last_of parts).bindings name
-    none_shown = chosen-found (shown (length parts.roots - 1)) parts.names name keeps.histories None none
+    none_shown = chosen-found (binding_at (length parts.roots - 1)) parts.names name keeps.histories None none
 
     unheld : IsHeld (book_of parts salt left) name → ⊥
     unheld (inl some) = absurd (cc (ap is_some none_shown, some))

@@ -8,7 +8,7 @@ use Rattle.encoding.proofs.ByteLists.{IsBytes-zeros}
 use Rattle.rootchain.specs.Bodies.{body_bytes, IsBody, IsWellFormed}
 use Rattle.rootchain.specs.declared.signed_root.SignedRoot.{SignedRoot}
 use Rattle.book.specs.Books.{Book, Page, pages}
-use Rattle.book.specs.Shows.{Provider, Sealed, body_behind, index_of, placement, roots, sealed_behind}
+use Rattle.book.specs.Shows.{Provider, SignedPage, body_behind, index_of, placement, roots, sealed_behind}
 use Rattle.book.specs.Sound.{IsPage, IsSound}
 use Rattle.book.proofs.Sealing.{Climb}
 use Rattle.book.proofs.Sizes.{node-size}
@@ -39,7 +39,7 @@ all-get P (y ∷ ys) zero x all is = let same : y ≡ x = cc in subst P same all
 all-get P (y ∷ ys) (suc k) x all is = all-get P ys k x all.1 is
 
 module _ (provider : Provider) where
-  abbrev Root : Sealed → SignedRoot
+  abbrev Root : SignedPage → SignedRoot
   Root each = each.root
 
   abbrev next_hash : ℕ → List ℕ → Page → List ℕ

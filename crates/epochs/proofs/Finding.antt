@@ -14,10 +14,10 @@ use Rattle.std.proofs.lemmas.List.Sorted.{searchable_from_sorted}
 use Rattle.std.proofs.lemmas.Option.{get_or_from_slice_get, slice_get_within}
 use Rattle.rootchain.specs.Bodies.{body_bytes}
 use Rattle.rootchain.specs.declared.signed_root.SignedRoot.{SignedRoot}
-use Rattle.book.specs.Answers.{told, with_page}
+use Rattle.book.specs.Answers.{page_range, with_page}
 use Rattle.book.specs.Books.{Book, Page, page_at, pages}
 use Rattle.epochs.specs.Ends.{final, front}
-use Rattle.book.specs.Shows.{Provider, Sealed, body_behind, roots, sealed_behind, signed, IsRootOf}
+use Rattle.book.specs.Shows.{Provider, SignedPage, body_behind, roots, sealed_behind, signed, IsRootOf}
 use Rattle.epochs.proofs.Ends.{front_final, slice_get-final}
 use Rattle.book.proofs.Members.{first-or-later, first-there, later-there, none-there}
 use Rattle.book.proofs.Rooted.{rooted-at}
@@ -116,7 +116,7 @@ module _ {Y : Type 0} (key : Y → ℕ) (from : ℕ) where
       ∙ from-place i ys pages (cc) ((λ k d a b. point.0 (suc k) d (omega arith) (omega arith)), (λ k d a b. point.1 (suc k) d (omega arith) (omega arith)))
 
 pub told_from : (book : Book) (from count i : ℕ) → IsPartitionPoint (λ (page : Page). ltb page.epoch from ≡ true) (λ (page : Page). ltb page.epoch from ≡ false) (pages book) i
-    → told book from count ≡ take count (drop i (pages book))
+    → page_range book from count ≡ take count (drop i (pages book))
 told_from book from count i point = ap (take count) (from-place (λ (page : Page). page.epoch) from i (pages book) (pages book) refl point)
 
 -- ---- the same in a list beside the pages, whose keys are their epochs
@@ -152,13 +152,13 @@ module _ {Y : Type 0} (key : Y → ℕ) (ys : List Y) (book : Book) (same : map 
               search-none key ys epoch place (get_or ys held.0 z) (ascend_beside up) searched (Contains-get_or ys held.0 z below)
               (key_beside held.0 z page below ∙ ap (λ (each : Page). each.epoch) held.2 ∙ is)
 
-  pub told_from_beside : (from count i : ℕ) → IsPartitionPoint (λ (y : Y). ltb (key y) from ≡ true) (λ (y : Y). ltb (key y) from ≡ false) ys i → told book from count ≡ take count (drop i (pages book))
+  pub told_from_beside : (from count i : ℕ) → IsPartitionPoint (λ (y : Y). ltb (key y) from ≡ true) (λ (y : Y). ltb (key y) from ≡ false) ys i → page_range book from count ≡ take count (drop i (pages book))
   told_from_beside from count i point = ap (take count) (from-place key from i ys (pages book) same point)
 
 -- ---- the roots beside the pages
 
 module _ (provider : Provider) where
-  abbrev Root : Sealed → SignedRoot
+  abbrev Root : SignedPage → SignedRoot
   Root each = each.root
 
   abbrev next_hash : ℕ → List ℕ → Page → List ℕ
@@ -188,10 +188,10 @@ module _ (provider : Provider) where
     pub previous_hash : List ℕ
     pub is : root ≡ signed provider (body_behind provider previous_epoch previous_hash page)
 
-  sealed-signed : (epoch : ℕ) (before : List ℕ) (pages : List Page) (each : Sealed) → Contains (sealed_behind provider epoch before pages) each → IsSignedPage each.page each.root
+  sealed-signed : (epoch : ℕ) (before : List ℕ) (pages : List Page) (each : SignedPage) → Contains (sealed_behind provider epoch before pages) each → IsSignedPage each.page each.root
   sealed-signed epoch before [] each is = absurd (none-there each is)
   sealed-signed epoch before (page ∷ pages) each is = elim (first-or-later _ _ each is) [
-    | inl same ↦ subst (λ (x : Sealed). IsSignedPage x.page x.root) same (record { previous_epoch = epoch; previous_hash = before; is = refl })
+    | inl same ↦ subst (λ (x : SignedPage). IsSignedPage x.page x.root) same (record { previous_epoch = epoch; previous_hash = before; is = refl })
     | inr later ↦ sealed-signed page.epoch (next_hash epoch before page) pages each later
   ]
 

@@ -10,7 +10,7 @@ use Rattle.std.proofs.lemmas.Bool.{cases_lt, eq-eqb, le-leb, leb-true, lt-leb, n
 use Rattle.prefixtree.proofs.Order.{equal-same, greater-less}
 use Rattle.book.specs.Books.{Binding}
 use Rattle.book.specs.Maps.{Map, name_cmp, overwritten, put}
-use Rattle.epochs.specs.Histories.{Version, chosen, or_else, shown, waiting, with_some}
+use Rattle.epochs.specs.Histories.{Version, chosen, or_else, binding_at, waiting, with_some}
 use Rattle.epochs.specs.Versions.{Ascends}
 
 abbrev pub Above : {X : Type 0} → List ℕ → Map X → Type 0
@@ -54,19 +54,19 @@ chosen-overwritten {X = X} f g (e ∷ es) h =
         ∙ overwritten-past e.0 y (chosen f es) (chosen g es) b ∙ ap (λ (m : Map X). (e.0, y) ∷ m) rest
 
 -- what a page shows is no older than a version before all
-shown-after : (n p : ℕ) (versions : List Version) → AllByRecursion (λ later. n < later.number) versions → (b : Binding) → shown p versions ≡ Some b → n < p
+shown-after : (n p : ℕ) (versions : List Version) → AllByRecursion (λ later. n < later.number) versions → (b : Binding) → binding_at p versions ≡ Some b → n < p
 shown-after n p [] h b e = absurd cc
-shown-after n p (v ∷ vs) h b e = by (λ x is. shown-after n p vs h.1 x is) (shown p vs) refl (nat_le v.number p) refl e
+shown-after n p (v ∷ vs) h b e = by (λ x is. shown-after n p vs h.1 x is) (binding_at p vs) refl (nat_le v.number p) refl e
   where
-    by : ((x : Binding) → shown p vs ≡ Some x → n < p) → (o : Option Binding) → shown p vs ≡ o → (t : Bool) → nat_le v.number p ≡ t → or_else o (if t then Some v.binding else None) ≡ Some b → n < p
+    by : ((x : Binding) → binding_at p vs ≡ Some x → n < p) → (o : Option Binding) → binding_at p vs ≡ o → (t : Bool) → nat_le v.number p ≡ t → or_else o (if t then Some v.binding else None) ≡ Some b → n < p
     by later (Some x) is t et e' = later x is
     by later None is true et e' = omega (arith, h.0, leb-true v.number p et)
     by later None is false et e' = absurd cc
 
 -- a page shows what waited for it, else what the page before it shows
-pub shown-next : (p : ℕ) (versions : List Version) → Ascends versions → shown (suc p) versions ≡ or_else (waiting (suc p) versions) (shown p versions)
+pub shown-next : (p : ℕ) (versions : List Version) → Ascends versions → binding_at (suc p) versions ≡ or_else (waiting (suc p) versions) (binding_at p versions)
 shown-next p [] h = refl
-shown-next p (v ∷ vs) h = by (waiting (suc p) vs) (shown p vs) refl (shown-next p vs h.1)
+shown-next p (v ∷ vs) h = by (waiting (suc p) vs) (binding_at p vs) refl (shown-next p vs h.1)
   where
     now : ℕ → Option Binding
     now q = if nat_le v.number q then Some v.binding else None
@@ -83,8 +83,8 @@ shown-next p (v ∷ vs) h = by (waiting (suc p) vs) (shown p vs) refl (shown-nex
       | inr before ↦ rw (ne_eqb v.number (suc p) (omega arith), le-leb v.number p (omega arith), le-leb v.number (suc p) (omega arith)) refl
     ]
 
-    by : (w s : Option Binding) → shown p vs ≡ s → shown (suc p) vs ≡ or_else w (shown p vs)
-        → or_else (shown (suc p) vs) (now (suc p)) ≡ or_else (or_else w due) (or_else (shown p vs) (now p))
+    by : (w s : Option Binding) → binding_at p vs ≡ s → binding_at (suc p) vs ≡ or_else w (binding_at p vs)
+        → or_else (binding_at (suc p) vs) (now (suc p)) ≡ or_else (or_else w due) (or_else (binding_at p vs) (now p))
     by (Some x) s is e = ap (λ (o : Option Binding). or_else o (now (suc p))) e
     by None (Some x) is e =
         let early : v.number < p = shown-after v.number p vs h.0 x is in

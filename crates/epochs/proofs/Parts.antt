@@ -16,7 +16,7 @@ use Rattle.book.specs.Sound.{IsPage}
 use Rattle.book.proofs.Placed.{is_placement}
 use Rattle.book.proofs.Turning.{the-last}
 use Rattle.epochs.specs.Ends.{front}
-use Rattle.epochs.specs.Histories.{Version, chosen, shown}
+use Rattle.epochs.specs.Histories.{Version, chosen, binding_at}
 use Rattle.epochs.specs.Parts.{Keeps, Parts, earlier_of, last_of, last_root, no_root, page_of, pages_from, pending_of, tree_of}
 use Rattle.epochs.proofs.Ends.{front_final, slice_get-final}
 use Rattle.epochs.proofs.Finding.{root_beside}
@@ -65,7 +65,7 @@ module _ (names : Map (List Version)) where
       place = omega arith
 
 -- names that show the same below a number have the same pages below it
-pub pages_alike : (names others : Map (List Version)) (bound : ℕ) → ((p : ℕ) → p < bound → chosen (shown p) others ≡ chosen (shown p) names)
+pub pages_alike : (names others : Map (List Version)) (bound : ℕ) → ((p : ℕ) → p < bound → chosen (binding_at p) others ≡ chosen (binding_at p) names)
     → (number : ℕ) (roots : List SignedRoot) → number + length roots ≤ bound → pages_from others number roots ≡ pages_from names number roots
 pages_alike names others bound same number [] within = refl
 pages_alike names others bound same number (root ∷ roots) within =

@@ -23,16 +23,16 @@ use Rattle.proofs.specs.Replies.{reply_bytes}
 use Rattle.book.specs.declared.refusal.Refusal.{Refusal}
 use Rattle.book.specs.declared.refusal.Refusal.TheVariants.{BadName, NoPromise, NoSuchEpoch}
 use Rattle.book.specs.declared.reply.Reply.TheVariants as reply
-use Rattle.book.specs.Answers.{Found, Promised, Told, first, is_within, refusal, told}
-use Rattle.commands.specs.Asked.{History, Lookup, Promise, Query}
+use Rattle.book.specs.Answers.{Found, Promised, Told, first, is_within, refusal, page_range}
+use Rattle.commands.specs.Operations.{History, Lookup, Promise, Query}
 use Rattle.book.specs.Books.{Binding, Book, Page, page_at, pages}
 use Rattle.book.specs.Maps.{at}
-use Rattle.book.specs.Shows.{Provider, index_of, roots, shown_end, IsRootOf}
+use Rattle.book.specs.Shows.{Provider, index_of, roots, reply_end, IsRootOf}
 use Rattle.book.specs.Steps.{found_in, promise_of}
 use Rattle.book.specs.Turns.{IsRead, Reads, Shows}
 use Rattle.book.proofs.Rooted.{rooted-part}
 use Rattle.book.proofs.Stepping.{does_steps}
-use Rattle.epochs.specs.Histories.{chosen, shown}
+use Rattle.epochs.specs.Histories.{chosen, binding_at}
 use Rattle.epochs.specs.Parts.{Keeps, Parts, last_root, page_of, tree_of}
 use Rattle.epochs.proofs.Finding.{ascend_beside, epochs_of, length_beside, page_found_beside, page_missing_beside, told_from_beside}
 use Rattle.epochs.proofs.Parts.{book_of, last_get, page_kept, root_kept, tree_kept}
@@ -114,8 +114,8 @@ module _ (provider : Provider) (parts : Parts) (salt : List ℕ) (left : Stream)
   -- the reply of what stands at the place of a page is one to read
   pub lookup_reads : (name : List ℕ) (epoch place : ℕ) (root : SignedRoot) (tree : Contents) (value index : List ℕ) (siblings : List (List ℕ)) (end : PathEnd) (found : Option Binding) (text : List ℕ)
       → IsName name → page_at the_book epoch ≡ slice_get (pages the_book) place → place < length (pages the_book) → root ≡ get_or parts.roots place root → tree ≡ get_or parts.trees place tree
-      → value ≡ provider.value name → index ≡ provider.hash value → IsPath provider.hash tree.nonce tree.items index siblings end → found ≡ at (chosen (shown place) parts.names) name
-      → text ≡ reply_bytes (record { body = root.body; value = value; end = shown_end index found end; siblings = siblings })
+      → value ≡ provider.value name → index ≡ provider.hash value → IsPath provider.hash tree.nonce tree.items index siblings end → found ≡ at (chosen (binding_at place) parts.names) name
+      → text ≡ reply_bytes (record { body = root.body; value = value; end = reply_end index found end; siblings = siblings })
       → Reads provider the_book (Query (Lookup name epoch)) (reply.Found text)
   lookup_reads name epoch place root tree value index siblings end found text named is below there tree_there value_is index_is path found_is spelled = (
     Found page name (at page.bindings name),
@@ -132,8 +132,8 @@ module _ (provider : Provider) (parts : Parts) (salt : List ℕ) (left : Stream)
         end = end;
         path = subst₂ (λ (contents : Contents) (i : List ℕ). IsPath provider.hash contents.nonce contents.items i siblings end) same_tree same_index path;
         spelled =
-            spelled ∙ ap (λ (v : List ℕ). reply_bytes (record { body = root.body; value = v; end = shown_end index found end; siblings = siblings })) value_is
-            ∙ ap₂ (λ (i : List ℕ) (o : Option Binding). reply_bytes (record { body = root.body; value = provider.value name; end = shown_end i o end; siblings = siblings })) same_index found_is;
+            spelled ∙ ap (λ (v : List ℕ). reply_bytes (record { body = root.body; value = v; end = reply_end index found end; siblings = siblings })) value_is
+            ∙ ap₂ (λ (i : List ℕ) (o : Option Binding). reply_bytes (record { body = root.body; value = provider.value name; end = reply_end i o end; siblings = siblings })) same_index found_is;
       },
     ),
   )
@@ -179,15 +179,15 @@ module _ (provider : Provider) (parts : Parts) (salt : List ℕ) (left : Stream)
       → later ≡ drop start parts.roots → end ≡ min (length later) count → given ≡ take end later
       → (told_pages : List Page) × IsRead provider the_book (Query (History from count)) (Told told_pages) × AllZip (IsRootOf provider the_book) told_pages given
   history_reads from count start end later given some few point later_is end_is given_is = (
-    told the_book from count,
-    does_steps (index_of provider) the_book (Query (History from count)) (Told (told the_book from count)) the_book none (refl, refl),
+    page_range the_book from count,
+    does_steps (index_of provider) the_book (Query (History from count)) (Told (page_range the_book from count)) the_book none (refl, refl),
     subst₂ (λ (told_pages : List Page) (told_roots : List SignedRoot). AllZip (IsRootOf provider the_book) told_pages told_roots) (sym pages_are) (sym roots_are) (rooted-part provider the_book start count),
   )
     where
       none : refusal (index_of provider) the_book (Query (History from count)) ≡ None
       none = rw (le-leb 1 count (omega (arith, some)), le-leb count 64 few) refl
 
-      pages_are : told the_book from count ≡ take count (drop start (pages the_book))
+      pages_are : page_range the_book from count ≡ take count (drop start (pages the_book))
       pages_are = told_from_beside epoch_of parts.roots the_book epochs-kept from count start point
 
       roots_are : given ≡ take count (drop start (roots provider the_book))

@@ -4,7 +4,7 @@ use Rattle.std.specs.List.{AllByRecursion}
 use Rattle.std.specs.List.Sorted.{IsNonDecreasingBy, IsPartitionPoint}
 use Rattle.std.proofs.lemmas.Bool.{le-leb, leb-false, leb-true, lt-leb, ne_eqb}
 use Rattle.book.specs.Books.{Binding}
-use Rattle.epochs.specs.Histories.{Version, or_else, shown, waiting}
+use Rattle.epochs.specs.Histories.{Version, or_else, binding_at, waiting}
 use Rattle.epochs.specs.Versions.{Ascends}
 
 -- the versions before this place are of page p or earlier ones, and the others of later ones
@@ -30,7 +30,7 @@ module _ (p : ℕ) where
   onward : (v : Version) (vs : List Version) (i : ℕ) → Ends p (v ∷ vs) (suc i) → Ends p vs i
   onward v vs i ends = ((λ k d a b. ends.0 (suc k) d (omega arith) (omega arith)), (λ k d a b. ends.1 (suc k) d (omega arith) (omega arith)))
 
-  shown-before : (versions : List Version) → Ends p versions zero → shown p versions ≡ None
+  shown-before : (versions : List Version) → Ends p versions zero → binding_at p versions ≡ None
   shown-before [] ends = refl
   shown-before (v ∷ vs) ends = rw (shown-before vs (here v vs ends), lt-leb v.number p (ends.1 zero v (omega arith) (omega arith))) refl
 
@@ -38,7 +38,7 @@ module _ (p : ℕ) where
   waiting-before [] ends = refl
   waiting-before (v ∷ vs) ends = rw (waiting-before vs (here v vs ends), ne_eqb v.number p (omega (arith, ends.1 zero v (omega arith) (omega arith)))) refl
 
-  shown-found : (versions : List Version) (i : ℕ) (version : Version) → Ends p versions (suc i) → i < length versions → version ≡ get_or versions i version → shown p versions ≡ Some version.binding
+  shown-found : (versions : List Version) (i : ℕ) (version : Version) → Ends p versions (suc i) → i < length versions → version ≡ get_or versions i version → binding_at p versions ≡ Some version.binding
   shown-found [] i version ends within is = absurd (omega arith)
   shown-found (v ∷ vs) zero version ends within is =
       rw (shown-before vs (onward v vs zero ends), le-leb v.number p (ends.0 zero v (omega arith) (omega arith))) (ap (λ (w : Version). Some w.binding) (sym is))
@@ -59,14 +59,14 @@ module _ (p : ℕ) where
       last (Some x) = refl
 
 -- the same at the place before
-pub shown-at : (p : ℕ) (versions : List Version) (place i : ℕ) (version : Version) → Ends p versions place → place ≡ suc i → place ≤ length versions → version ≡ get_or versions i version → shown p versions ≡ Some version.binding
+pub shown-at : (p : ℕ) (versions : List Version) (place i : ℕ) (version : Version) → Ends p versions place → place ≡ suc i → place ≤ length versions → version ≡ get_or versions i version → binding_at p versions ≡ Some version.binding
 shown-at p versions place i version ends is within same = shown-found p versions i version (subst (Ends p versions) is ends) (omega arith) same
 
 pub waiting-at : (p : ℕ) (versions : List Version) (place i : ℕ) (version : Version) → Ascends versions → Ends p versions place → place ≡ suc i → place ≤ length versions → version ≡ get_or versions i version
     → waiting p versions ≡ (if nat_eq version.number p then Some version.binding else None)
 waiting-at p versions place i version up ends is within same = waiting-found p versions i version up (subst (Ends p versions) is ends) (omega arith) same
 
-pub shown-none : (p : ℕ) (versions : List Version) (place : ℕ) → Ends p versions place → place ≡ 0 → shown p versions ≡ None
+pub shown-none : (p : ℕ) (versions : List Version) (place : ℕ) → Ends p versions place → place ≡ 0 → binding_at p versions ≡ None
 shown-none p versions place ends is = shown-before p versions (subst (Ends p versions) is ends)
 
 pub waiting-none : (p : ℕ) (versions : List Version) (place : ℕ) → Ends p versions place → place ≡ 0 → waiting p versions ≡ None

@@ -9,7 +9,7 @@ use Rattle.book.specs.declared.reply.Reply.{Reply}
 use Rattle.book.specs.declared.reply.Reply.TheVariants as reply
 use Rattle.book.specs.Answers.{Answer, refusal, with_pending, Promised}
 use Rattle.commands.specs.declared.edit.Verb.{Verb}
-use Rattle.commands.specs.Asked.{Asked, Edit, Put}
+use Rattle.commands.specs.Operations.{Operation, Edit, Put}
 use Rattle.book.specs.Books.{Book}
 use Rattle.book.specs.Shows.{Provider, index_of}
 use Rattle.book.specs.Turns.{Keeps, Shows, Turn, kept_of}
@@ -18,7 +18,7 @@ use Rattle.book.proofs.Stepping.{Does}
 use Rattle.epochs.specs.Replied.{last, promised}
 use Rattle.epochs.specs.Versions.{IsUnkept}
 
-module _ (provider : Provider) {K : Type 0} (kept failed : K → Record → K → Type 0) (book done : Book) (keeper : K) (asked : Asked) (answer : Answer) (what : Record)
+module _ (provider : Provider) {K : Type 0} (kept failed : K → Record → K → Type 0) (book done : Book) (keeper : K) (asked : Operation) (answer : Answer) (what : Record)
     (none : refusal (index_of provider) book asked ≡ None) (does : Does book asked answer done) (recorded : kept_of book asked ≡ Some what) where
   -- a command that is not kept
   unkept_turn : (why : Refusal) (after : Book) (keeper_after : K) → after ≡ book → IsUnkept failed keeper what why keeper_after → Turn provider kept failed book keeper asked (reply.Refused why) after keeper_after

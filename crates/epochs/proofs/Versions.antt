@@ -14,7 +14,7 @@ use Rattle.std.proofs.lemmas.Map.{lookup-none}
 use Rattle.std.proofs.lemmas.Map.Entries.{none_below_head}
 use Rattle.prefixtree.proofs.Order.{same-equal}
 use Rattle.book.specs.Books.{Binding}
-use Rattle.epochs.specs.Histories.{Version, chosen, or_else, shown, waiting, with_some}
+use Rattle.epochs.specs.Histories.{Version, chosen, or_else, binding_at, waiting, with_some}
 use Rattle.book.specs.Maps.{Map, at, name_cmp, overwritten, put}
 use Rattle.epochs.specs.Versions.{AllBefore, AllWithin, AreHistories, Ascends, NamesWithin, versions_of, with_version}
 use Rattle.book.proofs.Entries.{Ascends as NamesAscend, ascends_put, at_put_other, at_put_same, first_alone, is_name, rest_ascends}
@@ -53,7 +53,7 @@ none_or : {X : Type 0} (V : Type 0) (f : List V → Option X) (o : Option (List 
 none_or V f None none = none
 none_or V f (Some x) none = refl
 
-shown-append : (p : ℕ) (version : Version) (earlier : List Version) → p < version.number → shown p (earlier ++ version ∷ []) ≡ shown p earlier
+shown-append : (p : ℕ) (version : Version) (earlier : List Version) → p < version.number → binding_at p (earlier ++ version ∷ []) ≡ binding_at p earlier
 shown-append p version [] late = rw (lt-leb version.number p late) refl
 shown-append p version (v ∷ vs) late = ap (λ (o : Option Binding). or_else o (if nat_le v.number p then Some v.binding else None)) (shown-append p version vs late)
 
@@ -68,9 +68,9 @@ waiting-past n (v ∷ vs) within = rw (waiting-past n vs within.1, ne_eqb v.numb
 within-append : (n : ℕ) (version : Version) (earlier : List Version) → version.number ≤ n → AllWithin n earlier → AllWithin n (earlier ++ version ∷ [])
 within-append n version earlier le within = all-append _ earlier version within le
 
-shown_later : (p : ℕ) (versions : List Version) → IsSome (shown p versions) → IsSome (shown (suc p) versions)
+shown_later : (p : ℕ) (versions : List Version) → IsSome (binding_at p versions) → IsSome (binding_at (suc p) versions)
 shown_later p [] some = some
-shown_later p (v ∷ vs) some = by (shown p vs) refl (shown_later p vs) some
+shown_later p (v ∷ vs) some = by (binding_at p vs) refl (shown_later p vs) some
   where
     kept : {X : Type 0} (o p : Option X) → IsSome o → IsSome (or_else o p)
     kept None p some = absurd (cc some)
@@ -81,10 +81,10 @@ shown_later p (v ∷ vs) some = by (shown p vs) refl (shown_later p vs) some
     last None true is some = rw (le-leb v.number (suc p) (omega (arith, leb-true v.number p is))) refl
     last None false is some = absurd (cc some)
 
-    by : (o : Option Binding) → shown p vs ≡ o → (IsSome o → IsSome (shown (suc p) vs)) → IsSome (or_else o (if nat_le v.number p then Some v.binding else None))
-        → IsSome (or_else (shown (suc p) vs) (if nat_le v.number (suc p) then Some v.binding else None))
-    by (Some x) is more some = kept (shown (suc p) vs) _ (more refl)
-    by None is more some = last (shown (suc p) vs) (nat_le v.number p) refl some
+    by : (o : Option Binding) → binding_at p vs ≡ o → (IsSome o → IsSome (binding_at (suc p) vs)) → IsSome (or_else o (if nat_le v.number p then Some v.binding else None))
+        → IsSome (or_else (binding_at (suc p) vs) (if nat_le v.number (suc p) then Some v.binding else None))
+    by (Some x) is more some = kept (binding_at (suc p) vs) _ (more refl)
+    by None is more some = last (binding_at (suc p) vs) (nat_le v.number p) refl some
 
 -- ---- of all names
 module _ {V X : Type 0} (f : V → Option X) where
@@ -172,10 +172,10 @@ module _ (names : Map (List Version)) (name : List ℕ) (version : Version) wher
   }
 
   -- an earlier page stays as it was
-  pub shown_stays : (p : ℕ) → NamesAscend names → p < version.number → chosen (shown p) (with_version names name version) ≡ chosen (shown p) names
+  pub shown_stays : (p : ℕ) → NamesAscend names → p < version.number → chosen (binding_at p) (with_version names name version) ≡ chosen (binding_at p) names
   shown_stays p up late =
-      chosen-put_same (shown p) name (versions_of names name ++ version ∷ []) names up
-      (shown-append p version (versions_of names name) late ∙ none_or Version (shown p) (at names name) refl)
+      chosen-put_same (binding_at p) name (versions_of names name ++ version ∷ []) names up
+      (shown-append p version (versions_of names name) late ∙ none_or Version (binding_at p) (at names name) refl)
 
   -- what waits for the page of the version is as it was, and the version
   pub waiting_added : (p : ℕ) → NamesAscend names → version.number ≡ p → chosen (waiting p) (with_version names name version) ≡ put (chosen (waiting p) names) name version.binding
@@ -208,16 +208,16 @@ pub nothing_waits : (n : ℕ) (names : Map (List Version)) → NamesWithin n nam
 nothing_waits n names within = all_none (waiting (suc n)) names (all_so _ _ (λ e. waiting-past n e.1) names within)
 
 -- the next page is this one, overwritten by what waits
-pub next_shows : (p : ℕ) (names : Map (List Version)) → AreHistories names → chosen (shown (suc p)) names ≡ overwritten (chosen (shown p) names) (chosen (waiting (suc p)) names)
+pub next_shows : (p : ℕ) (names : Map (List Version)) → AreHistories names → chosen (binding_at (suc p)) names ≡ overwritten (chosen (binding_at p) names) (chosen (waiting (suc p)) names)
 next_shows p names are =
-    chosen_alike (shown (suc p)) (λ versions. or_else (waiting (suc p) versions) (shown p versions)) names (all_so _ _ (λ e. shown-next p e.1) names are.versions_ascend)
-    ∙ sym (chosen-overwritten (shown p) (waiting (suc p)) names are.names_ascend)
+    chosen_alike (binding_at (suc p)) (λ versions. or_else (waiting (suc p) versions) (binding_at p versions)) names (all_so _ _ (λ e. shown-next p e.1) names are.versions_ascend)
+    ∙ sym (chosen-overwritten (binding_at p) (waiting (suc p)) names are.names_ascend)
 
 -- a name that a page has, the next one has too
-pub names_stay : (p : ℕ) (names : Map (List Version)) (name : List ℕ) → NamesAscend names → IsSome (at (chosen (shown p) names) name) → IsSome (at (chosen (shown (suc p)) names) name)
+pub names_stay : (p : ℕ) (names : Map (List Version)) (name : List ℕ) → NamesAscend names → IsSome (at (chosen (binding_at p) names) name) → IsSome (at (chosen (binding_at (suc p)) names) name)
 names_stay p names name up some =
-    rw (at-chosen (shown (suc p)) names name up) (by (at names name) (rw (at-chosen (shown p) names name up) at some))
+    rw (at-chosen (binding_at (suc p)) names name up) (by (at names name) (rw (at-chosen (binding_at p) names name up) at some))
   where
-    by : (o : Option (List Version)) → IsSome (option_and_then (shown p) o) → IsSome (option_and_then (shown (suc p)) o)
+    by : (o : Option (List Version)) → IsSome (option_and_then (binding_at p) o) → IsSome (option_and_then (binding_at (suc p)) o)
     by None some = some
     by (Some versions) some = shown_later p versions some

@@ -14,9 +14,9 @@ or_else (Some x) other = Some x
 or_else None other = other
 
 -- the last version whose number is at most p: what page p shows
-abbrev pub shown : ℕ → List Version → Option Binding
-shown p [] = None
-shown p (version ∷ versions) = or_else (shown p versions) (if nat_le version.number p then Some version.binding else None)
+abbrev pub binding_at : ℕ → List Version → Option Binding
+binding_at p [] = None
+binding_at p (version ∷ versions) = or_else (binding_at p versions) (if nat_le version.number p then Some version.binding else None)
 
 -- the version that waits for page p
 abbrev pub waiting : ℕ → List Version → Option Binding

@@ -9,7 +9,7 @@ use Rattle.book.specs.Maps.{Map}
 use Rattle.book.specs.Shows.{Provider, index_of, placement, roots}
 use Rattle.book.specs.Sound.{IsSound}
 use Rattle.epochs.specs.Ends.{final, front}
-use Rattle.epochs.specs.Histories.{Version, chosen, shown, waiting}
+use Rattle.epochs.specs.Histories.{Version, chosen, binding_at, waiting}
 use Rattle.epochs.specs.Versions.{AreHistories, NamesWithin}
 
 pub record Parts : Type 0 where
@@ -31,7 +31,7 @@ no_root = record {
 
 -- the page of this number and root
 abbrev pub page_of : Map (List Version) → ℕ → SignedRoot → Page
-page_of names number root = record { epoch = root.body.epoch; nonce = root.body.nonce; bindings = chosen (shown number) names }
+page_of names number root = record { epoch = root.body.epoch; nonce = root.body.nonce; bindings = chosen (binding_at number) names }
 
 -- the pages of these roots, numbered from this one on
 abbrev pub pages_from : Map (List Version) → ℕ → List SignedRoot → List Page

@@ -9,10 +9,10 @@ use Rattle.book.specs.declared.record.Record.TheVariants.{Start, Bound, Turned}
 use Rattle.book.specs.declared.refusal.Refusal.{Refusal}
 use Rattle.book.specs.Replays.{replayed, IsUnreplayed}
 use Rattle.book.specs.Shows.{Provider, placement}
-use Rattle.epochs.specs.Kept.{book, Kept}
+use Rattle.epochs.specs.DirectoryStates.{book, DirectoryState}
 
 -- the record is carried out; or it is refused, and the book stays
-abbrev pub Replays : {R : Type 0} → (R → Stream) → (List ℕ → List ℕ) → Kept R → Record → Result (Unit {0}) Refusal → Kept R → Type 0
+abbrev pub Replays : {R : Type 0} → (R → Stream) → (List ℕ → List ℕ) → DirectoryState R → Record → Result (Unit {0}) Refusal → DirectoryState R → Type 0
 Replays stream index_of before what (Ok done) after = replayed index_of (book stream before) what ≡ Some (book stream after)
 Replays stream index_of before what (Err why) after = (book stream after ≡ book stream before) × IsUnreplayed index_of (book stream before) what why
 
@@ -22,7 +22,7 @@ address_digests Register = 1
 address_digests Change = 0
 
 -- at most so many digests
-abbrev pub replay_digests : {R : Type 0} → Provider → Kept R → Record → ℕ
-replay_digests provider kept (Start epoch nonce signature_key vuf_key) = 0
+abbrev pub replay_digests : {R : Type 0} → Provider → DirectoryState R → Record → ℕ
+replay_digests provider kept (Start epoch nonce signing_key vuf_key) = 0
 replay_digests provider kept (Bound verb salt name key) = address_digests verb + 1
 replay_digests provider kept (Turned epoch) = made_count 256 (placement provider kept.last.bindings) (placement provider kept.pending) + 1

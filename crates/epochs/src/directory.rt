@@ -3,7 +3,7 @@ ghost use Rattle.book.specs.Fresh.{fresh, KeepsLaws};
 ghost use Rattle.book.specs.Shows.{index_of, IsRootOf};
 ghost use Rattle.book.specs.Sound.{IsSound};
 ghost use Rattle.epochs.specs.Beginnings.{IsBeginRefusal};
-ghost use Rattle.epochs.specs.Kept.{book, provider};
+ghost use Rattle.epochs.specs.DirectoryStates.{book, provider};
 
 use crate::names::Names;
 use crate::signing::{hash_of, next_salt, signed_root};
@@ -46,9 +46,9 @@ pub struct Directory<H: NodeHash, V: Vuf, S: Signer, R: Rng> {
 }
 
 impl<H: NodeHash, V: Vuf, S: Signer, R: Rng> Model for Directory<H, V, S, R> {
-    ghost use Rattle.epochs.specs.Kept.{Kept};
+    ghost use Rattle.epochs.specs.DirectoryStates.{DirectoryState};
 
-    ghost Value = { Kept R };
+    ghost Value = { DirectoryState R };
 
     ghost use Rattle.epochs.specs.Directories.{kept_of, IsKept};
 
@@ -78,7 +78,7 @@ impl<H: NodeHash, V: Vuf, S: Signer, R: Rng> Directory<H, V, S, R> {
         S: Drop,
         R: Drop,
         ensures begun { IfOk result (λ directory. (book R.stream directory ≡ fresh epoch nonce (R.stream salts)) × (0 < epoch)) }
-        ensures keys { IfOk result (λ directory. (directory.vuf_key ≡ V.public_key vuf) × (directory.key ≡ S.public_key signer)) }
+        ensures keys { IfOk result (λ directory. (directory.vuf_key ≡ V.public_key vuf) × (directory.signing_key ≡ S.public_key signer)) }
         ensures work { IfOk result (λ directory. directory.digests ≤ H.digests hash + 2) }
         ensures refused { IfErr result (IsBeginRefusal epoch) }
     {
@@ -120,7 +120,7 @@ impl<H: NodeHash, V: Vuf, S: Signer, R: Rng> Directory<H, V, S, R> {
     pub fn head(&self) -> &SignedRoot
         ensures head { IsRootOf (provider H.digest_of V.value_of S.signature_of self.now) (book R.stream self.now) self.now.last result.now }
         ensures sound { IsSound (index_of (provider H.digest_of V.value_of S.signature_of self.now)) (book R.stream self.now) }
-        ensures laws { KeepsLaws V.accepted S.verified self.now.key (provider H.digest_of V.value_of S.signature_of self.now) }
+        ensures laws { KeepsLaws V.accepted S.verified self.now.signing_key (provider H.digest_of V.value_of S.signature_of self.now) }
     {
         let root = &self.roots[self.roots.len() - 1];
         // What this ensures: a public key of the verifiable function has 32 bytes.

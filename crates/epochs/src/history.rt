@@ -2,7 +2,7 @@ ghost use Rattle.std.specs.Prelude.{◌≡◌, ◌<◌, ◌≤◌, ◌++◌, ◌
 ghost use Rattle.std.specs.List.Sorted.{IsPartitionPoint};
 ghost use Rattle.std.specs.Option.{option_map};
 ghost use Rattle.nodehash.specs.Digests.{one_more};
-ghost use Rattle.epochs.specs.Histories.{shown, waiting};
+ghost use Rattle.epochs.specs.Histories.{binding_at, waiting};
 ghost use Rattle.epochs.specs.Versions.{AllBefore, Ascends, IsUnkept};
 
 use crate::address::Address;
@@ -141,7 +141,7 @@ impl History {
 
     /// What a page shows: the last version whose first page is at most this one.
     pub(crate) fn shown(&self, page: usize) -> Option<&Version>
-        ensures { option_map (λ version. version.now.binding) result ≡ shown page self.now.versions }
+        ensures { option_map (λ version. version.now.binding) result ≡ binding_at page self.now.versions }
     {
         let place = self.place_after(page);
         if place == 0 {
@@ -217,7 +217,7 @@ pub(crate) fn address_in<H: NodeHash, V: Vuf>(
 
 /// What a page shows of a name.
 pub(crate) fn shown_in(history: Option<&History>, page: usize) -> Option<&Version>
-    ensures { option_map (λ version. version.now.binding) result ≡ option_and_then (λ history. shown page history.now.versions) history.entry }
+    ensures { option_map (λ version. version.now.binding) result ≡ option_and_then (λ history. binding_at page history.now.versions) history.entry }
 {
     match history {
         Some(history) => history.shown(page),

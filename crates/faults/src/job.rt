@@ -223,7 +223,7 @@ fn marked(outcome: Outcome, offered: &[u8]) -> Outcome {
 
 fn serve_one(alloc: Global, reader: &mut CutReader<'_>, writer: &mut CutWriter) -> Outcome {
     let order = DirectoryOrder {
-        sign_key: ONES,
+        signing_key: ONES,
         vuf_key: TWOS,
         salt_key: ZEROS,
         token: FOURS,

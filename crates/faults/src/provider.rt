@@ -64,7 +64,7 @@ pub(crate) fn start() -> Record {
     Record::Start {
         epoch: EPOCH,
         nonce: nonce(),
-        signature_key: signer().public(),
+        signing_key: signer().public(),
         vuf_key: vuf().public(),
     }
 }

@@ -2,9 +2,9 @@
 use Rattle.std.proofs.Common.{◌≡◌, ℕ, List, [], ◌∷◌, ◌++◌, Bool, true, false, cond, filter, flat_map, map, Option, Some, None, refl, sym, ap, ap₂, ◌∙◌}
 use Rattle.std.proofs.lemmas.Bool.{eqb-true}
 use Rattle.std.specs.Prelude.{◌==◌, ◌||◌, is_some}
-use Rattle.wire.specs.Streams.{Held, Message, messages, with_more}
-use Rattle.hub.specs.declared.refusal.HubRefusal.{HubRefusal}
-use Rattle.hub.specs.declared.refusal.HubRefusal.TheVariants.{NoSession}
+use Rattle.wire.specs.Streams.{Remainder, Message, messages, with_more}
+use Rattle.hub.specs.declared.hub_refusal.HubRefusal.{HubRefusal}
+use Rattle.hub.specs.declared.hub_refusal.HubRefusal.TheVariants.{NoSession}
 use Rattle.hub.specs.Events.{BySession, Happening, Open, Bytes, End, at, due, number}
 use Rattle.hub.specs.Laws.{lines_of, messages_of, own_events, own_streams, sent, stream_messages, CutsBringTheSame, OwnStream}
 use Rattle.hub.specs.Runs.{Line, Streams, after_event, asked, brought, bytes_of, commands, completed_by, each, fresh, or_nothing, told, unless_refused, was_open, AreOutputs}
@@ -49,7 +49,7 @@ by_sessions (one ∷ more) (other ∷ rest) turns same = ap₂ (λ (x : Sent) (x
 
 -- ---- streams, wherever they are cut
 
-abbrev of_sent : Held × Option (List ℕ) → List Message
+abbrev of_sent : Remainder × Option (List ℕ) → List Message
 of_sent (held, None) = []
 of_sent (held, Some bytes) = (messages (with_more held bytes)).0
 

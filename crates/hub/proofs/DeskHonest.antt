@@ -6,15 +6,15 @@ use Rattle.rand_core.specs.Stream.{Stream}
 use Rattle.book.specs.declared.record.Record.{Record}
 use Rattle.book.specs.declared.reply.Reply.{Reply}
 use Rattle.encoding.specs.Bytes.{IsBytes}
-use Rattle.commands.specs.Asked.{Asked, Question, Query, Edit, Put, Turn, Promise, Lookup, History, Head, FitsIn, IsAny, IsCommand, MayRead}
+use Rattle.commands.specs.Operations.{Operation, Question, Query, Edit, Put, Turn, Promise, Lookup, History, Head, FitsIn, IsAny, IsCommand, MayRead}
 use Rattle.book.specs.Shows.{Provider, index_of}
 use Rattle.book.specs.Sound.{IsSound}
 use Rattle.book.proofs.Honesty.{honest}
-use Rattle.epochs.specs.Kept.{book, provider}
+use Rattle.epochs.specs.DirectoryStates.{book, provider}
 use Rattle.epochs.proofs.Running.{same_provider}
 use Rattle.wire.specs.Requests as request
 use Rattle.wire.specs.Streams.{Message, Whole, BadFrame}
-use Rattle.hub.specs.Desks.{command, Desked, DeskAnswers}
+use Rattle.hub.specs.Desks.{command, DeskState, DeskAnswers}
 use Rattle.hub.specs.DeskRuns.{IsWell, Reaches, ShowHonestRun, ShowReplies}
 use Rattle.hub.specs.Runs.{Line, AllAnswered}
 use Rattle.hub.proofs.DeskRunning.{lines_show_run}
@@ -27,7 +27,7 @@ question_is (Lookup name epoch) (of_epoch, of_name) = (tt, of_name.2)
 question_is (History from count) are = (tt, tt)
 question_is Head are = tt
 
-request_is : (token : List ℕ) (requested : request.Requested) (asked : Asked) → request.IsAsked requested → command token requested ≡ Some asked → IsCommand asked
+request_is : (token : List ℕ) (requested : request.RequestContent) (asked : Operation) → request.IsAsked requested → command token requested ≡ Some asked → IsCommand asked
 request_is token (request.Query question) asked are e = subst IsCommand (let same : Query question ≡ asked = cc in same) (question_is question are)
 request_is token (request.Put verb name key) asked (of_name, of_key) e = subst IsCommand (let same : Edit (Put verb name key) ≡ asked = cc in same) (of_name.2, of_key.2)
 request_is token (request.Turn given epoch) asked (of_token, of_epoch) e = by_token (bytes_eq given token) e
@@ -36,11 +36,11 @@ request_is token (request.Turn given epoch) asked (of_token, of_epoch) e = by_to
     by_token true same = subst IsCommand (let is : Edit (Turn epoch) ≡ asked = cc in is) of_epoch
     by_token false same = absurd cc
 
-reached_is : (token : List ℕ) (message : Message) (asked : Asked) → Reaches token message asked → IsCommand asked
+reached_is : (token : List ℕ) (message : Message) (asked : Operation) → Reaches token message asked → IsCommand asked
 reached_is token (Whole frame) asked (requested, read, is) = request_is token requested asked read.1.1 is
 reached_is token BadFrame asked reaches = absurd reaches
 
-commands_are : (token : List ℕ) (lines : List Line) (commands : List Asked) (replies : List Reply) → ShowReplies token lines commands replies → All IsCommand commands
+commands_are : (token : List ℕ) (lines : List Line) (commands : List Operation) (replies : List Reply) → ShowReplies token lines commands replies → All IsCommand commands
 commands_are token [] commands replies (none, said) = subst (All IsCommand) (sym none) (All-nil IsCommand)
 commands_are token (line ∷ more) commands replies (inl (code, turned, says, shows)) = commands_are token more commands replies shows
 commands_are token (line ∷ more) commands replies (inr (asked, told, later, others, reaches, says, is, are, shows)) =
@@ -48,7 +48,7 @@ commands_are token (line ∷ more) commands replies (inr (asked, told, later, ot
 
 module _ {R K : Type 0} (digest_of : List ℕ → List ℕ) (value_of signature_of : List ℕ → List ℕ → List ℕ) (stream : R → Stream) (kept failed : K → Record → K → Type 0)
     (accepted verified : List ℕ → List ℕ → List ℕ → Type 0) where
-  pub lines_show_honest_run : (before : Desked R K) (lines : List Line) (after : Desked R K)
+  pub lines_show_honest_run : (before : DeskState R K) (lines : List Line) (after : DeskState R K)
       → IsWell digest_of value_of signature_of stream accepted verified before → IsWell digest_of value_of signature_of stream accepted verified after
       → AllAnswered (DeskAnswers digest_of value_of signature_of stream kept failed) before lines after
       → ShowHonestRun digest_of value_of signature_of stream kept failed accepted verified before lines after
@@ -59,13 +59,13 @@ module _ {R K : Type 0} (digest_of : List ℕ → List ℕ) (value_of signature_
       subst (λ (p : Provider). IsSound (index_of p) (book stream after.directory)) (same_provider digest_of value_of signature_of stream kept failed before.directory after.directory keys) well_after.sound
       in
       let are : All IsCommand commands = commands_are before.token lines commands replies shown in
-      let seen = honest by accepted verified before.directory.key well.laws kept failed (book stream before.directory) (book stream after.directory) before.keeper after.keeper commands replies well.sound sound_after are run in
+      let seen = honest by accepted verified before.directory.signing_key well.laws kept failed (book stream before.directory) (book stream after.directory) before.keeper after.keeper commands replies well.sound sound_after are run in
       record {
         commands = commands;
         replies = replies;
         shown = shown;
         run = run;
-        read = lines_read by accepted verified before.directory.key (book stream before.directory) (book stream after.directory) commands replies seen before.token lines commands replies shown
+        read = lines_read by accepted verified before.directory.signing_key (book stream before.directory) (book stream after.directory) commands replies seen before.token lines commands replies shown
             (run_for by kept failed commands replies (book stream before.directory) (book stream after.directory) before.keeper after.keeper run) (λ asked told said. said);
         honest = seen;
         keys = keys;

@@ -13,19 +13,19 @@ use Rattle.book.specs.declared.refusal.Refusal.{Refusal}
 use Rattle.book.specs.declared.refusal.Refusal.TheVariants.{BadRange}
 use Rattle.book.specs.declared.reply.Reply.{Reply}
 use Rattle.book.specs.declared.reply.Reply.TheVariants as reply
-use Rattle.book.specs.Answers.{Told as ToldPages, told}
-use Rattle.commands.specs.Asked.{Asked, Question, Query, Edit, Head, History}
-use Rattle.commands.specs.Asked as ask
+use Rattle.book.specs.Answers.{Told as ToldPages, page_range}
+use Rattle.commands.specs.Operations.{Operation, Question, Query, Edit, Head, History}
+use Rattle.commands.specs.Operations as ask
 use Rattle.book.specs.Books.{Book, Page}
 use Rattle.book.specs.Books.{pages as pages_of}
 use Rattle.book.specs.Shows.{Provider, IsRootOf, index_of}
 use Rattle.book.specs.Steps.{Outcome, Answers, Refuses, unless_refused, step}
 use Rattle.book.specs.Turns.{IsRead as IsAnswered, IsRefused, Reads, Turn}
-use Rattle.epochs.specs.Kept.{Kept, HasKeysOf, book as book_kept, provider as provider_kept}
+use Rattle.epochs.specs.DirectoryStates.{DirectoryState, HasKeysOf, book as book_kept, provider as provider_kept}
 use Rattle.epochs.specs.Replied.{IsTold}
 use Rattle.epochs.proofs.Running.{head_reads, reads_turn, tells_reads}
-use Rattle.wire.specs.declared.refusal.ReadRefusal.{ReadRefusal}
-use Rattle.wire.specs.declared.refusal.ReadRefusal.TheVariants.{BadKind, BadBody}
+use Rattle.wire.specs.declared.refusals.ReadRefusal.{ReadRefusal}
+use Rattle.wire.specs.declared.refusals.ReadRefusal.TheVariants.{BadKind, BadBody}
 use Rattle.wire.specs.Frames.{frame_bytes}
 use Rattle.wire.specs.Requests.{ReadsRequest}
 use Rattle.hub.specs.Desks.{reply_frame, Commanded, IsRead}
@@ -37,10 +37,10 @@ read_refused kind body BadBody h = h
 -- ---- the roots of a history
 
 same_pages : (by : List ℕ → List ℕ) (book : Book) (from count : ℕ) (pages : List Page) (b : Bool)
-    → unless_refused (cond (not b) (Some BadRange) None) book (Query (History from count)) ≡ (Answers (ToldPages pages), book) → (b ≡ true) × (pages ≡ told book from count)
+    → unless_refused (cond (not b) (Some BadRange) None) book (Query (History from count)) ≡ (Answers (ToldPages pages), book) → (b ≡ true) × (pages ≡ page_range book from count)
 same_pages by book from count pages true e =
-    let one : Answers (ToldPages (told book from count)) ≡ Answers (ToldPages pages) = ap (λ (x : Outcome × Book). x.0) e in
-    let same : told book from count ≡ pages = cc in
+    let one : Answers (ToldPages (page_range book from count)) ≡ Answers (ToldPages pages) = ap (λ (x : Outcome × Book). x.0) e in
+    let same : page_range book from count ≡ pages = cc in
     (refl, sym same)
 same_pages by book from count pages false e = absurd (let wrong : Refuses BadRange ≡ Answers (ToldPages pages) = ap (λ (x : Outcome × Book). x.0) e in cc)
 
@@ -67,23 +67,23 @@ listed any roots few =
     (record { ptr = any.ptr; len = length roots; cap = length roots; alloc = any.alloc; items = roots; ok = (refl, omega arith); small = omega (arith, few) }, refl)
 
 module _ {R K : Type 0} (digest_of : List ℕ → List ℕ) (value_of signature_of : List ℕ → List ℕ → List ℕ) (stream : R → Stream) (kept failed : K → Record → K → Type 0) where
-  abbrev provider_of : Kept R → Provider
+  abbrev provider_of : DirectoryState R → Provider
   provider_of directory = provider_kept digest_of value_of signature_of directory
 
   -- a command is answered, and the frame of the reply is appended
-  abbrev Serving : Kept R → K → List ℕ → Option Asked → List ℕ → Kept R → K → List ℕ → Type 0
+  abbrev Serving : DirectoryState R → K → List ℕ → Option Operation → List ℕ → DirectoryState R → K → List ℕ → Type 0
   Serving directory keeper token asked output directory_after keeper_after grown = (text : List ℕ)
       × Commanded digest_of value_of signature_of stream kept failed (record { directory = directory; keeper = keeper; token = token }) asked text (record { directory = directory_after; keeper = keeper_after; token = token })
       × (grown ≡ output ++ text)
 
   -- a turn
-  turned : (directory : Kept R) (keeper : K) (token : List ℕ) (asked : Asked) (output : List ℕ) (later : Kept R) (keeper_after : K) (grown : List ℕ) (said : Reply)
+  turned : (directory : DirectoryState R) (keeper : K) (token : List ℕ) (asked : Operation) (output : List ℕ) (later : DirectoryState R) (keeper_after : K) (grown : List ℕ) (said : Reply)
       → Turn (provider_of directory) kept failed (book_kept stream directory) keeper asked said (book_kept stream later) keeper_after → HasKeysOf directory later
       → grown ≡ output ++ frame_bytes (reply_frame said) → Serving directory keeper token (Some asked) output later keeper_after grown
   turned directory keeper token asked output later keeper_after grown said turn keys wrote = (frame_bytes (reply_frame said), (said, turn, refl, keys, refl), wrote)
 
   -- a query
-  pub read_turned : (directory : Kept R) (keeper : K) (token : List ℕ) (question : Question) (output : List ℕ) (later : Kept R) (grown : List ℕ) (said : Reply)
+  pub read_turned : (directory : DirectoryState R) (keeper : K) (token : List ℕ) (question : Question) (output : List ℕ) (later : DirectoryState R) (grown : List ℕ) (said : Reply)
       → Reads (provider_of directory) (book_kept stream directory) (Query question) said → book_kept stream later ≡ book_kept stream directory → HasKeysOf directory later
       → grown ≡ output ++ frame_bytes (reply_frame said) → Serving directory keeper token (Some (Query question)) output later keeper grown
   read_turned directory keeper token question output later grown said reads stays keys wrote =
@@ -91,7 +91,7 @@ module _ {R K : Type 0} (digest_of : List ℕ → List ℕ) (value_of signature_
       (subst (λ (b : Book). Turn (provider_of directory) kept failed (book_kept stream directory) keeper (Query question) said b keeper) (sym stays)
       (reads_turn (provider_of directory) kept failed (book_kept stream directory) question keeper said reads)) keys wrote
 
-  pub roots_turned : (any : Vec ℕ Global) (directory : Kept R) (keeper : K) (token : List ℕ) (from count : ℕ) (output : List ℕ) (grown : List ℕ) (answer : Result (Bor (List SignedRoot)) Refusal)
+  pub roots_turned : (any : Vec ℕ Global) (directory : DirectoryState R) (keeper : K) (token : List ℕ) (from count : ℕ) (output : List ℕ) (grown : List ℕ) (answer : Result (Bor (List SignedRoot)) Refusal)
       → MatchResult answer
       (λ roots. (pages : List Page) × IsAnswered (provider_of directory) (book_kept stream directory) (Query (History from count)) (ToldPages pages) × AllZip (IsRootOf (provider_of directory) (book_kept stream directory)) pages roots.now)
       (λ why. IsRefused (provider_of directory) (book_kept stream directory) (Query (History from count)) why)
@@ -108,13 +108,13 @@ module _ {R K : Type 0} (digest_of : List ℕ → List ℕ) (value_of signature_
       by (Ok roots) few = let all = listed any roots.now few in (reply.Told all.0, all.1)
       by (Err why) few = (reply.Refused why, refl)
 
-  pub head_turned : (directory : Kept R) (keeper : K) (token : List ℕ) (output : List ℕ) (grown : List ℕ) (root : SignedRoot)
+  pub head_turned : (directory : DirectoryState R) (keeper : K) (token : List ℕ) (output : List ℕ) (grown : List ℕ) (root : SignedRoot)
       → IsRootOf (provider_of directory) (book_kept stream directory) (book_kept stream directory).last root → grown ≡ output ++ frame_bytes (reply_frame (reply.Last root))
       → Serving directory keeper token (Some (Query Head)) output directory keeper grown
   head_turned directory keeper token output grown root is wrote =
       read_turned directory keeper token Head output directory grown (reply.Last root) (head_reads (provider_of directory) (book_kept stream directory) root root refl is) refl (refl, refl) wrote
 
-  pub close_turned : (directory : Kept R) (keeper : K) (token given : List ℕ) (epoch : ℕ) (output : List ℕ) (later : Kept R) (keeper_after : K) (grown : List ℕ) (said : Reply) → bytes_eq given token ≡ true
+  pub close_turned : (directory : DirectoryState R) (keeper : K) (token given : List ℕ) (epoch : ℕ) (output : List ℕ) (later : DirectoryState R) (keeper_after : K) (grown : List ℕ) (said : Reply) → bytes_eq given token ≡ true
       → Turn (provider_of directory) kept failed (book_kept stream directory) keeper (Edit (ask.Turn epoch)) said (book_kept stream later) keeper_after → HasKeysOf directory later
       → grown ≡ output ++ frame_bytes (reply_frame said) → Serving directory keeper token (cond (bytes_eq given token) (Some (Edit (ask.Turn epoch))) None) output later keeper_after grown
   close_turned directory keeper token given epoch output later keeper_after grown said same turn keys wrote =

@@ -6,24 +6,24 @@ use Rattle.std.specs.BTreeMap.{is_at}
 use Rattle.std.specs.Map.{set_value}
 use Rattle.std.proofs.lemmas.Map.Steps.{set_value_same}
 use Rattle.wire.specs.Frames.{Frame}
-use Rattle.wire.specs.Streams.{Held, Failed}
-use Rattle.hub.specs.declared.refusal.HubRefusal.{HubRefusal}
-use Rattle.hub.specs.declared.refusal.HubRefusal.TheVariants.{TooManySessions, SessionOpen, NoSession, Memory}
+use Rattle.wire.specs.Streams.{Remainder, Failed}
+use Rattle.hub.specs.declared.hub_refusal.HubRefusal.{HubRefusal}
+use Rattle.hub.specs.declared.hub_refusal.HubRefusal.TheVariants.{TooManySessions, SessionOpen, NoSession, Memory}
 use Rattle.hub.specs.Exchanges.{Hears}
-use Rattle.hub.specs.Events.{Hubbed, BySession, at, due, Bytes}
+use Rattle.hub.specs.Events.{HubState, BySession, at, due, Bytes}
 use Rattle.hub.specs.Happenings.{Happens, HearsAt}
 
-none_due : (sessions : BySession Held) (session : ℕ) (piece : List ℕ) (held : Held) → at sessions session ≡ Some held → due sessions (Bytes session piece) ≡ None
-none_due sessions session piece held e = ap (λ (found : Option Held). cond (is_some found) None (Some NoSession)) e
+none_due : (sessions : BySession Remainder) (session : ℕ) (piece : List ℕ) (held : Remainder) → at sessions session ≡ Some held → due sessions (Bytes session piece) ≡ None
+none_due sessions session piece held e = ap (λ (found : Option Remainder). cond (is_some found) None (Some NoSession)) e
 
-same_hub : {S : Type 0} (x y : Hubbed S) → x.service ≡ y.service → x.sessions ≡ y.sessions → x ≡ y
+same_hub : {S : Type 0} (x y : HubState S) → x.service ≡ y.service → x.sessions ≡ y.sessions → x ≡ y
 same_hub {S} x y e f =
     let one : x ≡ record { service = y.service; sessions = x.sessions } = ap (λ (s : S). record { service = s; sessions = x.sessions }) e in
-    let two : record { service = y.service; sessions = x.sessions } ≡ y = ap (λ (m : BySession Held). record { service = y.service; sessions = m }) f in
+    let two : record { service = y.service; sessions = x.sessions } ≡ y = ap (λ (m : BySession Remainder). record { service = y.service; sessions = m }) f in
     one ∙ two
 
 module _ {S : Type 0} (answers : S → Frame → List ℕ → S → Type 0) where
-  heard_happens : (before after : Hubbed S) (session : ℕ) (piece : List ℕ) (held left : Held) (output grown : List ℕ) (result : Result (Unit {0}) HubRefusal)
+  heard_happens : (before after : HubState S) (session : ℕ) (piece : List ℕ) (held left : Remainder) (output grown : List ℕ) (result : Result (Unit {0}) HubRefusal)
       → at before.sessions session ≡ Some held → after.sessions ≡ set_value (is_at (nat_cmp session)) before.sessions left
       → Hears answers before.service held piece output result after.service left grown
       → Happens answers before (Bytes session piece) output result after grown
@@ -39,10 +39,10 @@ module _ {S : Type 0} (answers : S → Frame → List ℕ → S → Type 0) wher
   heard_happens before after session piece held left output grown (Err NoSession) here set h = absurd h
 
   -- what is known where a session is looked for says what its event does
-  pub hears_happens : (before after : Hubbed S) (session : ℕ) (piece output grown : List ℕ) (result : Result (Unit {0}) HubRefusal)
+  pub hears_happens : (before after : HubState S) (session : ℕ) (piece output grown : List ℕ) (result : Result (Unit {0}) HubRefusal)
       → HearsAt answers before session piece output result after grown → Happens answers before (Bytes session piece) output result after grown
   hears_happens before after session piece output grown result (inl (gone, is, same, wrote)) =
       subst (λ (r : Result (Unit {0}) HubRefusal). Happens answers before (Bytes session piece) output r after grown) (sym is)
-      (ap (λ (found : Option Held). cond (is_some found) None (Some NoSession)) gone, same, wrote)
+      (ap (λ (found : Option Remainder). cond (is_some found) None (Some NoSession)) gone, same, wrote)
   hears_happens before after session piece output grown result (inr (held, left, here, set, heard)) =
       heard_happens before after session piece held left output grown result here set heard

@@ -8,7 +8,7 @@ use Rattle.std.specs.declared.cmp.Ordering.TheVariants.{Less, Equal, Greater}
 use Rattle.std.specs.Ordering.{nat_cmp, is_eq, match_ordering}
 use Rattle.std.specs.BTreeMap.{is_at, insert_entry}
 use Rattle.std.specs.Map.{keys_of, lookup, remove_entry, set_value}
-use Rattle.wire.specs.Streams.{Held, Rest}
+use Rattle.wire.specs.Streams.{Remainder, Rest}
 use Rattle.hub.specs.Events.{BySession, Happening, Open, Bytes, End, at, number}
 use Rattle.hub.specs.Runs.{Stream, Streams, changed, each, fresh, with_piece}
 use Rattle.hub.proofs.Entries.{lookup_each, remove_each}
@@ -134,7 +134,7 @@ ascend_once {X} (e ∷ es) n up = by_test (is_at (nat_cmp n) e.0) refl (ascend_o
     by_test true is next = none_above n e.0 es (sym (same_number n e.0 is)) up.0
     by_test false is next = rw is next
 
-pub fresh_once : (sessions : BySession Held) (n : ℕ) → IsStrictlySortedBy nat_cmp (keys_of sessions) → StandsOnce n (each fresh sessions)
+pub fresh_once : (sessions : BySession Remainder) (n : ℕ) → IsStrictlySortedBy nat_cmp (keys_of sessions) → StandsOnce n (each fresh sessions)
 fresh_once sessions n up =
     let q : ℕ → Bool = is_at (nat_cmp n) in
     ap (λ (m : Streams). at m n) (remove_each fresh q sessions) ∙ lookup_each fresh q (remove_entry q sessions) ∙ ap (option_map fresh) (ascend_once sessions n up)

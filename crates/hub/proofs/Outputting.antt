@@ -13,10 +13,10 @@ use Rattle.std.specs.BTreeMap.{is_at, insert_entry}
 use Rattle.std.specs.List.Sorted.{IsStrictlySortedBy}
 use Rattle.std.specs.Map.{keys_of, lookup}
 use Rattle.wire.specs.Frames.{Frame}
-use Rattle.wire.specs.Streams.{Held, Rest}
-use Rattle.hub.specs.declared.refusal.HubRefusal.{HubRefusal}
-use Rattle.hub.specs.declared.refusal.HubRefusal.TheVariants.{NoSession}
-use Rattle.hub.specs.Events.{BySession, Happening, Open, Bytes, End, Hubbed, at, due, number}
+use Rattle.wire.specs.Streams.{Remainder, Rest}
+use Rattle.hub.specs.declared.hub_refusal.HubRefusal.{HubRefusal}
+use Rattle.hub.specs.declared.hub_refusal.HubRefusal.TheVariants.{NoSession}
+use Rattle.hub.specs.Events.{BySession, Happening, Open, Bytes, End, HubState, at, due, number}
 use Rattle.hub.specs.Happenings.{Passes}
 use Rattle.hub.specs.Exchanges.{Exchange, replies}
 use Rattle.hub.specs.Outputs.{appended, Appends, AppendsUnless}
@@ -103,7 +103,7 @@ begun_at : {X : Type 0} (none : List ℕ) (found : Option X) → option_map (λ 
 begun_at none None = refl
 begun_at none (Some x) = refl
 
-pub outputs_begin : (sessions : BySession Held) (outputs : BySession (List ℕ)) → ((n : ℕ) → at outputs n ≡ option_map (λ _. []) (at sessions n)) → OutputsSo (each fresh sessions) [] [] outputs
+pub outputs_begin : (sessions : BySession Remainder) (outputs : BySession (List ℕ)) → ((n : ℕ) → at outputs n ≡ option_map (λ _. []) (at sessions n)) → OutputsSo (each fresh sessions) [] [] outputs
 outputs_begin sessions outputs are = (
   λ n. are n ∙ begun_at [] (at sessions n) ∙ ap (λ (b : Bool). cond b (Some []) None) (sym (is_some_each fresh sessions n)),
   λ n e. refl,
@@ -184,14 +184,14 @@ module _ (streams : Streams) (events : List Happening) (ls : List Line) (it : Ha
 
 module _ {S : Type 0} (answers : S → Frame → List ℕ → S → Type 0) where
   -- a run with its outputs so far
-  abbrev pub RanSo : Hubbed S → List Happening → Hubbed S → BySession (List ℕ) → Type 0
+  abbrev pub RanSo : HubState S → List Happening → HubState S → BySession (List ℕ) → Type 0
   RanSo before events after outputs = (ls : List Line) × RunsSo answers before events ls after × OutputsSo (each fresh before.sessions) events ls outputs
 
-  passes_so : (middle after : Hubbed S) (streams : Streams) (it : Happening) (xs : List Exchange) → Matches middle.sessions streams → Passes answers middle it xs after → (xs ≡ []) ⊎ (due streams it ≡ None)
+  passes_so : (middle after : HubState S) (streams : Streams) (it : Happening) (xs : List Exchange) → Matches middle.sessions streams → Passes answers middle it xs after → (xs ≡ []) ⊎ (due streams it ≡ None)
   passes_so middle after streams it xs match (inl (refusal, is, none, same)) = inl none
   passes_so middle after streams it xs match (inr (fine, does)) = inr (sym (due_same middle.sessions streams it match) ∙ fine)
 
-  pub ran_more : (before middle after : Hubbed S) (events more : List Happening) (it : Happening) (old new : BySession (List ℕ)) → more ≡ events ++ it ∷ []
+  pub ran_more : (before middle after : HubState S) (events more : List Happening) (it : Happening) (old new : BySession (List ℕ)) → more ≡ events ++ it ∷ []
       → RanSo before events middle old
       → ((xs : List Exchange) × Passes answers middle it xs after × AppendsUnless (due middle.sessions it) old (number it) (replies xs) new) → RanSo before more after new
   ran_more before middle after events more it old new is (ls, run, so) (xs, passes, appends) =

@@ -9,9 +9,9 @@ use Rattle.std.specs.Ordering.{nat_cmp}
 use Rattle.std.specs.BTreeMap.{is_at}
 use Rattle.wire.specs.Frames.{Frame}
 use Rattle.wire.specs.Laws.{joined}
-use Rattle.wire.specs.Streams.{Held, Message, Rest, Failed, messages, with_more}
-use Rattle.hub.specs.declared.refusal.HubRefusal.{HubRefusal}
-use Rattle.hub.specs.declared.refusal.HubRefusal.TheVariants.{TooManySessions, SessionOpen, NoSession}
+use Rattle.wire.specs.Streams.{Remainder, Message, Rest, Failed, messages, with_more}
+use Rattle.hub.specs.declared.hub_refusal.HubRefusal.{HubRefusal}
+use Rattle.hub.specs.declared.hub_refusal.HubRefusal.TheVariants.{TooManySessions, SessionOpen, NoSession}
 use Rattle.hub.specs.Events.{Happening, Open, Bytes, End, at, due, number}
 use Rattle.hub.specs.Laws.{lines_of, messages_of, opened, own_events, own_streams, pieces, stream_messages, RunsTellTheirOwn, SessionsHearTheirOwn}
 use Rattle.hub.specs.Runs.{Line, Stream, Streams, asked, changed, commands, completed, completed_by, each, fresh, told, with_piece}
@@ -34,11 +34,11 @@ abbrev more_messages : Stream → List (List ℕ) → List Message
 more_messages stream [] = []
 more_messages stream (piece ∷ more) = drop stream.answered (messages (with_more stream.came (joined (piece ∷ more)))).0
 
-fresh_messages : (held : Held) (ps : List (List ℕ)) → more_messages (fresh held) ps ≡ stream_messages (held, ps)
+fresh_messages : (held : Remainder) (ps : List (List ℕ)) → more_messages (fresh held) ps ≡ stream_messages (held, ps)
 fresh_messages held [] = refl
 fresh_messages held (piece ∷ more) = refl
 
-with_more_append : (held : Held) (piece more : List ℕ) → with_more (with_more held piece) more ≡ with_more held (piece ++ more)
+with_more_append : (held : Remainder) (piece more : List ℕ) → with_more (with_more held piece) more ≡ with_more held (piece ++ more)
 with_more_append (Rest bytes) piece more = ap Rest (append_assoc bytes piece more)
 with_more_append Failed piece more = refl
 
@@ -53,7 +53,7 @@ piece_more stream piece [] counted =
 piece_more stream piece (next ∷ more) counted =
     let count : ℕ = stream.answered in
     let rest : List ℕ = joined (next ∷ more) in
-    let came : Held = with_more stream.came piece in
+    let came : Remainder = with_more stream.came piece in
     let now : List Message = (messages came).0 in
     let first = messages_more stream.came piece in
     let all = messages_more came rest in
@@ -62,7 +62,7 @@ piece_more stream piece (next ∷ more) counted =
     ∙ ap (λ (t : List Message). drop count now ++ t) (drop-append_seam now all.0)
     ∙ sym (drop-append-le count now all.0 few)
     ∙ ap (drop count) (sym all.1)
-    ∙ ap (λ (h : Held). drop count (messages h).0) (with_more_append stream.came piece rest)
+    ∙ ap (λ (h : Remainder). drop count (messages h).0) (with_more_append stream.came piece rest)
 
 -- ---- the messages of one session
 
@@ -234,11 +234,11 @@ hears_own n streams (it ∷ more) kept = one_own n streams it more (due streams 
 
 -- ---- the law
 
-fresh_counted : (found : Option Held) → AreCounted (option_map fresh found)
+fresh_counted : (found : Option Remainder) → AreCounted (option_map fresh found)
 fresh_counted None = tt
 fresh_counted (Some held) = omega arith
 
-fresh_streams : (found : Option Held) (events : List Happening) → later_messages (option_map fresh found) events ≡ flat_map stream_messages (own_streams found events)
+fresh_streams : (found : Option Remainder) (events : List Happening) → later_messages (option_map fresh found) events ≡ flat_map stream_messages (own_streams found events)
 fresh_streams None events = refl
 fresh_streams (Some held) events = ap (λ (t : List Message). t ++ flat_map stream_messages (opened events)) (fresh_messages held (pieces events))
 

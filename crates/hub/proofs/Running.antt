@@ -4,7 +4,7 @@ use Rattle.std.proofs.lemmas.List.{append-nil, map-append}
 use Rattle.std.specs.Prelude.{◌==◌, is_some}
 use Rattle.wire.specs.Frames.{Frame}
 use Rattle.wire.specs.Streams.{Message}
-use Rattle.hub.specs.Events.{Happening, Hubbed, at, due, number}
+use Rattle.hub.specs.Events.{Happening, HubState, at, due, number}
 use Rattle.hub.specs.Exchanges.{Exchange, replies}
 use Rattle.hub.specs.Happenings.{Passes}
 use Rattle.hub.specs.Runs.{Line, Streams, after_event, after_events, asked, brought, commands, each, fresh, was_open, rest_of, told, AllAnswered, Runs}
@@ -85,31 +85,31 @@ open_last streams (it ∷ events) n e = ap (λ (b : Bool). is_some (at streams n
 
 module _ {S : Type 0} (answers : S → Frame → List ℕ → S → Type 0) where
   -- with what its invariant says of the streams
-  abbrev pub RunsSo : Hubbed S → List Happening → List Line → Hubbed S → Type 0
+  abbrev pub RunsSo : HubState S → List Happening → List Line → HubState S → Type 0
   RunsSo before events ls after = Runs answers before events ls after × AllAt IsTold (after_events (each fresh before.sessions) events)
 
-  pub nothing_run : (before : Hubbed S) → RunsSo before [] [] before
+  pub nothing_run : (before : HubState S) → RunsSo before [] [] before
   nothing_run before = (record { messages = refl; answered = refl; left = each_fresh before.sessions }, all_fresh before.sessions)
 
-  abbrev Stepped : Hubbed S → Streams → Happening → List Exchange → Hubbed S → Type 0
+  abbrev Stepped : HubState S → Streams → Happening → List Exchange → HubState S → Type 0
   Stepped middle streams it xs after = (brought streams it ≡ messages_of xs) × (after.sessions ≡ each rest_of (after_event streams it)) × AllAt IsTold (after_event streams it)
       × AllAnswered answers middle.service (lines (number it) xs) after.service
 
-  pub stepped : (middle after : Hubbed S) (streams : Streams) (it : Happening) (xs : List Exchange) → middle.sessions ≡ each rest_of streams → AllAt IsTold streams
+  pub stepped : (middle after : HubState S) (streams : Streams) (it : Happening) (xs : List Exchange) → middle.sessions ≡ each rest_of streams → AllAt IsTold streams
       → Passes answers middle it xs after → Stepped middle streams it xs after
   stepped middle after streams it xs same all (inl (refusal, is, none, stays)) =
       let refused : due streams it ≡ Some refusal = sym (due_same middle.sessions streams it (same, all)) ∙ is in (
         rw refused (ap messages_of (sym none)),
-        rw refused (ap (λ (h : Hubbed S). h.sessions) stays ∙ same),
+        rw refused (ap (λ (h : HubState S). h.sessions) stays ∙ same),
         rw refused all,
-        subst (λ (xs : List Exchange). AllAnswered answers middle.service (lines (number it) xs) after.service) (sym none) (ap (λ (h : Hubbed S). h.service) stays),
+        subst (λ (xs : List Exchange). AllAnswered answers middle.service (lines (number it) xs) after.service) (sym none) (ap (λ (h : HubState S). h.service) stays),
       )
   stepped middle after streams it xs same all (inr (is, does)) =
       let fine : due streams it ≡ None = sym (due_same middle.sessions streams it (same, all)) ∙ is in
       let t = does_changes answers middle after streams it xs (same, all) does in
       (rw fine t.0, rw fine t.1.0, rw fine t.1.1, t.2)
 
-  pub run_more : (before : Hubbed S) (events : List Happening) (ls : List Line) (middle : Hubbed S) (it : Happening) (xs : List Exchange) (after : Hubbed S)
+  pub run_more : (before : HubState S) (events : List Happening) (ls : List Line) (middle : HubState S) (it : Happening) (xs : List Exchange) (after : HubState S)
       → RunsSo before events ls middle → Passes answers middle it xs after → RunsSo before (events ++ it ∷ []) (ls ++ lines (number it) xs) after
   run_more before events ls middle it xs after (run, all) passes =
       let start : Streams = each fresh before.sessions in

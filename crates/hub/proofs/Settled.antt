@@ -5,12 +5,12 @@ use Rattle.book.specs.declared.reply.Reply.{Reply}
 use Rattle.book.specs.declared.reply.Reply.TheVariants as reply
 use Rattle.book.specs.declared.refusal.Refusal.{Refusal}
 use Rattle.book.specs.declared.refusal.Refusal.TheVariants.{BadName, BadKey, NameTaken, NoSuchName, PendingExists, IndexTaken, NoSuchEpoch, EpochNotLater, NoPromise, Memory, BadRange, KeepFailed}
-use Rattle.commands.specs.Asked.{Asked}
+use Rattle.commands.specs.Operations.{Operation}
 use Rattle.book.specs.Refusals.{refusal_number}
-use Rattle.book.specs.Seen as seen
-use Rattle.book.specs.Seen.{Seen, FailAlike, seen as seen_of}
-use Rattle.wire.specs.declared.refusal.ReadRefusal.{ReadRefusal}
-use Rattle.wire.specs.declared.refusal.ReadRefusal.TheVariants.{BadKind, BadBody}
+use Rattle.book.specs.Replies as seen
+use Rattle.book.specs.Replies.{ReplyContent, FailAlike, seen as seen_of}
+use Rattle.wire.specs.declared.refusals.ReadRefusal.{ReadRefusal}
+use Rattle.wire.specs.declared.refusals.ReadRefusal.TheVariants.{BadKind, BadBody}
 use Rattle.wire.specs.Frames.{Frame, frame_bytes}
 use Rattle.wire.specs.Refusals.{read_refusal_number}
 use Rattle.wire.specs.Requests as request
@@ -25,8 +25,8 @@ use Rattle.hub.specs.Runs.{Line, asked as asked_by}
 
 -- ---- a message means one thing
 
-read_once : (frame : Frame) (read other : Result request.Requested ReadRefusal) → IsRead frame read → IsRead frame other → read ≡ other
-read_once frame (Ok requested) (Ok other) is also = ap (λ (a : request.Requested). Ok a) (one_request frame.kind frame.body requested other is also)
+read_once : (frame : Frame) (read other : Result request.RequestContent ReadRefusal) → IsRead frame read → IsRead frame other → read ≡ other
+read_once frame (Ok requested) (Ok other) is also = ap (λ (a : request.RequestContent). Ok a) (one_request frame.kind frame.body requested other is also)
 read_once frame (Ok requested) (Err BadKind) is also = absurd (also (requested, is.0))
 read_once frame (Ok requested) (Err BadBody) is also = absurd (also.1 requested is)
 read_once frame (Err BadKind) (Ok other) is also = absurd (is (other, also.0))
@@ -38,19 +38,19 @@ read_once frame (Err BadBody) (Err BadBody) is also = refl
 
 -- what is asked of the directory, or the number of the refusal
 abbrev Meant : Type 0
-Meant = Result Asked ℕ
+Meant = Result Operation ℕ
 
-abbrev asks : Asked → Meant
+abbrev asks : Operation → Meant
 asks asked = Ok asked
 
 abbrev refuses : ℕ → Meant
 refuses code = Err code
 
-abbrev unless_none : Option Asked → Meant
+abbrev unless_none : Option Operation → Meant
 unless_none None = Err 12
 unless_none (Some asked) = Ok asked
 
-abbrev meant : List ℕ → Result request.Requested ReadRefusal → Meant
+abbrev meant : List ℕ → Result request.RequestContent ReadRefusal → Meant
 meant token (Ok requested) = unless_none (command token requested)
 meant token (Err refusal) = Err (read_refusal_number refusal)
 
@@ -58,7 +58,7 @@ abbrev IsMeant : List ℕ → Message → Meant → Type 0
 IsMeant token message (Ok asked) = Reaches token message asked
 IsMeant token message (Err code) = IsTurnedAway token message code
 
-whole_meant : (token : List ℕ) (frame : Frame) (one : Meant) → IsMeant token (Whole frame) one → (read : Result request.Requested ReadRefusal) × IsRead frame read × (one ≡ meant token read)
+whole_meant : (token : List ℕ) (frame : Frame) (one : Meant) → IsMeant token (Whole frame) one → (read : Result request.RequestContent ReadRefusal) × IsRead frame read × (one ≡ meant token read)
 whole_meant token frame (Ok asked) (requested, read, is) = (Ok requested, read, sym (ap unless_none is))
 whole_meant token frame (Err code) (inl (refusal, read, is)) = (Err refusal, read, ap (λ (n : ℕ). Err n) is)
 whole_meant token frame (Err code) (inr (requested, read, none, is)) = (Ok requested, read, ap (λ (n : ℕ). Err n) is ∙ sym (ap unless_none none))
@@ -74,7 +74,7 @@ meant_once token (Whole frame) one other is also =
 
 -- ---- frames by what is seen of a reply
 
-abbrev seen_frame : Seen → Frame
+abbrev seen_frame : ReplyContent → Frame
 seen_frame (seen.Promised signed) = response_frame (response.Promise signed)
 seen_frame (seen.Found text) = proof_frame text
 seen_frame (seen.Told told) = response_frame (response.Roots told)
@@ -122,7 +122,7 @@ not_kept_frame told same = by told (sym (after_head (reply_frame told)) ∙ ap (
     by (reply.Last root) e = let f : 132 ≡ 255 = ap (byte_at 0) e in absurd (omega (arith, f))
     by (reply.Refused why) e = let f : refusal_number why ≡ 19 = ap (byte_at 1) e in ap (λ (w : Refusal). seen.Refused w) (not_kept why f)
 
-failed_frame : (told : Reply) (s : Seen) → seen_of told ≡ s → frame_bytes (reply_frame told) ≡ frame_bytes (seen_frame s)
+failed_frame : (told : Reply) (s : ReplyContent) → seen_of told ≡ s → frame_bytes (reply_frame told) ≡ frame_bytes (seen_frame s)
 failed_frame told s same = ap frame_bytes (frame_is told ∙ ap seen_frame same)
 
 -- ---- lines
@@ -139,24 +139,24 @@ module _ (token : List ℕ) where
   seen_heads : (a b : Reply) (xs ys : List Reply) → map seen_of (a ∷ xs) ≡ map seen_of (b ∷ ys) → (seen_of a ≡ seen_of b) × (map seen_of xs ≡ map seen_of ys)
   seen_heads a b xs ys same = consed (seen_of a) (seen_of b) (map seen_of xs) (map seen_of ys) same
 
-  ok_once : (asked other : Asked) → asks asked ≡ asks other → asked ≡ other
+  ok_once : (asked other : Operation) → asks asked ≡ asks other → asked ≡ other
   ok_once asked other same = cc
 
   err_once : (code other : ℕ) → refuses code ≡ refuses other → code ≡ other
   err_once code other same = cc
 
-  never : (code : ℕ) (asked : Asked) → refuses code ≡ asks asked → ⊥
+  never : (code : ℕ) (asked : Operation) → refuses code ≡ asks asked → ⊥
   never code asked same = absurd cc
 
   -- these lines ask the same, or are the same, where they show commands and replies
   abbrev AsksTheSame : List Line → List Line → Type 0
-  AsksTheSame lines told = (commands others : List Asked) (replies answers : List Reply) → ShowReplies token lines commands replies → ShowReplies token told others answers → commands ≡ others
+  AsksTheSame lines told = (commands others : List Operation) (replies answers : List Reply) → ShowReplies token lines commands replies → ShowReplies token told others answers → commands ≡ others
 
   abbrev TellsTheSame : List Line → List Line → Type 0
-  TellsTheSame lines told = (commands others : List Asked) (replies answers : List Reply) → ShowReplies token lines commands replies → ShowReplies token told others answers
+  TellsTheSame lines told = (commands others : List Operation) (replies answers : List Reply) → ShowReplies token lines commands replies → ShowReplies token told others answers
       → map seen_of replies ≡ map seen_of answers → lines ≡ told
 
-  pub same_commands : (lines told : List Line) (commands others : List Asked) (replies answers : List Reply) → map asked_by lines ≡ map asked_by told
+  pub same_commands : (lines told : List Line) (commands others : List Operation) (replies answers : List Reply) → map asked_by lines ≡ map asked_by told
       → ShowReplies token lines commands replies → ShowReplies token told others answers → commands ≡ others
   same_commands [] [] commands others replies answers same shows show = shows.0 ∙ sym show.0
   same_commands [] (other ∷ rest) commands others replies answers same shows show = absurd cc
@@ -175,12 +175,12 @@ module _ (token : List ℕ) where
       by next (inl (code, away, says, shows)) (inr (asked, told, later, ones, reaches, tells, is, are, show)) = absurd (never code asked (once (refuses code) (asks asked) away reaches))
       by next (inr (asked, told, later, ones, reaches, tells, is, are, show)) (inl (code, away, says, shows)) = absurd (never code asked (sym (once (asks asked) (refuses code) reaches away)))
       by next (inr (asked, told, later, ones, reaches, tells, is, are, show)) (inr (wants, said, after, twos, gets, says, also, too, shows)) =
-          is ∙ ap₂ (λ (a : Asked) (l : List Asked). a ∷ l) (ok_once asked wants (once (asks asked) (asks wants) reaches gets)) (next later after ones twos show shows) ∙ sym also
+          is ∙ ap₂ (λ (a : Operation) (l : List Operation). a ∷ l) (ok_once asked wants (once (asks asked) (asks wants) reaches gets)) (next later after ones twos show shows) ∙ sym also
 
   abbrev FailAlikeToo : List Line → List Line → Type 0
-  FailAlikeToo lines told = (commands others : List Asked) (replies answers : List Reply) → ShowReplies token lines commands replies → ShowReplies token told others answers → AllZip FailAlike replies answers
+  FailAlikeToo lines told = (commands others : List Operation) (replies answers : List Reply) → ShowReplies token lines commands replies → ShowReplies token told others answers → AllZip FailAlike replies answers
 
-  pub fail_alike : (lines told : List Line) (commands others : List Asked) (replies answers : List Reply) → map asked_by lines ≡ map asked_by told → AllZip RefuseAlike lines told
+  pub fail_alike : (lines told : List Line) (commands others : List Operation) (replies answers : List Reply) → map asked_by lines ≡ map asked_by told → AllZip RefuseAlike lines told
       → ShowReplies token lines commands replies → ShowReplies token told others answers → AllZip FailAlike replies answers
   fail_alike [] [] commands others replies answers same alike shows show = subst₂ (λ (r : List Reply) (a : List Reply). AllZip FailAlike r a) (sym shows.1) (sym show.1) tt
   fail_alike [] (other ∷ rest) commands others replies answers same alike shows show = absurd alike
@@ -211,7 +211,7 @@ module _ (token : List ℕ) where
       by next (inr (asked, told, later, ones, reaches, tells, is, are, show)) (inr (wants, said, after, twos, gets, says, also, too, shows)) =
           subst₂ (λ (r : List Reply) (a : List Reply). AllZip FailAlike r a) (sym are) (sym too) (pair told said tells says, next later after ones twos show shows)
 
-  pub same_lines : (lines told : List Line) (commands others : List Asked) (replies answers : List Reply) → map asked_by lines ≡ map asked_by told
+  pub same_lines : (lines told : List Line) (commands others : List Operation) (replies answers : List Reply) → map asked_by lines ≡ map asked_by told
       → ShowReplies token lines commands replies → ShowReplies token told others answers → map seen_of replies ≡ map seen_of answers → lines ≡ told
   same_lines [] [] commands others replies answers same shows show seen_same = refl
   same_lines [] (other ∷ rest) commands others replies answers same shows show seen_same = absurd cc

@@ -4,7 +4,7 @@ use Rattle.std.specs.Prelude.{OnErr}
 use Rattle.std.proofs.lemmas.List.{append-nil, map-append, take-append-drop}
 use Rattle.wire.specs.Frames.{Frame}
 use Rattle.wire.specs.Streams.{Message}
-use Rattle.hub.specs.Events.{Bytes, Happening, Hubbed, number}
+use Rattle.hub.specs.Events.{Bytes, Happening, HubState, number}
 use Rattle.hub.specs.Exchanges.{Exchange}
 use Rattle.hub.specs.Happenings.{Answered, IsPart, Passes}
 use Rattle.hub.specs.Runs.{Line, Streams, after_event, after_events, asked, brought, commands, each, fresh, Begins, Runs, Stops}
@@ -20,7 +20,7 @@ if_err (Ok done) P Q p next = tt
 if_err (Err e) P Q p next = next p
 
 module _ {S : Type 0} (answers : S → Frame → List ℕ → S → Type 0) where
-  pub stopped : {X : Type 0} (f : X → Happening) (before between after : Hubbed S) (events : List X) (k : ℕ) (d : X) → k < length events
+  pub stopped : {X : Type 0} (f : X → Happening) (before between after : HubState S) (events : List X) (k : ℕ) (d : X) → k < length events
       → ((ls : List Line) × RunsSo answers before (map f (take k events)) ls between)
       → ((xs : List Exchange) × Passes answers between (f (get_or events k d)) xs after) ⊎ IsPart answers between (f (get_or events k d) ∷ []) after
       → Stops answers before (map f events) after
@@ -49,7 +49,7 @@ module _ {S : Type 0} (answers : S → Frame → List ℕ → S → Type 0) wher
       by (inr part) = (one, it ∷ rest, ls, between, split, run.0, part)
 
   -- the messages of a run are the first of a longer one
-  pub runs_begin : (before between : Hubbed S) (done rest events : List Happening) (ls : List Line) → events ≡ done ++ rest → Runs answers before done ls between → Begins answers before events between.service
+  pub runs_begin : (before between : HubState S) (done rest events : List Happening) (ls : List Line) → events ≡ done ++ rest → Runs answers before done ls between → Begins answers before events between.service
   runs_begin before between done rest events ls split run =
       let start : Streams = each fresh before.sessions in (
         ls,
@@ -61,7 +61,7 @@ module _ {S : Type 0} (answers : S → Frame → List ℕ → S → Type 0) wher
       )
 
   -- and so are those of a run and a first part of a piece
-  piece_begins : (before between after : Hubbed S) (done rest events : List Happening) (ls : List Line) (session : ℕ) (piece : List ℕ) (xs : List Exchange) → events ≡ done ++ Bytes session piece ∷ rest
+  piece_begins : (before between after : HubState S) (done rest events : List Happening) (ls : List Line) (session : ℕ) (piece : List ℕ) (xs : List Exchange) → events ≡ done ++ Bytes session piece ∷ rest
       → RunsSo answers before done ls between → Answered answers between session piece false xs after → Begins answers before events after.service
   piece_begins before between after done rest events ls session piece xs split (run, all) answered =
       let start : Streams = each fresh before.sessions in
@@ -88,7 +88,7 @@ module _ {S : Type 0} (answers : S → Frame → List ℕ → S → Type 0) wher
         ),
       )
 
-  pub begun : {X : Type 0} (f : X → Happening) (before between after : Hubbed S) (events : List X) (k : ℕ) (d : X) → k < length events
+  pub begun : {X : Type 0} (f : X → Happening) (before between after : HubState S) (events : List X) (k : ℕ) (d : X) → k < length events
       → ((ls : List Line) × RunsSo answers before (map f (take k events)) ls between)
       → ((xs : List Exchange) × Passes answers between (f (get_or events k d)) xs after) ⊎ IsPart answers between (f (get_or events k d) ∷ []) after
       → Begins answers before (map f events) after.service
@@ -110,15 +110,15 @@ module _ {S : Type 0} (answers : S → Frame → List ℕ → S → Type 0) wher
       by (inl (xs, passes)) =
           let more = run_more answers before one ls between it xs after run passes in
           runs_begin before after (one ++ it ∷ []) rest (map f events) (ls ++ lines (number it) xs) (split ∙ sym (append_assoc one (it ∷ []) rest)) more.0
-      by (inr (inl same)) = subst (λ (h : Hubbed S). Begins answers before (map f events) h.service) (sym same) (runs_begin before between one (it ∷ rest) (map f events) ls split run.0)
+      by (inr (inl same)) = subst (λ (h : HubState S). Begins answers before (map f events) h.service) (sym same) (runs_begin before between one (it ∷ rest) (map f events) ls split run.0)
       by (inr (inr (session, piece, xs, is, answered))) =
           piece_begins before between after one rest (map f events) ls session piece xs (split ∙ ap (λ (e : Happening). one ++ e ∷ rest) is) run answered
 
   -- nothing was done
-  pub stopped_first : (before : Hubbed S) (events : List Happening) → Runs answers before [] [] before → Stops answers before events before
+  pub stopped_first : (before : HubState S) (events : List Happening) → Runs answers before [] [] before → Stops answers before events before
   stopped_first before [] run = ([], [], [], before, refl, run, refl)
   stopped_first before (it ∷ more) run = ([], it ∷ more, [], before, refl, run, inl refl)
 
   -- all was done
-  pub stopped_last : (before after : Hubbed S) (events : List Happening) (ls : List Line) → Runs answers before events ls after → Stops answers before events after
+  pub stopped_last : (before after : HubState S) (events : List Happening) (ls : List Line) → Runs answers before events ls after → Stops answers before events after
   stopped_last before after events ls run = (events, [], ls, after, sym (append-nil events), run, refl)

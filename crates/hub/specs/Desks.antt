@@ -6,13 +6,13 @@ use Rattle.proofs.specs.Replies.{Reply as Spelled, Spells}
 use Rattle.book.specs.declared.record.Record.{Record}
 use Rattle.book.specs.declared.reply.Reply.{Reply}
 use Rattle.book.specs.declared.reply.Reply.TheVariants as reply
-use Rattle.commands.specs.Asked.{Asked, Query, Edit, Put}
-use Rattle.commands.specs.Asked as ask
+use Rattle.commands.specs.Operations.{Operation, Query, Edit, Put}
+use Rattle.commands.specs.Operations as ask
 use Rattle.book.specs.Refusals.{refusal_number}
 use Rattle.book.specs.Turns.{Turn}
-use Rattle.epochs.specs.Kept.{Kept, book, provider, HasKeysOf}
-use Rattle.wire.specs.declared.refusal.ReadRefusal.{ReadRefusal}
-use Rattle.wire.specs.declared.refusal.ReadRefusal.TheVariants.{BadKind, BadBody}
+use Rattle.epochs.specs.DirectoryStates.{DirectoryState, book, provider, HasKeysOf}
+use Rattle.wire.specs.declared.refusals.ReadRefusal.{ReadRefusal}
+use Rattle.wire.specs.declared.refusals.ReadRefusal.TheVariants.{BadKind, BadBody}
 use Rattle.wire.specs.Frames.{Frame, frame_bytes}
 use Rattle.wire.specs.Refusals.{read_refusal_number}
 use Rattle.wire.specs.Requests.{Asks, IsRequestKind}
@@ -21,19 +21,19 @@ use Rattle.wire.specs.Responses as response
 use Rattle.wire.specs.Responses.{proof_frame, response_frame}
 use Rattle.hub.specs.Exchanges.{refused_frame}
 
-pub record Desked (R K : Type 0) : Type 0 where
-  pub directory : Kept R
+pub record DeskState (R K : Type 0) : Type 0 where
+  pub directory : DirectoryState R
   pub keeper : K
   pub token : List ℕ
 
 -- the request that a frame is, or why it is none
-abbrev pub IsRead : Frame → Result request.Requested ReadRefusal → Type 0
+abbrev pub IsRead : Frame → Result request.RequestContent ReadRefusal → Type 0
 IsRead frame (Ok requested) = Asks frame.kind frame.body requested
 IsRead frame (Err BadKind) = ¬ IsRequestKind frame.kind
-IsRead frame (Err BadBody) = IsRequestKind frame.kind × ((requested : request.Requested) → ¬ Asks frame.kind frame.body requested)
+IsRead frame (Err BadBody) = IsRequestKind frame.kind × ((requested : request.RequestContent) → ¬ Asks frame.kind frame.body requested)
 
 -- what a request asks of the directory: a new page only with the operator's token
-abbrev pub command : List ℕ → request.Requested → Option Asked
+abbrev pub command : List ℕ → request.RequestContent → Option Operation
 command token (request.Query question) = Some (Query question)
 command token (request.Put verb name key) = Some (Edit (Put verb name key))
 command token (request.Turn given epoch) = if bytes_eq given token then Some (Edit (ask.Turn epoch)) else None
@@ -47,7 +47,7 @@ reply_frame (reply.Last root) = response_frame (response.Root root)
 reply_frame (reply.Refused why) = response_frame (response.Refused (refusal_number why))
 
 -- the response that a reply is; the text of a look-up's reply spells it
-abbrev pub IsResponseOf : Reply → response.Responded → Type 0
+abbrev pub IsResponseOf : Reply → response.ResponseContent → Type 0
 IsResponseOf (reply.Promised signed) responded = responded ≡ response.Promise signed
 IsResponseOf (reply.Found text) responded = (found : Spelled) × Spells text found × (responded ≡ response.Proof found)
 IsResponseOf (reply.Told told) responded = responded ≡ response.Roots told.items
@@ -57,20 +57,20 @@ IsResponseOf (reply.Refused why) responded = responded ≡ response.Refused (ref
 module _ {R K : Type 0} (digest_of : List ℕ → List ℕ) (value_of signature_of : List ℕ → List ℕ → List ℕ) (stream : R → Stream) (kept failed : K → Record → K → Type 0) where
   -- the directory takes the turn of a command, and the frame of its reply is told; whoever closes an epoch
   -- without the token is not the operator
-  abbrev pub Commanded : Desked R K → Option Asked → List ℕ → Desked R K → Type 0
+  abbrev pub Commanded : DeskState R K → Option Operation → List ℕ → DeskState R K → Type 0
   Commanded before None text after = (text ≡ refused_frame 12) × (after ≡ before)
   Commanded before (Some asked) text after = (told : Reply)
       × Turn (provider digest_of value_of signature_of before.directory) kept failed (book stream before.directory) before.keeper asked told (book stream after.directory) after.keeper
       × (text ≡ frame_bytes (reply_frame told)) × HasKeysOf before.directory after.directory × (after.token ≡ before.token)
 
   -- a request is served
-  abbrev pub Serves : Desked R K → request.Requested → List ℕ → Desked R K → Type 0
+  abbrev pub Serves : DeskState R K → request.RequestContent → List ℕ → DeskState R K → Type 0
   Serves before requested text after = Commanded before (command before.token requested) text after
 
   -- what was read is served, or refused
-  abbrev pub Told : Desked R K → Result request.Requested ReadRefusal → List ℕ → Desked R K → Type 0
+  abbrev pub Told : DeskState R K → Result request.RequestContent ReadRefusal → List ℕ → DeskState R K → Type 0
   Told before (Ok requested) text after = Serves before requested text after
   Told before (Err refusal) text after = (text ≡ refused_frame (read_refusal_number refusal)) × (after ≡ before)
 
-  abbrev pub DeskAnswers : Desked R K → Frame → List ℕ → Desked R K → Type 0
-  DeskAnswers before frame text after = (read : Result request.Requested ReadRefusal) × IsRead frame read × Told before read text after
+  abbrev pub DeskAnswers : DeskState R K → Frame → List ℕ → DeskState R K → Type 0
+  DeskAnswers before frame text after = (read : Result request.RequestContent ReadRefusal) × IsRead frame read × Told before read text after

@@ -3,11 +3,11 @@ use Rattle.std.specs.Prelude.{ℕ, List, Option, Some, None, nat_le, is_some, le
 use Rattle.std.specs.Ordering.{nat_cmp}
 use Rattle.std.specs.BTreeMap.{is_at}
 use Rattle.std.specs.Map.{lookup}
-use Rattle.wire.specs.Streams.{Held}
+use Rattle.wire.specs.Streams.{Remainder}
 use Rattle.hub.specs.declared.event.Event.{Event}
 use Rattle.hub.specs.declared.event.Event.TheVariants as event
-use Rattle.hub.specs.declared.refusal.HubRefusal.{HubRefusal}
-use Rattle.hub.specs.declared.refusal.HubRefusal.TheVariants.{TooManySessions, SessionOpen, NoSession}
+use Rattle.hub.specs.declared.hub_refusal.HubRefusal.{HubRefusal}
+use Rattle.hub.specs.declared.hub_refusal.HubRefusal.TheVariants.{TooManySessions, SessionOpen, NoSession}
 
 -- an event, regardless of where its bytes lie
 pub data Happening : Type 0 where
@@ -40,6 +40,6 @@ due sessions (Bytes session piece) = if is_some (at sessions session) then None 
 due sessions (End session) = if is_some (at sessions session) then None else Some NoSession
 
 -- what contracts see of a hub: the service, and what the stream of each open session holds
-pub record Hubbed (S : Type 0) : Type 0 where
+pub record HubState (S : Type 0) : Type 0 where
   pub service : S
-  pub sessions : BySession Held
+  pub sessions : BySession Remainder

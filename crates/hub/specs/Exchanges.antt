@@ -3,9 +3,9 @@ use Rattle.std.specs.Prelude.{◌≡◌, ◌≢◌, ◌+◌, ◌<◌, ℕ, List,
 use Rattle.std.specs.declared.alloc.AllocError.{AllocError}
 use Rattle.wire.specs.Frames.{Frame, frame_bytes}
 use Rattle.wire.specs.Responses.{response_frame, Refused}
-use Rattle.wire.specs.Streams.{Held, Message, Failed, Whole, BadFrame, with_more, IsSpent, Takes}
-use Rattle.hub.specs.declared.refusal.HubRefusal.{HubRefusal}
-use Rattle.hub.specs.declared.refusal.HubRefusal.TheVariants.{TooManySessions, SessionOpen, NoSession, Memory}
+use Rattle.wire.specs.Streams.{Remainder, Message, Failed, Whole, BadFrame, with_more, IsSpent, Takes}
+use Rattle.hub.specs.declared.hub_refusal.HubRefusal.{HubRefusal}
+use Rattle.hub.specs.declared.hub_refusal.HubRefusal.TheVariants.{TooManySessions, SessionOpen, NoSession, Memory}
 
 -- a message, and the bytes of its reply
 pub record Exchange : Type 0 where
@@ -36,13 +36,13 @@ module _ {S : Type 0} (answers : S → Frame → List ℕ → S → Type 0) wher
   Replies service BadFrame reply after = (reply ≡ refused_frame 1) × (after ≡ service)
 
   -- messages taken from what a session holds, each answered at its place
-  abbrev pub Exchanges : S → Held → List Exchange → S → Held → Type 0
+  abbrev pub Exchanges : S → Remainder → List Exchange → S → Remainder → Type 0
   Exchanges service held [] service_after after = (service_after ≡ service) × (after ≡ held)
-  Exchanges service held (exchange ∷ more) service_after after = (middle : S) × (between : Held)
+  Exchanges service held (exchange ∷ more) service_after after = (middle : S) × (between : Remainder)
       × Takes held exchange.message between × Replies service exchange.message exchange.reply middle × Exchanges middle between more service_after after
 
   -- some messages are answered: all that are held, unless memory runs out while a whole one waits
-  abbrev pub Drained : S → Held → List ℕ → Result (Unit {0}) AllocError → S → Held → List ℕ → Type 0
+  abbrev pub Drained : S → Remainder → List ℕ → Result (Unit {0}) AllocError → S → Remainder → List ℕ → Type 0
   Drained service held before (Ok done) service_after after output =
       (exchanges : List Exchange) × Exchanges service held exchanges service_after after × IsSpent after × (output ≡ before ++ replies exchanges)
   Drained service held before (Err no_memory) service_after after output =
@@ -50,13 +50,13 @@ module _ {S : Type 0} (answers : S → Frame → List ℕ → S → Type 0) wher
 
   -- where memory ran out nothing was done, the piece was not empty, and the stream had not failed; or the
   -- piece was taken, and a whole message waits
-  abbrev pub Wants : S → Held → List ℕ → List ℕ → Bool → S → Held → List ℕ → Type 0
+  abbrev pub Wants : S → Remainder → List ℕ → List ℕ → Bool → S → Remainder → List ℕ → Type 0
   Wants service held piece before false service_after after output = ((piece ≢ []) × (held ≢ Failed)) × (service_after ≡ service) × (after ≡ held) × (output ≡ before)
   Wants service held piece before true service_after after output =
       (exchanges : List Exchange) × Exchanges service (with_more held piece) exchanges service_after after × (¬ IsSpent after) × (output ≡ before ++ replies exchanges)
 
   -- a piece is taken and all its messages are answered, unless memory runs out
-  abbrev pub Hears : S → Held → List ℕ → List ℕ → Result (Unit {0}) HubRefusal → S → Held → List ℕ → Type 0
+  abbrev pub Hears : S → Remainder → List ℕ → List ℕ → Result (Unit {0}) HubRefusal → S → Remainder → List ℕ → Type 0
   Hears service held piece before (Ok done) service_after after output =
       (exchanges : List Exchange) × Exchanges service (with_more held piece) exchanges service_after after × IsSpent after × (output ≡ before ++ replies exchanges)
   Hears service held piece before (Err (Memory taken)) service_after after output = Wants service held piece before taken service_after after output

@@ -5,8 +5,8 @@ use Rattle.std.specs.Map.{keys_of}
 use Rattle.std.specs.Ordering.{nat_cmp}
 use Rattle.wire.specs.Frames.{Frame}
 use Rattle.wire.specs.Laws.{joined}
-use Rattle.wire.specs.Streams.{Held, Message, Rest, messages, with_more}
-use Rattle.hub.specs.Events.{BySession, Happening, Open, Bytes, End, Hubbed, at, due, number}
+use Rattle.wire.specs.Streams.{Remainder, Message, Rest, messages, with_more}
+use Rattle.hub.specs.Events.{BySession, Happening, Open, Bytes, End, HubState, at, due, number}
 use Rattle.hub.specs.Runs.{Line, Streams, after_event, commands, each, fresh, told, BringTheSame, Runs}
 
 -- ---- the streams of a session
@@ -25,7 +25,7 @@ own_events session streams (it ∷ more) =
 
 -- a stream of a session: what was held of it before the events, and the pieces that came
 abbrev pub OwnStream : Type 0
-OwnStream = Held × List (List ℕ)
+OwnStream = Remainder × List (List ℕ)
 
 -- the pieces that come before the session is ended
 abbrev pub pieces : List Happening → List (List ℕ)
@@ -42,7 +42,7 @@ opened (Bytes session piece ∷ more) = opened more
 opened (End session ∷ more) = opened more
 
 -- the streams of a session by its events: first the one that is open before them, if one is
-abbrev pub own_streams : Option Held → List Happening → List OwnStream
+abbrev pub own_streams : Option Remainder → List Happening → List OwnStream
 own_streams None events = opened events
 own_streams (Some held) events = (held, pieces events) ∷ opened events
 
@@ -54,7 +54,7 @@ stream_messages (held, []) = []
 stream_messages (held, piece ∷ more) = (messages (with_more held (joined (piece ∷ more)))).0
 
 -- the messages of a session's own streams, one stream after another
-abbrev pub own_messages : ℕ → BySession Held → List Happening → List Message
+abbrev pub own_messages : ℕ → BySession Remainder → List Happening → List Message
 own_messages session sessions events = flat_map stream_messages (own_streams (at sessions session) (own_events session (each fresh sessions) events))
 
 -- ---- the law
@@ -68,30 +68,30 @@ abbrev pub lines_of : ℕ → List Line → List Line
 lines_of session = filter (λ line. line.session == session)
 
 -- what is sent on a stream: what was held of it, and the pieces that came as one, if any came
-abbrev pub sent : OwnStream → Held × Option (List ℕ)
+abbrev pub sent : OwnStream → Remainder × Option (List ℕ)
 sent (held, []) = (held, None)
 sent (held, piece ∷ more) = (held, Some (joined (piece ∷ more)))
 
 -- each session sends the same on its streams, wherever these are cut, and the messages are of the same
 -- sessions in turn
-pub record SendTheSame (sessions : BySession Held) (events others : List Happening) : Type 0 where
+pub record SendTheSame (sessions : BySession Remainder) (events others : List Happening) : Type 0 where
   pub streams : (session : ℕ) → map sent (own_streams (at sessions session) (own_events session (each fresh sessions) events))
       ≡ map sent (own_streams (at sessions session) (own_events session (each fresh sessions) others))
   pub turns : map (λ one. one.0) (commands (each fresh sessions) events) ≡ map (λ one. one.0) (commands (each fresh sessions) others)
 
 -- Where the streams are cut, these are the same messages in the same order.
 abbrev pub CutsBringTheSame : Type 0
-CutsBringTheSame = (sessions : BySession Held) (events others : List Happening) → IsStrictlySortedBy nat_cmp (keys_of sessions)
+CutsBringTheSame = (sessions : BySession Remainder) (events others : List Happening) → IsStrictlySortedBy nat_cmp (keys_of sessions)
     → SendTheSame sessions events others → BringTheSame (each fresh sessions) events others
 
 -- The messages of a session are those of its own streams, also where it is ended and opened again.
 abbrev pub SessionsHearTheirOwn : Type 0
-SessionsHearTheirOwn = (session : ℕ) (sessions : BySession Held) (events : List Happening) → IsStrictlySortedBy nat_cmp (keys_of sessions)
+SessionsHearTheirOwn = (session : ℕ) (sessions : BySession Remainder) (events : List Happening) → IsStrictlySortedBy nat_cmp (keys_of sessions)
     → messages_of session (commands (each fresh sessions) events) ≡ own_messages session sessions events
 
 -- In a run the lines of a session are those of these messages, and it is told their replies.
 abbrev pub RunsTellTheirOwn : {S : Type 0} → (S → Frame → List ℕ → S → Type 0) → Type 0
-RunsTellTheirOwn {S} answers = (session : ℕ) (before after : Hubbed S) (events : List Happening) (lines : List Line) → IsStrictlySortedBy nat_cmp (keys_of before.sessions)
+RunsTellTheirOwn {S} answers = (session : ℕ) (before after : HubState S) (events : List Happening) (lines : List Line) → IsStrictlySortedBy nat_cmp (keys_of before.sessions)
     → Runs answers before events lines after
     → (map (λ line. line.message) (lines_of session lines) ≡ own_messages session before.sessions events)
     × (told session lines ≡ flat_map (λ line. line.reply) (lines_of session lines))

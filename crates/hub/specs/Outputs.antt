@@ -1,6 +1,6 @@
 -- How the outputs of sessions grow.
 use Rattle.std.specs.Prelude.{◌≡◌, ◌==◌, ℕ, List, ◌++◌, if◌then◌else◌, Option, Some, None, Vec}
-use Rattle.hub.specs.declared.refusal.HubRefusal.{HubRefusal}
+use Rattle.hub.specs.declared.hub_refusal.HubRefusal.{HubRefusal}
 use Rattle.hub.specs.Events.{BySession, at}
 
 -- a session with its output, as a list of bytes

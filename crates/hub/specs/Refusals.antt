@@ -1,7 +1,7 @@
 -- The numbers of the refusals of events.
 use Rattle.std.specs.Prelude.{ℕ}
-use Rattle.hub.specs.declared.refusal.HubRefusal.{HubRefusal}
-use Rattle.hub.specs.declared.refusal.HubRefusal.TheVariants.{TooManySessions, SessionOpen, NoSession, Memory}
+use Rattle.hub.specs.declared.hub_refusal.HubRefusal.{HubRefusal}
+use Rattle.hub.specs.declared.hub_refusal.HubRefusal.TheVariants.{TooManySessions, SessionOpen, NoSession, Memory}
 
 abbrev pub refusal_number : HubRefusal → ℕ
 refusal_number TooManySessions = 16

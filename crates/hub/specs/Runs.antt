@@ -7,9 +7,9 @@ use Rattle.std.specs.Ordering.{nat_cmp}
 use Rattle.std.specs.BTreeMap.{is_at, insert_entry}
 use Rattle.std.specs.Map.{keys_of, remove_entry, set_value}
 use Rattle.wire.specs.Frames.{Frame}
-use Rattle.wire.specs.Streams.{Held, Message, Rest, messages, messages_within, with_more}
-use Rattle.hub.specs.declared.refusal.HubRefusal.{HubRefusal}
-use Rattle.hub.specs.Events.{BySession, Happening, Open, Bytes, End, Hubbed, at, due, number}
+use Rattle.wire.specs.Streams.{Remainder, Message, Rest, messages, messages_within, with_more}
+use Rattle.hub.specs.declared.hub_refusal.HubRefusal.{HubRefusal}
+use Rattle.hub.specs.Events.{BySession, Happening, Open, Bytes, End, HubState, at, due, number}
 use Rattle.hub.specs.Exchanges.{Exchange, Replies}
 use Rattle.hub.specs.Happenings.{IsPart}
 
@@ -17,11 +17,11 @@ use Rattle.hub.specs.Happenings.{IsPart}
 
 -- what came of a stream, and how many of its messages are answered
 pub record Stream : Type 0 where
-  pub came : Held
+  pub came : Remainder
   pub answered : ℕ
 
 -- a stream of which this came, and no message is answered
-abbrev pub fresh : Held → Stream
+abbrev pub fresh : Remainder → Stream
 fresh came = record { came = came; answered = 0 }
 
 -- with one piece more, and all its messages answered
@@ -33,7 +33,7 @@ abbrev pub completed : Stream → List ℕ → List Message
 completed stream piece = drop stream.answered (messages (with_more stream.came piece)).0
 
 -- what is held of a stream after its answered messages
-abbrev pub rest_of : Stream → Held
+abbrev pub rest_of : Stream → Remainder
 rest_of stream = (messages_within stream.answered stream.came).1
 
 abbrev pub Streams : Type 0
@@ -139,21 +139,21 @@ module _ {S : Type 0} (answers : S → Frame → List ℕ → S → Type 0) wher
   AllAnswered service (line ∷ more) after = (middle : S) × Replies answers service line.message line.reply middle × AllAnswered middle more after
 
   -- these are the messages of a run with their replies, and all are answered
-  pub record Runs (before : Hubbed S) (events : List Happening) (lines : List Line) (after : Hubbed S) : Type 0 where
+  pub record Runs (before : HubState S) (events : List Happening) (lines : List Line) (after : HubState S) : Type 0 where
     pub messages : map asked lines ≡ commands (each fresh before.sessions) events
     pub answered : AllAnswered before.service lines after.service
     pub left : after.sessions ≡ each rest_of (after_events (each fresh before.sessions) events)
 
   -- these are the first messages of a run with their replies, and they are answered
-  abbrev pub AreFirst : Hubbed S → List Happening → List Line → S → Type 0
+  abbrev pub AreFirst : HubState S → List Happening → List Line → S → Type 0
   AreFirst before events lines after = (later : List (ℕ × Message))
       × (commands (each fresh before.sessions) events ≡ map asked lines ++ later) × AllAnswered before.service lines after
 
   -- the first messages of a run are answered
-  abbrev pub Begins : Hubbed S → List Happening → S → Type 0
+  abbrev pub Begins : HubState S → List Happening → S → Type 0
   Begins before events after = (lines : List Line) × AreFirst before events lines after
 
   -- a run that stopped where memory ran out: after some of its events, and perhaps in one
-  abbrev pub Stops : Hubbed S → List Happening → Hubbed S → Type 0
-  Stops before events after = (done : List Happening) × (later : List Happening) × (lines : List Line) × (between : Hubbed S)
+  abbrev pub Stops : HubState S → List Happening → HubState S → Type 0
+  Stops before events after = (done : List Happening) × (later : List Happening) × (lines : List Line) × (between : HubState S)
       × (events ≡ done ++ later) × Runs before done lines between × IsPart answers between later after

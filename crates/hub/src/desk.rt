@@ -1,9 +1,9 @@
 ghost use Rattle.std.specs.Prelude.{◌≡◌, ◌+◌, ◌≤◌, ◌++◌, ℕ, List, length, IfOk, vec_len, vec_capacity};
 ghost use Rattle.commands.specs.declared.edit.Verb.TheVariants.{Change, Register};
-ghost use Rattle.commands.specs.Asked.{question, Lookup, Promise};
+ghost use Rattle.commands.specs.Operations.{question, Lookup, Promise};
 ghost use Rattle.book.specs.declared.reply.Reply.{Reply};
 ghost use Rattle.book.specs.Shows.{IsRootOf};
-ghost use Rattle.epochs.specs.Kept.{book, provider};
+ghost use Rattle.epochs.specs.DirectoryStates.{book, provider};
 ghost use Rattle.epochs.specs.Replied.{found, last, promised, IsTold};
 ghost use Rattle.wire.specs.Frames.{frame_bytes};
 ghost use Rattle.wire.specs.Requests.{request_seen};
@@ -35,9 +35,9 @@ pub struct Desk<H: NodeHash, V: Vuf, S: Signer, R: Rng, K: Keeper> {
 }
 
 impl<H: NodeHash, V: Vuf, S: Signer, R: Rng, K: Keeper> Model for Desk<H, V, S, R, K> {
-    ghost use Rattle.hub.specs.Desks.{Desked};
+    ghost use Rattle.hub.specs.Desks.{DeskState};
 
-    ghost Value = { Desked R K };
+    ghost Value = { DeskState R K };
 
     ghost view = { λ desk. record { directory = desk.directory; keeper = desk.keeper; token = desk.token } };
 }

@@ -1,5 +1,5 @@
 ghost use Rattle.std.specs.Prelude.{◌++◌, ℕ, List};
-ghost use Rattle.wire.specs.Streams.{Held};
+ghost use Rattle.wire.specs.Streams.{Remainder};
 ghost use Rattle.hub.specs.Exchanges.{Exchange, Exchanges};
 ghost use Rattle.hub.specs.Laws.{RunsTellTheirOwn, SessionsHearTheirOwn};
 ghost use Rattle.hub.specs.Runs.{lines, AllAnswered, Line};
@@ -17,7 +17,7 @@ pub fn sessions_hear_their_own<D: Service>()
 /// The messages that one call of `Hub::event` answers are answered one after another, and so are those
 /// of several calls. So what the calls ensure leads to what `replies_are_honest` requires.
 pub fn events_join<D: Service>()
-    ensures event { (before after : D) (held left : Held) (exchanges : List Exchange) (session : ℕ)
+    ensures event { (before after : D) (held left : Remainder) (exchanges : List Exchange) (session : ℕ)
         → Exchanges D.answers before held exchanges after left → AllAnswered D.answers before (lines session exchanges) after }
     ensures join { (before middle after : D) (earlier later : List Line)
         → AllAnswered D.answers before earlier middle → AllAnswered D.answers middle later after

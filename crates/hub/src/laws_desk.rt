@@ -1,9 +1,9 @@
 ghost use Rattle.std.specs.Prelude.{◌≡◌, ℕ, List};
 ghost use Rattle.std.specs.List.{AllZip};
-ghost use Rattle.epochs.specs.Kept.{book};
+ghost use Rattle.epochs.specs.DirectoryStates.{book};
 ghost use Rattle.hub.specs.DeskRuns.{IsWell, RefuseAlike, ShowHonestRun};
-ghost use Rattle.hub.specs.Desks.{Desked, DeskAnswers};
-ghost use Rattle.hub.specs.Events.{BySession, Happening, Hubbed};
+ghost use Rattle.hub.specs.Desks.{DeskState, DeskAnswers};
+ghost use Rattle.hub.specs.Events.{BySession, Happening, HubState};
 ghost use Rattle.hub.specs.Laws.{CutsBringTheSame};
 ghost use Rattle.hub.specs.Runs.{bytes_of, each, fresh, AllAnswered, AreOutputs, BringTheSame, Line, Runs};
 
@@ -17,7 +17,7 @@ use vrfiface::Vuf;
 /// directory: each reply shows the book as the commands of all messages before it leave it. The users
 /// see of it what those of an honest provider see.
 pub fn replies_are_honest<H: NodeHash, V: Vuf, S: Signer, R: Rng, K: Keeper>()
-    ensures { (before after : Desked R K) (lines : List Line)
+    ensures { (before after : DeskState R K) (lines : List Line)
         → IsWell H.digest_of V.value_of S.signature_of R.stream V.accepted S.verified before
         → IsWell H.digest_of V.value_of S.signature_of R.stream V.accepted S.verified after
         → AllAnswered (DeskAnswers H.digest_of V.value_of S.signature_of R.stream K.kept K.failed) before lines after
@@ -29,7 +29,7 @@ pub fn replies_are_honest<H: NodeHash, V: Vuf, S: Signer, R: Rng, K: Keeper>()
 /// the same book, and each session gets the same bytes.
 pub fn cuts_do_not_matter<H: NodeHash, V: Vuf, S: Signer, R: Rng, K: Keeper>()
     ensures bring { CutsBringTheSame }
-    ensures tell { (before after left : Hubbed (Desked R K)) (events others : List Happening) (lines told : List Line) (outputs given : BySession (List ℕ))
+    ensures tell { (before after left : HubState (DeskState R K)) (events others : List Happening) (lines told : List Line) (outputs given : BySession (List ℕ))
         → IsWell H.digest_of V.value_of S.signature_of R.stream V.accepted S.verified before.service
         → BringTheSame (each fresh before.sessions) events others
         → AllZip RefuseAlike lines told

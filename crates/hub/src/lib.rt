@@ -20,7 +20,7 @@ mod event;
 mod laws;
 mod laws_desk;
 mod outputs;
-mod refusal;
+mod hub_refusal;
 mod service;
 mod sessions;
 
@@ -28,6 +28,6 @@ pub use desk::Desk;
 pub use event::Event;
 pub use laws::{events_join, sessions_hear_their_own};
 pub use laws_desk::{cuts_do_not_matter, replies_are_honest};
-pub use refusal::HubRefusal;
+pub use hub_refusal::HubRefusal;
 pub use service::Service;
 pub use sessions::Hub;

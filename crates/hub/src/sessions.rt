@@ -3,7 +3,7 @@ ghost use Rattle.std.specs.List.Sorted.{IsStrictlySortedBy};
 ghost use Rattle.std.specs.Map.{keys_of};
 ghost use Rattle.std.specs.Ordering.{nat_cmp};
 ghost use Rattle.book.specs.Shows.{IsRootOf};
-ghost use Rattle.epochs.specs.Kept.{book, provider};
+ghost use Rattle.epochs.specs.DirectoryStates.{book, provider};
 ghost use Rattle.hub.specs.DeskRuns.{IsWell, ShowHonestRun};
 ghost use Rattle.hub.specs.Desks.{DeskAnswers};
 ghost use Rattle.hub.specs.Events.{due, number, seen, Bytes as AreBytes, End as IsEnd, Open as IsOpen};
@@ -41,9 +41,9 @@ pub struct Hub<D: Service + Drop> {
 }
 
 impl<D: Service + Drop> Model for Hub<D> {
-    ghost use Rattle.hub.specs.Events.{Hubbed};
+    ghost use Rattle.hub.specs.Events.{HubState};
 
-    ghost Value = { Hubbed D };
+    ghost Value = { HubState D };
 
     ghost view = { λ hub. record { service = hub.service; sessions = hub.sessions.entries } };
 }

@@ -5,16 +5,16 @@ use Rattle.std.specs.Prelude.{⊤, IsSomeAnd}
 use Rattle.prefixtree.specs.Placement.{Items}
 use Rattle.items.specs.Items.{item_of}
 use Rattle.textio.specs.Lines.{lines_of, TakesLine}
-use Rattle.items.specs.Listing.{Listed, listed, onto_listed}
+use Rattle.items.specs.Listing.{ItemList, item_list, onto_item_list}
 
 -- the items before, and then those of the lines that are left
-abbrev pub onto_all : Items → Listed → Listed
+abbrev pub onto_all : Items → ItemList → ItemList
 onto_all before rest = record { items = before ++ rest.items; is_cut = rest.is_cut }
 
 -- the items so far and those of what is left are those of the input
 abbrev pub IsListedSoFar : Option (List ℕ) → Option (List ℕ) → Items → Type 0
 IsListedSoFar None left items = ⊤
-IsListedSoFar (Some input) left items = IsSomeAnd left (λ rest. listed (lines_of input) ≡ onto_all items (listed (lines_of rest)))
+IsListedSoFar (Some input) left items = IsSomeAnd left (λ rest. item_list (lines_of input) ≡ onto_all items (item_list (lines_of rest)))
 
 pub IsListedSoFar-none : (input : Option (List ℕ)) → IsListedSoFar input input []
 IsListedSoFar-none None = tt
@@ -40,24 +40,24 @@ IsListedSoFar-more (Some input) None left items kept item so_far line is = absur
 IsListedSoFar-more (Some input) (Some rest) None items kept item so_far line is = absurd line
 IsListedSoFar-more (Some input) (Some rest) (Some after) items kept item so_far (whole, first, beginning) is =
     let same : item_of whole ≡ Some item = sym (item_of-take whole) ∙ ap item_of (sym beginning) ∙ is in
-    so_far ∙ ap (λ lines. onto_all items (listed lines)) first ∙ ap (λ i. onto_all items (onto_listed i (listed (lines_of after)))) same
-    ∙ ap (λ (i : Items). record { items = i; is_cut = (listed (lines_of after)).is_cut }) (sym (append_assoc items (item ∷ []) (listed (lines_of after)).items))
+    so_far ∙ ap (λ lines. onto_all items (item_list lines)) first ∙ ap (λ i. onto_all items (onto_item_list i (item_list (lines_of after)))) same
+    ∙ ap (λ (i : Items). record { items = i; is_cut = (item_list (lines_of after)).is_cut }) (sym (append_assoc items (item ∷ []) (item_list (lines_of after)).items))
 
 -- the end of the input
 pub listed-end : (input mid left : Option (List ℕ)) (items : Items) → IsListedSoFar input mid items → TakesLine 130 mid left None
-    → IfSome input (λ text. listed (lines_of text) ≡ record { items = items; is_cut = false })
+    → IfSome input (λ text. item_list (lines_of text) ≡ record { items = items; is_cut = false })
 listed-end None mid left items so_far line = tt
 listed-end (Some input) None left items so_far line = absurd so_far
 listed-end (Some input) (Some rest) left items so_far line =
-    so_far ∙ ap (λ text. onto_all items (listed (lines_of text))) line.0 ∙ ap (λ (i : Items). record { items = i; is_cut = false }) (append-nil items)
+    so_far ∙ ap (λ text. onto_all items (item_list (lines_of text))) line.0 ∙ ap (λ (i : Items). record { items = i; is_cut = false }) (append-nil items)
 
 -- a malformed line
 pub listed-cut : (input mid left : Option (List ℕ)) (items : Items) (kept : List ℕ) → IsListedSoFar input mid items → TakesLine 130 mid left (Some kept) → item_of kept ≡ None
-    → IfSome input (λ text. listed (lines_of text) ≡ record { items = items; is_cut = true })
+    → IfSome input (λ text. item_list (lines_of text) ≡ record { items = items; is_cut = true })
 listed-cut None mid left items kept so_far line is = tt
 listed-cut (Some input) None left items kept so_far line is = absurd so_far
 listed-cut (Some input) (Some rest) None items kept so_far line is = absurd line
 listed-cut (Some input) (Some rest) (Some after) items kept so_far (whole, first, beginning) is =
     let same : item_of whole ≡ None = sym (item_of-take whole) ∙ ap item_of (sym beginning) ∙ is in
-    so_far ∙ ap (λ lines. onto_all items (listed lines)) first ∙ ap (λ i. onto_all items (onto_listed i (listed (lines_of after)))) same
+    so_far ∙ ap (λ lines. onto_all items (item_list lines)) first ∙ ap (λ i. onto_all items (onto_item_list i (item_list (lines_of after)))) same
     ∙ ap (λ (i : Items). record { items = i; is_cut = true }) (append-nil items)

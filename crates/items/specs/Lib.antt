@@ -1,4 +1,4 @@
-pub mod Asked
+pub mod TreeOptions
 pub mod Items
 pub mod Listing
 pub mod Root

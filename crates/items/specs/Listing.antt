@@ -4,17 +4,17 @@ use Rattle.prefixtree.specs.Placement.{Items, HasDistinctIndices}
 use Rattle.items.specs.Items.{item_of, is_among}
 
 -- the items before the first malformed line, and whether there is one
-pub record Listed : Type 0 where
+pub record ItemList : Type 0 where
   pub items : Items
   pub is_cut : Bool
 
-abbrev pub onto_listed : Option (List ℕ × List ℕ) → Listed → Listed
-onto_listed None rest = record { items = []; is_cut = true }
-onto_listed (Some item) rest = record { items = item ∷ rest.items; is_cut = rest.is_cut }
+abbrev pub onto_item_list : Option (List ℕ × List ℕ) → ItemList → ItemList
+onto_item_list None rest = record { items = []; is_cut = true }
+onto_item_list (Some item) rest = record { items = item ∷ rest.items; is_cut = rest.is_cut }
 
-abbrev pub listed : List (List ℕ) → Listed
-listed [] = record { items = []; is_cut = false }
-listed (line ∷ lines) = onto_listed (item_of line) (listed lines)
+abbrev pub item_list : List (List ℕ) → ItemList
+item_list [] = record { items = []; is_cut = false }
+item_list (line ∷ lines) = onto_item_list (item_of line) (item_list lines)
 
 -- the item at this place is the first whose index stands before it
 abbrev pub IsFirstRepeat : ℕ → Items → Type 0

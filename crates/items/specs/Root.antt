@@ -11,7 +11,7 @@ use Rattle.items.specs.declared.orders.HashChoice.{HashChoice}
 use Rattle.items.specs.declared.orders.HashChoice.TheVariants.{Sha256, Sum}
 use Rattle.textio.specs.Digits.{nonce_of}
 use Rattle.items.specs.Items.{placement_of}
-use Rattle.items.specs.Asked.{Asked}
+use Rattle.items.specs.TreeOptions.{TreeOptions}
 
 -- the function that a choice names
 abbrev pub digest_of : HashChoice → List ℕ → List ℕ
@@ -23,15 +23,15 @@ abbrev pub root_line : List ℕ → List ℕ
 root_line root = codes "root " ++ encode_lower root ++ 10 ∷ []
 
 -- the root of the placement that an input gives, or the input's fault
-abbrev pub root_told : (List ℕ → List ℕ) → List ℕ → Result Items ProgramFault → Result (List ℕ) ProgramFault
-root_told hash nonce (Ok items) = Ok (root_line (root_of hash nonce items))
-root_told hash nonce (Err fault) = Err fault
+abbrev pub root_result : (List ℕ → List ℕ) → List ℕ → Result Items ProgramFault → Result (List ℕ) ProgramFault
+root_result hash nonce (Ok items) = Ok (root_line (root_of hash nonce items))
+root_result hash nonce (Err fault) = Err fault
 
 -- what is answered to an input, once the nonce was read
-abbrev pub told_under : HashChoice → Option (List ℕ) → List ℕ → Result (List ℕ) ProgramFault
-told_under choice None input = Err BadHex
-told_under choice (Some nonce) input = root_told (digest_of choice) nonce (placement_of input)
+abbrev pub root_result_under : HashChoice → Option (List ℕ) → List ℕ → Result (List ℕ) ProgramFault
+root_result_under choice None input = Err BadHex
+root_result_under choice (Some nonce) input = root_result (digest_of choice) nonce (placement_of input)
 
 -- the text that an order and an input call for, or the fault
-abbrev pub root_answer : Asked → List ℕ → Result (List ℕ) ProgramFault
-root_answer asked = told_under asked.hash (nonce_of asked.nonce)
+abbrev pub root_answer : TreeOptions → List ℕ → Result (List ℕ) ProgramFault
+root_answer asked = root_result_under asked.hash (nonce_of asked.nonce)

@@ -6,7 +6,7 @@ ghost use Rattle.prefixtree.specs.Placement.{IsPlacement, HasDistinctIndices};
 ghost use Rattle.textio.specs.Faults.{IsTold, IsDeviceFault, IsInputFault};
 ghost use Rattle.items.specs.Items.{item_of, placement_of};
 ghost use Rattle.textio.specs.Lines.{lines_of};
-ghost use Rattle.items.specs.Listing.{listed, IsFirstRepeat};
+ghost use Rattle.items.specs.Listing.{item_list, IsFirstRepeat};
 
 use encoding::{Hash32, Index};
 use prefixtree::{Item, placed};
@@ -48,7 +48,7 @@ struct Listing {
 /// Reads lines to the end of the input or to the first malformed line.
 fn list_items<R: BufRead>(alloc: Global, reader: &mut R) -> Result<Listing, ProgramFault>
     ensures ok { IfOk result (λ listing. IfSome (R.remaining reader.old) (λ input.
-        listed (lines_of input) ≡ record { items = listing.items.items; is_cut = listing.is_cut })) }
+        item_list (lines_of input) ≡ record { items = listing.items.items; is_cut = listing.is_cut })) }
     ensures err { IfErr result IsDeviceFault }
 {
     let mut items = Vec::new(alloc);

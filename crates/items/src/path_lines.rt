@@ -3,7 +3,7 @@ ghost use Rattle.textio.specs.Digits.{hex32, nonce_of};
 ghost use Rattle.items.specs.Items.{placement_of};
 ghost use Rattle.textio.specs.Output.{Ends};
 ghost use Rattle.items.specs.Prove.{end_line, path_lines, sibling_lines, PathTold, Proves};
-ghost use Rattle.items.specs.Asked.{values_of};
+ghost use Rattle.items.specs.TreeOptions.{values_of};
 
 use crate::listing::read_placement;
 use crate::orders::{HashChoice, ProveOrder};

@@ -1,9 +1,9 @@
 ghost use Rattle.std.specs.Prelude.{◌≡◌, ◌≢◌, ◌↔◌, ◌++◌, length, Err, IfErr, None};
-ghost use Rattle.items.specs.Asked.{values_of};
+ghost use Rattle.items.specs.TreeOptions.{values_of};
 ghost use Rattle.items.specs.Items.{placement_of};
 ghost use Rattle.textio.specs.Output.{Ends};
 ghost use Rattle.textio.specs.Digits.{nonce_of};
-ghost use Rattle.items.specs.Root.{root_answer, root_line, root_told};
+ghost use Rattle.items.specs.Root.{root_answer, root_line, root_result};
 
 use crate::listing::read_placement;
 use crate::orders::{HashChoice, RootOrder};
@@ -38,7 +38,7 @@ fn root_under<H: NodeHash, R: BufRead, W: Write>(
     reader: &mut R,
     writer: &mut W,
 ) -> Result<(), ProgramFault>
-    ensures ends { Ends (λ input said. root_told H.digest_of nonce.now (placement_of input) ≡ said)
+    ensures ends { Ends (λ input said. root_result H.digest_of nonce.now (placement_of input) ≡ said)
         (R.remaining reader.old) (W.contents writer.old) (W.contents writer.new) result }
     ensures good_hex { IfErr result (λ fault. fault ≢ ProgramFault.BadHex) }
 {

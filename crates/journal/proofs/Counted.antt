@@ -25,7 +25,7 @@ start_is bytes result rest small gives = gives-reads (λ beginning. beginning) r
 
 -- a record has a byte
 pub longer : (kept : Record) (rest : List ℕ) → length rest < length (record_bytes kept ++ rest)
-longer (Start epoch nonce signature_key vuf_key) rest = rw (length-append (record_bytes (Start epoch nonce signature_key vuf_key)) rest) (omega arith)
+longer (Start epoch nonce signing_key vuf_key) rest = rw (length-append (record_bytes (Start epoch nonce signing_key vuf_key)) rest) (omega arith)
 longer (Bound verb salt name key) rest = rw (length-append (record_bytes (Bound verb salt name key)) rest) (omega arith)
 longer (Turned epoch) rest = rw (length-append (record_bytes (Turned epoch)) rest) (omega arith)
 

@@ -183,7 +183,7 @@ start_cuts =
     zeros = replicate 32 0
 
     nothing : Beginning
-    nothing = record { epoch = 0; nonce = zeros; signature_key = zeros; vuf_key = zeros }
+    nothing = record { epoch = 0; nonce = zeros; signing_key = zeros; vuf_key = zeros }
 
     nothing_is : IsStart nothing
     nothing_is = (lit≤ tt, zeros_32, zeros_32, zeros_32)
@@ -220,7 +220,7 @@ later_cuts = record { cut = cut; short = short }
     Ends bytes = (kept : Record) × (more : List ℕ) × (record_bytes kept ≡ bytes ++ more) × IsLater kept
 
     spelled : (kept : Record) → IsLater kept → record_bytes kept ≡ kind_of kept ∷ later_parts kept
-    spelled (Start epoch nonce signature_key vuf_key) h = absurd h
+    spelled (Start epoch nonce signing_key vuf_key) h = absurd h
     spelled (Bound verb salt name key) h = refl
     spelled (Turned epoch) h = refl
 
@@ -240,7 +240,7 @@ later_cuts = record { cut = cut; short = short }
     cut (kind ∷ rest) is e = first kind rest (λ k. is (suc k)) (kind == 0x4f) refl e
 
     short_rest : (kept : Record) (rest more : List ℕ) → later_parts kept ≡ rest ++ more → more ≢ [] → IsLater kept → read_later_of (kind_of kept) rest ≡ Err Short
-    short_rest (Start epoch nonce signature_key vuf_key) rest more e ne h = absurd h
+    short_rest (Start epoch nonce signing_key vuf_key) rest more e ne h = absurd h
     short_rest (Bound verb salt name key) rest more e ne h = bound_cuts.short (Bound verb salt name key) rest more e ne (h, refl)
     short_rest (Turned epoch) rest more e ne h = turned_cuts.short (Turned epoch) rest more e ne (h, refl)
 

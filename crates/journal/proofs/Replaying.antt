@@ -10,7 +10,7 @@ use Rattle.rand_core.specs.Stream.{Stream}
 use Rattle.book.specs.Fresh.{fresh, provider_of}
 use Rattle.book.specs.Replays.{replayed}
 use Rattle.book.specs.Shows.{index_of}
-use Rattle.epochs.specs.Kept.{Kept, provider, HasKeysOf}
+use Rattle.epochs.specs.DirectoryStates.{DirectoryState, provider, HasKeysOf}
 use Rattle.journal.specs.declared.refusal.Refusal.{Refusal}
 use Rattle.journal.specs.declared.refusal.Refusal.TheVariants.{BadRecord, OtherKeys, Memory}
 use Rattle.journal.specs.declared.beginning.Beginning.{Beginning}
@@ -41,10 +41,10 @@ nothing_cut [] few = (Turned 0, record_bytes (Turned 0), refl, (λ none. absurd 
 nothing_cut (byte ∷ bytes) few = absurd (omega (arith, few))
 
 -- the provider of a directory whose keys have not changed is the same
-pub same_index : {R : Type 0} (digest_of : List ℕ → List ℕ) (value_of signature_of : List ℕ → List ℕ → List ℕ) (before kept : Kept R) → HasKeysOf before kept
+pub same_index : {R : Type 0} (digest_of : List ℕ → List ℕ) (value_of signature_of : List ℕ → List ℕ → List ℕ) (before kept : DirectoryState R) → HasKeysOf before kept
     → index_of (provider digest_of value_of signature_of kept) ≡ index_of (provider digest_of value_of signature_of before)
 same_index {R} digest_of value_of signature_of before kept keys =
-    ap (λ (key : List ℕ). index_of (provider_of digest_of value_of key signature_of kept.key)) keys.0
+    ap (λ (key : List ℕ). index_of (provider_of digest_of value_of key signature_of kept.signing_key)) keys.0
     ∙ ap (λ (key : List ℕ). index_of (provider_of digest_of value_of before.vuf_key signature_of key)) keys.1
 
 module _ (by : List ℕ → List ℕ) where
@@ -95,33 +95,33 @@ module _ (by : List ℕ → List ℕ) where
 
 pub start_size : (beginning : Beginning) (rest : List ℕ) → IsStart beginning → length (start_bytes beginning ++ rest) ≡ 106 + length rest
 start_size beginning rest h =
-    let keys = length-append beginning.signature_key (beginning.vuf_key ++ rest) in
+    let keys = length-append beginning.signing_key (beginning.vuf_key ++ rest) in
     let last = length-append beginning.vuf_key rest in
-    rw (append_assoc beginning.nonce (beginning.signature_key ++ beginning.vuf_key) rest, append_assoc beginning.signature_key beginning.vuf_key rest)
-    (omega (arith, length-append beginning.nonce (beginning.signature_key ++ (beginning.vuf_key ++ rest)), keys, last, h.1.0, h.2.0, h.3.0))
+    rw (append_assoc beginning.nonce (beginning.signing_key ++ beginning.vuf_key) rest, append_assoc beginning.signing_key beginning.vuf_key rest)
+    (omega (arith, length-append beginning.nonce (beginning.signing_key ++ (beginning.vuf_key ++ rest)), keys, last, h.1.0, h.2.0, h.3.0))
 
 -- the provider of a directory that was begun with these keys
-pub begun_index : {R : Type 0} (digest_of : List ℕ → List ℕ) (value_of signature_of : List ℕ → List ℕ → List ℕ) (vuf_key key : List ℕ) (kept : Kept R)
-    → kept.vuf_key ≡ vuf_key → kept.key ≡ key → index_of (provider digest_of value_of signature_of kept) ≡ index_of (provider_of digest_of value_of vuf_key signature_of key)
+pub begun_index : {R : Type 0} (digest_of : List ℕ → List ℕ) (value_of signature_of : List ℕ → List ℕ → List ℕ) (vuf_key key : List ℕ) (kept : DirectoryState R)
+    → kept.vuf_key ≡ vuf_key → kept.signing_key ≡ key → index_of (provider digest_of value_of signature_of kept) ≡ index_of (provider_of digest_of value_of vuf_key signature_of key)
 begun_index digest_of value_of signature_of vuf_key key kept one two =
-    ap (λ (k : List ℕ). index_of (provider_of digest_of value_of k signature_of kept.key)) one
+    ap (λ (k : List ℕ). index_of (provider_of digest_of value_of k signature_of kept.signing_key)) one
     ∙ ap (λ (k : List ℕ). index_of (provider_of digest_of value_of vuf_key signature_of k)) two
 
-module _ (by : List ℕ → List ℕ) (signature_key vuf_key : List ℕ) (salts : Stream) (beginning : Beginning) {bytes : List ℕ} (rest : List ℕ) (is : bytes ≡ start_bytes beginning ++ rest) (start : IsStart beginning) where
+module _ (by : List ℕ → List ℕ) (signing_key vuf_key : List ℕ) (salts : Stream) (beginning : Beginning) {bytes : List ℕ} (rest : List ℕ) (is : bytes ≡ start_bytes beginning ++ rest) (start : IsStart beginning) where
   -- why a start does not begin a directory is why its bytes are not opened
-  pub not_begun : (why : Refusal) → IsNotBegun signature_key vuf_key beginning why → IsUnopened by signature_key vuf_key salts bytes why
+  pub not_begun : (why : Refusal) → IsNotBegun signing_key vuf_key beginning why → IsUnopened by signing_key vuf_key salts bytes why
   not_begun BadRecord h = inr (inl (beginning, rest, is, start, h))
   not_begun OtherKeys h = (beginning, rest, is, start, h.0, h.1)
   not_begun Memory h = (fresh beginning.epoch beginning.nonce salts, rest, (beginning, rest, is, start, h.0, h.1, leads_nowhere by (fresh beginning.epoch beginning.nonce salts) rest))
 
-  module _ (so : BeginsSo signature_key vuf_key beginning) where
+  module _ (so : BeginsSo signing_key vuf_key beginning) where
     -- what stops the replay is why the bytes are not opened
     pub not_replayed : (why : Refusal) (after : Book) (left : List ℕ) → StopsAt by (fresh beginning.epoch beginning.nonce salts) rest (Err why) after left
-        → IsUnopened by signature_key vuf_key salts bytes why
+        → IsUnopened by signing_key vuf_key salts bytes why
     not_replayed BadRecord after left h = inr (inr (after, left, (beginning, rest, is, start, so.0, so.1, h.0), h.1))
     not_replayed OtherKeys after left h = absurd h
     not_replayed Memory after left h = not_begun Memory so
 
     pub opened : (taken : ℕ) (after : Book) (left : List ℕ) → StopsAt by (fresh beginning.epoch beginning.nonce salts) rest (Ok taken) after left
-        → OpensTo by signature_key vuf_key salts bytes after (106 + taken)
+        → OpensTo by signing_key vuf_key salts bytes after (106 + taken)
     opened taken after left h = (left, (beginning, rest, is, start, so.0, so.1, h.0), h.1, omega (arith, ap length is, start_size beginning rest start, h.2))

@@ -63,12 +63,12 @@ module _ (by : List ℕ → List ℕ) where
       follow records others one.0 book other (records_bytes records ++ rest) rest left refl all.1 one.2 cut same.1 fine.1 (subst (λ (b : Book). replayed_all by b others ≡ Some other) (sym middles) two.2)
 
   -- two openings of the same bytes begin alike, and the one that ends at a cut has all records of the other
-  module _ (signature_key vuf_key : List ℕ) (salts : Stream) where
+  module _ (signing_key vuf_key : List ℕ) (salts : Stream) where
     one_start : (bytes : List ℕ) (one other : Beginning) (later rest : List ℕ) → bytes ≡ start_bytes one ++ later → IsStart one → bytes ≡ start_bytes other ++ rest → IsStart other → (other ≡ one) × (rest ≡ later)
     one_start bytes one other later rest is start so fine = one_spelling read_start start_bytes IsStart start_field other one rest later fine start (sym so ∙ is)
 
-    followed : (bytes : List ℕ) (book other : Book) (rest left : List ℕ) → Reaches by signature_key vuf_key salts bytes book rest → IsCut record_bytes IsLater rest
-        → Reaches by signature_key vuf_key salts bytes other left → Follow book rest other left
+    followed : (bytes : List ℕ) (book other : Book) (rest left : List ℕ) → Reaches by signing_key vuf_key salts bytes book rest → IsCut record_bytes IsLater rest
+        → Reaches by signing_key vuf_key salts bytes other left → Follow book rest other left
     followed bytes book other rest left (one, later, is, start, positive, keys, (records, spelled, all, leads)) cut (two, behind, so, fine, more, with_keys, (others, told, each, goes)) =
         let same = one_start bytes one two later behind is start so fine in
         follow records others (fresh one.epoch one.nonce salts) book other later rest left spelled all leads cut
@@ -92,21 +92,21 @@ module _ (by : List ℕ → List ℕ) where
         let same = one_spelling read_later record_bytes IsLater later_field kept put more behind later fine (sym is ∙ so) in
         some_none middle (sym does ∙ ap (λ (k : Record). replayed by other k) same.0 ∙ refused)
 
-    not_bad : (bytes : List ℕ) (book : Book) (rest : List ℕ) → Reaches by signature_key vuf_key salts bytes book rest → IsCut record_bytes IsLater rest → IsBad by signature_key vuf_key salts bytes → ⊥
+    not_bad : (bytes : List ℕ) (book : Book) (rest : List ℕ) → Reaches by signing_key vuf_key salts bytes book rest → IsCut record_bytes IsLater rest → IsBad by signing_key vuf_key salts bytes → ⊥
     not_bad bytes book rest (one, later, is, start, positive, keys, leads) cut (inl none) = none.0 (one, later, is, start)
     not_bad bytes book rest (one, later, is, start, positive, keys, leads) cut (inr (inl (two, behind, so, fine, zero_epoch))) =
         let same = one_start bytes one two later behind is start so fine in
         omega (arith, positive, zero_epoch, ap (λ (b : Beginning). b.epoch) same.0)
     not_bad bytes book rest reaches cut (inr (inr (other, left, others, bad))) = not_next book other rest left cut bad (followed bytes book other rest left reaches cut others)
 
-    not_others : (bytes : List ℕ) (book : Book) (rest : List ℕ) → Reaches by signature_key vuf_key salts bytes book rest → HasOtherKeys signature_key vuf_key bytes → ⊥
+    not_others : (bytes : List ℕ) (book : Book) (rest : List ℕ) → Reaches by signing_key vuf_key salts bytes book rest → HasOtherKeys signing_key vuf_key bytes → ⊥
     not_others bytes book rest (one, later, is, start, positive, keys, leads) (two, behind, so, fine, more, other) =
         let same = one_start bytes one two later behind is start so fine in
-        other (subst (λ (b : Beginning). HasKeys signature_key vuf_key b) (sym same.0) keys)
+        other (subst (λ (b : Beginning). HasKeys signing_key vuf_key b) (sym same.0) keys)
 
-    pub settled : (bytes : List ℕ) (book other : Book) (taken count : ℕ) → OpensTo by signature_key vuf_key salts bytes book taken
-        → (OpensTo by signature_key vuf_key salts bytes other count → (other ≡ book) × (count ≡ taken))
-        × (¬ IsCut start_bytes IsStart bytes) × (¬ IsBad by signature_key vuf_key salts bytes) × (¬ HasOtherKeys signature_key vuf_key bytes)
+    pub settled : (bytes : List ℕ) (book other : Book) (taken count : ℕ) → OpensTo by signing_key vuf_key salts bytes book taken
+        → (OpensTo by signing_key vuf_key salts bytes other count → (other ≡ book) × (count ≡ taken))
+        × (¬ IsCut start_bytes IsStart bytes) × (¬ IsBad by signing_key vuf_key salts bytes) × (¬ HasOtherKeys signing_key vuf_key bytes)
     settled bytes book other taken count (rest, reaches, cut, many) = (
       λ (left, others, end, much). same_opening bytes book other rest left taken count many much end (followed bytes book other rest left reaches cut others),
       whole_or_cut read_start start_bytes IsStart start_field bytes (reaches.0, reaches.1, reaches.2, reaches.3),
@@ -115,13 +115,13 @@ module _ (by : List ℕ → List ℕ) where
     )
 
     -- a start that was cut short has no fault
-    cut_not_bad : (bytes : List ℕ) → IsCut start_bytes IsStart bytes → IsBad by signature_key vuf_key salts bytes → ⊥
+    cut_not_bad : (bytes : List ℕ) → IsCut start_bytes IsStart bytes → IsBad by signing_key vuf_key salts bytes → ⊥
     cut_not_bad bytes cut (inl none) = none.1 cut
     cut_not_bad bytes cut (inr (inl (two, behind, so, fine, zero_epoch))) = whole_or_cut read_start start_bytes IsStart start_field bytes (two, behind, so, fine) cut
     cut_not_bad bytes cut (inr (inr (other, left, others, bad))) = whole_or_cut read_start start_bytes IsStart start_field bytes (others.0, others.1, others.2, others.3) cut
 
     -- a bad journal is none of other keys
-    bad_not_others : (bytes : List ℕ) → IsBad by signature_key vuf_key salts bytes → HasOtherKeys signature_key vuf_key bytes → ⊥
+    bad_not_others : (bytes : List ℕ) → IsBad by signing_key vuf_key salts bytes → HasOtherKeys signing_key vuf_key bytes → ⊥
     bad_not_others bytes (inl none) (two, behind, so, fine, more, other) = none.0 (two, behind, so, fine)
     bad_not_others bytes (inr (inl (one, later, is, start, zero_epoch))) (two, behind, so, fine, more, other) =
         let same = one_start bytes one two later behind is start so fine in
@@ -129,8 +129,8 @@ module _ (by : List ℕ → List ℕ) where
     bad_not_others bytes (inr (inr (book, rest, reaches, bad))) others = not_others bytes book rest reaches others
 
     pub faults_settled : (bytes : List ℕ)
-        → (IsCut start_bytes IsStart bytes → (¬ IsBad by signature_key vuf_key salts bytes) × (¬ HasOtherKeys signature_key vuf_key bytes))
-        × (IsBad by signature_key vuf_key salts bytes → ¬ HasOtherKeys signature_key vuf_key bytes)
+        → (IsCut start_bytes IsStart bytes → (¬ IsBad by signing_key vuf_key salts bytes) × (¬ HasOtherKeys signing_key vuf_key bytes))
+        × (IsBad by signing_key vuf_key salts bytes → ¬ HasOtherKeys signing_key vuf_key bytes)
     faults_settled bytes = (
       λ cut. (
         cut_not_bad bytes cut,

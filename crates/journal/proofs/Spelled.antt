@@ -85,7 +85,7 @@ counted_up_to high most fits small =
 -- ---- starts
 
 abbrev pub beginning_parts : Beginning → ℕ × (List ℕ × (List ℕ × List ℕ))
-beginning_parts beginning = (beginning.epoch, (beginning.nonce, (beginning.signature_key, beginning.vuf_key)))
+beginning_parts beginning = (beginning.epoch, (beginning.nonce, (beginning.signing_key, beginning.vuf_key)))
 
 abbrev pub spelled_beginning : ℕ × (List ℕ × (List ℕ × List ℕ)) → List ℕ
 spelled_beginning parts = big_bytes 8 parts.0 ++ (parts.1.0 ++ (parts.1.1.0 ++ parts.1.1.1))
@@ -114,12 +114,12 @@ start_field =
 
 -- what follows the kind byte
 abbrev pub later_parts : Record → List ℕ
-later_parts (Start epoch nonce signature_key vuf_key) = []
+later_parts (Start epoch nonce signing_key vuf_key) = []
 later_parts (Bound verb salt name key) = (verb_byte verb ∷ []) ++ (salt ++ (counted_bytes name ++ counted_bytes key))
 later_parts (Turned epoch) = big_bytes 8 epoch
 
 abbrev pub kind_of : Record → ℕ
-kind_of (Start epoch nonce signature_key vuf_key) = 0x4e
+kind_of (Start epoch nonce signing_key vuf_key) = 0x4e
 kind_of (Bound verb salt name key) = 0x4f
 kind_of (Turned epoch) = 0x43
 
@@ -127,7 +127,7 @@ abbrev pub OfKind : ℕ → Record → Type 0
 OfKind kind kept = IsLater kept × (kind_of kept ≡ kind)
 
 abbrev pub bound_parts : Record → Verb × (List ℕ × (List ℕ × List ℕ))
-bound_parts (Start epoch nonce signature_key vuf_key) = (Register, ([], ([], [])))
+bound_parts (Start epoch nonce signing_key vuf_key) = (Register, ([], ([], [])))
 bound_parts (Bound verb salt name key) = (verb, (salt, (name, key)))
 bound_parts (Turned epoch) = (Register, ([], ([], [])))
 
@@ -141,17 +141,17 @@ abbrev pub IsBinding : Record → Type 0
 IsBinding kept = BoundParts (bound_parts kept) × (bound_of (bound_parts kept) ≡ kept)
 
 pub bound_same : (kept : Record) → IsBinding kept → spelled_bound (bound_parts kept) ≡ later_parts kept
-bound_same (Start epoch nonce signature_key vuf_key) h = absurd cc
+bound_same (Start epoch nonce signing_key vuf_key) h = absurd cc
 bound_same (Bound verb salt name key) h = refl
 bound_same (Turned epoch) h = absurd cc
 
 pub binding_is : (kept : Record) → IsBinding kept → OfKind 0x4f kept
-binding_is (Start epoch nonce signature_key vuf_key) h = absurd cc
+binding_is (Start epoch nonce signing_key vuf_key) h = absurd cc
 binding_is (Bound verb salt name key) h = ((h.0.1.0, h.0.1.1.0, h.0.1.1.1), refl)
 binding_is (Turned epoch) h = absurd cc
 
 pub is_binding : (kept : Record) → OfKind 0x4f kept → IsBinding kept
-is_binding (Start epoch nonce signature_key vuf_key) h = absurd h.0
+is_binding (Start epoch nonce signing_key vuf_key) h = absurd h.0
 is_binding (Bound verb salt name key) h = ((tt, (h.0.0, (h.0.1, h.0.2))), refl)
 is_binding (Turned epoch) h = absurd (omega (arith, h.1))
 
@@ -164,7 +164,7 @@ bound_field =
     (both verb_field (both (bytes_field 32) (both (counted_up_to 0 255 (lit≤ tt) (lit≤ tt)) (counted_up_to 8 2048 (lit≤ tt) (lit≤ tt)))))))
 
 abbrev pub epoch_of : Record → ℕ
-epoch_of (Start epoch nonce signature_key vuf_key) = 0
+epoch_of (Start epoch nonce signing_key vuf_key) = 0
 epoch_of (Bound verb salt name key) = 0
 epoch_of (Turned epoch) = epoch
 
@@ -172,17 +172,17 @@ abbrev pub IsTurned : Record → Type 0
 IsTurned kept = (epoch_of kept < 256 ^ 8) × (Turned (epoch_of kept) ≡ kept)
 
 pub turned_same : (kept : Record) → IsTurned kept → big_bytes 8 (epoch_of kept) ≡ later_parts kept
-turned_same (Start epoch nonce signature_key vuf_key) h = absurd cc
+turned_same (Start epoch nonce signing_key vuf_key) h = absurd cc
 turned_same (Bound verb salt name key) h = absurd cc
 turned_same (Turned epoch) h = refl
 
 pub turned_is : (kept : Record) → IsTurned kept → OfKind 0x43 kept
-turned_is (Start epoch nonce signature_key vuf_key) h = absurd cc
+turned_is (Start epoch nonce signing_key vuf_key) h = absurd cc
 turned_is (Bound verb salt name key) h = absurd cc
 turned_is (Turned epoch) h = (h.0, refl)
 
 pub is_turned : (kept : Record) → OfKind 0x43 kept → IsTurned kept
-is_turned (Start epoch nonce signature_key vuf_key) h = absurd h.0
+is_turned (Start epoch nonce signing_key vuf_key) h = absurd h.0
 is_turned (Bound verb salt name key) h = absurd (omega (arith, h.1))
 is_turned (Turned epoch) h = (h.0, refl)
 
@@ -205,7 +205,7 @@ kinds kind = first (kind == 0x4f) refl
         unknown bytes = rw (e, f) refl
 
         none : (kept : Record) (rest : List ℕ) → OfKind kind kept → read_later_of kind (later_parts kept ++ rest) ≡ Ok (kept, rest)
-        none (Start epoch nonce signature_key vuf_key) rest h = absurd h.0
+        none (Start epoch nonce signing_key vuf_key) rest h = absurd h.0
         none (Bound verb salt name key) rest h = absurd (true≢false (ap (λ (k : ℕ). k == 0x4f) h.1 ∙ e))
         none (Turned epoch) rest h = absurd (true≢false (ap (λ (k : ℕ). k == 0x43) h.1 ∙ f))
 
@@ -218,7 +218,7 @@ kinds kind = first (kind == 0x4f) refl
     first false e = second (kind == 0x43) refl e
 
 pub later_small : (kept : Record) → kind_of kept < 256
-later_small (Start epoch nonce signature_key vuf_key) = lit≤ tt
+later_small (Start epoch nonce signing_key vuf_key) = lit≤ tt
 later_small (Bound verb salt name key) = lit≤ tt
 later_small (Turned epoch) = lit≤ tt
 
@@ -233,6 +233,6 @@ later_field =
     IsAllowed kept = (kind_of kept < 256) × IsLater kept
 
     same : (kept : Record) → IsAllowed kept → (kind_of kept ∷ []) ++ later_parts kept ≡ record_bytes kept
-    same (Start epoch nonce signature_key vuf_key) h = absurd h.1
+    same (Start epoch nonce signing_key vuf_key) h = absurd h.1
     same (Bound verb salt name key) h = refl
     same (Turned epoch) h = refl

@@ -7,18 +7,18 @@ use Rattle.book.specs.declared.record.Record.{Record}
 use Rattle.journal.specs.Records.{record_bytes, IsRecord}
 
 -- the writer, and whether a record was not kept
-pub record Written (W : Type 0) : Type 0 where
+pub record JournalState (W : Type 0) : Type 0 where
   pub writer : W
   pub is_broken : Bool
 
 module _ {W : Type 0} (contents : W → Option (List ℕ)) where
   -- the record is written whole
-  abbrev pub KeepsRecord : Written W → Record → Written W → Type 0
+  abbrev pub KeepsRecord : JournalState W → Record → JournalState W → Type 0
   KeepsRecord before kept after = IsRecord kept × (before.is_broken ≡ false) × (after.is_broken ≡ false)
       × Appends (contents before.writer) (contents after.writer) (record_bytes kept)
 
   -- a beginning of the record is written, as the write of the rest failed; or nothing, as a record was lost before
-  abbrev pub LosesRecord : Written W → Record → Written W → Type 0
+  abbrev pub LosesRecord : JournalState W → Record → JournalState W → Type 0
   LosesRecord before lost after = (after.is_broken ≡ true)
       × ((IsRecord lost × (before.is_broken ≡ false) × WritesBeginning (contents before.writer) (contents after.writer) (record_bytes lost))
       ⊎ ((before.is_broken ≡ true) × (after ≡ before)))

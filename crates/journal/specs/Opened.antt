@@ -4,7 +4,7 @@ use Rattle.rand_core.specs.Stream.{Stream}
 use Rattle.book.specs.declared.record.Record.{Record}
 use Rattle.book.specs.Books.{Book}
 use Rattle.book.specs.Replays.{replayed}
-use Rattle.epochs.specs.Kept.{book}
+use Rattle.epochs.specs.DirectoryStates.{book}
 use Rattle.journal.specs.declared.beginning.Beginning.{Beginning}
 use Rattle.journal.specs.declared.opening.Opened.{Opened}
 use Rattle.journal.specs.declared.opening.Opened.TheVariants.{Nothing, Directory}
@@ -15,13 +15,13 @@ use Rattle.journal.specs.Records.{record_bytes, start_bytes, IsLater, IsStart}
 
 -- a directory of these keys may begin so
 abbrev pub BeginsSo : List ℕ → List ℕ → Beginning → Type 0
-BeginsSo signature_key vuf_key beginning = (0 < beginning.epoch) × HasKeys signature_key vuf_key beginning
+BeginsSo signing_key vuf_key beginning = (0 < beginning.epoch) × HasKeys signing_key vuf_key beginning
 
 -- why it may not, or memory is wanting
 abbrev pub IsNotBegun : List ℕ → List ℕ → Beginning → Refusal → Type 0
-IsNotBegun signature_key vuf_key beginning BadRecord = beginning.epoch ≡ 0
-IsNotBegun signature_key vuf_key beginning OtherKeys = (0 < beginning.epoch) × (¬ HasKeys signature_key vuf_key beginning)
-IsNotBegun signature_key vuf_key beginning Memory = BeginsSo signature_key vuf_key beginning
+IsNotBegun signing_key vuf_key beginning BadRecord = beginning.epoch ≡ 0
+IsNotBegun signing_key vuf_key beginning OtherKeys = (0 < beginning.epoch) × (¬ HasKeys signing_key vuf_key beginning)
+IsNotBegun signing_key vuf_key beginning Memory = BeginsSo signing_key vuf_key beginning
 
 -- why a record is not carried out on a book, or memory is wanting
 abbrev pub IsNotReplayed : (List ℕ → List ℕ) → Book → Record → Refusal → Type 0
@@ -38,15 +38,15 @@ StopsAt index_of before bytes (Err BadRecord) after rest = Leads index_of before
 StopsAt index_of before bytes (Err OtherKeys) after rest = ⊥
 StopsAt index_of before bytes (Err Memory) after rest = ⊤
 
-module _ (index_of : List ℕ → List ℕ) (signature_key vuf_key : List ℕ) (salts : Stream) where
+module _ (index_of : List ℕ → List ℕ) (signing_key vuf_key : List ℕ) (salts : Stream) where
   -- the bytes are no whole start; or they open to this directory, which has the keys of the start
   abbrev pub Opens : {H V S R : Type 0} → (R → Stream) → List ℕ → Opened H V S R → Type 0
   Opens stream bytes Nothing = IsCut start_bytes IsStart bytes
-  Opens stream bytes (Directory directory taken) = OpensTo index_of signature_key vuf_key salts bytes (book stream directory) taken
-      × (directory.key ≡ signature_key) × (directory.vuf_key ≡ vuf_key)
+  Opens stream bytes (Directory directory taken) = OpensTo index_of signing_key vuf_key salts bytes (book stream directory) taken
+      × (directory.signing_key ≡ signing_key) × (directory.vuf_key ≡ vuf_key)
 
   -- why they open to nothing
   abbrev pub IsUnopened : List ℕ → Refusal → Type 0
-  IsUnopened bytes BadRecord = IsBad index_of signature_key vuf_key salts bytes
-  IsUnopened bytes OtherKeys = HasOtherKeys signature_key vuf_key bytes
-  IsUnopened bytes Memory = IsBegun index_of signature_key vuf_key salts bytes
+  IsUnopened bytes BadRecord = IsBad index_of signing_key vuf_key salts bytes
+  IsUnopened bytes OtherKeys = HasOtherKeys signing_key vuf_key bytes
+  IsUnopened bytes Memory = IsBegun index_of signing_key vuf_key salts bytes

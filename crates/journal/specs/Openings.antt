@@ -21,12 +21,12 @@ IsNone spelling Allowed bytes = (¬ Begins spelling Allowed bytes) × (¬ IsCut 
 
 -- the start has these public keys
 abbrev pub HasKeys : List ℕ → List ℕ → Beginning → Type 0
-HasKeys signature_key vuf_key beginning = (beginning.signature_key ≡ signature_key) × (beginning.vuf_key ≡ vuf_key)
+HasKeys signing_key vuf_key beginning = (beginning.signing_key ≡ signing_key) × (beginning.vuf_key ≡ vuf_key)
 
 -- the bytes begin with a start of other keys
 abbrev pub HasOtherKeys : List ℕ → List ℕ → List ℕ → Type 0
-HasOtherKeys signature_key vuf_key bytes = (beginning : Beginning) × (later : List ℕ)
-    × (bytes ≡ start_bytes beginning ++ later) × IsStart beginning × (0 < beginning.epoch) × (¬ HasKeys signature_key vuf_key beginning)
+HasOtherKeys signing_key vuf_key bytes = (beginning : Beginning) × (later : List ℕ)
+    × (bytes ≡ start_bytes beginning ++ later) × IsStart beginning × (0 < beginning.epoch) × (¬ HasKeys signing_key vuf_key beginning)
 
 module _ (index_of : List ℕ → List ℕ) where
   -- later records stand at the front of the bytes, before this rest, and lead from one book to another
@@ -39,11 +39,11 @@ module _ (index_of : List ℕ → List ℕ) where
   IsBadNext book rest = IsNone record_bytes IsLater rest
       ⊎ ((kept : Record) × (more : List ℕ) × (rest ≡ record_bytes kept ++ more) × IsLater kept × (replayed index_of book kept ≡ None))
 
-  module _ (signature_key vuf_key : List ℕ) (salts : Stream) where
+  module _ (signing_key vuf_key : List ℕ) (salts : Stream) where
     -- a start of these keys and later records stand at the front of the bytes, and lead to this book
     abbrev pub Reaches : List ℕ → Book → List ℕ → Type 0
     Reaches bytes book rest = (beginning : Beginning) × (later : List ℕ)
-        × (bytes ≡ start_bytes beginning ++ later) × IsStart beginning × (0 < beginning.epoch) × HasKeys signature_key vuf_key beginning
+        × (bytes ≡ start_bytes beginning ++ later) × IsStart beginning × (0 < beginning.epoch) × HasKeys signing_key vuf_key beginning
         × Leads (fresh beginning.epoch beginning.nonce salts) later book rest
 
     -- the bytes open to this book, by so many of them

@@ -15,7 +15,7 @@ unfoldable pub read_verb : List ℕ → Reading Verb
 read_verb = read_as verb_of (read_where (is_within 1 2) read_byte)
 
 abbrev pub beginning_of : ℕ × (List ℕ × (List ℕ × List ℕ)) → Beginning
-beginning_of parts = record { epoch = parts.0; nonce = parts.1.0; signature_key = parts.1.1.0; vuf_key = parts.1.1.1 }
+beginning_of parts = record { epoch = parts.0; nonce = parts.1.0; signing_key = parts.1.1.0; vuf_key = parts.1.1.1 }
 
 abbrev pub bound_of : Verb × (List ℕ × (List ℕ × List ℕ)) → Record
 bound_of parts = Bound parts.0 parts.1.0 parts.1.1.0 parts.1.1.1

@@ -18,7 +18,7 @@ verb_byte Change = 2
 -- A start: N, the version, the epoch, the nonce, and the two public keys. A binding: O, the verb, the salt, and
 -- name and key, each behind its length in two bytes. A new page: C and its epoch.
 abbrev pub record_bytes : Record → List ℕ
-record_bytes (Start epoch nonce signature_key vuf_key) = 0x4e ∷ 1 ∷ (big_bytes 8 epoch ++ (nonce ++ (signature_key ++ vuf_key)))
+record_bytes (Start epoch nonce signing_key vuf_key) = 0x4e ∷ 1 ∷ (big_bytes 8 epoch ++ (nonce ++ (signing_key ++ vuf_key)))
 record_bytes (Bound verb salt name key) = 0x4f ∷ verb_byte verb ∷ (salt ++ (counted_bytes name ++ counted_bytes key))
 record_bytes (Turned epoch) = 0x43 ∷ big_bytes 8 epoch
 
@@ -27,14 +27,14 @@ abbrev pub records_bytes : List Record → List ℕ
 records_bytes = flat_map record_bytes
 
 abbrev pub start_of : Beginning → Record
-start_of beginning = Start beginning.epoch beginning.nonce beginning.signature_key beginning.vuf_key
+start_of beginning = Start beginning.epoch beginning.nonce beginning.signing_key beginning.vuf_key
 
 abbrev pub start_bytes : Beginning → List ℕ
 start_bytes beginning = record_bytes (start_of beginning)
 
 -- the parts are within their limits
 abbrev pub IsRecord : Record → Type 0
-IsRecord (Start epoch nonce signature_key vuf_key) = (epoch < 2 ^ 64) × Is32Bytes nonce × Is32Bytes signature_key × Is32Bytes vuf_key
+IsRecord (Start epoch nonce signing_key vuf_key) = (epoch < 2 ^ 64) × Is32Bytes nonce × Is32Bytes signing_key × Is32Bytes vuf_key
 IsRecord (Bound verb salt name key) = Is32Bytes salt × IsName name × IsKeyData key
 IsRecord (Turned epoch) = epoch < 2 ^ 64
 
@@ -44,6 +44,6 @@ IsStart beginning = IsRecord (start_of beginning)
 
 -- what may stand at each later place
 abbrev pub IsLater : Record → Type 0
-IsLater (Start epoch nonce signature_key vuf_key) = ⊥
+IsLater (Start epoch nonce signing_key vuf_key) = ⊥
 IsLater (Bound verb salt name key) = IsRecord (Bound verb salt name key)
 IsLater (Turned epoch) = IsRecord (Turned epoch)

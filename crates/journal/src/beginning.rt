@@ -5,6 +5,6 @@ use encoding::Hash32;
 pub struct Beginning {
     pub epoch: u64,
     pub nonce: Hash32,
-    pub signature_key: Hash32,
+    pub signing_key: Hash32,
     pub vuf_key: Hash32,
 }

@@ -12,9 +12,9 @@ pub struct Journal<W: Write + Drop> {
 }
 
 impl<W: Write + Drop> Model for Journal<W> {
-    ghost use Rattle.journal.specs.Journals.{Written};
+    ghost use Rattle.journal.specs.Journals.{JournalState};
 
-    ghost Value = { Written W };
+    ghost Value = { JournalState W };
 
     ghost view = { λ journal. record { writer = journal.writer; is_broken = journal.is_broken } };
 }

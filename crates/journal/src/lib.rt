@@ -5,7 +5,7 @@
 //!
 //! ```
 //! let mut journal = Journal::new(file);
-//! journal.keep(&Record::Start { epoch, nonce, signature_key, vuf_key })?;
+//! journal.keep(&Record::Start { epoch, nonce, signing_key, vuf_key })?;
 //! let promise = directory.register(&mut journal, b"alice", &key)?;
 //!
 //! match open(alloc, &bytes, hash, vuf, signer, salts)? {

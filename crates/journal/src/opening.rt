@@ -4,7 +4,7 @@
 ghost use Rattle.std.specs.Prelude.{◌≡◌, ◌≤◌, length, MatchResult, Some};
 ghost use Rattle.book.specs.Fresh.{fresh, provider_of};
 ghost use Rattle.book.specs.Shows.{index_of};
-ghost use Rattle.epochs.specs.Kept.{book, provider, HasKeysOf};
+ghost use Rattle.epochs.specs.DirectoryStates.{book, provider, HasKeysOf};
 ghost use Rattle.book.specs.Replays.{replayed};
 ghost use Rattle.journal.specs.Opened.{BeginsSo, IsNotBegun, IsNotReplayed, IsUnopened, Opens, StopsAt};
 ghost use Rattle.journal.specs.Records.{IsLater};
@@ -47,13 +47,13 @@ where
     R: Rng + Drop,
     ensures begins { MatchResult result (λ directory. BeginsSo (S.public_key signer) (V.public_key vuf) beginning.now
         × (book R.stream directory ≡ fresh beginning.now.epoch beginning.now.nonce (R.stream salts))
-        × (directory.vuf_key ≡ V.public_key vuf) × (directory.key ≡ S.public_key signer))
+        × (directory.vuf_key ≡ V.public_key vuf) × (directory.signing_key ≡ S.public_key signer))
         (IsNotBegun (S.public_key signer) (V.public_key vuf) beginning.now) }
 {
     if beginning.epoch == 0 {
         return Err(Refusal::BadRecord);
     }
-    if beginning.signature_key != signer.public() || beginning.vuf_key != vuf.public() {
+    if beginning.signing_key != signer.public() || beginning.vuf_key != vuf.public() {
         return Err(Refusal::OtherKeys);
     }
     match Directory::new(

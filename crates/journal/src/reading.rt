@@ -24,7 +24,7 @@ pub(crate) fn read_start(cursor: &mut Cursor<'_>) -> Result<Beginning, Fault>
     Ok(Beginning {
         epoch: cursor.u64()?,
         nonce: cursor.hash32()?,
-        signature_key: cursor.hash32()?,
+        signing_key: cursor.hash32()?,
         vuf_key: cursor.hash32()?,
     })
 }

@@ -37,13 +37,13 @@ pub(crate) fn record_text(what: &Record) -> Text
         Record::Start {
             epoch,
             nonce,
-            signature_key,
+            signing_key,
             vuf_key,
         } => {
             text.push_slice(&[START, START_VERSION]);
             text.push_u64(*epoch);
             text.push_slice(nonce.bytes());
-            text.push_slice(signature_key.bytes());
+            text.push_slice(signing_key.bytes());
             text.push_slice(vuf_key.bytes());
         }
         Record::Bound {

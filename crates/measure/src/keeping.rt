@@ -24,7 +24,7 @@ fn start() -> Record {
     Record::Start {
         epoch: 1,
         nonce: Hash32::default(),
-        signature_key: signer().public(),
+        signing_key: signer().public(),
         vuf_key: vuf().public(),
     }
 }

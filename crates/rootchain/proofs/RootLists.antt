@@ -11,7 +11,7 @@ use Rattle.encoding.proofs.Fields.{allowed_field, list_field, numbers_field, ok_
 use Rattle.rootchain.specs.declared.signed_root.SignedRoot.{SignedRoot}
 use Rattle.rootchain.specs.Readable.{signed_root_field}
 use Rattle.rootchain.specs.SignedRoots.{read_signed_root, signed_root_bytes, IsSignedRoot}
-use Rattle.rootchain.specs.RootLists.{listed, roots_of, read_root_count, read_root_list, read_roots, root_list_bytes, HasRoots, IsListed, IsRootList}
+use Rattle.rootchain.specs.RootLists.{roots_in, roots_of, read_root_count, read_root_list, read_roots, root_list_bytes, HasRoots, IsListed, IsRootList}
 
 abbrev IsCount : ℕ → Type 0
 IsCount n = (n < 256 ^ 2) × (is_within 0 64 n ≡ true)
@@ -110,33 +110,33 @@ read_many (suc count) bytes z e =
     ap (λ (w : List SignedRoot × List ℕ). length w.0) (sym (ok_is made z v.2)) ∙ (refl ∙ omega (arith, many))
 
 -- so many roots are left
-pub listed_many : (count : ℕ) (bytes : List ℕ) → IsListed count bytes → length (listed count bytes) ≡ count
+pub listed_many : (count : ℕ) (bytes : List ℕ) → IsListed count bytes → length (roots_in count bytes) ≡ count
 unfolding read_roots
-listed_many count bytes is = read_many count bytes (listed count bytes, []) is.1
+listed_many count bytes is = read_many count bytes (roots_in count bytes, []) is.1
 
 -- none is left
-pub listed_none : (bytes : List ℕ) → listed 0 bytes ≡ []
+pub listed_none : (bytes : List ℕ) → roots_in 0 bytes ≡ []
 unfolding read_roots
 listed_none bytes = refl
 
 -- one is left at least: it is read, and the others after it
 pub listed_some : (count left : ℕ) (bytes : List ℕ) → count ≡ suc left → IsListed count bytes
-    → (root : SignedRoot) × (rest : List ℕ) × (read_signed_root bytes ≡ Ok (root, rest)) × IsListed left rest × (listed count bytes ≡ root ∷ listed left rest)
+    → (root : SignedRoot) × (rest : List ℕ) × (read_signed_root bytes ≡ Ok (root, rest)) × IsListed left rest × (roots_in count bytes ≡ root ∷ roots_in left rest)
 unfolding read_roots
 listed_some count left bytes same is =
     let L : ℕ → Type 0 = λ n. IsListed n bytes in
     let is' = subst L same is in
     let u = bind_ok (read_signed_root bytes) (λ x. read_list read_signed_root left x.1 >>= λ xs. Ok (x.0 ∷ xs.0, xs.1)) _ is'.1 in
     let v = bind_ok (read_list read_signed_root left u.0.1) (λ xs. Ok (u.0.0 ∷ xs.0, xs.1)) _ u.2 in
-    let e = ok_is (u.0.0 ∷ v.0.0, v.0.1) (listed (suc left) bytes, []) v.2 in
+    let e = ok_is (u.0.0 ∷ v.0.0, v.0.1) (roots_in (suc left) bytes, []) v.2 in
     let over : v.0.1 ≡ [] = ap (λ (z : List SignedRoot × List ℕ). z.1) e in
-    let all : u.0.0 ∷ v.0.0 ≡ listed (suc left) bytes = ap (λ (z : List SignedRoot × List ℕ). z.0) e in
-    let rest : listed left u.0.1 ≡ v.0.0 = ap roots_of v.1 in
-    let R : ℕ → Type 0 = λ n. listed n bytes ≡ u.0.0 ∷ listed left u.0.1 in (
+    let all : u.0.0 ∷ v.0.0 ≡ roots_in (suc left) bytes = ap (λ (z : List SignedRoot × List ℕ). z.0) e in
+    let rest : roots_in left u.0.1 ≡ v.0.0 = ap roots_of v.1 in
+    let R : ℕ → Type 0 = λ n. roots_in n bytes ≡ u.0.0 ∷ roots_in left u.0.1 in (
       u.0.0,
       u.0.1,
       u.1,
-      (omega (arith, is.0, same), v.1 ∙ ap (λ (z : List SignedRoot). Ok (z, v.0.1)) (sym rest) ∙ ap (λ (z : List ℕ). Ok (listed left u.0.1, z)) over),
+      (omega (arith, is.0, same), v.1 ∙ ap (λ (z : List SignedRoot). Ok (z, v.0.1)) (sym rest) ∙ ap (λ (z : List ℕ). Ok (roots_in left u.0.1, z)) over),
       subst R (sym same) (sym all ∙ ap (λ (z : List SignedRoot). u.0.0 ∷ z) (sym rest)),
     )
 
@@ -159,15 +159,15 @@ none_spelled bytes count rest e none roots spelled =
     none (roots, sym (list_is bytes count rest e) ∙ whole-spelled read_root_list root_list_bytes IsRootList root_list_field bytes roots spelled)
 
 -- what was found is what is listed
-found_listed : (count : ℕ) (rest : List ℕ) → HasRoots count rest → read_roots count rest ≡ Ok (listed count rest, [])
+found_listed : (count : ℕ) (rest : List ℕ) → HasRoots count rest → read_roots count rest ≡ Ok (roots_in count rest, [])
 found_listed count rest found =
-    let same : listed count rest ≡ found.0 = ap roots_of found.1 in
+    let same : roots_in count rest ≡ found.0 = ap roots_of found.1 in
     found.1 ∙ ap (λ (roots : List SignedRoot). Ok (roots, [])) (sym same)
 
 pub is_listed : (bytes : List ℕ) (count : ℕ) (rest : List ℕ) → IsBytes bytes → read_root_count bytes ≡ Ok (count, rest) → HasRoots count rest → IsListed count rest
 is_listed bytes count rest small e found = (few count (count_field.spelled bytes (count, rest) small e).1.1, found_listed count rest found)
 
 pub is_spelled : (bytes : List ℕ) (count : ℕ) (rest : List ℕ) → IsBytes bytes → read_root_count bytes ≡ Ok (count, rest) → HasRoots count rest
-    → Spells root_list_bytes IsRootList bytes (listed count rest)
+    → Spells root_list_bytes IsRootList bytes (roots_in count rest)
 is_spelled bytes count rest small e found =
-    whole-read read_root_list root_list_bytes IsRootList root_list_field bytes (listed count rest) small (list_is bytes count rest e ∙ found_listed count rest found)
+    whole-read read_root_list root_list_bytes IsRootList root_list_field bytes (roots_in count rest) small (list_is bytes count rest e ∙ found_listed count rest found)

@@ -40,12 +40,12 @@ roots_of (Ok read) = read.0
 roots_of (Err fault) = []
 
 -- the roots of a list of which so many are left, in these bytes
-abbrev pub listed : ℕ → List ℕ → List SignedRoot
-listed count bytes = roots_of (read_roots count bytes)
+abbrev pub roots_in : ℕ → List ℕ → List SignedRoot
+roots_in count bytes = roots_of (read_roots count bytes)
 
 -- the bytes have so many roots, and no more
 abbrev pub IsListed : ℕ → List ℕ → Type 0
-IsListed count bytes = (count ≤ 64) × (read_roots count bytes ≡ Ok (listed count bytes, []))
+IsListed count bytes = (count ≤ 64) × (read_roots count bytes ≡ Ok (roots_in count bytes, []))
 
 -- so many roots stand in the bytes, and nothing after them
 abbrev pub HasRoots : ℕ → List ℕ → Type 0

@@ -23,11 +23,11 @@ pub struct RootList<'a> {
 impl<'a> Model for RootList<'a> {
     ghost use Rattle.std.specs.Prelude.{List};
     ghost use Rattle.rootchain.specs.declared.signed_root.SignedRoot.{SignedRoot};
-    ghost use Rattle.rootchain.specs.RootLists.{listed, IsListed};
+    ghost use Rattle.rootchain.specs.RootLists.{roots_in, IsListed};
 
     ghost Value = { List SignedRoot };
 
-    ghost view = { λ list. listed list.left list.cursor };
+    ghost view = { λ list. roots_in list.left list.cursor };
 
     ghost invariant = { λ list. IsListed list.left list.cursor };
 }

@@ -8,8 +8,8 @@ use Rattle.std.proofs.KnownBytes.{Appends-nil, Appends-trans, Consumes-kept, Con
 use Rattle.std.proofs.lemmas.Map.Steps.{set_value_same}
 use Rattle.textio.specs.Output.{WritesBeginning, WritesBut}
 use Rattle.wire.specs.Frames.{Frame, read_frame}
-use Rattle.wire.specs.Streams.{Held, Message, Rest, messages_within, with_more, IsSpent}
-use Rattle.hub.specs.Events.{BySession, Hubbed, at}
+use Rattle.wire.specs.Streams.{Remainder, Message, Rest, messages_within, with_more, IsSpent}
+use Rattle.hub.specs.Events.{BySession, HubState, at}
 use Rattle.hub.specs.Exchanges.{Exchange, Exchanges, replies}
 use Rattle.hub.proofs.Joining.{exchanges_joined, replies_append}
 use Rattle.hub.proofs.Others.{set_found}
@@ -40,53 +40,53 @@ beginning_after old mid new text more wrote (rest, some, but) = (rest, some, but
 module _ {S : Type 0} (answers : S → Frame → List ℕ → S → Type 0) where
   -- ---- messages
 
-  all_replied : (session : ℕ) (s : S) (h : Held) (xs : List Exchange) (t : S) (left : Held) → Exchanges answers s h xs t left → AllReplied answers session s xs t
+  all_replied : (session : ℕ) (s : S) (h : Remainder) (xs : List Exchange) (t : S) (left : Remainder) → Exchanges answers s h xs t left → AllReplied answers session s xs t
   all_replied session s h [] t left (same, held) = same
   all_replied session s h (x ∷ xs) t left (middle, between, takes, replied, rest) = (middle, replied, all_replied session middle between xs t left rest)
 
-  whole : (session : ℕ) (s : S) (bytes : List ℕ) (xs : List Exchange) (t : S) (left : Held) → Exchanges answers s (Rest bytes) xs t left → IsSpent left → Answers (AllReplied answers session) s bytes xs t
+  whole : (session : ℕ) (s : S) (bytes : List ℕ) (xs : List Exchange) (t : S) (left : Remainder) → Exchanges answers s (Rest bytes) xs t left → IsSpent left → Answers (AllReplied answers session) s bytes xs t
   whole session s bytes xs t left exchanged spent = (
-    ap (λ (m : List Message × Held). m.0) (told_all (Rest bytes) (messages_of xs) left (exchanges_tell answers s (Rest bytes) xs t left exchanged) spent),
+    ap (λ (m : List Message × Remainder). m.0) (told_all (Rest bytes) (messages_of xs) left (exchanges_tell answers s (Rest bytes) xs t left exchanged) spent),
     all_replied session s (Rest bytes) xs t left exchanged,
   )
 
-  first : (session : ℕ) (s : S) (bytes : List ℕ) (xs : List Exchange) (t : S) (left : Held) → Exchanges answers s (Rest bytes) xs t left → AnswersFirst (AllReplied answers session) s bytes xs t
+  first : (session : ℕ) (s : S) (bytes : List ℕ) (xs : List Exchange) (t : S) (left : Remainder) → Exchanges answers s (Rest bytes) xs t left → AnswersFirst (AllReplied answers session) s bytes xs t
   first session s bytes xs t left exchanged =
       let told = told_of (Rest bytes) (messages_of xs) left (exchanges_tell answers s (Rest bytes) xs t left exchanged) in (
         (messages_within told.0 left).0,
-        ap (λ (m : List Message × Held). m.0) told.1,
+        ap (λ (m : List Message × Remainder). m.0) told.1,
         all_replied session s (Rest bytes) xs t left exchanged,
       )
 
-  pub nothing_served : (session : ℕ) (before after : Hubbed S) (input written : Option (List ℕ)) → after ≡ before
+  pub nothing_served : (session : ℕ) (before after : HubState S) (input written : Option (List ℕ)) → after ≡ before
       → Serves (AllReplied answers session) before.service input written (Err OutOfMemory) after.service input written
   nothing_served session before after input written same = (
     [],
     [],
     [],
     Consumes-nil input,
-    first session before.service [] [] after.service (Rest []) (ap (λ (h : Hubbed S). h.service) same, refl),
+    first session before.service [] [] after.service (Rest []) (ap (λ (h : HubState S). h.service) same, refl),
     ([], refl, Appends-nil written),
   )
 
   -- ---- midway
 
   -- what was read so far is answered, and the replies are written
-  abbrev pub Midway : BySession Held → ℕ → S → Option (List ℕ) → Option (List ℕ) → Hubbed S → Option (List ℕ) → Option (List ℕ) → Type 0
-  Midway opened session service input written now left text = (bytes : List ℕ) × (exchanges : List Exchange) × (held : Held)
+  abbrev pub Midway : BySession Remainder → ℕ → S → Option (List ℕ) → Option (List ℕ) → HubState S → Option (List ℕ) → Option (List ℕ) → Type 0
+  Midway opened session service input written now left text = (bytes : List ℕ) × (exchanges : List Exchange) × (held : Remainder)
       × Exchanges answers service (Rest bytes) exchanges now.service held × IsSpent held
       × (at now.sessions session ≡ Some held) × (now.sessions ≡ set_value (is_at (nat_cmp session)) opened held)
       × Consumes input left bytes × Appends written text (replies exchanges)
 
-  pub begun : (session : ℕ) (now : Hubbed S) (input written : Option (List ℕ)) → at now.sessions session ≡ Some (Rest [])
+  pub begun : (session : ℕ) (now : HubState S) (input written : Option (List ℕ)) → at now.sessions session ≡ Some (Rest [])
       → Midway now.sessions session now.service input written now input written
   begun session now input written here =
       ([], [], Rest [], (refl, refl), spent-none, here, sym (set_value_same (is_at (nat_cmp session)) now.sessions (Rest []) here), Consumes-nil input, Appends-nil written)
 
-  module _ (opened : BySession Held) (session : ℕ) (service : S) (input written : Option (List ℕ)) (before : Hubbed S) (left text : Option (List ℕ)) where
+  module _ (opened : BySession Remainder) (session : ℕ) (service : S) (input written : Option (List ℕ)) (before : HubState S) (left text : Option (List ℕ)) where
     -- where the session is and what it is afterwards
-    abbrev IsLeft : Hubbed S → Type 0
-    IsLeft now = (kept : Held) × (now.sessions ≡ set_value (is_at (nat_cmp session)) opened kept)
+    abbrev IsLeft : HubState S → Type 0
+    IsLeft now = (kept : Remainder) × (now.sessions ≡ set_value (is_at (nat_cmp session)) opened kept)
 
     pub is_left : Midway opened session service input written before left text → IsLeft before
     is_left (bytes, xs, held, exchanged, spent, here, set, eaten, wrote) = (held, set)
@@ -103,20 +103,20 @@ module _ {S : Type 0} (answers : S → Frame → List ℕ → S → Type 0) wher
 
     -- ---- a piece more
 
-    module _ (piece : List ℕ) (rest : Option (List ℕ)) (took : Consumes left rest piece) (after : Hubbed S) (told : Option (List ℕ)) where
+    module _ (piece : List ℕ) (rest : Option (List ℕ)) (took : Consumes left rest piece) (after : HubState S) (told : Option (List ℕ)) where
       -- the messages of all bytes
-      joined : (midway : Midway opened session service input written before left text) (held : Held) (ys : List Exchange) (last : Held) → at before.sessions session ≡ Some held
+      joined : (midway : Midway opened session service input written before left text) (held : Remainder) (ys : List Exchange) (last : Remainder) → at before.sessions session ≡ Some held
           → Exchanges answers before.service (with_more held piece) ys after.service last
           → Exchanges answers service (Rest (midway.0 ++ piece)) (midway.1 ++ ys) after.service last
       joined (bytes, xs, now, exchanged, spent, here, set, eaten, wrote) held ys last there more =
           let same : now ≡ held = (let e : Some now ≡ Some held = sym here ∙ there in cc) in
           exchanges_joined answers service (Rest []) bytes piece xs ys before.service after.service now last exchanged
-          (subst (λ (h : Held). Exchanges answers before.service (with_more h piece) ys after.service last) (sym same) more)
+          (subst (λ (h : Remainder). Exchanges answers before.service (with_more h piece) ys after.service last) (sym same) more)
 
-      kept_by : (midway : Midway opened session service input written before left text) (last : Held) → after.sessions ≡ set_value (is_at (nat_cmp session)) before.sessions last
+      kept_by : (midway : Midway opened session service input written before left text) (last : Remainder) → after.sessions ≡ set_value (is_at (nat_cmp session)) before.sessions last
           → after.sessions ≡ set_value (is_at (nat_cmp session)) opened last
       kept_by (bytes, xs, now, exchanged, spent, here, set, eaten, wrote) last put =
-          put ∙ ap (λ (m : BySession Held). set_value (is_at (nat_cmp session)) m last) set ∙ set_twice (is_at (nat_cmp session)) opened now last
+          put ∙ ap (λ (m : BySession Remainder). set_value (is_at (nat_cmp session)) m last) set ∙ set_twice (is_at (nat_cmp session)) opened now last
 
       pub gone_on : Midway opened session service input written before left text → AnswersPiece answers before session piece text (Ok tt) after told
           → Midway opened session service input written after rest told
@@ -126,7 +126,7 @@ module _ {S : Type 0} (answers : S → Frame → List ℕ → S → Type 0) wher
         last,
         joined midway held ys last there more,
         spent,
-        ap (λ (m : BySession Held). at m session) put ∙ set_found (is_at (nat_cmp session)) before.sessions last held there,
+        ap (λ (m : BySession Remainder). at m session) put ∙ set_found (is_at (nat_cmp session)) before.sessions last held there,
         kept_by midway last put,
         Consumes-trans input left rest midway.0 piece midway.7 took,
         subst (Appends written told) (sym (replies_append midway.1 ys)) (Appends-trans written text told (replies midway.1) (replies ys) midway.8 wrote),

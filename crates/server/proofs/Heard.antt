@@ -6,10 +6,10 @@ use Rattle.std.specs.BTreeMap.{is_at}
 use Rattle.std.specs.Map.{set_value}
 use Rattle.std.proofs.lemmas.Map.Steps.{set_value_same}
 use Rattle.wire.specs.Frames.{Frame}
-use Rattle.wire.specs.Streams.{Held, with_more}
-use Rattle.hub.specs.declared.refusal.HubRefusal.{HubRefusal}
-use Rattle.hub.specs.declared.refusal.HubRefusal.TheVariants.{TooManySessions, SessionOpen, NoSession, Memory}
-use Rattle.hub.specs.Events.{Bytes, Hubbed, BySession, at, due}
+use Rattle.wire.specs.Streams.{Remainder, with_more}
+use Rattle.hub.specs.declared.hub_refusal.HubRefusal.{HubRefusal}
+use Rattle.hub.specs.declared.hub_refusal.HubRefusal.TheVariants.{TooManySessions, SessionOpen, NoSession, Memory}
+use Rattle.hub.specs.Events.{Bytes, HubState, BySession, at, due}
 use Rattle.hub.specs.Exchanges.{Exchange, Exchanges, replies}
 use Rattle.hub.specs.Happenings.{Happens}
 use Rattle.std.specs.Io.KnownBytes.{Appends}
@@ -29,12 +29,12 @@ open_of sessions session piece fine = open_if (at sessions session) fine
 
 module _ {S : Type 0} (answers : S → Frame → List ℕ → S → Type 0) where
   -- memory was wanting, and the first messages are answered
-  abbrev pub IsBegun : Hubbed S → ℕ → List ℕ → Hubbed S → List ℕ → Type 0
-  IsBegun before session piece after output = (held : Held) × (exchanges : List Exchange) × (left kept : Held)
+  abbrev pub IsBegun : HubState S → ℕ → List ℕ → HubState S → List ℕ → Type 0
+  IsBegun before session piece after output = (held : Remainder) × (exchanges : List Exchange) × (left kept : Remainder)
       × (at before.sessions session ≡ Some held) × (after.sessions ≡ set_value (is_at (nat_cmp session)) before.sessions kept)
       × Exchanges answers before.service (with_more held piece) exchanges after.service left × (output ≡ replies exchanges)
 
-  pub heard_part : (before : Hubbed S) (session : ℕ) (piece output : List ℕ) (result : Result (Unit {0}) HubRefusal) (after : Hubbed S)
+  pub heard_part : (before : HubState S) (session : ℕ) (piece output : List ℕ) (result : Result (Unit {0}) HubRefusal) (after : HubState S)
       → Happens answers before (Bytes session piece) [] result after output → due before.sessions (Bytes session piece) ≡ None → OnErr result (IsBegun before session piece after output)
   heard_part before session piece output (Ok done) after happens fine = tt
   heard_part before session piece output (Err (Memory true)) after (number, taken, exchanges, is, (held, left, here, set, exchanged, spent), wrote) fine =
@@ -48,8 +48,8 @@ module _ {S : Type 0} (answers : S → Frame → List ℕ → S → Type 0) wher
         with_more here.0 piece,
         here.0,
         here.1,
-        ap (λ (h : Hubbed S). h.sessions) same ∙ sym (set_value_same (is_at (nat_cmp session)) before.sessions here.0 here.1),
-        (ap (λ (h : Hubbed S). h.service) same, refl),
+        ap (λ (h : HubState S). h.sessions) same ∙ sym (set_value_same (is_at (nat_cmp session)) before.sessions here.0 here.1),
+        (ap (λ (h : HubState S). h.service) same, refl),
         wrote,
       )
   heard_part before session piece output (Err TooManySessions) after (due, same, wrote) fine = absurd (let wrong : None ≡ Some TooManySessions = sym fine ∙ due in cc)
@@ -67,7 +67,7 @@ writes_some written told text (Ok done) (whole, none) = ([], (text, sym (append-
 writes_some written told text (Err fault) (none, (same, less)) = (less.0, less.2)
 
 module _ {S : Type 0} (answers : S → Frame → List ℕ → S → Type 0) where
-  pub part_written : (before : Hubbed S) (session : ℕ) (piece output : List ℕ) (heard : Result (Unit {0}) HubRefusal) (after : Hubbed S) (written told : Option (List ℕ)) (wrote : Result (Unit {0}) StreamFault)
+  pub part_written : (before : HubState S) (session : ℕ) (piece output : List ℕ) (heard : Result (Unit {0}) HubRefusal) (after : HubState S) (written told : Option (List ℕ)) (wrote : Result (Unit {0}) StreamFault)
       → Happens answers before (Bytes session piece) [] heard after output → due before.sessions (Bytes session piece) ≡ None → IsErr heard → Writes written told output wrote
       → AnswersPiece answers before session piece written (Err OutOfMemory) after told
   part_written before session piece output (Ok done) after written told wrote happens fine bad writes = absurd cc

@@ -4,34 +4,34 @@ use Rattle.rand_core.specs.Stream.{Stream}
 use Rattle.rand_core.specs.Steps.{steps_u32, stream_of}
 use Rattle.rand_chacha.specs.ChaCha.{ChaCha, next_word, of_seed}
 use Rattle.book.specs.Fresh.{fresh}
-use Rattle.epochs.specs.Kept.{book, Kept}
+use Rattle.epochs.specs.DirectoryStates.{book, DirectoryState}
 use Rattle.textio.specs.Digits.{hex32, nonce_of}
-use Rattle.server.specs.Asked.{Asked}
+use Rattle.server.specs.DirectoryOptions.{DirectoryOptions}
 
 -- the keys of a directory and of its salts, the token of its operator, and how it begins
-pub record Keyed : Type 0 where
-  pub sign_key : List ℕ
+pub record DirectoryKeys : Type 0 where
+  pub signing_key : List ℕ
   pub vuf_key : List ℕ
   pub salt_key : List ℕ
   pub token : List ℕ
   pub epoch : ℕ
   pub nonce : List ℕ
 
-abbrev pub keyed_if : Option (List ℕ) → Option (List ℕ) → Option (List ℕ) → Option (List ℕ) → Option (List ℕ) → ℕ → Option Keyed
-keyed_if (Some sign_key) (Some vuf_key) (Some salt_key) (Some token) (Some nonce) epoch =
-    Some (record { sign_key = sign_key; vuf_key = vuf_key; salt_key = salt_key; token = token; epoch = epoch; nonce = nonce })
-keyed_if _ _ _ _ _ epoch = None
+abbrev pub keys_if : Option (List ℕ) → Option (List ℕ) → Option (List ℕ) → Option (List ℕ) → Option (List ℕ) → ℕ → Option DirectoryKeys
+keys_if (Some signing_key) (Some vuf_key) (Some salt_key) (Some token) (Some nonce) epoch =
+    Some (record { signing_key = signing_key; vuf_key = vuf_key; salt_key = salt_key; token = token; epoch = epoch; nonce = nonce })
+keys_if _ _ _ _ _ epoch = None
 
 -- what the texts give, where each is 64 hexadecimal digits
-abbrev pub keys_of : Asked → Option Keyed
-keys_of asked = keyed_if (hex32 asked.sign_key) (hex32 asked.vuf_key) (hex32 asked.salt_key) (hex32 asked.token) (nonce_of asked.nonce) asked.epoch
+abbrev pub keys_of : DirectoryOptions → Option DirectoryKeys
+keys_of asked = keys_if (hex32 asked.signing_key) (hex32 asked.vuf_key) (hex32 asked.salt_key) (hex32 asked.token) (nonce_of asked.nonce) asked.epoch
 
 -- the salts that a generator will give
 abbrev pub salts : ChaCha → Stream
 salts = stream_of (steps_u32 (next_word 10))
 
 -- the directory is at its first page, with these keys, and salts by ChaCha20 under the salt key
-pub record Begins (keys : Keyed) (directory : Kept ChaCha) : Type 0 where
+pub record Begins (keys : DirectoryKeys) (directory : DirectoryState ChaCha) : Type 0 where
   pub book : book salts directory ≡ fresh keys.epoch keys.nonce (salts (of_seed keys.salt_key))
   pub vuf_key : directory.vuf_key ≡ keys.vuf_key
-  pub sign_key : directory.key ≡ keys.sign_key
+  pub signing_key : directory.signing_key ≡ keys.signing_key

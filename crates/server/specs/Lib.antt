@@ -1,4 +1,4 @@
-pub mod Asked
+pub mod DirectoryOptions
 pub mod Directories
 pub mod Faults
 pub mod Listening

@@ -5,8 +5,8 @@ use Rattle.textio.specs.declared.program_fault.ProgramFault.{ProgramFault}
 use Rattle.textio.specs.declared.program_fault.ProgramFault.TheVariants.{BadHex, CannotWrite}
 use Rattle.textio.specs.Output.{WritesBeginning}
 use Rattle.hub.specs.Exchanges.{Exchange}
-use Rattle.server.specs.Asked.{Asked}
-use Rattle.server.specs.Directories.{keys_of, Keyed}
+use Rattle.server.specs.DirectoryOptions.{DirectoryOptions}
+use Rattle.server.specs.Directories.{keys_of, DirectoryKeys}
 use Rattle.server.specs.Programs.{AfterJournal, AllServedBy, KeepsInFile, KeptDesk, LosesInFile}
 
 -- the line with an address
@@ -24,15 +24,15 @@ abbrev pub ServesConnections : Result (Unit {0}) ProgramFault → KeptDesk → T
 ServesConnections result desk = OnOk result ((served : List (ℕ × List Exchange)) × (after : KeptDesk) × AllServedBy KeepsInFile LosesInFile desk served after)
 
 -- the same behind a journal, whose line comes first
-abbrev pub TellsKept : Asked → Option (List ℕ) → Result (Unit {0}) ProgramFault → Option (List ℕ) → Type 0
+abbrev pub TellsKept : DirectoryOptions → Option (List ℕ) → Result (Unit {0}) ProgramFault → Option (List ℕ) → Type 0
 TellsKept asked errors result new = ((result ≡ Err BadHex) × Keeps errors new)
-    ⊎ ((keys : Keyed) × (keys_of asked ≡ Some keys)
+    ⊎ ((keys : DirectoryKeys) × (keys_of asked ≡ Some keys)
     × AfterJournal keys errors new result ⊤ (λ desk told. TellsAddress told result new × ServesConnections result desk))
 
 -- what is written to the errors, by whether there is a journal
-abbrev pub TellsBy : Option (List ℕ) → Asked → Option (List ℕ) → Result (Unit {0}) ProgramFault → Option (List ℕ) → Type 0
+abbrev pub TellsBy : Option (List ℕ) → DirectoryOptions → Option (List ℕ) → Result (Unit {0}) ProgramFault → Option (List ℕ) → Type 0
 TellsBy None asked errors result new = TellsAddress errors result new
 TellsBy (Some path) asked errors result new = TellsKept asked errors result new
 
-abbrev pub ListenTells : Asked → Option (List ℕ) → Result (Unit {0}) ProgramFault → Option (List ℕ) → Type 0
+abbrev pub ListenTells : DirectoryOptions → Option (List ℕ) → Result (Unit {0}) ProgramFault → Option (List ℕ) → Type 0
 ListenTells asked = TellsBy asked.journal asked

@@ -6,26 +6,26 @@ use Rattle.std.specs.Map.{set_value}
 use Rattle.std.specs.Io.KnownBytes.{Appends}
 use Rattle.textio.specs.Output.{WritesBeginning, WritesBut}
 use Rattle.wire.specs.Frames.{Frame}
-use Rattle.wire.specs.Streams.{Held, with_more, IsSpent}
-use Rattle.hub.specs.Events.{Hubbed, at}
+use Rattle.wire.specs.Streams.{Remainder, with_more, IsSpent}
+use Rattle.hub.specs.Events.{HubState, at}
 use Rattle.hub.specs.Exchanges.{Exchange, Exchanges, replies}
 use Rattle.server.specs.declared.fault.ServeFault.{ServeFault}
 use Rattle.server.specs.declared.fault.ServeFault.TheVariants.{CannotRead, CannotWrite, OutOfMemory}
 
 module _ {S : Type 0} (answers : S → Frame → List ℕ → S → Type 0) where
   -- the session, which held this, answers these messages of it and a piece, and then holds what is left
-  abbrev pub Goes : Hubbed S → ℕ → Held → List ℕ → List Exchange → Hubbed S → Held → Type 0
+  abbrev pub Goes : HubState S → ℕ → Remainder → List ℕ → List Exchange → HubState S → Remainder → Type 0
   Goes before session held piece exchanges after left = (at before.sessions session ≡ Some held)
       × (after.sessions ≡ set_value (is_at (nat_cmp session)) before.sessions left)
       × Exchanges answers before.service (with_more held piece) exchanges after.service left
 
   -- a piece is answered in its session, and the replies are written
-  abbrev pub AnswersPiece : Hubbed S → ℕ → List ℕ → Option (List ℕ) → Result (Unit {0}) ServeFault → Hubbed S → Option (List ℕ) → Type 0
-  AnswersPiece before session piece written (Ok done) after told = (held : Held) × (exchanges : List Exchange) × (left : Held)
+  abbrev pub AnswersPiece : HubState S → ℕ → List ℕ → Option (List ℕ) → Result (Unit {0}) ServeFault → HubState S → Option (List ℕ) → Type 0
+  AnswersPiece before session piece written (Ok done) after told = (held : Remainder) × (exchanges : List Exchange) × (left : Remainder)
       × Goes before session held piece exchanges after left × IsSpent left × Appends written told (replies exchanges)
-  AnswersPiece before session piece written (Err CannotWrite) after told = (held : Held) × (exchanges : List Exchange) × (left : Held)
+  AnswersPiece before session piece written (Err CannotWrite) after told = (held : Remainder) × (exchanges : List Exchange) × (left : Remainder)
       × Goes before session held piece exchanges after left × IsSpent left × WritesBeginning written told (replies exchanges)
-  AnswersPiece before session piece written (Err OutOfMemory) after told = (held : Held) × (exchanges : List Exchange) × (left kept : Held) × (unwritten : List ℕ)
+  AnswersPiece before session piece written (Err OutOfMemory) after told = (held : Remainder) × (exchanges : List Exchange) × (left kept : Remainder) × (unwritten : List ℕ)
       × (at before.sessions session ≡ Some held) × (after.sessions ≡ set_value (is_at (nat_cmp session)) before.sessions kept)
       × Exchanges answers before.service (with_more held piece) exchanges after.service left × WritesBut written told (replies exchanges) unwritten
   AnswersPiece before session piece written (Err CannotRead) after told = ⊥

@@ -8,19 +8,19 @@ use Rattle.sigiface.specs.StandIn.{keyed_signature}
 use Rattle.book.specs.declared.keeper.NoKeeper.{NoKeeper}
 use Rattle.book.specs.declared.record.Record.{Record}
 use Rattle.hub.specs.DeskRuns.{ShowHonestRun}
-use Rattle.hub.specs.Desks.{Desked, DeskAnswers}
+use Rattle.hub.specs.Desks.{DeskState, DeskAnswers}
 use Rattle.hub.specs.Exchanges.{Exchange}
 use Rattle.textio.specs.declared.program_fault.ProgramFault.{ProgramFault}
 use Rattle.textio.specs.declared.program_fault.ProgramFault.TheVariants.{BadHex, BadItem, IndexRepeated, NotEvidence, BadRecord, OtherKeys, CannotRead, CannotWrite, CannotListen, OutOfMemory}
 use Rattle.server.specs.declared.fault.ServeFault.{ServeFault}
 use Rattle.server.specs.declared.fault.ServeFault.TheVariants as fault
-use Rattle.journal.specs.Journals.{KeepsRecord, LosesRecord, Written}
+use Rattle.journal.specs.Journals.{KeepsRecord, LosesRecord, JournalState}
 use Rattle.textio.specs.Output.{WritesBeginning}
 use Rattle.server.specs.declared.journal_file.DiskFile.{DiskFile}
 use Rattle.server.specs.Faults.{outcome_of}
 use Rattle.server.specs.Reopening.{journal_line, IsUnopened, Reopens}
-use Rattle.server.specs.Asked.{Asked}
-use Rattle.server.specs.Directories.{keys_of, salts, Begins, Keyed}
+use Rattle.server.specs.DirectoryOptions.{DirectoryOptions}
+use Rattle.server.specs.Directories.{keys_of, salts, Begins, DirectoryKeys}
 use Rattle.server.specs.Serving.{all_lines, AllServed, RepliedHonestly, Serves}
 
 -- nothing is kept, and that never fails
@@ -39,29 +39,29 @@ IsKeyedSignature key message signature = signature ≡ keyed_signature key messa
 
 module _ {K : Type 0} (kept failed : K → Record → K → Type 0) where
   -- what the desk of a served directory replies to the messages of its one session
-  abbrev pub ServedReplied : Desked ChaCha K → List Exchange → Desked ChaCha K → Type 0
+  abbrev pub ServedReplied : DeskState ChaCha K → List Exchange → DeskState ChaCha K → Type 0
   ServedReplied = RepliedHonestly sha256 keyed_value keyed_signature salts kept failed IsKeyedValue IsKeyedSignature 1
 
   -- its desk serves these sessions, one after another, and their messages show one run of its directory
-  abbrev pub AllServedBy : Desked ChaCha K → List (ℕ × List Exchange) → Desked ChaCha K → Type 0
+  abbrev pub AllServedBy : DeskState ChaCha K → List (ℕ × List Exchange) → DeskState ChaCha K → Type 0
   AllServedBy before served after = AllServed (DeskAnswers sha256 keyed_value keyed_signature salts kept failed) before served after
       × ShowHonestRun sha256 keyed_value keyed_signature salts kept failed IsKeyedValue IsKeyedSignature before (all_lines served) after
 
 -- the directory of these keys is begun, and one session is served
-abbrev pub ServesFrom : Asked → Option (List ℕ) → Option (List ℕ) → Result (Unit {0}) ServeFault → Option (List ℕ) → Option (List ℕ) → Type 0
-ServesFrom asked input written result left told = (keys : Keyed) × (begun after : Desked ChaCha NoKeeper)
+abbrev pub ServesFrom : DirectoryOptions → Option (List ℕ) → Option (List ℕ) → Result (Unit {0}) ServeFault → Option (List ℕ) → Option (List ℕ) → Type 0
+ServesFrom asked input written result left told = (keys : DirectoryKeys) × (begun after : DeskState ChaCha NoKeeper)
     × (keys_of asked ≡ Some keys) × Begins keys begun.directory × (begun.token ≡ keys.token)
     × Serves (ServedReplied KeepsNothing NeverFails) begun input written result after left told
 
 -- What comes of an order without a journal, and an input: the texts are no keys, and nothing is done; or a session is
 -- served, to its end or to its fault. Memory may run out before the directory begins.
-abbrev pub ServesUnkept : Asked → Option (List ℕ) → Option (List ℕ) → Result (Unit {0}) ProgramFault → Option (List ℕ) → Option (List ℕ) → Type 0
+abbrev pub ServesUnkept : DirectoryOptions → Option (List ℕ) → Option (List ℕ) → Result (Unit {0}) ProgramFault → Option (List ℕ) → Option (List ℕ) → Type 0
 ServesUnkept asked input written (Ok done) left told = ServesFrom asked input written (Ok done) left told
 ServesUnkept asked input written (Err BadHex) left told = (keys_of asked ≡ None) × Keeps written told
 ServesUnkept asked input written (Err CannotRead) left told = ServesFrom asked input written (Err fault.CannotRead) left told
 ServesUnkept asked input written (Err CannotWrite) left told = ServesFrom asked input written (Err fault.CannotWrite) left told
 ServesUnkept asked input written (Err OutOfMemory) left told =
-    ((keys : Keyed) × (keys_of asked ≡ Some keys) × Keeps input left × Keeps written told) ⊎ ServesFrom asked input written (Err fault.OutOfMemory) left told
+    ((keys : DirectoryKeys) × (keys_of asked ≡ Some keys) × Keeps input left × Keeps written told) ⊎ ServesFrom asked input written (Err fault.OutOfMemory) left told
 ServesUnkept asked input written (Err (BadItem line)) left told = ⊥
 ServesUnkept asked input written (Err (IndexRepeated line)) left told = ⊥
 ServesUnkept asked input written (Err NotEvidence) left told = ⊥
@@ -71,22 +71,22 @@ ServesUnkept asked input written (Err CannotListen) left told = ⊥
 
 -- the desk of a directory that is kept in a file, of which no clause knows the bytes
 abbrev pub KeptDesk : Type 0
-KeptDesk = Desked ChaCha (Written DiskFile)
+KeptDesk = DeskState ChaCha (JournalState DiskFile)
 
-abbrev pub KeepsInFile : Written DiskFile → Record → Written DiskFile → Type 0
+abbrev pub KeepsInFile : JournalState DiskFile → Record → JournalState DiskFile → Type 0
 KeepsInFile = KeepsRecord (λ _. None)
 
-abbrev pub LosesInFile : Written DiskFile → Record → Written DiskFile → Type 0
+abbrev pub LosesInFile : JournalState DiskFile → Record → JournalState DiskFile → Type 0
 LosesInFile = LosesRecord (λ _. None)
 
 -- the bytes of a file led to this desk
-abbrev pub IsReopened : Keyed → KeptDesk → ℕ → ℕ → Type 0
+abbrev pub IsReopened : DirectoryKeys → KeptDesk → ℕ → ℕ → Type 0
 IsReopened keys desk records cut = (bytes held : List ℕ) × Reopens keys bytes desk.directory held records cut
     × (desk.token ≡ keys.token) × (desk.keeper.is_broken ≡ false)
 
 -- What comes of the journal of a directory of these keys: it is not opened, and no more is done; or it is, its line
 -- is written to the errors, and what is next comes, from this desk on; or the line is not written, and no more is done.
-module _ (keys : Keyed) (errors errors_new : Option (List ℕ)) (result : Result (Unit {0}) ProgramFault) (Undone : Type 0) (Next : KeptDesk → Option (List ℕ) → Type 0) where
+module _ (keys : DirectoryKeys) (errors errors_new : Option (List ℕ)) (result : Result (Unit {0}) ProgramFault) (Undone : Type 0) (Next : KeptDesk → Option (List ℕ) → Type 0) where
   abbrev pub IsNotOpened : Type 0
   IsNotOpened = (fault : ProgramFault) × (result ≡ Err fault) × IsUnopened keys None fault × Keeps errors errors_new × Undone
 
@@ -106,16 +106,16 @@ ServesAt input written result left told errors_new desk errors = Keeps errors er
 
 -- What comes of an order with a journal, and an input: the texts are no keys, and nothing is done; or a session is
 -- served behind the journal.
-abbrev pub ServesKept : Asked → Option (List ℕ) → Option (List ℕ) → Option (List ℕ) → Result (Unit {0}) ProgramFault → Option (List ℕ) → Option (List ℕ) → Option (List ℕ) → Type 0
+abbrev pub ServesKept : DirectoryOptions → Option (List ℕ) → Option (List ℕ) → Option (List ℕ) → Result (Unit {0}) ProgramFault → Option (List ℕ) → Option (List ℕ) → Option (List ℕ) → Type 0
 ServesKept asked input written errors result left told errors_new =
     ((result ≡ Err BadHex) × (keys_of asked ≡ None) × Keeps written told × Keeps errors errors_new)
-    ⊎ ((keys : Keyed) × (keys_of asked ≡ Some keys)
+    ⊎ ((keys : DirectoryKeys) × (keys_of asked ≡ Some keys)
     × AfterJournal keys errors errors_new result (Keeps input left × Keeps written told) (ServesAt input written result left told errors_new))
 
 -- what comes of an order, by whether it has a journal
-abbrev pub ServesBy : Option (List ℕ) → Asked → Option (List ℕ) → Option (List ℕ) → Option (List ℕ) → Result (Unit {0}) ProgramFault → Option (List ℕ) → Option (List ℕ) → Option (List ℕ) → Type 0
+abbrev pub ServesBy : Option (List ℕ) → DirectoryOptions → Option (List ℕ) → Option (List ℕ) → Option (List ℕ) → Result (Unit {0}) ProgramFault → Option (List ℕ) → Option (List ℕ) → Option (List ℕ) → Type 0
 ServesBy None asked input written errors result left told errors_new = ServesUnkept asked input written result left told × Keeps errors errors_new
 ServesBy (Some path) asked input written errors result left told errors_new = ServesKept asked input written errors result left told errors_new
 
-abbrev pub DirectoryServes : Asked → Option (List ℕ) → Option (List ℕ) → Option (List ℕ) → Result (Unit {0}) ProgramFault → Option (List ℕ) → Option (List ℕ) → Option (List ℕ) → Type 0
+abbrev pub DirectoryServes : DirectoryOptions → Option (List ℕ) → Option (List ℕ) → Option (List ℕ) → Result (Unit {0}) ProgramFault → Option (List ℕ) → Option (List ℕ) → Option (List ℕ) → Type 0
 DirectoryServes asked = ServesBy asked.journal asked

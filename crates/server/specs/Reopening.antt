@@ -6,7 +6,7 @@ use Rattle.vrfiface.specs.StandIns.{keyed_value}
 use Rattle.sigiface.specs.StandIn.{keyed_signature}
 use Rattle.book.specs.Fresh.{provider_of}
 use Rattle.book.specs.Shows.{index_of}
-use Rattle.epochs.specs.Kept.{book, Kept}
+use Rattle.epochs.specs.DirectoryStates.{book, DirectoryState}
 use Rattle.journal.specs.declared.beginning.Beginning.{Beginning}
 use Rattle.journal.specs.declared.refusal.Refusal.{Refusal}
 use Rattle.journal.specs.declared.refusal.Refusal.TheVariants as refusal
@@ -15,7 +15,7 @@ use Rattle.journal.specs.Openings.{HasOtherKeys, IsBad, IsCut, OpensTo}
 use Rattle.journal.specs.Records.{start_bytes, IsStart}
 use Rattle.textio.specs.declared.program_fault.ProgramFault.{ProgramFault}
 use Rattle.textio.specs.declared.program_fault.ProgramFault.TheVariants.{BadHex, BadItem, IndexRepeated, NotEvidence, BadRecord, OtherKeys, CannotRead, CannotWrite, CannotListen, OutOfMemory}
-use Rattle.server.specs.Directories.{salts, Begins, Keyed}
+use Rattle.server.specs.Directories.{salts, Begins, DirectoryKeys}
 
 -- known bytes are cut to their first ones
 abbrev pub Cuts : Option (List ℕ) → ℕ → Option (List ℕ) → Type 0
@@ -35,40 +35,40 @@ abbrev pub at_stream : List ℕ → ℕ → ChaCha
 at_stream salt_key number = record (of_seed salt_key) { stream = number }
 
 -- the index of a name, by these keys
-abbrev pub index_by : Keyed → List ℕ → List ℕ
-index_by keys = index_of (provider_of sha256 keyed_value keys.vuf_key keyed_signature keys.sign_key)
+abbrev pub index_by : DirectoryKeys → List ℕ → List ℕ
+index_by keys = index_of (provider_of sha256 keyed_value keys.vuf_key keyed_signature keys.signing_key)
 
 -- the start of a new directory of these keys
-abbrev pub beginning_of : Keyed → Beginning
-beginning_of keys = record { epoch = keys.epoch; nonce = keys.nonce; signature_key = keys.sign_key; vuf_key = keys.vuf_key }
+abbrev pub beginning_of : DirectoryKeys → Beginning
+beginning_of keys = record { epoch = keys.epoch; nonce = keys.nonce; signing_key = keys.signing_key; vuf_key = keys.vuf_key }
 
-module _ (keys : Keyed) (bytes : List ℕ) where
+module _ (keys : DirectoryKeys) (bytes : List ℕ) where
   -- the bytes are a start that was cut short: a new directory begins, and the file holds its start alone
-  abbrev pub StartsAnew : Kept ChaCha → List ℕ → ℕ → ℕ → Type 0
+  abbrev pub StartsAnew : DirectoryState ChaCha → List ℕ → ℕ → ℕ → Type 0
   StartsAnew directory held records cut = IsCut start_bytes IsStart bytes × Begins keys directory
       × (held ≡ start_bytes (beginning_of keys)) × (records ≡ 0) × (cut ≡ length bytes)
 
   -- the bytes open to this directory, whose next salts come from the stream that has the number of their
   -- records; the file holds the bytes of these, and the rest is cut off
-  abbrev pub GoesOn : Kept ChaCha → List ℕ → ℕ → ℕ → Type 0
+  abbrev pub GoesOn : DirectoryState ChaCha → List ℕ → ℕ → ℕ → Type 0
   GoesOn directory held records cut = (taken : ℕ) × Counts bytes records
-      × OpensTo (index_by keys) keys.sign_key keys.vuf_key (salts (at_stream keys.salt_key records)) bytes (book salts directory) taken
-      × (directory.key ≡ keys.sign_key) × (directory.vuf_key ≡ keys.vuf_key) × (held ≡ take taken bytes) × (length bytes ≡ taken + cut)
+      × OpensTo (index_by keys) keys.signing_key keys.vuf_key (salts (at_stream keys.salt_key records)) bytes (book salts directory) taken
+      × (directory.signing_key ≡ keys.signing_key) × (directory.vuf_key ≡ keys.vuf_key) × (held ≡ take taken bytes) × (length bytes ≡ taken + cut)
 
-  abbrev pub Reopens : Kept ChaCha → List ℕ → ℕ → ℕ → Type 0
+  abbrev pub Reopens : DirectoryState ChaCha → List ℕ → ℕ → ℕ → Type 0
   Reopens directory held records cut = StartsAnew directory held records cut ⊎ GoesOn directory held records cut
 
   -- the bytes are refused, where the next salts come from the stream that has the number of their records
   abbrev pub IsRefused : Type 0
-  IsRefused = (records : ℕ) × Counts bytes records × IsBad (index_by keys) keys.sign_key keys.vuf_key (salts (at_stream keys.salt_key records)) bytes
+  IsRefused = (records : ℕ) × Counts bytes records × IsBad (index_by keys) keys.signing_key keys.vuf_key (salts (at_stream keys.salt_key records)) bytes
 
 -- the bytes that a file holds, where they are known, are cut to none, and the start of a new directory is written
-abbrev pub HasStarted : Keyed → Option (List ℕ) → Kept ChaCha → Bool → Option (List ℕ) → Type 0
+abbrev pub HasStarted : DirectoryKeys → Option (List ℕ) → DirectoryState ChaCha → Bool → Option (List ℕ) → Type 0
 HasStarted keys known directory is_broken after = Begins keys directory × (is_broken ≡ false) × IfSome known (λ all. after ≡ Some (start_bytes (beginning_of keys)))
 
 -- the bytes of a file lead to this directory, with this many records and this many bytes cut off, and the journal
 -- goes on behind what the file then holds
-abbrev pub HasReopened : Keyed → Option (List ℕ) → Kept ChaCha → Bool → Option (List ℕ) → ℕ → ℕ → Type 0
+abbrev pub HasReopened : DirectoryKeys → Option (List ℕ) → DirectoryState ChaCha → Bool → Option (List ℕ) → ℕ → ℕ → Type 0
 HasReopened keys known directory is_broken after records cut = (is_broken ≡ false)
     × (bytes held : List ℕ) × Turns known bytes after held × Reopens keys bytes directory held records cut
 
@@ -91,9 +91,9 @@ IsSystemFault CannotListen = ⊥
 IsSystemFault OutOfMemory = ⊤
 
 -- why a file is not opened: its bytes are refused, or have other keys, or the system failed
-abbrev pub IsUnopened : Keyed → Option (List ℕ) → ProgramFault → Type 0
+abbrev pub IsUnopened : DirectoryKeys → Option (List ℕ) → ProgramFault → Type 0
 IsUnopened keys known BadRecord = (bytes : List ℕ) × Holds known bytes × IsRefused keys bytes
-IsUnopened keys known OtherKeys = (bytes : List ℕ) × Holds known bytes × HasOtherKeys keys.sign_key keys.vuf_key bytes
+IsUnopened keys known OtherKeys = (bytes : List ℕ) × Holds known bytes × HasOtherKeys keys.signing_key keys.vuf_key bytes
 IsUnopened keys known CannotRead = ⊤
 IsUnopened keys known CannotWrite = ⊤
 IsUnopened keys known OutOfMemory = ⊤

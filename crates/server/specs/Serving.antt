@@ -7,7 +7,7 @@ use Rattle.wire.specs.Frames.{Frame}
 use Rattle.wire.specs.Streams.{Message, Rest, messages}
 use Rattle.book.specs.declared.record.Record.{Record}
 use Rattle.hub.specs.DeskRuns.{ShowHonestRun}
-use Rattle.hub.specs.Desks.{Desked, DeskAnswers}
+use Rattle.hub.specs.Desks.{DeskState, DeskAnswers}
 use Rattle.hub.specs.Exchanges.{Exchange, replies}
 use Rattle.hub.specs.Runs.{lines, AllAnswered, Line}
 use Rattle.server.specs.declared.fault.ServeFault.{ServeFault}
@@ -26,7 +26,7 @@ AllReplied answers session before exchanges after = AllAnswered answers before (
 
 -- the same at a desk, and the replies show a run of its directory, and what its users see of that run
 abbrev pub RepliedHonestly : {R K : Type 0} → (List ℕ → List ℕ) → (List ℕ → List ℕ → List ℕ) → (List ℕ → List ℕ → List ℕ) → (R → Stream) → (K → Record → K → Type 0) → (K → Record → K → Type 0)
-    → (List ℕ → List ℕ → List ℕ → Type 0) → (List ℕ → List ℕ → List ℕ → Type 0) → ℕ → Desked R K → List Exchange → Desked R K → Type 0
+    → (List ℕ → List ℕ → List ℕ → Type 0) → (List ℕ → List ℕ → List ℕ → Type 0) → ℕ → DeskState R K → List Exchange → DeskState R K → Type 0
 RepliedHonestly digest_of value_of signature_of stream kept failed accepted verified session before exchanges after =
     AllReplied (DeskAnswers digest_of value_of signature_of stream kept failed) session before exchanges after
     × ShowHonestRun digest_of value_of signature_of stream kept failed accepted verified before (lines session exchanges) after

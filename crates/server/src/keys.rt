@@ -1,5 +1,5 @@
 ghost use Rattle.std.specs.Prelude.{◌≡◌, IfOk, MatchResult, None, Some};
-ghost use Rattle.server.specs.Asked.{values_of};
+ghost use Rattle.server.specs.DirectoryOptions.{values_of};
 ghost use Rattle.server.specs.Directories.{keys_of, Begins};
 ghost use Rattle.server.specs.Reopening.{at_stream, beginning_of};
 ghost use Rattle.journal.specs.Records.{start_of};
@@ -29,7 +29,7 @@ pub type ServedDesk<K> = Desk<Sha256Hash, KeyedVuf, KeyedSign, ChaCha20Rng, K>;
 /// What a directory begins with.
 #[derive(Debug, Drop)]
 pub(crate) struct Keys {
-    sign_key: Hash32,
+    signing_key: Hash32,
     vuf_key: Hash32,
     salt_key: [u8; HASH_SIZE],
     token: Hash32,
@@ -39,12 +39,12 @@ pub(crate) struct Keys {
 
 impl Model for Keys {
     ghost use Rattle.std.specs.NonZero.{non_zero_u64_get};
-    ghost use Rattle.server.specs.Directories.{Keyed};
+    ghost use Rattle.server.specs.Directories.{DirectoryKeys};
 
-    ghost Value = { Keyed };
+    ghost Value = { DirectoryKeys };
 
     ghost view = { λ keys. record {
-      sign_key = keys.sign_key;
+      signing_key = keys.signing_key;
       vuf_key = keys.vuf_key;
       salt_key = keys.salt_key;
       token = keys.token;
@@ -64,7 +64,7 @@ impl Keys {
             (λ fault. (fault ≡ BadHex) × (keys_of (values_of order.now) ≡ None)) }
     {
         Ok(Keys {
-            sign_key: Hash32::new(option_hex32(order.sign_key)?),
+            signing_key: Hash32::new(option_hex32(order.signing_key)?),
             vuf_key: Hash32::new(option_hex32(order.vuf_key)?),
             salt_key: option_hex32(order.salt_key)?,
             token: Hash32::new(option_hex32(order.token)?),
@@ -88,9 +88,9 @@ impl Keys {
     }
 
     pub(crate) fn signer(&self) -> KeyedSign
-        ensures { result ≡ (self.now).sign_key }
+        ensures { result ≡ (self.now).signing_key }
     {
-        KeyedSign::new(self.sign_key)
+        KeyedSign::new(self.signing_key)
     }
 
     /// The generator of the salts, at the front of a stream.
@@ -109,7 +109,7 @@ impl Keys {
         Record::Start {
             epoch: self.epoch.get(),
             nonce: self.nonce,
-            signature_key: self.signer().public(),
+            signing_key: self.signer().public(),
             vuf_key: self.vuf().public(),
         }
     }

@@ -4,7 +4,7 @@
 ghost use Rattle.std.specs.Prelude.{◌≡◌, ◌≢◌, ◌↔◌, ◌⊎◌, ℕ, List, [], Err, IfErr, None, OnOk, ⊤};
 ghost use Rattle.hub.specs.Exchanges.{Exchange};
 ghost use Rattle.textio.specs.declared.program_fault.ProgramFault.TheVariants.{BadHex};
-ghost use Rattle.server.specs.Asked.{values_of};
+ghost use Rattle.server.specs.DirectoryOptions.{values_of};
 ghost use Rattle.server.specs.Directories.{keys_of};
 ghost use Rattle.server.specs.Listening.{ListenTells, ServesConnections, TellsAddress, TellsKept};
 ghost use Rattle.server.specs.Programs.{AfterJournal, AllServedBy, ServedReplied};

@@ -4,7 +4,7 @@ use std::num::NonZeroU64;
 #[derive(Clone, Copy, Debug)]
 pub struct DirectoryOrder<'a> {
     /// The key of signatures, 64 hexadecimal digits; so are the other keys and the token.
-    pub sign_key: &'a str,
+    pub signing_key: &'a str,
     /// The key of the verifiable function.
     pub vuf_key: &'a str,
     /// The key of the salt stream.

@@ -46,8 +46,8 @@ fn open_bytes(
     stream: u64,
 ) -> Result<Opened<Sha256Hash, KeyedVuf, KeyedSign, ChaCha20Rng>, Refusal>
     ensures { MatchResult result
-        (Opens (index_by keys.now) (keys.now).sign_key (keys.now).vuf_key (salts (at_stream (keys.now).salt_key stream)) salts bytes.now)
-        (IsRefusal (index_by keys.now) (keys.now).sign_key (keys.now).vuf_key (salts (at_stream (keys.now).salt_key stream)) bytes.now) }
+        (Opens (index_by keys.now) (keys.now).signing_key (keys.now).vuf_key (salts (at_stream (keys.now).salt_key stream)) salts bytes.now)
+        (IsRefusal (index_by keys.now) (keys.now).signing_key (keys.now).vuf_key (salts (at_stream (keys.now).salt_key stream)) bytes.now) }
 {
     open(
         alloc,

@@ -1,7 +1,7 @@
 ghost use Rattle.std.specs.Prelude.{◌≡◌, ◌≢◌, Err, IfErr};
 ghost use Rattle.std.specs.Io.KnownBytes.{Keeps};
 ghost use Rattle.textio.specs.declared.program_fault.ProgramFault.TheVariants.{BadHex};
-ghost use Rattle.server.specs.Asked.{values_of};
+ghost use Rattle.server.specs.DirectoryOptions.{values_of};
 ghost use Rattle.server.specs.Programs.{AfterJournal, DirectoryServes, ServesAt, ServesKept, ServesUnkept};
 
 use crate::DirectoryOrder;

@@ -28,7 +28,7 @@ fn run(case: &mut Case<'_>) {
         return case.spoil();
     };
     let order = DirectoryOrder {
-        sign_key: SIGN,
+        signing_key: SIGN,
         vuf_key: VUF,
         salt_key: SALT,
         token: TOKEN,
@@ -42,7 +42,7 @@ fn run(case: &mut Case<'_>) {
 /// `keys SIGN VUF SALT TOKEN INPUT`
 fn keys(case: &mut Case<'_>) {
     let order = DirectoryOrder {
-        sign_key: case.text(),
+        signing_key: case.text(),
         vuf_key: case.text(),
         salt_key: case.text(),
         token: case.text(),

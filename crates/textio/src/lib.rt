@@ -16,7 +16,7 @@
 #![tactic(auto)]
 
 mod digits;
-mod input;
+mod some_bytes;
 mod line;
 mod output;
 mod program_fault;
@@ -24,7 +24,7 @@ mod stream_fault;
 mod whole;
 
 pub use digits::{HASH_DIGITS, HASH_SIZE, hex_digits, hex32, option_hex32, option_nonce};
-pub use input::read_some;
+pub use some_bytes::read_some;
 pub use line::next_line;
 pub use output::write_text;
 pub use program_fault::ProgramFault;

@@ -25,7 +25,7 @@ fn start(case: &mut Case<'_>) {
     let what = Record::Start {
         epoch: case.number(),
         nonce: case.hash(),
-        signature_key: case.hash(),
+        signing_key: case.hash(),
         vuf_key: case.hash(),
     };
     keep_twice(case, room, &what);

@@ -6,7 +6,7 @@ use Rattle.encoding.specs.Bytes.{IsBytes}
 use Rattle.encoding.specs.Reading.{Reading}
 use Rattle.encoding.proofs.ByteLists.{IsBytes-back}
 use Rattle.wire.specs.Frames.{Frame, frame_bytes, read_frame, IsFrame}
-use Rattle.wire.specs.Streams.{Held, Message, Rest, Failed, Whole, after_first, first_by, held_size, messages, messages_within, AreBytes, TellsAll}
+use Rattle.wire.specs.Streams.{Remainder, Message, Rest, Failed, Whole, after_first, first_by, held_size, messages, messages_within, AreBytes, TellsAll}
 use Rattle.wire.proofs.Frames.{frame_field, left_is}
 use Rattle.wire.proofs.Faults.{frame_faults}
 use Rattle.wire.proofs.Streams.{nothing_yet, tells-one}
@@ -14,14 +14,14 @@ use Rattle.wire.proofs.Streams.{nothing_yet, tells-one}
 no_trailing : (bytes : List ℕ) → read_frame bytes ≡ Err Trailing → ⊥
 no_trailing bytes e = elim (frame_faults bytes Trailing e) [ inl a ↦ cc | inr a ↦ let wrong = a.0 in cc ]
 
-abbrev IsAll : Held → List Message × Held → Type 0
+abbrev IsAll : Remainder → List Message × Remainder → Type 0
 IsAll held told = TellsAll held told.0 told.1
 
 failed_all : (count : ℕ) → IsAll Failed (messages_within count Failed)
 failed_all zero = (refl, tt)
 failed_all (suc count) = (refl, tt)
 
-all_within : (count : ℕ) (held : Held) → held_size held ≤ count → AreBytes held → IsAll held (messages_within count held)
+all_within : (count : ℕ) (held : Remainder) → held_size held ≤ count → AreBytes held → IsAll held (messages_within count held)
 all_within zero (Rest bytes) few small = absurd (omega arith)
 all_within count Failed few small = failed_all count
 all_within (suc count) (Rest bytes) few small = by_read (λ left. all_within count (Rest left)) (read_frame bytes) refl
@@ -38,15 +38,15 @@ all_within (suc count) (Rest bytes) few small = by_read (λ left. all_within cou
     by_read next (Err Trailing) e = absurd (no_trailing bytes e)
 
 -- the messages of the definition are all that are held
-pub messages_are_all : (held : Held) → AreBytes held → TellsAll held (messages held).0 (messages held).1
+pub messages_are_all : (held : Remainder) → AreBytes held → TellsAll held (messages held).0 (messages held).1
 messages_are_all held small = all_within (held_size held) held (omega arith) small
 
 -- and no others are
-pub messages_are_these : (held : Held) (told : List Message) (after : Held) → AreBytes held → TellsAll held told after → ((messages held).0 ≡ told) × ((messages held).1 ≡ after)
+pub messages_are_these : (held : Remainder) (told : List Message) (after : Remainder) → AreBytes held → TellsAll held told after → ((messages held).0 ≡ told) × ((messages held).1 ≡ after)
 messages_are_these held told after small tells = tells-one held (messages held).0 told (messages held).1 after (messages_are_all held small) tells
 
 -- a session that holds nothing and takes one frame brings one message, and holds nothing then
-pub one_frame : (frame : Frame) (told : List Message) (after : Held) → IsFrame frame → TellsAll (Rest (frame_bytes frame)) told after → (told ≡ Whole frame ∷ []) × (after ≡ Rest [])
+pub one_frame : (frame : Frame) (told : List Message) (after : Remainder) → IsFrame frame → TellsAll (Rest (frame_bytes frame)) told after → (told ≡ Whole frame ∷ []) × (after ≡ Rest [])
 one_frame frame told after h tells =
     let read : read_frame (frame_bytes frame) ≡ Ok (frame, []) = ap read_frame (sym (append-nil (frame_bytes frame))) ∙ frame_field.again frame [] h in
     let one : TellsAll (Rest (frame_bytes frame)) (Whole frame ∷ []) (Rest []) = ((Rest [], ([], read, refl), refl), nothing_yet) in

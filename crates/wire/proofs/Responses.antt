@@ -18,7 +18,7 @@ use Rattle.rootchain.specs.Readable.{signed_promise_field, signed_root_field}
 use Rattle.rootchain.specs.RootLists.{read_root_list, root_list_bytes, IsRootList}
 use Rattle.rootchain.specs.SignedRoots.{read_signed_root, signed_root_bytes, IsSignedRoot}
 use Rattle.rootchain.proofs.RootLists.{root_list_field}
-use Rattle.wire.specs.Responses.{Responded, Promise, Proof, Roots, Root, Refused, Responds, IsResponseKind}
+use Rattle.wire.specs.Responses.{ResponseContent, Promise, Proof, Roots, Root, Refused, Responds, IsResponseKind}
 
 -- some value of each type, so that some response is of each kind
 some_body : Body
@@ -29,12 +29,12 @@ some_promise = record { promise = record { epoch = 0; body_hash = []; index = []
 
 -- of the kind there are responses, and the body spells none
 abbrev pub IsNone : ℕ → List ℕ → Type 0
-IsNone kind body = IsResponseKind kind × ((responded : Responded) → ¬ Responds kind body responded)
+IsNone kind body = IsResponseKind kind × ((responded : ResponseContent) → ¬ Responds kind body responded)
 
 pub no_promise : (kind : ℕ) (body : List ℕ) → kind ≡ 129 → ((x : SignedPromise) → ¬ Spells signed_promise_bytes IsSignedPromise body x) → IsNone kind body
 no_promise kind body is none = ((Promise some_promise, sym is), no)
   where
-    no : (responded : Responded) → ¬ Responds kind body responded
+    no : (responded : ResponseContent) → ¬ Responds kind body responded
     no (Promise x) r = none x r.1
     no _ r = absurd (omega (arith, is, r.0))
 
@@ -53,28 +53,28 @@ not_spelled body PathMismatch refused x spelled = absurd refused
 pub no_proof : (kind : ℕ) (body : List ℕ) (refusal : ReplyRefusal) → kind ≡ 130 → ReadsReply body (Err refusal) → IsNone kind body
 no_proof kind body refusal is refused = ((Proof (record { body = some_body; value = []; end = Empty; siblings = [] }), sym is), no)
   where
-    no : (responded : Responded) → ¬ Responds kind body responded
+    no : (responded : ResponseContent) → ¬ Responds kind body responded
     no (Proof x) r = not_spelled body refusal refused x r.1
     no _ r = absurd (omega (arith, is, r.0))
 
 pub no_roots : (kind : ℕ) (body : List ℕ) → kind ≡ 131 → ((x : List SignedRoot) → ¬ Spells root_list_bytes IsRootList body x) → IsNone kind body
 no_roots kind body is none = ((Roots [], sym is), no)
   where
-    no : (responded : Responded) → ¬ Responds kind body responded
+    no : (responded : ResponseContent) → ¬ Responds kind body responded
     no (Roots x) r = none x r.1
     no _ r = absurd (omega (arith, is, r.0))
 
 pub no_root : (kind : ℕ) (body : List ℕ) → kind ≡ 132 → ((x : SignedRoot) → ¬ Spells signed_root_bytes IsSignedRoot body x) → IsNone kind body
 no_root kind body is none = ((Root (record { body = some_body; signature = [] }), sym is), no)
   where
-    no : (responded : Responded) → ¬ Responds kind body responded
+    no : (responded : ResponseContent) → ¬ Responds kind body responded
     no (Root x) r = none x r.1
     no _ r = absurd (omega (arith, is, r.0))
 
 pub no_code : (kind : ℕ) (body : List ℕ) → kind ≡ 255 → ((code : ℕ) → body ≢ code ∷ []) → IsNone kind body
 no_code kind body is none = ((Refused 0, sym is), no)
   where
-    no : (responded : Responded) → ¬ Responds kind body responded
+    no : (responded : ResponseContent) → ¬ Responds kind body responded
     no (Refused x) r = none x r.1.0
     no _ r = absurd (omega (arith, is, r.0))
 
@@ -85,7 +85,7 @@ one_value : {A : Type 0} (f : List ℕ → Reading A) (s : A → List ℕ) (P : 
 one_value f s P field bytes x y one two =
     (one_spelling f s P field x y [] [] one.1 two.1 (append-nil (s x) ∙ sym one.0 ∙ two.0 ∙ sym (append-nil (s y)))).0
 
-pub one_response : (kind : ℕ) (body : List ℕ) (responded other : Responded) → Responds kind body responded → Responds kind body other → responded ≡ other
+pub one_response : (kind : ℕ) (body : List ℕ) (responded other : ResponseContent) → Responds kind body responded → Responds kind body other → responded ≡ other
 one_response kind body (Promise x) (Promise y) one two =
     ap (λ (z : SignedPromise). Promise z) (one_value read_signed_promise signed_promise_bytes IsSignedPromise signed_promise_field body x y one.1 two.1)
 one_response kind body (Proof x) (Proof y) one two = ap (λ (z : Reply). Proof z) (one_value read_reply reply_bytes IsReply reply_field body x y one.1 two.1)

@@ -11,20 +11,20 @@ use Rattle.wire.specs.Frames.{Frame}
 use Rattle.wire.specs.declared.answer.Answer.{Answer}
 use Rattle.wire.specs.declared.answer.Answer.TheVariants as answer
 use Rattle.wire.specs.declared.kind_bytes.TheConstants.{PROMISED, PROOF, ROOTS, ROOT, REFUSED}
-use Rattle.wire.specs.declared.refusal.ReadRefusal.{ReadRefusal}
-use Rattle.wire.specs.declared.refusal.ReadRefusal.TheVariants.{BadKind, BadBody}
+use Rattle.wire.specs.declared.refusals.ReadRefusal.{ReadRefusal}
+use Rattle.wire.specs.declared.refusals.ReadRefusal.TheVariants.{BadKind, BadBody}
 use Rattle.wire.specs.declared.response.Response.{Response}
 use Rattle.wire.specs.declared.response.Response.TheVariants as response
 
 -- a response, regardless of where its bytes lie
-pub data Responded : Type 0 where
-  Promise : SignedPromise → Responded
-  Proof : Reply → Responded
-  Roots : List SignedRoot → Responded
-  Root : SignedRoot → Responded
-  Refused : ℕ → Responded
+pub data ResponseContent : Type 0 where
+  Promise : SignedPromise → ResponseContent
+  Proof : Reply → ResponseContent
+  Roots : List SignedRoot → ResponseContent
+  Root : SignedRoot → ResponseContent
+  Refused : ℕ → ResponseContent
 
-abbrev pub response_seen : Response → Responded
+abbrev pub response_seen : Response → ResponseContent
 response_seen (response.Promise promise) = Promise promise
 response_seen (response.Proof proof) = Proof proof
 response_seen (response.Roots roots) = Roots roots
@@ -36,21 +36,21 @@ abbrev pub proof_frame : List ℕ → Frame
 proof_frame text = record { kind = PROOF; body = text }
 
 -- a response as a frame
-abbrev pub response_frame : Responded → Frame
+abbrev pub response_frame : ResponseContent → Frame
 response_frame (Promise promise) = record { kind = PROMISED; body = signed_promise_bytes promise }
 response_frame (Proof proof) = proof_frame (reply_bytes proof)
 response_frame (Roots roots) = record { kind = ROOTS; body = root_list_bytes roots }
 response_frame (Root root) = record { kind = ROOT; body = signed_root_bytes root }
 response_frame (Refused code) = record { kind = REFUSED; body = code ∷ [] }
 
-abbrev pub response_kind : Responded → ℕ
+abbrev pub response_kind : ResponseContent → ℕ
 response_kind responded = (response_frame responded).kind
 
-abbrev pub response_body : Responded → List ℕ
+abbrev pub response_body : ResponseContent → List ℕ
 response_body responded = (response_frame responded).body
 
 -- what a response may hold
-abbrev pub IsResponse : Responded → Type 0
+abbrev pub IsResponse : ResponseContent → Type 0
 IsResponse (Promise promise) = IsSignedPromise promise
 IsResponse (Proof proof) = IsReply proof
 IsResponse (Roots roots) = IsRootList roots
@@ -58,19 +58,19 @@ IsResponse (Root root) = IsSignedRoot root
 IsResponse (Refused code) = code < 256
 
 -- the body spells this response, which is of the kind
-abbrev pub Responds : ℕ → List ℕ → Responded → Type 0
+abbrev pub Responds : ℕ → List ℕ → ResponseContent → Type 0
 Responds kind body responded = (response_kind responded ≡ kind) × Spells response_body IsResponse body responded
 
 -- some response is of the kind
 abbrev pub IsResponseKind : ℕ → Type 0
-IsResponseKind kind = (responded : Responded) × (response_kind responded ≡ kind)
+IsResponseKind kind = (responded : ResponseContent) × (response_kind responded ≡ kind)
 
 -- What reading answers: the response that the body spells; BadKind where no response is of the kind,
 -- and BadBody where some is, but the body spells none of them.
 abbrev pub ReadsResponse : ℕ → List ℕ → Result Response ReadRefusal → Type 0
 ReadsResponse kind body (Ok read) = Responds kind body (response_seen read)
 ReadsResponse kind body (Err BadKind) = ¬ IsResponseKind kind
-ReadsResponse kind body (Err BadBody) = IsResponseKind kind × ((responded : Responded) → ¬ Responds kind body responded)
+ReadsResponse kind body (Err BadBody) = IsResponseKind kind × ((responded : ResponseContent) → ¬ Responds kind body responded)
 
 -- ---- writing
 
@@ -83,7 +83,7 @@ answer_frame (answer.Root root) = response_frame (Root root.now)
 answer_frame (answer.Refused code) = response_frame (Refused code)
 
 -- the response that has an answer's parts; the text of a proof is that of a reply
-abbrev pub Means : Answer → Responded → Type 0
+abbrev pub Means : Answer → ResponseContent → Type 0
 Means (answer.Promise promise) responded = responded ≡ Promise promise.now
 Means (answer.Proof text) responded = (reply : Reply) × (text.now ≡ reply_bytes reply) × (responded ≡ Proof reply)
 Means (answer.Roots roots) responded = responded ≡ Roots roots.now

@@ -1,5 +1,5 @@
 ghost use Rattle.std.specs.Prelude.{◌≡◌, ◌≢◌, ◌↔◌, ◌++◌, ◌<◌, ◌≤◌, length, drop, IsTrue, IsOk, OnErr, OnOk, IsErrOf};
-ghost use Rattle.wire.specs.Streams.{Held, Rest, Failed, with_more, Waits};
+ghost use Rattle.wire.specs.Streams.{Remainder, Rest, Failed, with_more, Waits};
 
 use crate::FeedRefusal;
 use crate::frame::{Front, front_of};
@@ -28,9 +28,9 @@ pub struct Feed {
 
 impl Model for Feed {
     ghost use Rattle.std.specs.Prelude.{drop, length, ◌≤◌, if◌then◌else◌};
-    ghost use Rattle.wire.specs.Streams.{Held, Rest, Failed};
+    ghost use Rattle.wire.specs.Streams.{Remainder, Rest, Failed};
 
-    ghost Value = { Held };
+    ghost Value = { Remainder };
 
     ghost view = { λ feed. if feed.failed then Failed else Rest (drop feed.from feed.buffer.items) };
 

@@ -21,7 +21,7 @@ mod feed;
 mod frame;
 mod kind_bytes;
 mod laws;
-mod refusal;
+mod refusals;
 mod request;
 mod response;
 mod writing;
@@ -33,6 +33,6 @@ pub use laws::{
     answers_are_read, body_spells_one_request, body_spells_one_response, cutting_does_not_matter,
     frames_are_read, kinds_have_their_bytes, messages_are_computed, stream_splits_once,
 };
-pub use refusal::{FeedRefusal, ReadRefusal};
+pub use refusals::{FeedRefusal, ReadRefusal};
 pub use request::Request;
 pub use response::Response;

@@ -1,5 +1,5 @@
 ghost use Rattle.std.specs.Prelude.{◌≡◌, ◌↔◌, ◌+◌, ◌<◌, ◌≤◌, ◌++◌, length, OnOk, OnErr, IsOk, IsTrue, vec_len, vec_capacity};
-ghost use Rattle.commands.specs.Asked.{question};
+ghost use Rattle.commands.specs.Operations.{question};
 ghost use Rattle.wire.specs.Frames.{frame_bytes, frame_size, IsFrame};
 ghost use Rattle.wire.specs.Requests as asks;
 ghost use Rattle.wire.specs.Requests.{read_request, request_frame, request_seen, GivesRequest, IsAsked, ReadsRequest};

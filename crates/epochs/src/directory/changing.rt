@@ -1,7 +1,7 @@
 ghost use Rattle.std.specs.Prelude.{◌≡◌, ◌||◌, ℕ, ◌+◌, ◌<◌, ◌≤◌, ◌++◌, ◌∷◌, [], false, List, None, IfOk, IfSome, MatchResult, Ok, Some, is_some};
 ghost use Rattle.encoding.specs.Limits.{IsKeyData, IsName};
-ghost use Rattle.commands.specs.Asked as asks;
-ghost use Rattle.commands.specs.Asked.{Edit, Put};
+ghost use Rattle.commands.specs.Operations as asks;
+ghost use Rattle.commands.specs.Operations.{Edit, Put};
 ghost use Rattle.commands.specs.declared.edit.Verb.TheVariants.{Change, Register};
 ghost use Rattle.nodehash.specs.Digests.{one_more};
 ghost use Rattle.prefixtree.specs.Changes.{made_count};
@@ -14,7 +14,7 @@ ghost use Rattle.book.specs.Shows.{index_of as index_by, placement};
 ghost use Rattle.book.specs.Sound.{IsHeld};
 ghost use Rattle.book.specs.Turns.{Shows, Turn};
 ghost use Rattle.epochs.specs.Addresses.{address_of, with_name};
-ghost use Rattle.epochs.specs.Kept.{book, provider, HasKeysOf};
+ghost use Rattle.epochs.specs.DirectoryStates.{book, provider, HasKeysOf};
 ghost use Rattle.epochs.specs.Replied.{last, promised};
 ghost use Rattle.epochs.specs.Versions.{AllBefore, IsUnkept, versions_of};
 

@@ -1,15 +1,15 @@
 ghost use Rattle.std.specs.Prelude.{◌≡◌, ℕ, ◌+◌, ◌<◌, ◌≤◌, List, Option, Some, None, IfSome, MatchResult, length, option_and_then, option_map, slice_get};
 ghost use Rattle.std.specs.List.{AllZip};
-ghost use Rattle.commands.specs.Asked.{History, Lookup, Promise as PromiseOf, Query};
+ghost use Rattle.commands.specs.Operations.{History, Lookup, Promise as PromiseOf, Query};
 ghost use Rattle.proofs.specs.Replies.{reply_bytes};
 ghost use Rattle.proofs.specs.Views.{end_given};
 ghost use Rattle.book.specs.Answers.{Told};
 ghost use Rattle.book.specs.Books.{Page, page_at, pages};
 ghost use Rattle.book.specs.Maps.{at};
-ghost use Rattle.book.specs.Shows.{index_of as index_by, shown_end, IsRootOf};
+ghost use Rattle.book.specs.Shows.{index_of as index_by, reply_end, IsRootOf};
 ghost use Rattle.book.specs.Sound.{IsHeld};
 ghost use Rattle.book.specs.Turns.{IsRead, IsRefused, Reads};
-ghost use Rattle.epochs.specs.Kept.{book, provider, HasKeysOf};
+ghost use Rattle.epochs.specs.DirectoryStates.{book, provider, HasKeysOf};
 ghost use Rattle.epochs.specs.Replied.{found, promised};
 
 use super::Directory;
@@ -141,7 +141,7 @@ fn reply_of(
     path: &Path,
     found: Option<&Version>,
 ) -> ProofText
-    ensures { result ≡ reply_bytes (record { body = body.now; value = value.now; end = shown_end index.now (option_map (λ version. version.now.binding) found.entry) path.now.end; siblings = path.now.siblings.items }) }
+    ensures { result ≡ reply_bytes (record { body = body.now; value = value.now; end = reply_end index.now (option_map (λ version. version.now.binding) found.entry) path.now.end; siblings = path.now.siblings.items }) }
 {
     match found {
         Some(version) => {
@@ -155,7 +155,7 @@ fn reply_of(
 /// The end of a path, where its leaf is the name's own.
 fn opened<'a>(end: PathEnd, version: &Version, key: &'a KeyData) -> End<'a>
     requires { key.now ≡ version.now.binding.key }
-    ensures { (index : List ℕ) → end_given result ≡ shown_end index (Some version.now.binding) end }
+    ensures { (index : List ℕ) → end_given result ≡ reply_end index (Some version.now.binding) end }
 {
     match end {
         PathEnd::Present(_) => End::Present {
@@ -169,7 +169,7 @@ fn opened<'a>(end: PathEnd, version: &Version, key: &'a KeyData) -> End<'a>
 
 /// The end of a path, where a leaf of the index is another name's.
 fn unopened<'a>(end: PathEnd, index: Index) -> End<'a>
-    ensures { end_given result ≡ shown_end index None end }
+    ensures { end_given result ≡ reply_end index None end }
 {
     match end {
         PathEnd::Present(commitment) => End::Other { index, commitment },

@@ -1,5 +1,5 @@
 ghost use Rattle.std.specs.Prelude.{◌≡◌, ℕ, ◌+◌, ◌<◌, ◌≤◌, List, None, Some, IsSome, MatchResult};
-ghost use Rattle.commands.specs.Asked as asks;
+ghost use Rattle.commands.specs.Operations as asks;
 ghost use Rattle.nodehash.specs.Digests.{one_more};
 ghost use Rattle.book.specs.declared.record.Record.TheVariants.{Bound, Turned};
 ghost use Rattle.book.specs.Maps.{at};
@@ -7,7 +7,7 @@ ghost use Rattle.book.specs.Replays.{kept_edit, put_refusal};
 ghost use Rattle.book.specs.Shows.{index_of as index_by};
 ghost use Rattle.book.specs.Sound.{IsHeld};
 ghost use Rattle.epochs.specs.Addresses.{address_of};
-ghost use Rattle.epochs.specs.Kept.{book, provider, HasKeysOf};
+ghost use Rattle.epochs.specs.DirectoryStates.{book, provider, HasKeysOf};
 ghost use Rattle.epochs.specs.Replayed.{address_digests, replay_digests, Replays};
 
 use super::Directory;

@@ -9,7 +9,7 @@ returns c =
     let given : option_map (λ s. s.now) c.get_str.result ≡ first_of (codes "nonce") (rows_of found) = c.get_str.ensures ∙ first_value-rows found (codes "nonce") in
     let journal : option_map (λ s. s.now) c.get_str-2.result ≡ first_of (codes "journal") (rows_of found) = c.get_str-2.ensures ∙ first_value-rows found (codes "journal") in
     λ i. record {
-      sign_key = c.text.ensures i;
+      signing_key = c.text.ensures i;
       vuf_key = c.text-2.ensures i;
       salt_key = c.text-3.ensures i;
       token = c.text-4.ensures i;

@@ -10,7 +10,7 @@ use Rattle.clap.specs.declared.builder.value_parser.ValueParser.{ValueParser}
 use Rattle.clap.specs.declared.error.kind.ErrorKind.TheVariants.{OutOfMemory}
 use Rattle.clap.proofs.OnLiterals.{clap_on_literals}
 use Rattle.directoryd.specs.CommandLine.{directory_app, IsHashNames, Refuses}
-use Rattle.directoryd.specs.Orders.{ordered_in}
+use Rattle.directoryd.specs.Orders.{task_in}
 use Rattle.directoryd.proofs.order.order.Goals as goal
 
 is_simple-directory_app : (names : ValueParser) → is_simple (directory_app names) ≡ true
@@ -26,7 +26,7 @@ name_of_rows None = refl
 name_of_rows (Some b) = refl
 
 ordered_here : (s : Option (Text × List Row)) (name : Text) (rows : List Row) → Some name ≡ option_map (λ p. p.0) s → Some rows ≡ option_map (λ p. p.1) s
-    → option_map (λ found. ordered_in found.0 found.1) s ≡ Some (ordered_in name rows)
+    → option_map (λ found. task_in found.0 found.1) s ≡ Some (task_in name rows)
 ordered_here None name rows h k = cc
 ordered_here (Some p) name rows h k =
     let e : name ≡ p.0 = cc in
@@ -47,7 +47,7 @@ returns-clause-ok g c =
       names,
       made.1,
       ap (λ a. fault_of a words) (sym app_is) ∙ c.in_ok-matches.ensures.kinds (ap is_simple_and_free app_is ∙ is_simple_and_free-directory_app names),
-      ap (option_map (λ found. ordered_in found.0 found.1)) (sym sub)
+      ap (option_map (λ found. task_in found.0 found.1)) (sym sub)
           ∙ ordered_here (subcommand_rows_of matches) c.in-Some.name.now (rows_of (found_of c.in-Some.found.now)) named c.in-Some.ensures.rows
           ∙ ap (λ o. Some o) (sym c.named_order.ensures),
     )

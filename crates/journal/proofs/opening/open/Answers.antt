@@ -3,7 +3,7 @@ use Rattle.encoding.specs.declared.fault.Fault.TheVariants.{Trailing, OutOfRange
 use Rattle.book.specs.Books.{Book}
 use Rattle.book.specs.Fresh.{provider_of}
 use Rattle.book.specs.Shows.{index_of}
-use Rattle.epochs.specs.Kept.{book}
+use Rattle.epochs.specs.DirectoryStates.{book}
 use Rattle.journal.specs.Opened.{StopsAt}
 use Rattle.journal.specs.Reading.{read_start}
 use Rattle.journal.proofs.Counted.{start_is}

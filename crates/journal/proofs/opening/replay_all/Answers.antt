@@ -1,7 +1,7 @@
 use Rattle.std.proofs.Common.{◌≡◌, length, length-append, ℕ, List, inl, sym, ap, subst, ◌∙◌, arith, Ok, Err, Some}
 use Rattle.book.specs.Shows.{index_of}
 use Rattle.book.specs.Replays.{replayed}
-use Rattle.epochs.specs.Kept.{book, provider}
+use Rattle.epochs.specs.DirectoryStates.{book, provider}
 use Rattle.encoding.specs.declared.fault.Fault.TheVariants.{Trailing, OutOfRange}
 use Rattle.journal.specs.Opened.{IsNotReplayed}
 use Rattle.journal.specs.Reading.{read_later}

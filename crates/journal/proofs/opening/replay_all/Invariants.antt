@@ -1,5 +1,5 @@
 use Rattle.book.specs.Shows.{index_of}
-use Rattle.epochs.specs.Kept.{book, provider, HasKeysOf}
+use Rattle.epochs.specs.DirectoryStates.{book, provider, HasKeysOf}
 use Rattle.journal.proofs.Replaying.{Replaying}
 use Rattle.journal.proofs.opening.replay_all.Given as goal
 

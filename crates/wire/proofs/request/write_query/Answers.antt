@@ -2,7 +2,7 @@ use Rattle.std.proofs.Common.{arith, rules, ◌≡◌, ◌++◌, List, [], ℕ, 
 use Rattle.encoding.specs.Endian.{big_bytes}
 use Rattle.encoding.specs.Forms.{counted_bytes}
 use Rattle.wire.specs.Frames.{frame_bytes}
-use Rattle.commands.specs.Asked.{question}
+use Rattle.commands.specs.Operations.{question}
 use Rattle.wire.specs.Requests.{Query}
 use Rattle.wire.proofs.Fitting.{is_formed}
 use Rattle.wire.proofs.request.write_query.Goals as goal

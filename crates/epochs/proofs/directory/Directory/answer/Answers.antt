@@ -1,5 +1,5 @@
-use Rattle.commands.specs.Asked.{question}
-use Rattle.epochs.specs.Kept.{book, provider}
+use Rattle.commands.specs.Operations.{question}
+use Rattle.epochs.specs.DirectoryStates.{book, provider}
 use Rattle.epochs.proofs.Running.{query_turn}
 use Rattle.epochs.proofs.directory.Directory.answer.Goals as goal
 

@@ -2,7 +2,7 @@ use Rattle.std.proofs.Common.{ap, rules, subst, sym}
 use Rattle.epochs.specs.declared.address.Address.{Address}
 use Rattle.epochs.specs.Addresses.{AreAddresses, Names}
 use Rattle.epochs.specs.Directories.{kept_of, parts_of}
-use Rattle.epochs.specs.Kept.{provider}
+use Rattle.epochs.specs.DirectoryStates.{provider}
 use Rattle.epochs.proofs.Addresses.{addresses_with}
 use Rattle.epochs.proofs.Binding.{book_bound, bound_free, bound_later, keeps_bound}
 use Rattle.epochs.proofs.directory.Directory.bind.Goals as goal

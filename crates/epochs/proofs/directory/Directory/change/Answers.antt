@@ -1,6 +1,6 @@
 use Rattle.std.proofs.Common.{ap, refl, rules}
 use Rattle.commands.specs.declared.edit.Verb.TheVariants.{Change}
-use Rattle.epochs.specs.Kept.{book, provider, Kept}
+use Rattle.epochs.specs.DirectoryStates.{book, provider, DirectoryState}
 use Rattle.epochs.proofs.Turned.{put_turn}
 use Rattle.epochs.proofs.directory.Directory.change.Goals as goal
 
@@ -11,5 +11,5 @@ returns-clause-turn g c =
     put_turn (by c.args.self.now) g.K.Keeper.kept g.K.Keeper.failed (the_book c.args.self.now) c.args.keeper.now c.args.name.now c.args.key.now
     (by c.args.self.now) (the_book c.args.self.now) c.in-Ok.name c.in-Ok-new.key c.self.inside.salt
     refl refl c.in-Ok.ensures.value c.in-Ok-new.ensures.value
-    (ap (λ (kept : Kept g.row.R.Denot). kept.salt) c.self.view_is)
+    (ap (λ (kept : DirectoryState g.row.R.Denot). kept.salt) c.self.view_is)
     c.accept.result (the_book c.accept.new.self) c.accept.new.keeper Change (search rules) (rw (c.copied.ensures, c.copied-2.ensures) at c.accept.ensures.made)

@@ -1,8 +1,8 @@
 use Rattle.std.proofs.Common.{refl, rules}
 use Rattle.book.specs.declared.record.Record.TheVariants as kept_as
 use Rattle.book.specs.Answers.{next_page, with_page, Last}
-use Rattle.commands.specs.Asked.{Edit, Turn}
-use Rattle.epochs.specs.Kept.{book, provider}
+use Rattle.commands.specs.Operations.{Edit, Turn}
+use Rattle.epochs.specs.DirectoryStates.{book, provider}
 use Rattle.epochs.proofs.Turned.{last_turn}
 use Rattle.epochs.proofs.directory.Directory.close.Goals as goal
 

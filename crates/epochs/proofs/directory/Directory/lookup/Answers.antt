@@ -3,8 +3,8 @@ use Rattle.std.specs.Option.{option_map}
 use Rattle.epochs.specs.declared.address.Address.{Address}
 use Rattle.epochs.specs.Addresses.{address_of}
 use Rattle.epochs.specs.Directories.{kept_of, parts_of}
-use Rattle.epochs.specs.Histories.{shown}
-use Rattle.epochs.specs.Kept.{provider}
+use Rattle.epochs.specs.Histories.{binding_at}
+use Rattle.epochs.specs.DirectoryStates.{provider}
 use Rattle.epochs.proofs.Addresses.{address_read, chosen-borrowed, spared}
 use Rattle.epochs.proofs.Reading.{lookup_reads, root_within}
 use Rattle.epochs.proofs.directory.Directory.lookup.Goals as goal
@@ -26,7 +26,7 @@ returns-clause-reads g c =
     (rw (← c.in-Ok.ensures.value) at (c.in-Ok.ensures.limits.0 refl)) (rw (← c.self.view_is) at c.in-Some.ensures.page) (rw (← c.self.view_is) at c.in-Some.ensures.within)
     c.index-2.ensures c.index.ensures (ap (λ (address : Address). address.value) own) (ap (λ (address : Address). address.index) own ∙ ap g.H.NodeHash.digest_of (sym (ap (λ (address : Address). address.value) own)))
     c.path-path.ensures.path
-    (c.shown_in-found.ensures ∙ chosen-borrowed (shown c.in-Some.page) (λ history. history.now.versions) c.find-history.result _ c.in-Ok.name c.self.invariant.0.histories (rw c.bytes.ensures.value at c.find-history.ensures.versions))
+    (c.shown_in-found.ensures ∙ chosen-borrowed (binding_at c.in-Some.page) (λ history. history.now.versions) c.find-history.result _ c.in-Ok.name c.self.invariant.0.histories (rw c.bytes.ensures.value at c.find-history.ensures.versions))
     c.reply_of.ensures)
 
 pub returns-clause-spared : goal.returns-clause-spared

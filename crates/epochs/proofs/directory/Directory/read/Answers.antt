@@ -1,4 +1,4 @@
-use Rattle.epochs.specs.Kept.{book, provider}
+use Rattle.epochs.specs.DirectoryStates.{book, provider}
 use Rattle.epochs.proofs.Running.{head_reads, tells_reads}
 use Rattle.epochs.proofs.directory.Directory.read.Goals as goal
 

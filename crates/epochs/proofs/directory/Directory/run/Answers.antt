@@ -1,12 +1,12 @@
 use Rattle.std.proofs.Common.{◌≡◌, ◌∙◌, map, take, refl, subst, subst₂}
 use Rattle.std.proofs.lemmas.List.{take_all}
 use Rattle.std.proofs.lemmas.List.Elements.{All-map, All-more, All-nil}
-use Rattle.commands.specs.Asked.{asked, IsCommand}
+use Rattle.commands.specs.Operations.{asked, IsCommand}
 use Rattle.book.specs.Fresh.{KeepsLaws}
 use Rattle.book.specs.Shows.{Provider, index_of}
 use Rattle.book.specs.Sound.{IsSound}
 use Rattle.book.proofs.Honesty.{honest}
-use Rattle.epochs.specs.Kept.{book, provider}
+use Rattle.epochs.specs.DirectoryStates.{book, provider}
 use Rattle.epochs.proofs.Running.{run_next, run_stays, same_provider, so_anyway}
 use Rattle.epochs.proofs.directory.Directory.run.Goals as goal
 
@@ -51,7 +51,7 @@ returns-clause-keys g c = c.loop-command.invariant.0.1
 
 pub returns-clause-honest : goal.returns-clause-honest
 returns-clause-honest g c =
-    honest (provider g.H.NodeHash.digest_of g.V.Vuf.value_of g.S.Signer.signature_of c.args.self.now) g.V.VufCheck.accepted g.S.Verifier.verified c.args.self.now.key laws
+    honest (provider g.H.NodeHash.digest_of g.V.Vuf.value_of g.S.Signer.signature_of c.args.self.now) g.V.VufCheck.accepted g.S.Verifier.verified c.args.self.now.signing_key laws
     g.K.Keeper.kept g.K.Keeper.failed (book g.R.Rng.stream c.args.self.now) (book g.R.Rng.stream c.loop-command.self) c.args.keeper.now c.loop-command.keeper
     (map asked c.args.commands.now) c.loop-command.replies.items (rw (← c.self.view_is) c.self.invariant.0.sound) sound
     (All-map IsCommand asked c.args.commands.now (rw (take_all _ _ c.loop-command-test.false) at c.loop-command.invariant.1))
@@ -63,5 +63,5 @@ returns-clause-honest g c =
     sound : IsSound (index_of (provider g.H.NodeHash.digest_of g.V.Vuf.value_of g.S.Signer.signature_of c.args.self.now)) (book g.R.Rng.stream c.loop-command.self)
     sound = subst (λ (p : Provider). IsSound (index_of p) (book g.R.Rng.stream c.loop-command.self)) same c.head.ensures.sound
 
-    laws : KeepsLaws g.V.VufCheck.accepted g.S.Verifier.verified c.args.self.now.key (provider g.H.NodeHash.digest_of g.V.Vuf.value_of g.S.Signer.signature_of c.args.self.now)
+    laws : KeepsLaws g.V.VufCheck.accepted g.S.Verifier.verified c.args.self.now.signing_key (provider g.H.NodeHash.digest_of g.V.Vuf.value_of g.S.Signer.signature_of c.args.self.now)
     laws = subst₂ (KeepsLaws g.V.VufCheck.accepted g.S.Verifier.verified) c.loop-command.invariant.0.1.1 same c.head.ensures.laws

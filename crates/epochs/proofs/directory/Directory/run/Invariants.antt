@@ -1,5 +1,5 @@
 use Rattle.std.proofs.Common.{All, map, take}
-use Rattle.commands.specs.Asked.{asked, IsCommand}
+use Rattle.commands.specs.Operations.{asked, IsCommand}
 use Rattle.epochs.proofs.Running.{RunsTo}
 use Rattle.epochs.proofs.directory.Directory.run.Given as goal
 

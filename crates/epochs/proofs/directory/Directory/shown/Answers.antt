@@ -1,7 +1,7 @@
 use Rattle.std.proofs.Common.{ap, rules, sym, ◌∙◌}
 use Rattle.std.specs.Prelude.{is_some}
 use Rattle.epochs.specs.Directories.{kept_of, parts_of}
-use Rattle.epochs.specs.Kept.{provider}
+use Rattle.epochs.specs.DirectoryStates.{provider}
 use Rattle.epochs.proofs.Addresses.{address-kept, is_shown, is_waiting, none-there, none_shown, some-there}
 use Rattle.epochs.proofs.directory.Directory.shown.Goals as goal
 

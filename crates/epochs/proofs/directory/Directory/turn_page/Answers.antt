@@ -4,12 +4,12 @@ use Rattle.rootchain.specs.declared.body.Body.{Body}
 use Rattle.book.specs.Maps.{overwritten}
 use Rattle.book.specs.Shows.{Provider, placement}
 use Rattle.epochs.specs.Directories.{parts_of}
-use Rattle.epochs.specs.Kept.{book, provider, Kept}
+use Rattle.epochs.specs.DirectoryStates.{book, provider, DirectoryState}
 use Rattle.epochs.proofs.Closing.{book_same, closed_made, keeps_closed, keeps_same}
 use Rattle.epochs.proofs.directory.Directory.turn_page.Goals as goal
 
 -- the tree of the page to come
-abbrev tree_to_come : {R : Type 0} → (Kept R → Provider) → Kept R → Contents
+abbrev tree_to_come : {R : Type 0} → (DirectoryState R → Provider) → DirectoryState R → Contents
 tree_to_come by kept = record { nonce = kept.last.nonce; items = placement (by kept) (overwritten kept.last.bindings kept.pending) }
 
 pub invariant_of-self : goal.invariant_of-self
@@ -27,7 +27,7 @@ invariant_of-self g c =
       vuf_key = c.public.result;
     } in (
       keeps_closed _ (parts_of c.self.inside) _ _ c.self.invariant.0 c.args.epoch c.in_ok-tree.tree (c.in_ok-tree.ensures.tree ∙ ap in_page (sym stands)) c.len.result (search rules) c.index.result.now c.index.ensures
-          (subst (λ (kept : Kept g.row.R.Denot). kept.last.epoch < c.args.epoch) (sym stands) c.requires) c.ranges.epoch.fits
+          (subst (λ (kept : DirectoryState g.row.R.Denot). kept.last.epoch < c.args.epoch) (sym stands) c.requires) c.ranges.epoch.fits
           the_body (λ i. record { epoch = c.args.epoch; previous_epoch = c.index.result.now.body.epoch; root = c.root.ensures i; previous_hash = c.self.inside.body_hash; nonce = c.index.result.now.body.nonce; vuf_key = c.public.ensures i })
           c.signed_root-root.result c.signed_root-root.ensures c.hash_of-self-inside.result (c.hash_of-self-inside.ensures.value ∙ ap g.H.NodeHash.digest_of c.write-text.ensures.value) c.copied.result c.copied.ensures
           c.add_page.new.roots.items c.in-Ok.ensures.1 c.add_page.new.trees.items c.in-Ok.ensures.2 c.clear.new.self.entries c.clear.ensures.empty,
@@ -52,7 +52,7 @@ returns-in-Ok-clause-made g c =
       vuf_key = c.public.result;
     } in
     let made = closed_made _ (parts_of c.self.inside) _ _ c.self.invariant.0 c.args.epoch c.in_ok-tree.tree (c.in_ok-tree.ensures.tree ∙ ap in_page (sym stands)) c.len.result (search rules) c.index.result.now c.index.ensures
-    (subst (λ (kept : Kept g.row.R.Denot). kept.last.epoch < c.args.epoch) (sym stands) c.requires) c.ranges.epoch.fits
+    (subst (λ (kept : DirectoryState g.row.R.Denot). kept.last.epoch < c.args.epoch) (sym stands) c.requires) c.ranges.epoch.fits
     the_body (λ i. record { epoch = c.args.epoch; previous_epoch = c.index.result.now.body.epoch; root = c.root.ensures i; previous_hash = c.self.inside.body_hash; nonce = c.index.result.now.body.nonce; vuf_key = c.public.ensures i })
     c.signed_root-root.result c.signed_root-root.ensures c.hash_of-self-inside.result (c.hash_of-self-inside.ensures.value ∙ ap g.H.NodeHash.digest_of c.write-text.ensures.value) c.copied.result c.copied.ensures
     c.add_page.new.roots.items c.in-Ok.ensures.1 c.add_page.new.trees.items c.in-Ok.ensures.2 c.clear.new.self.entries c.clear.ensures.empty

@@ -3,7 +3,7 @@ use Rattle.std.specs.Option.{option_map}
 use Rattle.book.specs.Books.{Binding}
 use Rattle.epochs.specs.declared.address.Address.{Address}
 use Rattle.epochs.specs.Directories.{kept_of, parts_of}
-use Rattle.epochs.specs.Kept.{provider}
+use Rattle.epochs.specs.DirectoryStates.{provider}
 use Rattle.epochs.proofs.Addresses.{address-kept, none_waits, waits_there}
 use Rattle.epochs.proofs.directory.Directory.waiting.Goals as goal
 

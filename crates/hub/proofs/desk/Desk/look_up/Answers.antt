@@ -1,4 +1,4 @@
-use Rattle.commands.specs.Asked.{Lookup}
+use Rattle.commands.specs.Operations.{Lookup}
 use Rattle.epochs.specs.Replied.{found}
 use Rattle.hub.proofs.Desking.{read_turned}
 use Rattle.hub.proofs.desk.Desk.look_up.Goals as goal

@@ -1,4 +1,4 @@
-use Rattle.commands.specs.Asked.{Promise}
+use Rattle.commands.specs.Operations.{Promise}
 use Rattle.epochs.specs.Replied.{promised}
 use Rattle.hub.proofs.Desking.{read_turned}
 use Rattle.hub.proofs.desk.Desk.promise.Goals as goal

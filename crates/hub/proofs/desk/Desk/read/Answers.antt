@@ -1,4 +1,4 @@
-use Rattle.epochs.specs.Kept.{book, provider}
+use Rattle.epochs.specs.DirectoryStates.{book, provider}
 use Rattle.hub.proofs.Desking.{few_roots, head_turned, roots_turned}
 use Rattle.hub.proofs.desk.Desk.read.Goals as goal
 

@@ -1,13 +1,13 @@
 use Rattle.std.proofs.Common.{arith, ◌≡◌, ℕ, ◌∷◌, List, [], ◌-◌, sym, ap, subst, ◌∙◌}
 use Rattle.encoding.proofs.Fields.{ok_is, refused_read}
 use Rattle.rootchain.specs.declared.signed_root.SignedRoot.{SignedRoot}
-use Rattle.rootchain.specs.RootLists.{listed, IsListed}
+use Rattle.rootchain.specs.RootLists.{roots_in, IsListed}
 use Rattle.rootchain.proofs.RootLists.{listed_none, listed_some}
 use Rattle.rootchain.proofs.root_list.RootList.next.Goals as goal
 
 pub returns-then-self-eq0 : goal.returns-then-self-eq0
 returns-then-self-eq0 c =
-    let N : ℕ → Type 0 = λ n. listed n c.self.inside.cursor ≡ [] in
+    let N : ℕ → Type 0 = λ n. roots_in n c.self.inside.cursor ≡ [] in
     let none : c.args.self.now ≡ [] = sym c.self.view_is ∙ subst N (sym c.if-self-eq0.true) (listed_none c.self.inside.cursor) in
     (none, none)
 
@@ -27,4 +27,4 @@ pub returns : goal.returns
 returns c =
     let some = listed_some c.self.inside.left (c.self.inside.left - 1) c.self.inside.cursor (omega (arith, c.if-self-eq0.false)) c.self.invariant in
     let same = ok_is _ _ (sym some.2 ∙ c.in-Ok.ensures.read) in
-    sym c.self.view_is ∙ some.4 ∙ ap (λ (z : SignedRoot × List ℕ). z.0 ∷ listed (c.self.inside.left - 1) z.1) same
+    sym c.self.view_is ∙ some.4 ∙ ap (λ (z : SignedRoot × List ℕ). z.0 ∷ roots_in (c.self.inside.left - 1) z.1) same

@@ -4,9 +4,9 @@ use Rattle.items.specs.declared.orders.HashChoice.{HashChoice}
 use Rattle.items.specs.declared.orders.RootOrder.{RootOrder}
 
 -- the values of an order: the hash function, and the nonce's text where one is given
-pub record Asked : Type 0 where
+pub record TreeOptions : Type 0 where
   pub hash : HashChoice
   pub nonce : Option (List ℕ)
 
-abbrev pub values_of : RootOrder → Asked
+abbrev pub values_of : RootOrder → TreeOptions
 values_of order = record { hash = order.hash; nonce = option_map (λ text. text.now) order.nonce }

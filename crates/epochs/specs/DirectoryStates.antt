@@ -7,7 +7,7 @@ use Rattle.book.specs.Fresh.{provider_of}
 use Rattle.book.specs.Maps.{Map}
 use Rattle.book.specs.Shows.{Provider}
 
-pub record Kept (R : Type 0) : Type 0 where
+pub record DirectoryState (R : Type 0) : Type 0 where
   pub earlier : List Page
   pub last : Page
   pub pending : Map Binding
@@ -16,17 +16,17 @@ pub record Kept (R : Type 0) : Type 0 where
   pub salts : R
   -- the public keys of the verifiable function and of the signatures
   pub vuf_key : List ℕ
-  pub key : List ℕ
+  pub signing_key : List ℕ
   pub digests : ℕ
 
 -- the book, where `stream` says what a generator will give
-abbrev pub book : {R : Type 0} → (R → Stream) → Kept R → Book
+abbrev pub book : {R : Type 0} → (R → Stream) → DirectoryState R → Book
 book stream kept = record { earlier = kept.earlier; last = kept.last; pending = kept.pending; salt = kept.salt; left = stream kept.salts }
 
 -- the functions of the provider, under its public keys
-abbrev pub provider : {R : Type 0} → (List ℕ → List ℕ) → (List ℕ → List ℕ → List ℕ) → (List ℕ → List ℕ → List ℕ) → Kept R → Provider
-provider digest_of value_of signature_of kept = provider_of digest_of value_of kept.vuf_key signature_of kept.key
+abbrev pub provider : {R : Type 0} → (List ℕ → List ℕ) → (List ℕ → List ℕ → List ℕ) → (List ℕ → List ℕ → List ℕ) → DirectoryState R → Provider
+provider digest_of value_of signature_of kept = provider_of digest_of value_of kept.vuf_key signature_of kept.signing_key
 
 -- the public keys are those of before
-abbrev pub HasKeysOf : {R : Type 0} → Kept R → Kept R → Type 0
-HasKeysOf before kept = (kept.vuf_key ≡ before.vuf_key) × (kept.key ≡ before.key)
+abbrev pub HasKeysOf : {R : Type 0} → DirectoryState R → DirectoryState R → Type 0
+HasKeysOf before kept = (kept.vuf_key ≡ before.vuf_key) × (kept.signing_key ≡ before.signing_key)

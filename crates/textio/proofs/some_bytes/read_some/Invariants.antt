@@ -1,6 +1,6 @@
 use Rattle.std.proofs.Common.{◌≡◌, length}
 use Rattle.std.specs.Io.KnownBytes.{Keeps}
-use Rattle.textio.proofs.input.read_some.Given as goal
+use Rattle.textio.proofs.some_bytes.read_some.Given as goal
 
 -- nothing was read so far
 abbrev pub invariant-loop : goal.invariant-loop

@@ -5,8 +5,8 @@ use Rattle.server.specs.declared.order.DirectoryOrder.{DirectoryOrder}
 
 -- the values of an order: the texts of the keys and of the token, the epoch of the first page, and, where
 -- they are given, the nonce's text and the path of the journal
-pub record Asked : Type 0 where
-  pub sign_key : List ℕ
+pub record DirectoryOptions : Type 0 where
+  pub signing_key : List ℕ
   pub vuf_key : List ℕ
   pub salt_key : List ℕ
   pub token : List ℕ
@@ -14,9 +14,9 @@ pub record Asked : Type 0 where
   pub nonce : Option (List ℕ)
   pub journal : Option (List ℕ)
 
-abbrev pub values_of : DirectoryOrder → Asked
+abbrev pub values_of : DirectoryOrder → DirectoryOptions
 values_of order = record {
-  sign_key = order.sign_key.now;
+  signing_key = order.signing_key.now;
   vuf_key = order.vuf_key.now;
   salt_key = order.salt_key.now;
   token = order.token.now;

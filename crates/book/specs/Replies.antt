@@ -7,14 +7,14 @@ use Rattle.book.specs.declared.refusal.Refusal.TheVariants.{Memory, KeepFailed}
 use Rattle.book.specs.declared.reply.Reply.{Reply}
 use Rattle.book.specs.declared.reply.Reply.TheVariants as reply
 
-pub data Seen : Type 0 where
-  Promised : SignedPromise → Seen
-  Found : List ℕ → Seen
-  Told : List SignedRoot → Seen
-  Last : SignedRoot → Seen
-  Refused : Refusal → Seen
+pub data ReplyContent : Type 0 where
+  Promised : SignedPromise → ReplyContent
+  Found : List ℕ → ReplyContent
+  Told : List SignedRoot → ReplyContent
+  Last : SignedRoot → ReplyContent
+  Refused : Refusal → ReplyContent
 
-abbrev pub seen : Reply → Seen
+abbrev pub seen : Reply → ReplyContent
 seen (reply.Promised promise) = Promised promise
 seen (reply.Found text) = Found text
 seen (reply.Told told) = Told told.items

@@ -21,9 +21,9 @@ pub data Revision : Type 0 where
   Put : Verb → List ℕ → List ℕ → Revision
   Turn : ℕ → Revision
 
-pub data Asked : Type 0 where
-  Query : Question → Asked
-  Edit : Revision → Asked
+pub data Operation : Type 0 where
+  Query : Question → Operation
+  Edit : Revision → Operation
 
 -- what a query asks
 abbrev pub question : QueryMade → Question
@@ -38,7 +38,7 @@ revision (edit.Put put) = Put put.verb put.name.now put.key.now
 revision (edit.Turn epoch) = Turn epoch
 
 -- what a command asks
-abbrev pub asked : Command → Asked
+abbrev pub asked : Command → Operation
 asked (command.Query query) = Query (question query)
 asked (command.Edit edit) = Edit (revision edit)
 
@@ -63,11 +63,11 @@ module _ (OfText : List ℕ → Type 0) (OfNumber : ℕ → ℕ → Type 0) wher
   MayChange (Put verb name key) = OfText name × OfText key
   MayChange (Turn epoch) = FitsIn 64 epoch
 
-  abbrev pub MayAsk : Asked → Type 0
+  abbrev pub MayAsk : Operation → Type 0
   MayAsk (Query read) = MayRead read
   MayAsk (Edit change) = MayChange change
 
 -- names and keys are bytes, of any length, and the epoch of a new page fits in eight bytes. What a run shows
 -- rests on nothing more: a query may have any numbers
-abbrev pub IsCommand : Asked → Type 0
+abbrev pub IsCommand : Operation → Type 0
 IsCommand = MayAsk IsBytes IsAny
