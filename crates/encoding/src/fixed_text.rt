@@ -16,7 +16,7 @@ pub struct FixedText<const ROOM: usize> {
 const TEXT_ROOM: usize = 2400;
 
 /// The room of a `ProofText`. The longest reply to a look-up has 10,681 bytes.
-const PROOF_TEXT_ROOM: usize = 10700;
+pub const PROOF_TEXT_ROOM: usize = 10700;
 
 /// A text that is signed, hashed or compared: at most 2,400 bytes.
 pub type Text = FixedText<TEXT_ROOM>;

@@ -31,7 +31,7 @@ pub use bits::{agree, bit, cut, with_one};
 pub use bounded::{Bounded, MIN_LEN};
 pub use cursor::Cursor;
 pub use fault::Fault;
-pub use fixed_text::{FixedText, ProofText, Text};
+pub use fixed_text::{FixedText, PROOF_TEXT_ROOM, ProofText, Text};
 pub use form::Form;
 pub use hash32::Hash32;
 pub use index::Index;

@@ -9,6 +9,7 @@ use Rattle.encoding.specs.Reading.{Reading, ◌>>=◌, is_within, read_as, read_
 use Rattle.encoding.proofs.Fields.{ok_is}
 use Rattle.wire.specs.Frames.{Frame, frame_of, read_frame}
 use Rattle.wire.proofs.Faults.{bad_size, frame_faults, IsBadSize}
+use Rattle.wire.specs.declared.frame.TheConstants.{MAX_FRAME_LEN}
 
 -- the reader takes a front of the bytes, and takes it whatever follows
 abbrev pub TakesFront : {A : Type 0} → (List ℕ → Reading A) → Type 0
@@ -92,8 +93,8 @@ number_front count = as_front (big_number count) (read_bytes count) (bytes_front
 frame_front : TakesFront read_frame
 unfolding read_frame
 frame_front =
-    then_front (read_where (is_within 1 65536) (read_number 4)) (λ size. read_as frame_of (read_both read_byte (read_bytes (size - 1))))
-    (where_front (is_within 1 65536) (read_number 4) (number_front 4))
+    then_front (read_where (is_within 1 MAX_FRAME_LEN) (read_number 4)) (λ size. read_as frame_of (read_both read_byte (read_bytes (size - 1))))
+    (where_front (is_within 1 MAX_FRAME_LEN) (read_number 4) (number_front 4))
     (λ size. as_front frame_of (read_both read_byte (read_bytes (size - 1))) (both_front read_byte (read_bytes (size - 1)) byte_front (bytes_front (size - 1))))
 
 -- ---- frames

@@ -6,6 +6,7 @@ use Rattle.wire.specs.Responses.{response_frame, Refused}
 use Rattle.wire.specs.Streams.{Remainder, Message, Failed, Whole, BadFrame, with_more, IsSpent, Takes}
 use Rattle.hub.specs.declared.hub_refusal.HubRefusal.{HubRefusal}
 use Rattle.hub.specs.declared.hub_refusal.HubRefusal.TheVariants.{TooManySessions, SessionOpen, NoSession, Memory}
+use Rattle.wire.specs.declared.answer.TheConstants.{MAX_ANSWER_LEN}
 
 -- a message, and the bytes of its reply
 pub record Exchange : Type 0 where
@@ -23,7 +24,7 @@ refused_frame code = frame_bytes (response_frame (Refused code))
 -- an output of this length and room has no room for the longest reply, if that is why messages wait
 abbrev pub LacksRoom : Result (Unit {0}) HubRefusal → ℕ → ℕ → Type 0
 LacksRoom (Ok done) length room = ⊤
-LacksRoom (Err (Memory true)) length room = room < length + 25863
+LacksRoom (Err (Memory true)) length room = room < length + MAX_ANSWER_LEN
 LacksRoom (Err (Memory false)) length room = ⊤
 LacksRoom (Err TooManySessions) length room = ⊤
 LacksRoom (Err SessionOpen) length room = ⊤

@@ -11,6 +11,7 @@ ghost use Rattle.wire.specs.Requests as asks;
 ghost use Rattle.wire.specs.Responses.{answer_frame, HasFewRoots};
 ghost use Rattle.hub.specs.DeskRuns.{IsWell};
 ghost use Rattle.hub.specs.Desks.{reply_frame, Serves};
+ghost use Rattle.wire.specs.declared.answer.TheConstants.{MAX_ANSWER_LEN};
 
 use crate::Service;
 use crate::drain::write_refused;
@@ -64,7 +65,7 @@ impl<H: NodeHash, V: Vuf, S: Signer, R: Rng, K: Keeper> Desk<H, V, S, R, K> {
 
     /// Answers a request by one call of the directory, and writes the reply.
     fn serve(&mut self, request: &Request<'_>, output: &mut Vec<u8>)
-        requires { vec_len output.old + 25863 ≤ vec_capacity output.old }
+        requires { vec_len output.old + MAX_ANSWER_LEN ≤ vec_capacity output.old }
         ensures { (reply : List ℕ) × Serves H.digest_of V.value_of S.signature_of R.stream K.kept K.failed self.old (request_seen request.now) reply self.new
             × (output.new.items ≡ output.old.items ++ reply) }
     {
@@ -77,7 +78,7 @@ impl<H: NodeHash, V: Vuf, S: Signer, R: Rng, K: Keeper> Desk<H, V, S, R, K> {
 
     /// Answers a query.
     fn read(&mut self, query: &Query<'_>, output: &mut Vec<u8>)
-        requires { vec_len output.old + 25863 ≤ vec_capacity output.old }
+        requires { vec_len output.old + MAX_ANSWER_LEN ≤ vec_capacity output.old }
         ensures { (reply : List ℕ) × Serves H.digest_of V.value_of S.signature_of R.stream K.kept K.failed self.old (asks.Query (question query.now)) reply self.new
             × (output.new.items ≡ output.old.items ++ reply) }
     {
@@ -93,7 +94,7 @@ impl<H: NodeHash, V: Vuf, S: Signer, R: Rng, K: Keeper> Desk<H, V, S, R, K> {
 
     /// Puts a key to a name.
     fn put(&mut self, put: &Put<'_>, output: &mut Vec<u8>)
-        requires { vec_len output.old + 25863 ≤ vec_capacity output.old }
+        requires { vec_len output.old + MAX_ANSWER_LEN ≤ vec_capacity output.old }
         ensures { (reply : List ℕ) × Serves H.digest_of V.value_of S.signature_of R.stream K.kept K.failed self.old (asks.Put put.now.verb put.now.name.now put.now.key.now) reply self.new
             × (output.new.items ≡ output.old.items ++ reply) }
     {
@@ -106,7 +107,7 @@ impl<H: NodeHash, V: Vuf, S: Signer, R: Rng, K: Keeper> Desk<H, V, S, R, K> {
     /// Each of these calls has a function of its own, since a function clears the room of all its
     /// replies when it is entered.
     fn register(&mut self, name: &[u8], key: &[u8], output: &mut Vec<u8>)
-        requires { vec_len output.old + 25863 ≤ vec_capacity output.old }
+        requires { vec_len output.old + MAX_ANSWER_LEN ≤ vec_capacity output.old }
         ensures { (reply : List ℕ) × Serves H.digest_of V.value_of S.signature_of R.stream K.kept K.failed self.old (asks.Put Register name.now key.now) reply self.new
             × (output.new.items ≡ output.old.items ++ reply) }
     {
@@ -115,7 +116,7 @@ impl<H: NodeHash, V: Vuf, S: Signer, R: Rng, K: Keeper> Desk<H, V, S, R, K> {
 
     /// Changes the key of a name.
     fn change(&mut self, name: &[u8], key: &[u8], output: &mut Vec<u8>)
-        requires { vec_len output.old + 25863 ≤ vec_capacity output.old }
+        requires { vec_len output.old + MAX_ANSWER_LEN ≤ vec_capacity output.old }
         ensures { (reply : List ℕ) × Serves H.digest_of V.value_of S.signature_of R.stream K.kept K.failed self.old (asks.Put Change name.now key.now) reply self.new
             × (output.new.items ≡ output.old.items ++ reply) }
     {
@@ -124,7 +125,7 @@ impl<H: NodeHash, V: Vuf, S: Signer, R: Rng, K: Keeper> Desk<H, V, S, R, K> {
 
     /// Answers with the promise that waits for a name.
     fn promise(&mut self, name: &[u8], output: &mut Vec<u8>)
-        requires { vec_len output.old + 25863 ≤ vec_capacity output.old }
+        requires { vec_len output.old + MAX_ANSWER_LEN ≤ vec_capacity output.old }
         ensures { (reply : List ℕ) × Serves H.digest_of V.value_of S.signature_of R.stream K.kept K.failed self.old (asks.Query (Promise name.now)) reply self.new
             × (output.new.items ≡ output.old.items ++ reply) }
     {
@@ -133,7 +134,7 @@ impl<H: NodeHash, V: Vuf, S: Signer, R: Rng, K: Keeper> Desk<H, V, S, R, K> {
 
     /// Looks a name up.
     fn look_up(&mut self, name: &[u8], epoch: u64, output: &mut Vec<u8>)
-        requires { vec_len output.old + 25863 ≤ vec_capacity output.old }
+        requires { vec_len output.old + MAX_ANSWER_LEN ≤ vec_capacity output.old }
         ensures { (reply : List ℕ) × Serves H.digest_of V.value_of S.signature_of R.stream K.kept K.failed self.old (asks.Query (Lookup name.now epoch)) reply self.new
             × (output.new.items ≡ output.old.items ++ reply) }
     {
@@ -142,7 +143,7 @@ impl<H: NodeHash, V: Vuf, S: Signer, R: Rng, K: Keeper> Desk<H, V, S, R, K> {
 
     /// Closes the epoch for whoever has the token.
     fn close(&mut self, token: &Hash32, epoch: u64, output: &mut Vec<u8>)
-        requires { vec_len output.old + 25863 ≤ vec_capacity output.old }
+        requires { vec_len output.old + MAX_ANSWER_LEN ≤ vec_capacity output.old }
         ensures { (reply : List ℕ) × Serves H.digest_of V.value_of S.signature_of R.stream K.kept K.failed self.old (asks.Turn token.now epoch) reply self.new
             × (output.new.items ≡ output.old.items ++ reply) }
     {
@@ -169,7 +170,7 @@ impl<H: NodeHash, V: Vuf, S: Signer, R: Rng, K: Keeper> Service for Desk<H, V, S
 /// Appends a frame, into room that is there.
 fn write(answer: &Answer<'_>, output: &mut Vec<u8>)
     requires few { HasFewRoots answer.now }
-    requires room { vec_len output.old + 25863 ≤ vec_capacity output.old }
+    requires room { vec_len output.old + MAX_ANSWER_LEN ≤ vec_capacity output.old }
     ensures { output.new.items ≡ output.old.items ++ frame_bytes (answer_frame answer.now) }
 {
     let written = answer.write(output).is_ok();
@@ -177,7 +178,7 @@ fn write(answer: &Answer<'_>, output: &mut Vec<u8>)
 }
 
 fn write_promise(answer: Result<SignedPromise, Refusal>, output: &mut Vec<u8>)
-    requires { vec_len output.old + 25863 ≤ vec_capacity output.old }
+    requires { vec_len output.old + MAX_ANSWER_LEN ≤ vec_capacity output.old }
     ensures { output.new.items ≡ output.old.items ++ frame_bytes (reply_frame (promised answer)) }
 {
     match answer {
@@ -187,7 +188,7 @@ fn write_promise(answer: Result<SignedPromise, Refusal>, output: &mut Vec<u8>)
 }
 
 fn write_proof(answer: &Result<ProofText, Refusal>, output: &mut Vec<u8>)
-    requires { vec_len output.old + 25863 ≤ vec_capacity output.old }
+    requires { vec_len output.old + MAX_ANSWER_LEN ≤ vec_capacity output.old }
     ensures { output.new.items ≡ output.old.items ++ frame_bytes (reply_frame (found answer.now)) }
 {
     match answer {
@@ -198,7 +199,7 @@ fn write_proof(answer: &Result<ProofText, Refusal>, output: &mut Vec<u8>)
 
 fn write_roots(answer: Result<&[SignedRoot], Refusal>, output: &mut Vec<u8>)
     requires few { IfOk answer (λ roots. length roots.now ≤ 64) }
-    requires room { vec_len output.old + 25863 ≤ vec_capacity output.old }
+    requires room { vec_len output.old + MAX_ANSWER_LEN ≤ vec_capacity output.old }
     ensures { (told : Reply) → IsTold answer.entry told → output.new.items ≡ output.old.items ++ frame_bytes (reply_frame told) }
 {
     match answer {
@@ -208,7 +209,7 @@ fn write_roots(answer: Result<&[SignedRoot], Refusal>, output: &mut Vec<u8>)
 }
 
 fn write_root(answer: Result<SignedRoot, Refusal>, output: &mut Vec<u8>)
-    requires { vec_len output.old + 25863 ≤ vec_capacity output.old }
+    requires { vec_len output.old + MAX_ANSWER_LEN ≤ vec_capacity output.old }
     ensures { output.new.items ≡ output.old.items ++ frame_bytes (reply_frame (last answer)) }
 {
     match answer {

@@ -1,6 +1,7 @@
 ghost use Rattle.std.specs.Prelude.{◌≡◌, ◌≢◌, ◌+◌, ◌<◌, ◌≤◌, ◌++◌, vec_len, vec_capacity, OnErr};
 ghost use Rattle.wire.specs.Streams.{Failed};
 ghost use Rattle.hub.specs.Exchanges.{refused_frame, Drained, Hears, LacksRoom};
+ghost use Rattle.wire.specs.declared.answer.TheConstants.{MAX_ANSWER_LEN};
 
 use crate::{HubRefusal, Service};
 use std::alloc::AllocError;
@@ -35,7 +36,7 @@ fn drain<S: Service>(
 ) -> Result<(), AllocError>
     requires { feed.old ≢ Failed }
     ensures drained { Drained S.answers service.old feed.old output.old.items result service.new feed.new output.new.items }
-    ensures room { OnErr result (vec_capacity output.new < vec_len output.new + 25863) }
+    ensures room { OnErr result (vec_capacity output.new < vec_len output.new + MAX_ANSWER_LEN) }
 {
     while feed.ready() {
         output.reserve(MAX_ANSWER_LEN)?;
@@ -53,7 +54,7 @@ fn drain<S: Service>(
 
 /// Appends the frame of a refusal, into room that is there.
 pub(crate) fn write_refused(code: u8, output: &mut Vec<u8>)
-    requires { vec_len output.old + 25863 ≤ vec_capacity output.old }
+    requires { vec_len output.old + MAX_ANSWER_LEN ≤ vec_capacity output.old }
     ensures { output.new.items ≡ output.old.items ++ refused_frame code }
 {
     let written = Answer::Refused(code).write(output).is_ok();

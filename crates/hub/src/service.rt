@@ -1,5 +1,6 @@
 ghost use Rattle.std.specs.Prelude.{◌≡◌, ◌+◌, ◌≤◌, ◌++◌, List, ℕ, vec_len, vec_capacity};
 ghost use Rattle.wire.specs.Frames.{Frame};
+ghost use Rattle.wire.specs.declared.answer.TheConstants.{MAX_ANSWER_LEN};
 
 /// What answers the frames of sessions, one at a time.
 pub trait Service {
@@ -8,7 +9,7 @@ pub trait Service {
 
     /// Answers a frame, into room for the longest reply.
     fn answer(&mut self, kind: u8, body: &[u8], output: &mut Vec<u8>)
-        requires { vec_len output.old + 25863 ≤ vec_capacity output.old }
+        requires { vec_len output.old + MAX_ANSWER_LEN ≤ vec_capacity output.old }
         ensures { (reply : List ℕ) × answers self.old (record { kind = kind; body = body.now }) reply self.new
             × (output.new.items ≡ output.old.items ++ reply) };
 }

@@ -2,6 +2,7 @@ ghost use Rattle.std.specs.Prelude.{◌≡◌, ◌+◌, ◌*◌, ◌≤◌, ◌+
 ghost use Rattle.rootchain.specs.Bodies.{IsWellFormed};
 ghost use Rattle.proofs.specs.Replies.{reply_end_bytes, reply_bytes, sibling_bytes, AreSiblings, IsEnd, IsReply};
 ghost use Rattle.proofs.specs.Views.{end_given};
+ghost use Rattle.encoding.specs.declared.fixed_text.TheConstants.{PROOF_TEXT_ROOM};
 
 use crate::End;
 use crate::kind_bytes::{EMPTY, OTHER, PRESENT};
@@ -25,7 +26,7 @@ pub fn make(body: &Body, value: &Small, end: &End<'_>, path: &Path) -> ProofText
 
 /// Appends an end.
 fn push_end(text: &mut ProofText, end: &End<'_>)
-    requires { length text.old + 2083 ≤ 10700 }
+    requires { length text.old + 2083 ≤ PROOF_TEXT_ROOM }
     ensures value { text.new ≡ text.old ++ reply_end_bytes (end_given end.now) }
     ensures len { length text.new ≤ length text.old + 2083 }
     ensures form { IsEnd (end_given end.now) }
@@ -48,7 +49,7 @@ fn push_end(text: &mut ProofText, end: &End<'_>)
 /// Appends the siblings behind their number.
 fn push_siblings(text: &mut ProofText, siblings: &[Hash32])
     requires few { length siblings.now ≤ 256 }
-    requires room { length text.old + 2 + 32 * length siblings.now ≤ 10700 }
+    requires room { length text.old + 2 + 32 * length siblings.now ≤ PROOF_TEXT_ROOM }
     ensures value { text.new ≡ text.old ++ sibling_bytes siblings.now }
     ensures form { AreSiblings siblings.now }
 {

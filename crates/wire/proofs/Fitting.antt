@@ -9,6 +9,7 @@ use Rattle.wire.specs.Frames.{frame_size, IsFrame}
 use Rattle.commands.specs.Operations.{Promise, Lookup, History, Head}
 use Rattle.wire.specs.Requests.{RequestContent, Query, Put, Turn, request_body, request_frame, IsAsked, IsCounted, MayRequest}
 use Rattle.wire.proofs.Requests.{kind_is_byte}
+use Rattle.wire.specs.declared.frame.TheConstants.{MAX_FRAME_LEN}
 
 -- what the types of a request's fields say of them
 abbrev pub IsTyped : RequestContent → Type 0
@@ -45,5 +46,5 @@ asked_fits (Query Head) h fits = tt
 asked_fits (Put verb name key) h fits = binding_fits name key h.0 h.1 fits
 asked_fits (Turn token epoch) h fits = h
 
-pub is_formed : (asked : RequestContent) → IsTyped asked → frame_size (request_frame asked) ≤ 65536 → IsAsked asked × IsFrame (request_frame asked)
+pub is_formed : (asked : RequestContent) → IsTyped asked → frame_size (request_frame asked) ≤ MAX_FRAME_LEN → IsAsked asked × IsFrame (request_frame asked)
 is_formed asked h fits = (asked_fits asked h (omega (arith, fits)), (fits, kind_is_byte asked, body_is_bytes asked h))

@@ -11,10 +11,11 @@ use Rattle.wire.specs.Frames.{Frame, IsFrame}
 use Rattle.wire.specs.Laws.{IsReadAs}
 use Rattle.wire.specs.Responses.{ResponseContent, Promise, Proof, Roots, Root, Refused, answer_frame, response_frame, response_seen, IsResponse, Means, ReadsResponse, Responds}
 use Rattle.wire.proofs.Responses.{one_response}
+use Rattle.wire.specs.declared.frame.TheConstants.{MAX_FRAME_LEN}
 
 -- ---- frames
 
-framed : {body : List ℕ} (kind most : ℕ) → kind < 256 → most < 65536 → AreFew most body → IsFrame (record { kind = kind; body = body })
+framed : {body : List ℕ} (kind most : ℕ) → kind < 256 → most < MAX_FRAME_LEN → AreFew most body → IsFrame (record { kind = kind; body = body })
 framed kind most byte fits h = (omega (arith, fits, h.few), byte, h.small)
 
 is_frame : (responded : ResponseContent) → IsResponse responded → IsFrame (response_frame responded)

@@ -13,6 +13,7 @@ use Rattle.wire.specs.Laws.{joined, Hears}
 use Rattle.wire.proofs.Frames.{frame_field, size_limits, size_within}
 use Rattle.wire.proofs.Faults.{frame_faults, IsBadSize}
 use Rattle.wire.proofs.Streams.{hears-joined, none-bytes, nothing_yet}
+use Rattle.wire.specs.declared.frame.TheConstants.{MAX_FRAME_LEN}
 
 -- ---- less than a frame
 
@@ -38,11 +39,11 @@ by_none : (bytes : List ℕ) → read_number 4 bytes ≡ Err Short → read_fram
 unfolding read_frame
 by_none bytes e = rw e refl
 
-by_size : (bytes : List ℕ) (size : ℕ) (rest : List ℕ) → read_number 4 bytes ≡ Ok (size, rest) → is_within 1 65536 size ≡ true → read_frame bytes ≡ read_framed size rest
+by_size : (bytes : List ℕ) (size : ℕ) (rest : List ℕ) → read_number 4 bytes ≡ Ok (size, rest) → is_within 1 MAX_FRAME_LEN size ≡ true → read_frame bytes ≡ read_framed size rest
 unfolding read_frame
 by_size bytes size rest e within = rw (e, within) refl
 
-by_bad : (bytes : List ℕ) (size : ℕ) (rest : List ℕ) → read_number 4 bytes ≡ Ok (size, rest) → is_within 1 65536 size ≡ false → read_frame bytes ≡ Err OutOfRange
+by_bad : (bytes : List ℕ) (size : ℕ) (rest : List ℕ) → read_number 4 bytes ≡ Ok (size, rest) → is_within 1 MAX_FRAME_LEN size ≡ false → read_frame bytes ≡ Err OutOfRange
 unfolding read_frame
 by_bad bytes size rest e within = rw (e, within) refl
 
@@ -54,10 +55,10 @@ begins_short bytes (inr (size, part, limits, e, short)) =
     ∙ frame_missing size part short
 
 -- the test fails where the number is none of a frame
-not_within : (size : ℕ) → ¬ IsFrameSize size → is_within 1 65536 size ≡ false
-not_within size not = by (is_within 1 65536 size) refl
+not_within : (size : ℕ) → ¬ IsFrameSize size → is_within 1 MAX_FRAME_LEN size ≡ false
+not_within size not = by (is_within 1 MAX_FRAME_LEN size) refl
   where
-    by : (b : Bool) → is_within 1 65536 size ≡ b → b ≡ false
+    by : (b : Bool) → is_within 1 MAX_FRAME_LEN size ≡ b → b ≡ false
     by true e = absurd (not (size_limits size e))
     by false e = refl
 
@@ -68,7 +69,7 @@ bad_refused bytes (size, more, fits, not, e) =
 pub short_begins : (bytes : List ℕ) → IsBytes bytes → read_frame bytes ≡ Err Short → BeginsFrame bytes
 short_begins bytes small e = by (ltb (length bytes) 4) refl
   where
-    by_part : (size : ℕ) (rest : List ℕ) → read_number 4 bytes ≡ Ok (size, rest) → (b : Bool) → is_within 1 65536 size ≡ b → (c : Bool) → ltb (length rest) size ≡ c → BeginsFrame bytes
+    by_part : (size : ℕ) (rest : List ℕ) → read_number 4 bytes ≡ Ok (size, rest) → (b : Bool) → is_within 1 MAX_FRAME_LEN size ≡ b → (c : Bool) → ltb (length rest) size ≡ c → BeginsFrame bytes
     by_part size rest four true within true short =
         inr (size, rest, size_limits size within, ((numbers_field 4).spelled bytes (size, rest) small four).0, ltb-true (length rest) size short)
     by_part size rest four true within false long =
@@ -80,7 +81,7 @@ short_begins bytes small e = by (ltb (length bytes) 4) refl
     by true few = inl (ltb-true (length bytes) 4 few)
     by false long =
         let four = four_there bytes (ltb-false (length bytes) 4 long) in
-        by_part four.0.0 four.0.1 four.1 (is_within 1 65536 four.0.0) refl (ltb (length four.0.1) four.0.0) refl
+        by_part four.0.0 four.0.1 four.1 (is_within 1 MAX_FRAME_LEN four.0.0) refl (ltb (length four.0.1) four.0.0) refl
 
 pub bad_begins : (bytes : List ℕ) → IsBytes bytes → read_frame bytes ≡ Err OutOfRange → HasBadLength bytes
 unfolding IsBadSize
@@ -90,7 +91,7 @@ bad_begins bytes small e =
       | inr a ↦ by a.1
     ]
   where
-    by : ((n : ℕ) × (left : List ℕ) × (read_number 4 bytes ≡ Ok (n, left)) × (is_within 1 65536 n ≡ false)) → HasBadLength bytes
+    by : ((n : ℕ) × (left : List ℕ) × (read_number 4 bytes ≡ Ok (n, left)) × (is_within 1 MAX_FRAME_LEN n ≡ false)) → HasBadLength bytes
     by (n, left, read, without) =
         let t = (numbers_field 4).spelled bytes (n, left) small read in
         (n, left, omega (arith, t.1), (λ size. let wrong = sym without ∙ size_within n size.0 size.1 in cc), t.0)

@@ -3,6 +3,7 @@ use Rattle.std.specs.Prelude.{ℕ, ◌+◌, ◌-◌, ◌≤◌, ◌<◌, List, [
 use Rattle.encoding.specs.Bytes.{IsBytes}
 use Rattle.encoding.specs.Endian.{big_bytes}
 use Rattle.encoding.specs.Reading.{Reading, is_within, read_as, read_both, read_byte, read_bytes, read_number, read_then, read_where}
+use Rattle.wire.specs.declared.frame.TheConstants.{MAX_FRAME_LEN}
 
 pub record Frame : Type 0 where
   pub kind : ℕ
@@ -22,7 +23,7 @@ frame_bytes frame = big_bytes 4 (frame_size frame) ++ (frame.kind ∷ frame.body
 
 -- what a frame may hold: kind and body have 1 to 65,536 bytes
 abbrev pub IsFrame : Frame → Type 0
-IsFrame frame = (frame_size frame ≤ 65536) × (frame.kind < 256) × IsBytes frame.body
+IsFrame frame = (frame_size frame ≤ MAX_FRAME_LEN) × (frame.kind < 256) × IsBytes frame.body
 
 -- ---- reading
 
@@ -35,7 +36,7 @@ read_framed size = read_as frame_of (read_both read_byte (read_bytes (size - 1))
 
 -- the number of a frame's bytes: OutOfRange if it is not from 1 to 65,536
 abbrev pub read_size : List ℕ → Reading ℕ
-read_size = read_where (is_within 1 65536) (read_number 4)
+read_size = read_where (is_within 1 MAX_FRAME_LEN) (read_number 4)
 
 -- a frame: Short if it is not whole yet, OutOfRange if its number of bytes is not allowed
 unfoldable pub read_frame : List ℕ → Reading Frame

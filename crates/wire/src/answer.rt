@@ -4,6 +4,8 @@ ghost use Rattle.rootchain.specs.RootLists.{root_list_bytes};
 ghost use Rattle.rootchain.specs.SignedRoots.{signed_root_bytes};
 ghost use Rattle.wire.specs.Frames.{frame_bytes, frame_size};
 ghost use Rattle.wire.specs.Responses.{answer_frame, HasFewRoots};
+ghost use Rattle.wire.specs.declared.answer.TheConstants.{MAX_ANSWER_LEN};
+ghost use Rattle.encoding.specs.declared.fixed_text.TheConstants.{PROOF_TEXT_ROOM};
 
 use crate::kind_bytes::{PROMISED, PROOF, REFUSED, ROOT, ROOTS};
 use crate::writing::{append_frame, begin_frame, length_bytes};
@@ -37,7 +39,7 @@ impl Answer<'_> {
         ensures ok { OnOk result (output.new.items ≡ output.old.items ++ frame_bytes (answer_frame self.now)) }
         ensures err { OnErr result (output.new.items ≡ output.old.items) }
         ensures room { vec_len output.old + 4 + frame_size (answer_frame self.now) ≤ vec_capacity output.old → IsOk result }
-        ensures most { 4 + frame_size (answer_frame self.now) ≤ 25863 }
+        ensures most { 4 + frame_size (answer_frame self.now) ≤ MAX_ANSWER_LEN }
     {
         match self {
             Answer::Promise(promise) => append_promise(output, promise),
@@ -51,7 +53,7 @@ impl Answer<'_> {
 
 /// Appends a frame with this body.
 fn append_text(output: &mut Vec<u8>, kind: u8, text: &[u8]) -> Result<(), AllocError>
-    requires { length text.now ≤ 10700 }
+    requires { length text.now ≤ PROOF_TEXT_ROOM }
     ensures ok { OnOk result (output.new.items ≡ output.old.items ++ frame_bytes (record { kind = kind; body = text.now })) }
     ensures err { OnErr result (output.new.items ≡ output.old.items) }
     ensures room { vec_len output.old + 5 + length text.now ≤ vec_capacity output.old → IsOk result }

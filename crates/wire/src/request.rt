@@ -3,6 +3,7 @@ ghost use Rattle.commands.specs.Operations.{question};
 ghost use Rattle.wire.specs.Frames.{frame_bytes, frame_size, IsFrame};
 ghost use Rattle.wire.specs.Requests as asks;
 ghost use Rattle.wire.specs.Requests.{read_request, request_frame, request_seen, GivesRequest, IsAsked, ReadsRequest};
+ghost use Rattle.wire.specs.declared.frame.TheConstants.{MAX_FRAME_LEN};
 
 use crate::ReadRefusal;
 use crate::frame::MAX_FRAME_LEN;
@@ -48,7 +49,7 @@ impl<'a> Request<'a> {
 
     /// Whether the request has no more bytes than a frame may have.
     pub fn fits(&self) -> bool
-        ensures { IsTrue result ↔ (frame_size (request_frame (request_seen self.now)) ≤ 65536) }
+        ensures { IsTrue result ↔ (frame_size (request_frame (request_seen self.now)) ≤ MAX_FRAME_LEN) }
     {
         match self {
             Request::Query(Query::Promise { name }) => name.len() < MAX_FRAME_LEN - 2,
@@ -65,7 +66,7 @@ impl<'a> Request<'a> {
     /// Appends the request's frame. An `Err` appends nothing, and is not returned where there is room.
     /// The frame is one that a stream may have, and `read` accepts its body as this request.
     pub fn write(&self, output: &mut Vec<u8>) -> Result<(), AllocError>
-        requires { frame_size (request_frame (request_seen self.now)) ≤ 65536 }
+        requires { frame_size (request_frame (request_seen self.now)) ≤ MAX_FRAME_LEN }
         ensures ok { OnOk result (output.new.items ≡ output.old.items ++ frame_bytes (request_frame (request_seen self.now))) }
         ensures err { OnErr result (output.new.items ≡ output.old.items) }
         ensures room { vec_len output.old + 4 + frame_size (request_frame (request_seen self.now)) ≤ vec_capacity output.old → IsOk result }
@@ -93,7 +94,7 @@ impl<'a> Request<'a> {
 
 /// Appends the frame of a query.
 fn write_query(query: &Query<'_>, output: &mut Vec<u8>) -> Result<(), AllocError>
-    requires { frame_size (request_frame (asks.Query (question query.now))) ≤ 65536 }
+    requires { frame_size (request_frame (asks.Query (question query.now))) ≤ MAX_FRAME_LEN }
     ensures ok { OnOk result (output.new.items ≡ output.old.items ++ frame_bytes (request_frame (asks.Query (question query.now)))) }
     ensures err { OnErr result (output.new.items ≡ output.old.items) }
     ensures room { vec_len output.old + 4 + frame_size (request_frame (asks.Query (question query.now))) ≤ vec_capacity output.old → IsOk result }

@@ -2,6 +2,7 @@ ghost use Rattle.std.specs.Prelude.{◌≡◌, ◌+◌, ◌<◌, ◌≤◌, ◌+
 ghost use Rattle.byteorder.specs.Endian.{big_bytes};
 ghost use Rattle.encoding.specs.Bytes.{IsBytes};
 ghost use Rattle.wire.specs.Frames.{frame_bytes, frame_head};
+ghost use Rattle.wire.specs.declared.frame.TheConstants.{MAX_FRAME_LEN};
 
 use byteorder::{BigEndian, ByteOrder};
 use std::alloc::AllocError;
@@ -9,7 +10,7 @@ use std::alloc::AllocError;
 /// Reserves the room of a frame, and appends what stands before its body. An `Err` appends nothing,
 /// and is not returned where there is room.
 pub(crate) fn begin_frame(output: &mut Vec<u8>, kind: u8, body_len: usize) -> Result<(), AllocError>
-    requires { body_len < 65536 }
+    requires { body_len < MAX_FRAME_LEN }
     ensures ok { OnOk result (output.new.items ≡ output.old.items ++ frame_head kind body_len) }
     ensures reserved { OnOk result (vec_len output.new + body_len ≤ vec_capacity output.new) }
     ensures err { OnErr result (output.new.items ≡ output.old.items) }
@@ -33,7 +34,7 @@ pub(crate) fn append_frame(
     middle: &[u8],
     key: &[u8],
 ) -> Result<(), AllocError>
-    requires { length front.now + length name.now + length middle.now + length key.now < 65536 }
+    requires { length front.now + length name.now + length middle.now + length key.now < MAX_FRAME_LEN }
     ensures ok { OnOk result (output.new.items ≡ output.old.items
         ++ frame_bytes (record { kind = kind; body = front.now ++ (name.now ++ (middle.now ++ key.now)) })) }
     ensures err { OnErr result (output.new.items ≡ output.old.items) }
@@ -54,7 +55,7 @@ pub(crate) fn append_frame(
 /// The number of bytes, in two bytes.
 // That its elements are bytes is known of a parameter, but not of what a request borrows.
 pub(crate) fn length_bytes(bytes: &[u8]) -> [u8; 2]
-    requires { length bytes.now < 65536 }
+    requires { length bytes.now < MAX_FRAME_LEN }
     ensures value { result ≡ big_bytes 2 (length bytes.now) }
     ensures bytes { IsBytes bytes.now }
 {
