@@ -1,4 +1,4 @@
-ghost use Rattle.std.specs.Prelude.{◌≡◌, ◌+◌, ◌<◌, ◌≤◌, ◌++◌, length, OnOk, OnErr, IsOk, vec_len, vec_capacity};
+ghost use Rattle.std.specs.Prelude.{◌≡◌, ◌+◌, ◌^◌, ◌<◌, ◌≤◌, ◌++◌, length, OnOk, OnErr, IsOk, vec_len, vec_capacity};
 ghost use Rattle.byteorder.specs.Endian.{big_bytes};
 ghost use Rattle.encoding.specs.Bytes.{IsBytes};
 ghost use Rattle.wire.specs.Frames.{frame_bytes, frame_head};
@@ -55,7 +55,7 @@ pub(crate) fn append_frame(
 /// The number of bytes, in two bytes.
 // That its elements are bytes is known of a parameter, but not of what a request borrows.
 pub(crate) fn length_bytes(bytes: &[u8]) -> [u8; 2]
-    requires { length bytes.now < MAX_FRAME_LEN }
+    requires { length bytes.now < 2 ^ 16 }
     ensures value { result ≡ big_bytes 2 (length bytes.now) }
     ensures bytes { IsBytes bytes.now }
 {
