@@ -1,6 +1,6 @@
 -- Readers of forms read spellings alone, and each of them, whatever follows. One lemma for each reader,
 -- and one for each way to make a reader of others (FieldsOf has these with fewer arguments to write).
-use Rattle.std.proofs.Common.{◌≡◌, ◌≢◌, ℕ, zero, suc, ◌^◌, ◌<◌, ◌≤◌, Bool, true, false, cond, ltb, leb, List, [], ◌∷◌, ◌++◌, length, take, drop, flat_map, Result, Ok, Err, refl, sym, ap, subst, ◌∙◌, append_assoc, arith}
+use Rattle.std.proofs.Common.{◌≡◌, ◌≢◌, ℕ, zero, suc, ◌^◌, ◌<◌, ◌⊎◌, ◌≤◌, Bool, true, false, cond, ltb, leb, List, [], ◌∷◌, ◌++◌, length, take, drop, flat_map, Result, Ok, Err, refl, sym, ap, subst, ◌∙◌, append_assoc, arith, inl, inr}
 use Rattle.std.specs.List.{AllByRecursion}
 use Rattle.std.proofs.lemmas.Bool.{and_parts, ltb-false, le-ltb, leb-true, le-leb}
 use Rattle.std.proofs.lemmas.List.{append-nil, take_at, drop_at, take-append-drop, length-append, length-take}
@@ -21,15 +21,21 @@ use Rattle.encoding.proofs.NumberBytes.{number-of_bytes, bytes-of_number}
 
 -- ---- what was read
 
-bind_ok : {A B : Type 0} (r : Result A Fault) (next : A → Result B Fault) (y : B) → (r >>= next) ≡ Ok y → (x : A) × (r ≡ Ok x) × (next x ≡ Ok y)
+pub bind_ok : {A B : Type 0} (r : Result A Fault) (next : A → Result B Fault) (y : B) → (r >>= next) ≡ Ok y → (x : A) × (r ≡ Ok x) × (next x ≡ Ok y)
 bind_ok (Ok x) next y e = (x, refl, e)
 bind_ok (Err _) next y e = absurd cc
 
-short_ok : {A : Type 0} (short : Bool) (fault : Fault) (r : Result A Fault) (y : A) → cond short (Err fault) r ≡ Ok y → (short ≡ false) × (r ≡ Ok y)
+-- a fault is the first one's, or the second one's
+pub bind_err : {A B : Type 0} (r : Result A Fault) (next : A → Result B Fault) (fault : Fault) → (r >>= next) ≡ Err fault
+    → (r ≡ Err fault) ⊎ ((x : A) × (r ≡ Ok x) × (next x ≡ Err fault))
+bind_err (Ok x) next fault e = inr (x, refl, e)
+bind_err (Err f) next fault e = inl (let same : f ≡ fault = cc in ap (λ (x : Fault). Err x) same)
+
+pub short_ok : {A : Type 0} (short : Bool) (fault : Fault) (r : Result A Fault) (y : A) → cond short (Err fault) r ≡ Ok y → (short ≡ false) × (r ≡ Ok y)
 short_ok true fault r y e = absurd cc
 short_ok false fault r y e = (refl, e)
 
-passed_ok : {A : Type 0} (passed : Bool) (fault : Fault) (r : Result A Fault) (y : A) → cond passed r (Err fault) ≡ Ok y → (passed ≡ true) × (r ≡ Ok y)
+pub passed_ok : {A : Type 0} (passed : Bool) (fault : Fault) (r : Result A Fault) (y : A) → cond passed r (Err fault) ≡ Ok y → (passed ≡ true) × (r ≡ Ok y)
 passed_ok true fault r y e = (refl, e)
 passed_ok false fault r y e = absurd cc
 

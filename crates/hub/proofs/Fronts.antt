@@ -6,7 +6,7 @@ use Rattle.encoding.specs.declared.fault.Fault.{Fault}
 use Rattle.encoding.specs.declared.fault.Fault.TheVariants.{Short, OutOfRange}
 use Rattle.encoding.specs.Endian.{big_number}
 use Rattle.encoding.specs.Reading.{Reading, ◌>>=◌, is_within, read_as, read_both, read_byte, read_bytes, read_number, read_then, read_where}
-use Rattle.encoding.proofs.Fields.{ok_is}
+use Rattle.encoding.proofs.Fields.{bind_ok, ok_is, passed_ok, short_ok}
 use Rattle.wire.specs.Frames.{Frame, frame_of, read_frame}
 use Rattle.wire.proofs.Faults.{bad_size, frame_faults, IsBadSize}
 use Rattle.wire.specs.declared.frame.TheConstants.{MAX_FRAME_LEN}
@@ -14,18 +14,6 @@ use Rattle.wire.specs.declared.frame.TheConstants.{MAX_FRAME_LEN}
 -- the reader takes a front of the bytes, and takes it whatever follows
 abbrev pub TakesFront : {A : Type 0} → (List ℕ → Reading A) → Type 0
 TakesFront {A} f = (bytes : List ℕ) (x : A × List ℕ) → f bytes ≡ Ok x → (front : List ℕ) × (bytes ≡ front ++ x.1) × ((more : List ℕ) → f (front ++ more) ≡ Ok (x.0, more))
-
-bind_ok : {A B : Type 0} (r : Result A Fault) (next : A → Result B Fault) (y : B) → (r >>= next) ≡ Ok y → (x : A) × (r ≡ Ok x) × (next x ≡ Ok y)
-bind_ok (Ok x) next y e = (x, refl, e)
-bind_ok (Err _) next y e = absurd cc
-
-short_ok : {A : Type 0} (short : Bool) (fault : Fault) (r : Result A Fault) (y : A) → cond short (Err fault) r ≡ Ok y → (short ≡ false) × (r ≡ Ok y)
-short_ok true fault r y e = absurd cc
-short_ok false fault r y e = (refl, e)
-
-passed_ok : {A : Type 0} (passed : Bool) (fault : Fault) (r : Result A Fault) (y : A) → cond passed r (Err fault) ≡ Ok y → (passed ≡ true) × (r ≡ Ok y)
-passed_ok true fault r y e = (refl, e)
-passed_ok false fault r y e = absurd cc
 
 bytes_front : (count : ℕ) → TakesFront (read_bytes count)
 bytes_front count bytes x e =

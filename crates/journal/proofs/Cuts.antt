@@ -12,7 +12,7 @@ use Rattle.encoding.specs.Bytes.{IsBytes, HasBytes}
 use Rattle.encoding.specs.Fields.{IsField}
 use Rattle.encoding.specs.Reading.{Reading, ◌>>=◌, read_as, read_both, read_bytes, read_number, read_then}
 use Rattle.encoding.proofs.ByteLists.{IsBytes-append, IsBytes-back, IsBytes-zeros}
-use Rattle.encoding.proofs.Fields.{refused_read}
+use Rattle.encoding.proofs.Fields.{bind_err, refused_read}
 use Rattle.encoding.proofs.NumberBytes.{bytes-of_number}
 use Rattle.journal.specs.Openings.{IsCut, IsNone}
 use Rattle.journal.specs.Reading.{read_mark}
@@ -59,16 +59,6 @@ pub longer : (bytes more : List ℕ) → more ≢ [] → length bytes < length (
 longer bytes [] some = absurd (some refl)
 longer bytes (m ∷ more) some = omega (arith, length-append bytes (m ∷ more))
 
--- ---- refusals of what is made of others
-
-bind_err : {A B : Type 0} (fault : Fault) (r : Result A Fault) (next : A → Result B Fault) → (r >>= next) ≡ Err fault
-    → (r ≡ Err fault) ⊎ ((x : A) × (r ≡ Ok x) × (next x ≡ Err fault))
-bind_err fault (Ok x) next e = inr (x, refl, e)
-bind_err {A} fault (Err other) next e = inl (same other fault e)
-  where
-    same : {B : Type 0} (one two : Fault) → (let left : Result B Fault = Err one in left) ≡ Err two → (let left : Result A Fault = Err one in left) ≡ Err two
-    same one two h = cc
-
 -- ---- the readers
 
 pub bytes_cuts : (count : ℕ) → TellsCuts (read_bytes count) (λ bytes. bytes) (HasBytes count)
@@ -89,7 +79,7 @@ pub numbers_cuts : (count : ℕ) → TellsCuts (read_number count) (big_bytes co
 numbers_cuts count = record { cut = cut; short = short }
   where
     cut : (bytes : List ℕ) → IsBytes bytes → read_number count bytes ≡ Err Short → (n : ℕ) × (more : List ℕ) × (big_bytes count n ≡ bytes ++ more) × (n < 256 ^ count)
-    cut bytes small e = ended (bind_err Short (read_bytes count bytes) (λ x. Ok (big_number count x.0, x.1)) e)
+    cut bytes small e = ended (bind_err (read_bytes count bytes) (λ x. Ok (big_number count x.0, x.1)) Short e)
       where
         ended : (read_bytes count bytes ≡ Err Short) ⊎ ((x : List ℕ × List ℕ) × (read_bytes count bytes ≡ Ok x) × ((let done : Reading ℕ = Ok (big_number count x.0, x.1) in done) ≡ Err Short))
             → (n : ℕ) × (more : List ℕ) × (big_bytes count n ≡ bytes ++ more) × (n < 256 ^ count)
@@ -115,7 +105,7 @@ both_cuts {A} {B} {f} {g} {s} {t} {P} {Q} field first second y ok = record { cut
     Ends bytes = (x : A × B) × (more : List ℕ) × (s x.0 ++ t x.1 ≡ bytes ++ more) × (P x.0 × Q x.1)
 
     cut : (bytes : List ℕ) → IsBytes bytes → read_both f g bytes ≡ Err Short → Ends bytes
-    cut bytes small e = ended (bind_err Short (f bytes) (goes_on g) e)
+    cut bytes small e = ended (bind_err (f bytes) (goes_on g) Short e)
       where
         later : (x : A × List ℕ) → f bytes ≡ Ok x → g x.1 ≡ Err Short → Ends bytes
         later x read h =
@@ -133,7 +123,7 @@ both_cuts {A} {B} {f} {g} {s} {t} {P} {Q} field first second y ok = record { cut
             ((c.0, y), c.1 ++ t y, ap (λ (w : List ℕ). w ++ t y) c.2 ∙ append_assoc bytes c.1 (t y), (c.3, ok))
         ended (inr h) =
             let next : B × List ℕ → Reading (A × B) = λ z. Ok ((h.0.0, z.0), z.1) in
-            ended_later h.0 h.1 (bind_err Short (g h.0.1) next h.2)
+            ended_later h.0 h.1 (bind_err (g h.0.1) next Short h.2)
 
     short : (x : A × B) (bytes more : List ℕ) → s x.0 ++ t x.1 ≡ bytes ++ more → more ≢ [] → P x.0 × Q x.1 → read_both f g bytes ≡ Err Short
     short x bytes more e some h = within (parted (s x.0) (t x.1) bytes more e)
@@ -152,7 +142,7 @@ then_cuts {K} {A} told f g s t P Q field first second some_value = record { cut 
     Ends bytes = (x : A) × (more : List ℕ) × (s (told x) ++ t x ≡ bytes ++ more) × (P (told x) × Q x)
 
     cut : (bytes : List ℕ) → IsBytes bytes → read_then f g bytes ≡ Err Short → Ends bytes
-    cut bytes small e = ended (bind_err Short (f bytes) (λ k. g k.0 k.1) e)
+    cut bytes small e = ended (bind_err (f bytes) (λ k. g k.0 k.1) Short e)
       where
         ended : (f bytes ≡ Err Short) ⊎ ((k : K × List ℕ) × (f bytes ≡ Ok k) × (g k.0 k.1 ≡ Err Short)) → Ends bytes
         ended (inl h) =
@@ -184,7 +174,7 @@ renamed_cuts {A} {B} to back f s P there tells = record { cut = cut; short = λ 
     Ends bytes = (y : B) × (more : List ℕ) × (s (back y) ≡ bytes ++ more) × (P (back y) × (to (back y) ≡ y))
 
     cut : (bytes : List ℕ) → IsBytes bytes → read_as to f bytes ≡ Err Short → Ends bytes
-    cut bytes small e = ended (bind_err Short (f bytes) (λ x. Ok (to x.0, x.1)) e)
+    cut bytes small e = ended (bind_err (f bytes) (λ x. Ok (to x.0, x.1)) Short e)
       where
         ended : (f bytes ≡ Err Short) ⊎ ((x : A × List ℕ) × (f bytes ≡ Ok x) × ((let done : Reading B = Ok (to x.0, x.1) in done) ≡ Err Short)) → Ends bytes
         ended (inl h) =

@@ -7,7 +7,7 @@ use Rattle.encoding.specs.Bytes.{IsBytes}
 use Rattle.encoding.specs.Endian.{big_bytes}
 use Rattle.encoding.specs.Fields.{IsField, Spells}
 use Rattle.encoding.specs.Reading.{◌>>=◌, is_within, read_list, read_number}
-use Rattle.encoding.proofs.Fields.{allowed_field, list_field, numbers_field, ok_is, tested_field, then_field, whole-read, whole-refused, whole-spelled}
+use Rattle.encoding.proofs.Fields.{allowed_field, bind_ok, list_field, numbers_field, ok_is, tested_field, then_field, whole-read, whole-refused, whole-spelled}
 use Rattle.rootchain.specs.declared.signed_root.SignedRoot.{SignedRoot}
 use Rattle.rootchain.specs.Readable.{signed_root_field}
 use Rattle.rootchain.specs.SignedRoots.{read_signed_root, signed_root_bytes, IsSignedRoot}
@@ -93,10 +93,6 @@ roots_end count start left now same leads =
     (subst L same leads).0 [] now (no_roots now)
 
 -- ---- the roots that are left
-
-bind_ok : {A B : Type 0} (r : Result A Fault) (next : A → Result B Fault) (y : B) → (r >>= next) ≡ Ok y → (x : A) × (r ≡ Ok x) × (next x ≡ Ok y)
-bind_ok (Ok x) next y e = (x, refl, e)
-bind_ok (Err _) next y e = absurd cc
 
 read_many : (count : ℕ) (bytes : List ℕ) (z : List SignedRoot × List ℕ) → read_list read_signed_root count bytes ≡ Ok z → length z.0 ≡ count
 read_many zero bytes z e =
