@@ -20,68 +20,69 @@ use Rattle.rootchain.specs.Places.{EvidenceHolds, IsPlace}
 use Rattle.rootchain.specs.SignedRoots.{IsSignedRoot}
 use Rattle.rootchain.specs.Taking.{with_taken, IsTakeRefusal}
 use Rattle.rootchain.proofs.Spelled.{place-given}
-use Rattle.auditor.specs.Chains.{AreHeld, Chains, IsHeld, NowHas, chain_of, key_cmp}
+use Rattle.auditor.specs.Chains.{AreHeld, Chains, IsHeld, NowHas, chain_of}
 use Rattle.auditor.specs.Observing.{HoldsAfter, IsRefused, ObservedHolds, ObservesRoot, PlaceHolds, compared_as, observed_as}
 use Rattle.auditor.specs.Taking.{Takes, TakesAt}
+use Rattle.encoding.specs.Bytes.{bytes_cmp}
 
 -- what is found is held
 pub found-held : (chains : Chains) (key : List ℕ) → AreHeld chains → IfSome (chain_of chains key) (IsHeld key)
 found-held [] key all = tt
-found-held (held ∷ more) key all = by (is_at (key_cmp key) held.0) refl (found-held more key all.1)
+found-held (held ∷ more) key all = by (is_at (bytes_cmp key) held.0) refl (found-held more key all.1)
   where
-    by : (test : Bool) → is_at (key_cmp key) held.0 ≡ test → IfSome (chain_of more key) (IsHeld key) → IfSome (cond test (Some held.1) (chain_of more key)) (IsHeld key)
+    by : (test : Bool) → is_at (bytes_cmp key) held.0 ≡ test → IfSome (chain_of more key) (IsHeld key) → IfSome (cond test (Some held.1) (chain_of more key)) (IsHeld key)
     by true is next = (all.0.0 ∙ is_name key held.0 is, all.0.1)
     by false is next = next
 
 -- a chain that is put in at its key
-pub put-held : (chains : Chains) (key : List ℕ) (chain : KeyedRoots) → AreHeld chains → IsHeld key chain → AreHeld (insert_entry key_cmp chains key chain)
+pub put-held : (chains : Chains) (key : List ℕ) (chain : KeyedRoots) → AreHeld chains → IsHeld key chain → AreHeld (insert_entry bytes_cmp chains key chain)
 put-held [] key chain all one = (one, tt)
-put-held (held ∷ more) key chain all one = by (key_cmp key held.0) refl (put-held more key chain all.1 one)
+put-held (held ∷ more) key chain all one = by (bytes_cmp key held.0) refl (put-held more key chain all.1 one)
   where
-    by : (order : Ordering) → key_cmp key held.0 ≡ order → AreHeld (insert_entry key_cmp more key chain)
-        → AreHeld (match_ordering order ((key, chain) ∷ held ∷ more) ((held.0, chain) ∷ more) (held ∷ insert_entry key_cmp more key chain))
+    by : (order : Ordering) → bytes_cmp key held.0 ≡ order → AreHeld (insert_entry bytes_cmp more key chain)
+        → AreHeld (match_ordering order ((key, chain) ∷ held ∷ more) ((held.0, chain) ∷ more) (held ∷ insert_entry bytes_cmp more key chain))
     by Less is next = (one, all)
     by Equal is next = ((one.0 ∙ same-equal key held.0 is, one.1), all.1)
     by Greater is next = (all.0, next)
 
-pub put-has : (chains : Chains) (key : List ℕ) (chain : KeyedRoots) → NowHas chains key chain (insert_entry key_cmp chains key chain)
+pub put-has : (chains : Chains) (key : List ℕ) (chain : KeyedRoots) → NowHas chains key chain (insert_entry bytes_cmp chains key chain)
 put-has chains key chain = record {
   own = at_put_same key chain chains;
   others = λ other differ. at_put_other key chain chains other differ;
 }
 
 -- a chain that replaces another
-pub set-held : (chains : Chains) (key : List ℕ) (chain : KeyedRoots) → AreHeld chains → IsHeld key chain → AreHeld (set_value (is_at (key_cmp key)) chains chain)
+pub set-held : (chains : Chains) (key : List ℕ) (chain : KeyedRoots) → AreHeld chains → IsHeld key chain → AreHeld (set_value (is_at (bytes_cmp key)) chains chain)
 set-held [] key chain all one = tt
-set-held (held ∷ more) key chain all one = by (is_at (key_cmp key) held.0) refl (set-held more key chain all.1 one)
+set-held (held ∷ more) key chain all one = by (is_at (bytes_cmp key) held.0) refl (set-held more key chain all.1 one)
   where
-    by : (test : Bool) → is_at (key_cmp key) held.0 ≡ test → AreHeld (set_value (is_at (key_cmp key)) more chain)
-        → AreHeld (cond test ((held.0, chain) ∷ more) (held ∷ set_value (is_at (key_cmp key)) more chain))
+    by : (test : Bool) → is_at (bytes_cmp key) held.0 ≡ test → AreHeld (set_value (is_at (bytes_cmp key)) more chain)
+        → AreHeld (cond test ((held.0, chain) ∷ more) (held ∷ set_value (is_at (bytes_cmp key)) more chain))
     by true is next = ((one.0 ∙ sym (is_name key held.0 is), one.1), all.1)
     by false is next = (all.0, next)
 
-set-own : (chains : Chains) (key : List ℕ) (chain left : KeyedRoots) → chain_of chains key ≡ Some chain → chain_of (set_value (is_at (key_cmp key)) chains left) key ≡ Some left
+set-own : (chains : Chains) (key : List ℕ) (chain left : KeyedRoots) → chain_of chains key ≡ Some chain → chain_of (set_value (is_at (bytes_cmp key)) chains left) key ≡ Some left
 set-own [] key chain left found = absurd cc
-set-own (held ∷ more) key chain left found = by (is_at (key_cmp key) held.0) refl found (set-own more key chain left)
+set-own (held ∷ more) key chain left found = by (is_at (bytes_cmp key) held.0) refl found (set-own more key chain left)
   where
-    by : (test : Bool) → is_at (key_cmp key) held.0 ≡ test → cond test (Some held.1) (chain_of more key) ≡ Some chain
-        → (chain_of more key ≡ Some chain → chain_of (set_value (is_at (key_cmp key)) more left) key ≡ Some left)
-        → chain_of (cond test ((held.0, left) ∷ more) (held ∷ set_value (is_at (key_cmp key)) more left)) key ≡ Some left
+    by : (test : Bool) → is_at (bytes_cmp key) held.0 ≡ test → cond test (Some held.1) (chain_of more key) ≡ Some chain
+        → (chain_of more key ≡ Some chain → chain_of (set_value (is_at (bytes_cmp key)) more left) key ≡ Some left)
+        → chain_of (cond test ((held.0, left) ∷ more) (held ∷ set_value (is_at (bytes_cmp key)) more left)) key ≡ Some left
     by true is here next = rw is refl
     by false is here next = rw is (next here)
 
-set-other : (chains : Chains) (key : List ℕ) (left : KeyedRoots) (other : List ℕ) → other ≢ key → chain_of (set_value (is_at (key_cmp key)) chains left) other ≡ chain_of chains other
+set-other : (chains : Chains) (key : List ℕ) (left : KeyedRoots) (other : List ℕ) → other ≢ key → chain_of (set_value (is_at (bytes_cmp key)) chains left) other ≡ chain_of chains other
 set-other [] key left other differ = refl
-set-other (held ∷ more) key left other differ = by (is_at (key_cmp key) held.0) (is_at (key_cmp other) held.0) refl refl (set-other more key left other differ)
+set-other (held ∷ more) key left other differ = by (is_at (bytes_cmp key) held.0) (is_at (bytes_cmp other) held.0) refl refl (set-other more key left other differ)
   where
-    by : (test also : Bool) → is_at (key_cmp key) held.0 ≡ test → is_at (key_cmp other) held.0 ≡ also → chain_of (set_value (is_at (key_cmp key)) more left) other ≡ chain_of more other
-        → chain_of (cond test ((held.0, left) ∷ more) (held ∷ set_value (is_at (key_cmp key)) more left)) other ≡ chain_of (held ∷ more) other
+    by : (test also : Bool) → is_at (bytes_cmp key) held.0 ≡ test → is_at (bytes_cmp other) held.0 ≡ also → chain_of (set_value (is_at (bytes_cmp key)) more left) other ≡ chain_of more other
+        → chain_of (cond test ((held.0, left) ∷ more) (held ∷ set_value (is_at (bytes_cmp key)) more left)) other ≡ chain_of (held ∷ more) other
     by true true is too next = absurd (differ (sym (is_name other held.0 too) ∙ is_name key held.0 is))
     by true false is too next = rw too refl
     by false true is too next = rw too refl
     by false false is too next = rw too next
 
-pub set-has : (chains : Chains) (key : List ℕ) (chain left : KeyedRoots) → chain_of chains key ≡ Some chain → NowHas chains key left (set_value (is_at (key_cmp key)) chains left)
+pub set-has : (chains : Chains) (key : List ℕ) (chain left : KeyedRoots) → chain_of chains key ≡ Some chain → NowHas chains key left (set_value (is_at (bytes_cmp key)) chains left)
 set-has chains key chain left found = record {
   own = set-own chains key chain left found;
   others = λ other differ. set-other chains key left other differ;
@@ -146,13 +147,13 @@ module _ (hash : List ℕ → List ℕ) (verified : List ℕ → List ℕ → Li
   own-key : (chain : KeyedRoots) → chain_of before key ≡ Some chain → IsHeld key chain
   own-key chain found = subst (λ (held : Option KeyedRoots). IfSome held (IsHeld key)) found (found-held before key all)
 
-  taken-after : (chain left : KeyedRoots) (place : Place) → chain_of before key ≡ Some chain → after ≡ set_value (is_at (key_cmp key)) before left → left ≡ with_taken chain root place
+  taken-after : (chain left : KeyedRoots) (place : Place) → chain_of before key ≡ Some chain → after ≡ set_value (is_at (bytes_cmp key)) before left → left ≡ with_taken chain root place
       → HoldsAfter before key root (observed_as place) after
-  taken-after chain left Next found set taken = (chain, found, subst (λ (a : Chains). NowHas before key (with_taken chain root Next) a) (sym set) (subst (λ (l : KeyedRoots). NowHas before key l (set_value (is_at (key_cmp key)) before left)) taken (set-has before key chain left found)))
-  taken-after chain left Known found set taken = set ∙ ap (set_value (is_at (key_cmp key)) before) taken ∙ set_value_same (is_at (key_cmp key)) before chain found
-  taken-after chain left (Evidence evidence) found set taken = set ∙ ap (set_value (is_at (key_cmp key)) before) taken ∙ set_value_same (is_at (key_cmp key)) before chain found
-  taken-after chain left Ahead found set taken = set ∙ ap (set_value (is_at (key_cmp key)) before) taken ∙ set_value_same (is_at (key_cmp key)) before chain found
-  taken-after chain left BeforeStart found set taken = set ∙ ap (set_value (is_at (key_cmp key)) before) taken ∙ set_value_same (is_at (key_cmp key)) before chain found
+  taken-after chain left Next found set taken = (chain, found, subst (λ (a : Chains). NowHas before key (with_taken chain root Next) a) (sym set) (subst (λ (l : KeyedRoots). NowHas before key l (set_value (is_at (bytes_cmp key)) before left)) taken (set-has before key chain left found)))
+  taken-after chain left Known found set taken = set ∙ ap (set_value (is_at (bytes_cmp key)) before) taken ∙ set_value_same (is_at (bytes_cmp key)) before chain found
+  taken-after chain left (Evidence evidence) found set taken = set ∙ ap (set_value (is_at (bytes_cmp key)) before) taken ∙ set_value_same (is_at (bytes_cmp key)) before chain found
+  taken-after chain left Ahead found set taken = set ∙ ap (set_value (is_at (bytes_cmp key)) before) taken ∙ set_value_same (is_at (bytes_cmp key)) before chain found
+  taken-after chain left BeforeStart found set taken = set ∙ ap (set_value (is_at (bytes_cmp key)) before) taken ∙ set_value_same (is_at (bytes_cmp key)) before chain found
 
   pub observes-taken : (place : Place) → TakesAt hash verified before key root (Ok place) after → ObservesRoot hash verified before key root (Ok (observed_as place)) after
   observes-taken place (chain, left, found, set, took) = (
@@ -171,5 +172,5 @@ module _ (hash : List ℕ → List ℕ) (verified : List ℕ → List ℕ → Li
   pub observes-refused : (why : Refusal) → TakesAt hash verified before key root (Err why) after → ObservesRoot hash verified before key root (Err why) after
   observes-refused why (chain, left, found, set, took) = (
     refuses chain found why took.0,
-    set ∙ ap (set_value (is_at (key_cmp key)) before) took.1 ∙ set_value_same (is_at (key_cmp key)) before chain found,
+    set ∙ ap (set_value (is_at (bytes_cmp key)) before) took.1 ∙ set_value_same (is_at (bytes_cmp key)) before chain found,
   )

@@ -1,25 +1,19 @@
 -- The chains that an auditor holds, each at the public key of its provider.
 use Rattle.std.specs.Prelude.{◌≡◌, ◌≢◌, ℕ, List, Option, Some, All}
 use Rattle.std.specs.BTreeMap.{is_at}
-use Rattle.std.specs.Cmp.Lexicographic.{slice_cmp}
 use Rattle.std.specs.List.{AllByRecursion}
 use Rattle.std.specs.Map.{lookup}
-use Rattle.std.specs.Ordering.{nat_cmp}
-use Rattle.std.specs.declared.cmp.Ordering.{Ordering}
 use Rattle.rootchain.specs.Chains.{KeyedRoots}
 use Rattle.rootchain.specs.SignedRoots.{IsSignedRoot}
+use Rattle.encoding.specs.Bytes.{bytes_cmp}
 
 -- keys and their chains, in order of the keys' bytes
 abbrev pub Chains : Type 0
 Chains = List (List ℕ × KeyedRoots)
 
--- keys compare as byte strings do
-abbrev pub key_cmp : List ℕ → List ℕ → Ordering
-key_cmp = slice_cmp nat_cmp
-
 -- the chain of a provider, if there is one
 abbrev pub chain_of : Chains → List ℕ → Option KeyedRoots
-chain_of chains key = lookup (is_at (key_cmp key)) chains
+chain_of chains key = lookup (is_at (bytes_cmp key)) chains
 
 -- this chain is now that of the provider, and those of all others are as before
 pub record NowHas (before : Chains) (key : List ℕ) (chain : KeyedRoots) (after : Chains) : Type 0 where

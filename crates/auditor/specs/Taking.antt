@@ -8,7 +8,8 @@ use Rattle.rootchain.specs.declared.signed_root.SignedRoot.{SignedRoot}
 use Rattle.rootchain.specs.Chains.{KeyedRoots, Verifies}
 use Rattle.rootchain.specs.Places.{IsPlace}
 use Rattle.rootchain.specs.Taking.{with_taken, IsTakeRefusal}
-use Rattle.auditor.specs.Chains.{Chains, chain_of, key_cmp}
+use Rattle.auditor.specs.Chains.{Chains, chain_of}
+use Rattle.encoding.specs.Bytes.{bytes_cmp}
 
 module _ (hash : List ℕ → List ℕ) (verified : List ℕ → List ℕ → List ℕ → Type 0) where
   -- what comes of a root that a chain takes
@@ -19,4 +20,4 @@ module _ (hash : List ℕ → List ℕ) (verified : List ℕ → List ℕ → Li
   -- the chain at a key takes it
   abbrev pub TakesAt : Chains → List ℕ → SignedRoot → Result Place Refusal → Chains → Type 0
   TakesAt before key root result after = (chain : KeyedRoots) × (left : KeyedRoots) × (chain_of before key ≡ Some chain)
-      × (after ≡ set_value (is_at (key_cmp key)) before left) × Takes chain root result left
+      × (after ≡ set_value (is_at (bytes_cmp key)) before left) × Takes chain root result left

@@ -5,8 +5,9 @@ use Rattle.textio.specs.Digits.{hex32}
 use Rattle.textio.specs.declared.program_fault.ProgramFault.{ProgramFault}
 use Rattle.textio.specs.declared.program_fault.ProgramFault.TheVariants.{BadHex, BadItem, IndexRepeated, NotEvidence, BadRecord, OtherKeys, CannotRead, CannotWrite, CannotListen, OutOfMemory}
 use Rattle.audits.specs.declared.judging.Verdict.{Verdict}
-use Rattle.audits.specs.StandIns.{KeyedAccepts, KeyedVerifies}
 use Rattle.audits.specs.Verdicts.{Judges, JudgesAt}
+use Rattle.vrfiface.specs.StandIns.{KeyedAccepts}
+use Rattle.sigiface.specs.StandIn.{KeyedVerifies}
 
 pub judged_at : (text key file : List ℕ) (old new : Option (List ℕ)) (result : Result Verdict ProgramFault) → hex32 text ≡ Some key
     → Judges sha256 KeyedAccepts KeyedVerifies key file old result new → JudgesAt text old result new

@@ -18,7 +18,7 @@ use Rattle.auditor.specs.declared.evidence.Evidence.TheVariants.{Root}
 use Rattle.auditor.specs.Chains.{Chains}
 use Rattle.auditor.specs.Observing.{ObservedHolds, Observes}
 use Rattle.audits.specs.Files.{evidence_text}
-use Rattle.audits.specs.StandIns.{KeyedVerifies}
+use Rattle.sigiface.specs.StandIn.{KeyedVerifies}
 
 -- the line that tells an answer
 abbrev pub answer_line : Result Observed Refusal → List ℕ

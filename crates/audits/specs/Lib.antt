@@ -2,7 +2,6 @@ pub mod Parts
 pub mod Files
 pub mod Steps
 pub mod Faults
-pub mod StandIns
 pub mod Verdicts
 pub mod Auditing
 pub use Rattle.textio.specs.Digits

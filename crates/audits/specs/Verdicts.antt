@@ -11,7 +11,8 @@ use Rattle.auditor.specs.Evidence.{IsEvidence}
 use Rattle.audits.specs.declared.judging.Verdict.{Verdict}
 use Rattle.audits.specs.declared.judging.Verdict.TheVariants as verdict
 use Rattle.audits.specs.Files.{IsFileOf}
-use Rattle.audits.specs.StandIns.{KeyedAccepts, KeyedVerifies}
+use Rattle.vrfiface.specs.StandIns.{KeyedAccepts}
+use Rattle.sigiface.specs.StandIn.{KeyedVerifies}
 
 -- the line of a verdict
 abbrev pub verdict_line : Verdict → List ℕ

@@ -1,7 +1,8 @@
 ghost use Rattle.std.specs.Prelude.{◌≡◌};
 ghost use Rattle.nodehash.specs.Sha256.{sha256};
-ghost use Rattle.audits.specs.StandIns.{KeyedAccepts, KeyedVerifies};
 ghost use Rattle.audits.specs.Verdicts.{verdict_line, verdict_status, IsVerdict, Judges, JudgesAt, JudgesFile};
+ghost use Rattle.vrfiface.specs.StandIns.{KeyedAccepts};
+ghost use Rattle.sigiface.specs.StandIn.{KeyedVerifies};
 
 use crate::opening::file_bytes;
 use crate::orders::JudgeOrder;

@@ -12,12 +12,13 @@ use Rattle.commands.specs.declared.edit.Verb.{Verb}
 use Rattle.commands.specs.declared.edit.Verb.TheVariants.{Register, Change}
 use Rattle.commands.specs.Operations.{Operation, Query, Edit, Put, Turn}
 use Rattle.book.specs.Books.{Binding, Book, pages}
-use Rattle.book.specs.Maps.{Map, at, name_cmp, overwritten, put}
+use Rattle.book.specs.Maps.{Map, at, overwritten, put}
 use Rattle.book.specs.Shows.{Provider, index_of}
 use Rattle.book.proofs.Entries.{at_put_other, found-entry, is_name, is_no_name, same_name, stays}
 use Rattle.book.proofs.Members.{first-or-later, none-there}
 use Rattle.book.proofs.Stepping.{Does, put_passed}
 use Rattle.book.proofs.Turning.{all-push}
+use Rattle.encoding.specs.Bytes.{bytes_cmp}
 
 -- the map has the name
 abbrev pub HasName : Map Binding → List ℕ → Type 0
@@ -35,7 +36,7 @@ pub entry-named : (map : Map Binding) (entry : List ℕ × Binding) → Contains
 entry-named [] entry is = absurd (none-there entry is)
 entry-named (e ∷ es) entry is = elim (first-or-later e es entry is) [
   | inl same ↦ subst (λ (x : List ℕ × Binding). HasName (e ∷ es) x.0) same (e.1, ap (λ (t : Bool). cond t (Some e.1) (at es e.0)) (same_name e.0))
-  | inr later ↦ by (is_at (name_cmp entry.0) e.0) (entry-named es entry later)
+  | inr later ↦ by (is_at (bytes_cmp entry.0) e.0) (entry-named es entry later)
 ]
   where
     by : (t : Bool) → HasName es entry.0 → (binding : Binding) × (cond t (Some e.1) (at es entry.0) ≡ Some binding)
@@ -43,9 +44,9 @@ entry-named (e ∷ es) entry is = elim (first-or-later e es entry is) [
     by false more = more
 
 put-named : (map : Map Binding) (name other : List ℕ) (binding : Binding) → HasName (put map name binding) other → HasName map other ⊎ (other ≡ name)
-put-named map name other binding has = by (is_at (name_cmp name) other) refl
+put-named map name other binding has = by (is_at (bytes_cmp name) other) refl
   where
-    by : (t : Bool) → is_at (name_cmp name) other ≡ t → HasName map other ⊎ (other ≡ name)
+    by : (t : Bool) → is_at (bytes_cmp name) other ≡ t → HasName map other ⊎ (other ≡ name)
     by true is = inr (is_name name other is)
     by false is = inl (has.0, sym (at_put_other name binding map other (is_no_name name other is)) ∙ has.1)
 

@@ -1,9 +1,9 @@
 -- The reply to a look-up that meets another name with its index is refused.
 use Rattle.std.proofs.Common.{◌≡◌, ℕ, ◌<◌, List, [], ◌∷◌, length, map, Option, Some, None, Bool, true, false, Contains, refl, sym, ap, subst, inl, inr, ◌∙◌, arith}
 use Rattle.std.specs.BTreeMap.{is_at}
-use Rattle.encoding.specs.Bytes.{Is32Bytes}
+use Rattle.encoding.specs.Bytes.{bytes_cmp, Is32Bytes}
 use Rattle.encoding.specs.Limits.{IsName}
-use Rattle.prefixtree.specs.Placement.{Items, commitment_of, index_cmp, put, put_all}
+use Rattle.prefixtree.specs.Placement.{Items, commitment_of, put, put_all}
 use Rattle.prefixtree.specs.declared.path.End.TheVariants as path
 use Rattle.rootchain.specs.Bodies.{IsBody}
 use Rattle.rootchain.specs.declared.body.Body.{Body}
@@ -27,9 +27,9 @@ abbrev IsThere : Items → List ℕ → Type 0
 IsThere items index = (commitment : List ℕ) × (commitment_of items index ≡ Some commitment)
 
 there-put : (items : Items) (index other commitment : List ℕ) → IsThere items index → IsThere (put items other commitment) index
-there-put items index other commitment there = by (is_at (index_cmp other) index) refl
+there-put items index other commitment there = by (is_at (bytes_cmp other) index) refl
   where
-    by : (t : Bool) → is_at (index_cmp other) index ≡ t → IsThere (put items other commitment) index
+    by : (t : Bool) → is_at (bytes_cmp other) index ≡ t → IsThere (put items other commitment) index
     by true is = let e = is_name other index is in (commitment, ap (commitment_of (put items other commitment)) e ∙ at_put_same other commitment items)
     by false is = (there.0, at_put_other other commitment items index (is_no_name other index is) ∙ there.1)
 

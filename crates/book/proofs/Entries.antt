@@ -7,11 +7,12 @@ use Rattle.std.specs.declared.cmp.Ordering.TheVariants.{Less}
 use Rattle.std.proofs.lemmas.Cmp.{nat_list_cmp_total}
 pub use Rattle.prefixtree.proofs.Entries.{Misses, all_put, at_put_other, at_put_same, found-entry, hits, is_name, is_no_name, misses, same_name}
 use Rattle.prefixtree.proofs.Places.{sorted_put}
-use Rattle.book.specs.Maps.{Map, at, name_cmp, overwritten, put}
+use Rattle.book.specs.Maps.{Map, at, overwritten, put}
+use Rattle.encoding.specs.Bytes.{bytes_cmp}
 
 -- names ascend, so that none stands twice
 abbrev pub Ascends : {X : Type 0} → Map X → Type 0
-Ascends map = IsStrictlySortedBy name_cmp (keys_of map)
+Ascends map = IsStrictlySortedBy bytes_cmp (keys_of map)
 
 pub ascends_none : (X : Type 0) → Ascends {X = X} []
 unfolding IsStrictlySortedBy
@@ -19,14 +20,14 @@ ascends_none X = tt
 
 module _ {X : Type 0} where
   pub ascends_put : (map : Map X) (name : List ℕ) (x : X) → Ascends map → Ascends (put map name x)
-  ascends_put map name x up = sorted_put name_cmp name x nat_list_cmp_total map up
+  ascends_put map name x up = sorted_put bytes_cmp name x nat_list_cmp_total map up
 
   pub ascends_overwritten : (map entries : Map X) → Ascends map → Ascends (overwritten map entries)
   ascends_overwritten map [] up = up
   ascends_overwritten map (e ∷ es) up = ascends_overwritten (put map e.0 e.1) es (ascends_put map e.0 e.1 up)
 
   -- names above this one are other names
-  none_above : (name : List ℕ) (map : Map X) → AllByRecursion (λ other. name_cmp name other ≡ Less) (keys_of map) → at map name ≡ None
+  none_above : (name : List ℕ) (map : Map X) → AllByRecursion (λ other. bytes_cmp name other ≡ Less) (keys_of map) → at map name ≡ None
   none_above name [] above = refl
   none_above name (e ∷ es) above = rw above.0 (none_above name es above.1)
 

@@ -7,12 +7,12 @@ use Rattle.std.proofs.lemmas.Bool.{leb-true, leb-false}
 use Rattle.std.proofs.lemmas.List.{get_or_append_left, get_or_push, length_push}
 use Rattle.std.proofs.lemmas.List.Elements.{All-from_recursion, All-push, All-weaker, recursion_from_All}
 use Rattle.rand_core.specs.Stream.{Stream, fill_bytes}
-use Rattle.encoding.specs.Bytes.{Is32Bytes}
+use Rattle.encoding.specs.Bytes.{bytes_cmp, Is32Bytes}
 use Rattle.encoding.specs.Limits.{IsKeyData, IsName}
 use Rattle.book.specs.Answers.{next_page, with_page, with_pending}
 use Rattle.book.specs.Books.{Binding, Book, Page, pages}
 use Rattle.book.specs.Fresh.{fresh, IsEpoch}
-use Rattle.book.specs.Maps.{Map, at, name_cmp, overwritten, put}
+use Rattle.book.specs.Maps.{Map, at, overwritten, put}
 use Rattle.book.specs.Sound.{AreBindings, HasNamesOf, IsEntry, IsHeld, IsPage, IsSound}
 use Rattle.book.proofs.Entries.{all_overwritten, all_put, ascends_none, ascends_overwritten, ascends_put, at_put_other, at_put_same, is_name, is_no_name, stays}
 use Rattle.book.proofs.Turning.{the-last}
@@ -106,16 +106,16 @@ no-bindings = record { ascend = ascends_none Binding; entries = are-entries [] t
 -- ---- names
 
 has-put : (map : Map Binding) (name : List ℕ) (binding : Binding) (other : List ℕ) → IsSome (at map other) → IsSome (at (put map name binding) other)
-has-put map name binding other has = by (is_at (name_cmp name) other) refl
+has-put map name binding other has = by (is_at (bytes_cmp name) other) refl
   where
-    by : (t : Bool) → is_at (name_cmp name) other ≡ t → IsSome (at (put map name binding) other)
+    by : (t : Bool) → is_at (bytes_cmp name) other ≡ t → IsSome (at (put map name binding) other)
     by true is = ap is_some (ap (at (put map name binding)) (is_name name other is) ∙ at_put_same name binding map)
     by false is = ap is_some (at_put_other name binding map other (is_no_name name other is)) ∙ has
 
 put-has : (map : Map Binding) (name : List ℕ) (binding : Binding) (other : List ℕ) → IsSome (at (put map name binding) other) → IsSome (at map other) ⊎ (other ≡ name)
-put-has map name binding other has = by (is_at (name_cmp name) other) refl
+put-has map name binding other has = by (is_at (bytes_cmp name) other) refl
   where
-    by : (t : Bool) → is_at (name_cmp name) other ≡ t → IsSome (at map other) ⊎ (other ≡ name)
+    by : (t : Bool) → is_at (bytes_cmp name) other ≡ t → IsSome (at map other) ⊎ (other ≡ name)
     by true is = inr (is_name name other is)
     by false is = inl (ap is_some (sym (at_put_other name binding map other (is_no_name name other is))) ∙ has)
 

@@ -6,14 +6,14 @@ use Rattle.std.specs.List.{AllByRecursion, find}
 use Rattle.std.proofs.lemmas.Bool.{eqb-true, leb-true, leb-false, not-false}
 use Rattle.std.proofs.lemmas.List.{append-nil, append_assoc}
 use Rattle.std.proofs.lemmas.List.Elements.{Contains-append_left, Contains-push_cases}
-use Rattle.encoding.specs.Bytes.{IsBytes}
+use Rattle.encoding.specs.Bytes.{bytes_cmp, IsBytes}
 use Rattle.encoding.specs.Limits.{IsWithin, IsName, IsKeyData}
 use Rattle.rootchain.specs.declared.signed_root.SignedRoot.{SignedRoot}
 use Rattle.book.specs.declared.refusal.Refusal.{Refusal}
 use Rattle.book.specs.Answers.{first, is_within, with_pending, next_page, with_page}
 use Rattle.book.specs.Books.{Binding, Book, Page, page_at, pages}
 use Rattle.book.specs.Honest.{key_at, IsAskedBy}
-use Rattle.book.specs.Maps.{at, name_cmp}
+use Rattle.book.specs.Maps.{at}
 use Rattle.book.specs.Shows.{Provider, SignedPage, body_behind, signed, sealed_behind, sealed_pages, IsRootOf}
 use Rattle.book.proofs.Entries.{Ascends, all_overwritten, all_put, ascends_none, ascends_overwritten, ascends_put, at_put_other, is_name, is_no_name, overwrites}
 use Rattle.book.proofs.Found.{AreBindings, IsBinding, IsPage}
@@ -178,9 +178,9 @@ module _ (provider : Provider) where
   }
     where
       other-waits : (other owned : List ℕ) → Waits book other owned → Waits (with_pending book name key) other owned
-      other-waits other owned waits = by (is_at (name_cmp name) other) refl
+      other-waits other owned waits = by (is_at (bytes_cmp name) other) refl
         where
-          by : (t : Bool) → is_at (name_cmp name) other ≡ t → Waits (with_pending book name key) other owned
+          by : (t : Bool) → is_at (bytes_cmp name) other ≡ t → Waits (with_pending book name key) other owned
           by true is = let e : None ≡ Some waits.0 = sym none ∙ ap (at book.pending) (sym (is_name name other is)) ∙ waits.1 in absurd cc
           by false is = (waits.0, at_put_other name (record { key = key; salt = book.salt }) book.pending other (is_no_name name other is) ∙ waits.1, waits.2)
 

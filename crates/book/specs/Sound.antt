@@ -3,10 +3,10 @@ use Rattle.std.specs.Prelude.{◌≡◌, ◌⊎◌, ℕ, ◌<◌, ◌^◌, List,
 use Rattle.std.specs.List.{AllAdjacentBelow}
 use Rattle.std.specs.List.Sorted.{IsStrictlySortedBy}
 use Rattle.std.specs.Map.{keys_of}
-use Rattle.encoding.specs.Bytes.{Is32Bytes}
+use Rattle.encoding.specs.Bytes.{bytes_cmp, Is32Bytes}
 use Rattle.encoding.specs.Limits.{IsKeyData, IsName}
 use Rattle.book.specs.Books.{Binding, Book, Page, pages}
-use Rattle.book.specs.Maps.{Map, at, name_cmp}
+use Rattle.book.specs.Maps.{Map, at}
 
 -- a name and what is bound to it, within their limits
 pub record IsEntry (entry : List ℕ × Binding) : Type 0 where
@@ -16,7 +16,7 @@ pub record IsEntry (entry : List ℕ × Binding) : Type 0 where
 
 -- names ascend, so that none stands twice
 pub record AreBindings (bindings : Map Binding) : Type 0 where
-  pub ascend : IsStrictlySortedBy name_cmp (keys_of bindings)
+  pub ascend : IsStrictlySortedBy bytes_cmp (keys_of bindings)
   pub entries : All IsEntry bindings
 
 pub record IsPage (page : Page) : Type 0 where

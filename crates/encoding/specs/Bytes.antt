@@ -1,5 +1,8 @@
 -- Bytes as numbers.
 use Rattle.std.specs.Prelude.{◌≡◌, ℕ, ◌<◌, List, length, slice_index}
+use Rattle.std.specs.Cmp.Lexicographic.{slice_cmp}
+use Rattle.std.specs.Ordering.{nat_cmp}
+use Rattle.std.specs.declared.cmp.Ordering.{Ordering}
 
 -- every element is a byte
 abbrev pub IsBytes : List ℕ → Type 0
@@ -12,3 +15,7 @@ HasBytes count xs = (length xs ≡ count) × IsBytes xs
 -- 32 bytes: an index, a hash or a nonce
 abbrev pub Is32Bytes : List ℕ → Type 0
 Is32Bytes xs = HasBytes 32 xs
+
+-- which comes first, as byte strings
+abbrev pub bytes_cmp : List ℕ → List ℕ → Ordering
+bytes_cmp = slice_cmp nat_cmp

@@ -8,7 +8,7 @@ use Rattle.std.specs.declared.cmp.Ordering.TheVariants.{Less, Equal, Greater}
 use Rattle.prefixtree.proofs.Order.{same-equal}
 use Rattle.rand_core.specs.Stream.{Stream}
 use Rattle.book.specs.Books.{Binding}
-use Rattle.book.specs.Maps.{Map, at, name_cmp, put}
+use Rattle.book.specs.Maps.{Map, at, put}
 use Rattle.book.specs.Shows.{Provider}
 use Rattle.book.specs.Sound.{IsHeld}
 use Rattle.book.proofs.Entries.{found-entry}
@@ -19,6 +19,7 @@ use Rattle.epochs.specs.Parts.{Keeps, Parts, last_of, pending_of}
 use Rattle.epochs.specs.Versions.{AreHistories}
 use Rattle.epochs.proofs.Parts.{book_of}
 use Rattle.epochs.proofs.Versions.{at-chosen}
+use Rattle.encoding.specs.Bytes.{bytes_cmp}
 
 -- ---- addresses
 
@@ -31,9 +32,9 @@ module _ (provider : Provider) where
 
   addresses-put : (addresses : Map Address) (name : List ℕ) (address : Address) → AreAddresses provider addresses → address ≡ address_of provider name → AreAddresses provider (put addresses name address)
   addresses-put [] name address are is = (is, tt)
-  addresses-put (e ∷ es) name address are is = by (name_cmp name e.0) refl (addresses-put es name address are.1 is)
+  addresses-put (e ∷ es) name address are is = by (bytes_cmp name e.0) refl (addresses-put es name address are.1 is)
     where
-      by : (r : Ordering) → name_cmp name e.0 ≡ r → AreAddresses provider (put es name address)
+      by : (r : Ordering) → bytes_cmp name e.0 ≡ r → AreAddresses provider (put es name address)
           → AreAddresses provider (match_ordering r ((name, address) ∷ e ∷ es) ((e.0, address) ∷ es) (e ∷ put es name address))
       by Less same more = (is, are)
       by Equal same more = (is ∙ ap (address_of provider) (same-equal name e.0 same), are.1)

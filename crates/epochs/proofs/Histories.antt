@@ -9,12 +9,13 @@ use Rattle.std.specs.declared.cmp.Ordering.TheVariants.{Less}
 use Rattle.std.proofs.lemmas.Bool.{cases_lt, eq-eqb, le-leb, leb-true, lt-leb, ne_eqb}
 use Rattle.prefixtree.proofs.Order.{equal-same, greater-less}
 use Rattle.book.specs.Books.{Binding}
-use Rattle.book.specs.Maps.{Map, name_cmp, overwritten, put}
+use Rattle.book.specs.Maps.{Map, overwritten, put}
 use Rattle.epochs.specs.Histories.{Version, chosen, or_else, binding_at, waiting, with_some}
 use Rattle.epochs.specs.Versions.{Ascends}
+use Rattle.encoding.specs.Bytes.{bytes_cmp}
 
 abbrev pub Above : {X : Type 0} → List ℕ → Map X → Type 0
-Above name map = AllByRecursion (λ other. name_cmp name other ≡ Less) (keys_of map)
+Above name map = AllByRecursion (λ other. bytes_cmp name other ≡ Less) (keys_of map)
 
 pub chosen-above : {V X : Type 0} (f : V → Option X) (name : List ℕ) (hs : Map V) → Above name hs → Above name (chosen f hs)
 chosen-above {X = X} f name [] h = tt
@@ -37,7 +38,7 @@ overwritten-past name x map (e ∷ es) h =
 overwritten-front : {X : Type 0} (name : List ℕ) (x : X) (map more : Map X) → Above name map → Above name more → overwritten map ((name, x) ∷ more) ≡ (name, x) ∷ overwritten map more
 overwritten-front {X = X} name x map more h k = ap (λ (m : Map X). overwritten m more) (put-front name x map h) ∙ overwritten-past name x map more k
 
-pub chosen-overwritten : {V X : Type 0} (f g : V → Option X) (hs : Map V) → IsStrictlySortedBy name_cmp (keys_of hs)
+pub chosen-overwritten : {V X : Type 0} (f g : V → Option X) (hs : Map V) → IsStrictlySortedBy bytes_cmp (keys_of hs)
     → overwritten (chosen f hs) (chosen g hs) ≡ chosen (λ v. or_else (g v) (f v)) hs
 unfolding IsStrictlySortedBy
 chosen-overwritten {X = X} f g [] h = refl

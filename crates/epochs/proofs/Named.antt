@@ -7,17 +7,18 @@ use Rattle.std.specs.Option.{option_copied, option_map, unwrap_or}
 use Rattle.std.specs.Ordering.{is_eq, match_ordering}
 use Rattle.std.specs.declared.cmp.Ordering.{Ordering}
 use Rattle.std.specs.declared.cmp.Ordering.TheVariants.{Less, Equal, Greater}
-use Rattle.book.specs.Maps.{Map, at, name_cmp, put}
+use Rattle.book.specs.Maps.{Map, at, put}
 use Rattle.book.proofs.Entries.{Ascends as NamesAscend, rest_ascends, same_name}
 use Rattle.epochs.specs.declared.address.Address.{Address}
 use Rattle.epochs.specs.Addresses.{History, Names, named, with_history, with_name}
 use Rattle.epochs.specs.Histories.{Version}
 use Rattle.epochs.specs.Versions.{AllBefore, AreHistories, at_bytes, versions_of}
 use Rattle.epochs.proofs.Versions.{histories_with, none_below}
+use Rattle.encoding.specs.Bytes.{bytes_cmp}
 
 -- whether a key has these bytes
 abbrev test : {K : Type 0} → (K → List ℕ) → List ℕ → K → Bool
-test bytes name = is_at (λ key. name_cmp name (bytes key))
+test bytes name = is_at (λ key. bytes_cmp name (bytes key))
 
 -- of what a borrow shows
 pub borrowed : {X Y : Type 0} (of : X → Y) (found : Option (Bor X)) (o : Option X) → option_copied found ≡ o → option_map (λ x. of x.now) found ≡ option_map of o
@@ -34,12 +35,12 @@ module _ {K X Y : Type 0} (bytes : K → List ℕ) (of : X → Y) where
       by true more = refl
       by false more = more
 
-  bytes-insert : (key : K) (x : X) (es : List (K × X)) → at_bytes bytes of (insert_entry (λ a b. name_cmp (bytes a) (bytes b)) es key x) ≡ put (at_bytes bytes of es) (bytes key) (of x)
+  bytes-insert : (key : K) (x : X) (es : List (K × X)) → at_bytes bytes of (insert_entry (λ a b. bytes_cmp (bytes a) (bytes b)) es key x) ≡ put (at_bytes bytes of es) (bytes key) (of x)
   bytes-insert key x [] = refl
-  bytes-insert key x (e ∷ es) = by (name_cmp (bytes key) (bytes e.0)) (bytes-insert key x es)
+  bytes-insert key x (e ∷ es) = by (bytes_cmp (bytes key) (bytes e.0)) (bytes-insert key x es)
     where
-      by : (r : Ordering) → at_bytes bytes of (insert_entry (λ a b. name_cmp (bytes a) (bytes b)) es key x) ≡ put (at_bytes bytes of es) (bytes key) (of x)
-          → at_bytes bytes of (match_ordering r ((key, x) ∷ e ∷ es) ((e.0, x) ∷ es) (e ∷ insert_entry (λ a b. name_cmp (bytes a) (bytes b)) es key x))
+      by : (r : Ordering) → at_bytes bytes of (insert_entry (λ a b. bytes_cmp (bytes a) (bytes b)) es key x) ≡ put (at_bytes bytes of es) (bytes key) (of x)
+          → at_bytes bytes of (match_ordering r ((key, x) ∷ e ∷ es) ((e.0, x) ∷ es) (e ∷ insert_entry (λ a b. bytes_cmp (bytes a) (bytes b)) es key x))
           ≡ match_ordering r ((bytes key, of x) ∷ (bytes e.0, of e.1) ∷ at_bytes bytes of es) ((bytes e.0, of x) ∷ at_bytes bytes of es) ((bytes e.0, of e.1) ∷ put (at_bytes bytes of es) (bytes key) (of x))
       by Less more = refl
       by Equal more = refl
@@ -48,9 +49,9 @@ module _ {K X Y : Type 0} (bytes : K → List ℕ) (of : X → Y) where
   bytes-set : (name : List ℕ) (old new : X) (es : List (K × X)) → NamesAscend (at_bytes bytes of es) → lookup (test bytes name) es ≡ Some old
       → at_bytes bytes of (set_value (test bytes name) es new) ≡ put (at_bytes bytes of es) name (of new)
   bytes-set name old new [] up found = absurd cc
-  bytes-set name old new (e ∷ es) up found = by (name_cmp name (bytes e.0)) refl (bytes-set name old new es (rest_ascends (bytes e.0, of e.1) (at_bytes bytes of es) up))
+  bytes-set name old new (e ∷ es) up found = by (bytes_cmp name (bytes e.0)) refl (bytes-set name old new es (rest_ascends (bytes e.0, of e.1) (at_bytes bytes of es) up))
     where
-      by : (r : Ordering) → name_cmp name (bytes e.0) ≡ r → (lookup (test bytes name) es ≡ Some old → at_bytes bytes of (set_value (test bytes name) es new) ≡ put (at_bytes bytes of es) name (of new))
+      by : (r : Ordering) → bytes_cmp name (bytes e.0) ≡ r → (lookup (test bytes name) es ≡ Some old → at_bytes bytes of (set_value (test bytes name) es new) ≡ put (at_bytes bytes of es) name (of new))
           → at_bytes bytes of (cond (is_eq r) ((e.0, new) ∷ es) (e ∷ set_value (test bytes name) es new))
           ≡ match_ordering r ((name, of new) ∷ (bytes e.0, of e.1) ∷ at_bytes bytes of es) ((bytes e.0, of new) ∷ at_bytes bytes of es) ((bytes e.0, of e.1) ∷ put (at_bytes bytes of es) name (of new))
       by Less is more =
@@ -65,33 +66,33 @@ names-alike bytes f g [] = refl
 names-alike bytes f g (e ∷ es) = ap (λ (names : List (List ℕ)). bytes e.0 ∷ names) (names-alike bytes f g es)
 
 also-ascend : {K X Y Z : Type 0} (bytes : K → List ℕ) (f : X → Y) (g : X → Z) (es : List (K × X)) → NamesAscend (at_bytes bytes f es) → NamesAscend (at_bytes bytes g es)
-also-ascend bytes f g es up = subst (IsStrictlySortedBy name_cmp) (names-alike bytes f g es) up
+also-ascend bytes f g es up = subst (IsStrictlySortedBy bytes_cmp) (names-alike bytes f g es) up
 
 module _ {K X : Type 0} (bytes : K → List ℕ) where
   -- what was put in, taken out again
   remove-same : (key : K) (x : X) (es : List (K × X)) → lookup (test bytes (bytes key)) es ≡ None
-      → remove_entry (test bytes (bytes key)) (insert_entry (λ a b. name_cmp (bytes a) (bytes b)) es key x) ≡ es
+      → remove_entry (test bytes (bytes key)) (insert_entry (λ a b. bytes_cmp (bytes a) (bytes b)) es key x) ≡ es
   remove-same key x [] none = rw (same_name (bytes key)) refl
-  remove-same key x (e ∷ es) none = by (name_cmp (bytes key) (bytes e.0)) refl (remove-same key x es)
+  remove-same key x (e ∷ es) none = by (bytes_cmp (bytes key) (bytes e.0)) refl (remove-same key x es)
     where
-      by : (r : Ordering) → name_cmp (bytes key) (bytes e.0) ≡ r
-          → (lookup (test bytes (bytes key)) es ≡ None → remove_entry (test bytes (bytes key)) (insert_entry (λ a b. name_cmp (bytes a) (bytes b)) es key x) ≡ es)
-          → remove_entry (test bytes (bytes key)) (match_ordering r ((key, x) ∷ e ∷ es) ((e.0, x) ∷ es) (e ∷ insert_entry (λ a b. name_cmp (bytes a) (bytes b)) es key x)) ≡ e ∷ es
+      by : (r : Ordering) → bytes_cmp (bytes key) (bytes e.0) ≡ r
+          → (lookup (test bytes (bytes key)) es ≡ None → remove_entry (test bytes (bytes key)) (insert_entry (λ a b. bytes_cmp (bytes a) (bytes b)) es key x) ≡ es)
+          → remove_entry (test bytes (bytes key)) (match_ordering r ((key, x) ∷ e ∷ es) ((e.0, x) ∷ es) (e ∷ insert_entry (λ a b. bytes_cmp (bytes a) (bytes b)) es key x)) ≡ e ∷ es
       by Less is more = rw (same_name (bytes key)) refl
       by Equal is more = absurd (cc (ap (λ (r : Ordering). cond (is_eq r) (Some e.1) (lookup (test bytes (bytes key)) es)) (sym is) ∙ none))
       by Greater is more = rw is (ap (λ (rest : List (K × X)). e ∷ rest) (more (ap (λ (r : Ordering). cond (is_eq r) (Some e.1) (lookup (test bytes (bytes key)) es)) (sym is) ∙ none)))
 
   pub remove-inserted : (name : List ℕ) (key : K) (x : X) (es : List (K × X)) → bytes key ≡ name → lookup (test bytes name) es ≡ None
-      → remove_entry (test bytes name) (insert_entry (λ a b. name_cmp (bytes a) (bytes b)) es key x) ≡ es
+      → remove_entry (test bytes name) (insert_entry (λ a b. bytes_cmp (bytes a) (bytes b)) es key x) ≡ es
   remove-inserted name key x es is none =
-      subst (λ (n : List ℕ). lookup (test bytes n) es ≡ None → remove_entry (test bytes n) (insert_entry (λ a b. name_cmp (bytes a) (bytes b)) es key x) ≡ es) is (remove-same key x es) none
+      subst (λ (n : List ℕ). lookup (test bytes n) es ≡ None → remove_entry (test bytes n) (insert_entry (λ a b. bytes_cmp (bytes a) (bytes b)) es key x) ≡ es) is (remove-same key x es) none
 
 -- a value that is there, put in once more
 pub put-same : {X : Type 0} (name : List ℕ) (x : X) (map : Map X) → NamesAscend map → at map name ≡ Some x → put map name x ≡ map
 put-same name x [] up found = absurd cc
-put-same {X = X} name x (e ∷ es) up found = by (name_cmp name e.0) refl (put-same name x es (rest_ascends e es up))
+put-same {X = X} name x (e ∷ es) up found = by (bytes_cmp name e.0) refl (put-same name x es (rest_ascends e es up))
   where
-    by : (r : Ordering) → name_cmp name e.0 ≡ r → (at es name ≡ Some x → put es name x ≡ es) → match_ordering r ((name, x) ∷ e ∷ es) ((e.0, x) ∷ es) (e ∷ put es name x) ≡ e ∷ es
+    by : (r : Ordering) → bytes_cmp name e.0 ≡ r → (at es name ≡ Some x → put es name x ≡ es) → match_ordering r ((name, x) ∷ e ∷ es) ((e.0, x) ∷ es) (e ∷ put es name x) ≡ e ∷ es
     by Less is more = absurd (cc (none_below (λ (x : X). Some x) name e es up is, found))
     by Equal is more =
         let same : Some e.1 ≡ Some x = ap (λ (r : Ordering). cond (is_eq r) (Some e.1) (at es name)) (sym is) ∙ found in
@@ -107,7 +108,7 @@ abbrev At : History → Address
 At history = history.address
 
 module _ {K : Type 0} (bytes : K → List ℕ) where
-  pub named-insert : (key : K) (history : History) (es : List (K × History)) → named bytes (insert_entry (λ a b. name_cmp (bytes a) (bytes b)) es key history) ≡ with_history (named bytes es) (bytes key) history
+  pub named-insert : (key : K) (history : History) (es : List (K × History)) → named bytes (insert_entry (λ a b. bytes_cmp (bytes a) (bytes b)) es key history) ≡ with_history (named bytes es) (bytes key) history
   named-insert key history es = λ i. record { versions = bytes-insert bytes Versions key history es i; addresses = bytes-insert bytes At key history es i }
 
   -- a history that is there
@@ -146,7 +147,7 @@ module _ (A : Type 0) {E : Type 0} (B : E → Type 0) (name : List ℕ) (address
 
   -- from what became of the history of a name that is there
   pub added-there : {K : Type 0} (bytes : K → List ℕ) (result : Result (Unit {0}) E) (es es_after : List (K × History)) (earlier later : History)
-      → NamesAscend (named bytes es).versions → lookup (is_at (λ key. name_cmp name (bytes key))) es ≡ Some earlier → es_after ≡ set_value (is_at (λ key. name_cmp name (bytes key))) es later
+      → NamesAscend (named bytes es).versions → lookup (is_at (λ key. bytes_cmp name (bytes key))) es ≡ Some earlier → es_after ≡ set_value (is_at (λ key. bytes_cmp name (bytes key))) es later
       → MatchResult result (λ _. A × (later ≡ record earlier { versions = earlier.versions ++ version ∷ [] })) (λ why. (later ≡ earlier) × B why)
       → Added result (named bytes es) (named bytes es_after)
   added-there bytes (Ok done) es es_after earlier later up found set added = (
@@ -161,7 +162,7 @@ module _ (A : Type 0) {E : Type 0} (B : E → Type 0) (name : List ℕ) (address
 
   -- from what became of the map where it lacked the name
   pub added-new : {K : Type 0} (bytes : K → List ℕ) (result : Result (Unit {0}) E) (es es_after : List (K × History))
-      → lookup (is_at (λ key. name_cmp name (bytes key))) es ≡ None
+      → lookup (is_at (λ key. bytes_cmp name (bytes key))) es ≡ None
       → MatchResult result (λ _. A × (named bytes es_after ≡ with_history (named bytes es) name (record { address = address; versions = version ∷ [] }))) (λ why. (es_after ≡ es) × B why)
       → Added result (named bytes es) (named bytes es_after)
   added-new bytes (Ok done) es es_after none added = (

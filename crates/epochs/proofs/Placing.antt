@@ -13,26 +13,27 @@ use Rattle.prefixtree.specs.Placement.{Item, Items, commitment_of, put_all}
 use Rattle.prefixtree.proofs.Order.{equal-same, greater-less, same-equal}
 use Rattle.book.specs.Answers.{has_its_index}
 use Rattle.book.specs.Books.{Binding}
-use Rattle.book.specs.Maps.{Map, at, name_cmp, overwritten, put}
+use Rattle.book.specs.Maps.{Map, at, overwritten, put}
 use Rattle.book.specs.Shows.{Provider, index_of, placement}
 use Rattle.book.proofs.Distinct.{AreApart, HasName, entry-named}
 use Rattle.book.proofs.Entries.{Ascends, ascends_none, ascends_put, at_put_other, at_put_same, first_alone, is_name, is_no_name, misses, rest_ascends}
 use Rattle.book.proofs.Members.{first-there, later-there}
 use Rattle.book.proofs.Placed.{Alone, commitment, item}
+use Rattle.encoding.specs.Bytes.{bytes_cmp}
 
 -- ---- two puts, one after the other
 
 -- the other way round
-less-greater : (i j : List ℕ) → name_cmp j i ≡ Greater → name_cmp i j ≡ Less
+less-greater : (i j : List ℕ) → bytes_cmp j i ≡ Greater → bytes_cmp i j ≡ Less
 less-greater i j h = nat_list_cmp_total.antisymm i j ∙ ap ordering_reverse h
 
 module _ {X : Type 0} where
   -- at one name the later stays
   pub put-again : (name : List ℕ) (x y : X) (map : Map X) → put (put map name x) name y ≡ put map name y
   put-again name x y [] = rw (equal-same name name refl) refl
-  put-again name x y (e ∷ es) = by (name_cmp name e.0) refl (put-again name x y es)
+  put-again name x y (e ∷ es) = by (bytes_cmp name e.0) refl (put-again name x y es)
     where
-      by : (r : Ordering) → name_cmp name e.0 ≡ r → put (put es name x) name y ≡ put es name y
+      by : (r : Ordering) → bytes_cmp name e.0 ≡ r → put (put es name x) name y ≡ put es name y
           → put (match_ordering r ((name, x) ∷ e ∷ es) ((e.0, x) ∷ es) (e ∷ put es name x)) name y ≡ match_ordering r ((name, y) ∷ e ∷ es) ((e.0, y) ∷ es) (e ∷ put es name y)
       by Less is more = rw (equal-same name name refl) refl
       by Equal is more = rw is refl
@@ -45,25 +46,25 @@ module _ {X : Type 0} where
     Ordered map = put ((one, x) ∷ map) other y ≡ put ((other, y) ∷ map) one x
 
     pub put-swap : (map : Map X) → put (put map one x) other y ≡ put (put map other y) one x
-    put-swap [] = by (name_cmp other one) refl
+    put-swap [] = by (bytes_cmp other one) refl
       where
-        by : (r : Ordering) → name_cmp other one ≡ r → Ordered []
+        by : (r : Ordering) → bytes_cmp other one ≡ r → Ordered []
         by Less is = rw (is, greater-less one other is) refl
         by Equal is = absurd (differ (sym (same-equal other one is)))
         by Greater is = rw (is, less-greater one other is) refl
-    put-swap (e ∷ es) = by (name_cmp one e.0) (name_cmp other e.0) refl refl (put-swap es)
+    put-swap (e ∷ es) = by (bytes_cmp one e.0) (bytes_cmp other e.0) refl refl (put-swap es)
       where
-        first : (r : Ordering) → name_cmp other one ≡ r → name_cmp one e.0 ≡ Less → name_cmp other e.0 ≡ Less → Ordered (e ∷ es)
+        first : (r : Ordering) → bytes_cmp other one ≡ r → bytes_cmp one e.0 ≡ Less → bytes_cmp other e.0 ≡ Less → Ordered (e ∷ es)
         first Less is a b = rw (is, greater-less one other is, a) refl
         first Equal is a b = absurd (differ (sym (same-equal other one is)))
         first Greater is a b = rw (is, less-greater one other is, b) refl
 
-        by : (r s : Ordering) → name_cmp one e.0 ≡ r → name_cmp other e.0 ≡ s → put (put es one x) other y ≡ put (put es other y) one x
+        by : (r s : Ordering) → bytes_cmp one e.0 ≡ r → bytes_cmp other e.0 ≡ s → put (put es one x) other y ≡ put (put es other y) one x
             → put (match_ordering r ((one, x) ∷ e ∷ es) ((e.0, x) ∷ es) (e ∷ put es one x)) other y ≡ put (match_ordering s ((other, y) ∷ e ∷ es) ((e.0, y) ∷ es) (e ∷ put es other y)) one x
-        by Less Less a b more = first (name_cmp other one) refl a b
-        by Less Equal a b more = rw (ap (λ (n : List ℕ). name_cmp n one) (same-equal other e.0 b) ∙ greater-less e.0 one a, b, a) refl
+        by Less Less a b more = first (bytes_cmp other one) refl a b
+        by Less Equal a b more = rw (ap (λ (n : List ℕ). bytes_cmp n one) (same-equal other e.0 b) ∙ greater-less e.0 one a, b, a) refl
         by Less Greater a b more = rw (greater-less other one (nat_list_cmp_total.trans one e.0 other a (less-greater e.0 other b)), b, a) refl
-        by Equal Less a b more = rw (ap (λ (n : List ℕ). name_cmp n other) (same-equal one e.0 a) ∙ greater-less e.0 other b, a, b) refl
+        by Equal Less a b more = rw (ap (λ (n : List ℕ). bytes_cmp n other) (same-equal one e.0 a) ∙ greater-less e.0 other b, a, b) refl
         by Equal Equal a b more = absurd (differ (same-equal one e.0 a ∙ sym (same-equal other e.0 b)))
         by Equal Greater a b more = rw (a, b) refl
         by Greater Less a b more = rw (greater-less one other (nat_list_cmp_total.trans other e.0 one b (less-greater e.0 one a)), a, b) refl
@@ -94,9 +95,9 @@ module _ {X : Type 0} (index : List ℕ → List ℕ) (made : List ℕ → X →
         → put_all items (map paired (put entries name x)) ≡ put (put_all items (map paired entries)) (index name) (made name x)
     all-put [] items x up sole = refl
     all-put (e ∷ es) items x up sole =
-        by (name_cmp name e.0) refl (ascends_put (e ∷ es) name x up) (all-put es (put items (index e.0) (made e.0 e.1)) x (rest_ascends e es up) sole.1)
+        by (bytes_cmp name e.0) refl (ascends_put (e ∷ es) name x up) (all-put es (put items (index e.0) (made e.0 e.1)) x (rest_ascends e es up) sole.1)
       where
-        by : (r : Ordering) → name_cmp name e.0 ≡ r
+        by : (r : Ordering) → bytes_cmp name e.0 ≡ r
             → Ascends (match_ordering r ((name, x) ∷ e ∷ es) ((e.0, x) ∷ es) (e ∷ put es name x))
             → put_all (put items (index e.0) (made e.0 e.1)) (map paired (put es name x)) ≡ put (put_all (put items (index e.0) (made e.0 e.1)) (map paired es)) (index name) (made name x)
             → put_all items (map paired (match_ordering r ((name, x) ∷ e ∷ es) ((e.0, x) ∷ es) (e ∷ put es name x))) ≡ put (put_all items (map paired (e ∷ es))) (index name) (made name x)
@@ -143,16 +144,16 @@ named-first : (e : List ℕ × Binding) (es : Map Binding) → HasName (e ∷ es
 named-first e es = entry-named (e ∷ es) e (first-there e es)
 
 named-later : (e : List ℕ × Binding) (es : Map Binding) (name : List ℕ) → HasName es name → HasName (e ∷ es) name
-named-later e es name has = by (is_at (name_cmp name) e.0)
+named-later e es name has = by (is_at (bytes_cmp name) e.0)
   where
     by : (t : Bool) → (binding : Binding) × (cond t (Some e.1) (at es name) ≡ Some binding)
     by true = (e.1, refl)
     by false = has
 
 named-put : (map : Map Binding) (name other : List ℕ) (binding : Binding) → HasName (put map name binding) other → HasName map other ⊎ (other ≡ name)
-named-put map name other binding has = by (is_at (name_cmp name) other) refl
+named-put map name other binding has = by (is_at (bytes_cmp name) other) refl
   where
-    by : (t : Bool) → is_at (name_cmp name) other ≡ t → HasName map other ⊎ (other ≡ name)
+    by : (t : Bool) → is_at (bytes_cmp name) other ≡ t → HasName map other ⊎ (other ≡ name)
     by true is = inr (is_name name other is)
     by false is = inl (has.0, sym (at_put_other name binding map other (is_no_name name other is)) ∙ has.1)
 

@@ -15,16 +15,17 @@ use Rattle.std.proofs.lemmas.Map.Entries.{none_below_head}
 use Rattle.prefixtree.proofs.Order.{same-equal}
 use Rattle.book.specs.Books.{Binding}
 use Rattle.epochs.specs.Histories.{Version, chosen, or_else, binding_at, waiting, with_some}
-use Rattle.book.specs.Maps.{Map, at, name_cmp, overwritten, put}
+use Rattle.book.specs.Maps.{Map, at, overwritten, put}
 use Rattle.epochs.specs.Versions.{AllBefore, AllWithin, AreHistories, Ascends, NamesWithin, versions_of, with_version}
 use Rattle.book.proofs.Entries.{Ascends as NamesAscend, ascends_put, at_put_other, at_put_same, first_alone, is_name, rest_ascends}
 use Rattle.epochs.proofs.Histories.{Above, chosen-above, chosen-overwritten, put-front, shown-next}
+use Rattle.encoding.specs.Bytes.{bytes_cmp}
 
 -- ---- what holds of the entries' values
 module _ {V : Type 0} (Q : V → Type 0) where
   pub all-put : (name : List ℕ) (x : V) (map : Map V) → Q x → AllByRecursion (λ e. Q e.1) map → AllByRecursion (λ e. Q e.1) (put map name x)
   all-put name x [] q all = (q, tt)
-  all-put name x (e ∷ es) q all = by (name_cmp name e.0) (all-put name x es q all.1)
+  all-put name x (e ∷ es) q all = by (bytes_cmp name e.0) (all-put name x es q all.1)
     where
       by : (r : Ordering) → AllByRecursion (λ e. Q e.1) (put es name x)
           → AllByRecursion (λ e. Q e.1) (match_ordering r ((name, x) ∷ e ∷ es) ((e.0, x) ∷ es) (e ∷ put es name x))
@@ -34,7 +35,7 @@ module _ {V : Type 0} (Q : V → Type 0) where
 
   pub all-at : (map : Map V) (name : List ℕ) (none : V) → Q none → AllByRecursion (λ e. Q e.1) map → Q (unwrap_or (at map name) none)
   all-at [] name none q all = q
-  all-at (e ∷ es) name none q all = by (is_at (name_cmp name) e.0) (all-at es name none q all.1)
+  all-at (e ∷ es) name none q all = by (is_at (bytes_cmp name) e.0) (all-at es name none q all.1)
     where
       by : (t : Bool) → Q (unwrap_or (at es name) none) → Q (unwrap_or (cond t (Some e.1) (at es name)) none)
       by true more = all.0
@@ -88,15 +89,15 @@ shown_later p (v ∷ vs) some = by (binding_at p vs) refl (shown_later p vs) som
 
 -- ---- of all names
 module _ {V X : Type 0} (f : V → Option X) where
-  pub none_below : (name : List ℕ) (e : List ℕ × V) (es : Map V) → NamesAscend (e ∷ es) → name_cmp name e.0 ≡ Less → at (e ∷ es) name ≡ None
-  none_below name e es up is = lookup-none (is_at (name_cmp name)) (e ∷ es) (none_below_head nat_list_cmp_total name e es up is)
+  pub none_below : (name : List ℕ) (e : List ℕ × V) (es : Map V) → NamesAscend (e ∷ es) → bytes_cmp name e.0 ≡ Less → at (e ∷ es) name ≡ None
+  none_below name e es up is = lookup-none (is_at (bytes_cmp name)) (e ∷ es) (none_below_head nat_list_cmp_total name e es up is)
 
   -- what is chosen of names, where what is put in gives what was chosen before
   pub chosen-put_same : (name : List ℕ) (x : V) (map : Map V) → NamesAscend map → f x ≡ option_and_then f (at map name) → chosen f (put map name x) ≡ chosen f map
   chosen-put_same name x [] up same = ap (λ (o : Option X). with_some o name []) same
-  chosen-put_same name x (e ∷ es) up same = by (name_cmp name e.0) refl (chosen-put_same name x es (rest_ascends e es up))
+  chosen-put_same name x (e ∷ es) up same = by (bytes_cmp name e.0) refl (chosen-put_same name x es (rest_ascends e es up))
     where
-      by : (r : Ordering) → name_cmp name e.0 ≡ r → (f x ≡ option_and_then f (at es name) → chosen f (put es name x) ≡ chosen f es)
+      by : (r : Ordering) → bytes_cmp name e.0 ≡ r → (f x ≡ option_and_then f (at es name) → chosen f (put es name x) ≡ chosen f es)
           → chosen f (match_ordering r ((name, x) ∷ e ∷ es) ((e.0, x) ∷ es) (e ∷ put es name x)) ≡ chosen f (e ∷ es)
       by Less is more = ap (λ (o : Option X). with_some o name (chosen f (e ∷ es))) (same ∙ ap (option_and_then f) (none_below name e es up is))
       by Equal is more = ap (λ (o : Option X). with_some o e.0 (chosen f es)) (same ∙ ap (λ (r : Ordering). option_and_then f (cond (is_eq r) (Some e.1) (at es name))) is)
@@ -106,26 +107,26 @@ module _ {V X : Type 0} (f : V → Option X) where
   pub chosen-put_new : (name : List ℕ) (x : V) (y : X) (map : Map V) → NamesAscend map → f x ≡ Some y → chosen f (put map name x) ≡ put (chosen f map) name y
   unfolding IsStrictlySortedBy
   chosen-put_new name x y [] up new = ap (λ (o : Option X). with_some o name []) new
-  chosen-put_new name x y (e ∷ es) up new = by (name_cmp name e.0) refl (chosen-put_new name x y es up.1 new)
+  chosen-put_new name x y (e ∷ es) up new = by (bytes_cmp name e.0) refl (chosen-put_new name x y es up.1 new)
     where
-      over : (o : Option X) → name_cmp name e.0 ≡ Equal → with_some (Some y) e.0 (chosen f es) ≡ put (with_some o e.0 (chosen f es)) name y
+      over : (o : Option X) → bytes_cmp name e.0 ≡ Equal → with_some (Some y) e.0 (chosen f es) ≡ put (with_some o e.0 (chosen f es)) name y
       over None is =
           let same : e.0 ≡ name = sym (same-equal name e.0 is) in
           ap (λ (n : List ℕ). with_some (Some y) n (chosen f es)) same ∙ sym (put-front name y (chosen f es) (subst (λ (n : List ℕ). Above n (chosen f es)) same (chosen-above f e.0 es up.0)))
       over (Some z) is = sym (ap (λ (r : Ordering). match_ordering r ((name, y) ∷ (e.0, z) ∷ chosen f es) ((e.0, y) ∷ chosen f es) ((e.0, z) ∷ put (chosen f es) name y)) is)
 
-      past : (o : Option X) → name_cmp name e.0 ≡ Greater → with_some o e.0 (put (chosen f es) name y) ≡ put (with_some o e.0 (chosen f es)) name y
+      past : (o : Option X) → bytes_cmp name e.0 ≡ Greater → with_some o e.0 (put (chosen f es) name y) ≡ put (with_some o e.0 (chosen f es)) name y
       past None is = refl
       past (Some z) is = sym (ap (λ (r : Ordering). match_ordering r ((name, y) ∷ (e.0, z) ∷ chosen f es) ((e.0, y) ∷ chosen f es) ((e.0, z) ∷ put (chosen f es) name y)) is)
 
-      above : name_cmp name e.0 ≡ Less → Above name (e ∷ es)
+      above : bytes_cmp name e.0 ≡ Less → Above name (e ∷ es)
       above is = (is, past_first (keys_of es) up.0)
         where
-          past_first : (names : List (List ℕ)) → AllByRecursion (λ other. name_cmp e.0 other ≡ Less) names → AllByRecursion (λ other. name_cmp name other ≡ Less) names
+          past_first : (names : List (List ℕ)) → AllByRecursion (λ other. bytes_cmp e.0 other ≡ Less) names → AllByRecursion (λ other. bytes_cmp name other ≡ Less) names
           past_first [] all = tt
           past_first (n ∷ names) all = (nat_list_cmp_total.trans name e.0 n is all.0, past_first names all.1)
 
-      by : (r : Ordering) → name_cmp name e.0 ≡ r → chosen f (put es name x) ≡ put (chosen f es) name y
+      by : (r : Ordering) → bytes_cmp name e.0 ≡ r → chosen f (put es name x) ≡ put (chosen f es) name y
           → chosen f (match_ordering r ((name, x) ∷ e ∷ es) ((e.0, x) ∷ es) (e ∷ put es name x)) ≡ put (chosen f (e ∷ es)) name y
       by Less is more = ap (λ (o : Option X). with_some o name (chosen f (e ∷ es))) new ∙ sym (put-front name y (chosen f (e ∷ es)) (chosen-above f name (e ∷ es) (above is)))
       by Equal is more = ap (λ (o : Option X). with_some o e.0 (chosen f es)) new ∙ over (f e.1) is
@@ -142,9 +143,9 @@ module _ {V X : Type 0} (f : V → Option X) where
 
   pub at-chosen : (map : Map V) (name : List ℕ) → NamesAscend map → at (chosen f map) name ≡ option_and_then f (at map name)
   at-chosen [] name up = refl
-  at-chosen (e ∷ es) name up = by (f e.1) refl (is_at (name_cmp name) e.0) refl (at-chosen es name (rest_ascends e es up))
+  at-chosen (e ∷ es) name up = by (f e.1) refl (is_at (bytes_cmp name) e.0) refl (at-chosen es name (rest_ascends e es up))
     where
-      by : (o : Option X) → f e.1 ≡ o → (t : Bool) → is_at (name_cmp name) e.0 ≡ t → at (chosen f es) name ≡ option_and_then f (at es name)
+      by : (o : Option X) → f e.1 ≡ o → (t : Bool) → is_at (bytes_cmp name) e.0 ≡ t → at (chosen f es) name ≡ option_and_then f (at es name)
           → at (with_some o e.0 (chosen f es)) name ≡ option_and_then f (cond t (Some e.1) (at es name))
       by None gives true is more = more ∙ ap (option_and_then f) (ap (at es) (sym (is_name name e.0 is)) ∙ first_alone e es up) ∙ sym gives
       by None gives false is more = more

@@ -8,7 +8,8 @@ use Rattle.book.specs.declared.record.Record.{Record}
 use Rattle.book.specs.declared.refusal.Refusal.{Refusal}
 use Rattle.book.specs.declared.refusal.Refusal.TheVariants.{Memory, KeepFailed}
 use Rattle.epochs.specs.Histories.{Version}
-use Rattle.book.specs.Maps.{Map, at, name_cmp, put}
+use Rattle.book.specs.Maps.{Map, at, put}
+use Rattle.encoding.specs.Bytes.{bytes_cmp}
 
 -- the versions of a name ascend
 abbrev pub Ascends : List Version → Type 0
@@ -29,7 +30,7 @@ NamesWithin number names = AllByRecursion (λ entry. AllWithin number entry.1) n
 
 -- names ascend, and so do the versions of each
 pub record AreHistories (names : Map (List Version)) : Type 0 where
-  pub names_ascend : IsStrictlySortedBy name_cmp (keys_of names)
+  pub names_ascend : IsStrictlySortedBy bytes_cmp (keys_of names)
   pub versions_ascend : AllByRecursion (λ entry. Ascends entry.1) names
 
 -- the versions of a name, none where it has none

@@ -1,9 +1,10 @@
 ghost use Rattle.std.specs.Prelude.{◌≡◌, [], IfOk, MatchResult, None};
 ghost use Rattle.std.specs.BTreeMap.{get_by};
 ghost use Rattle.std.specs.Option.{option_map};
-ghost use Rattle.book.specs.Maps.{at, name_cmp};
+ghost use Rattle.book.specs.Maps.{at};
 ghost use Rattle.epochs.specs.Addresses.{named, with_history, with_name};
 ghost use Rattle.epochs.specs.Versions.{AllBefore, AreHistories, IsUnkept, versions_of};
+ghost use Rattle.encoding.specs.Bytes.{bytes_cmp};
 
 use crate::address::Address;
 use crate::history::{History, Version};
@@ -89,7 +90,7 @@ fn put_kept<K: Keeper>(
     keeper: &mut K,
     what: &Record,
 ) -> Result<(), Refusal>
-    requires lacks { get_by (λ key. name_cmp name.now key.items) histories.old ≡ None }
+    requires lacks { get_by (λ key. bytes_cmp name.now key.items) histories.old ≡ None }
     ensures { MatchResult result
         (λ _. K.kept keeper.old what.now keeper.new × (named (λ key. key.items) histories.new.entries ≡ with_history (named (λ key. key.items) histories.old.entries) name.now history))
         (λ why. (histories.new.entries ≡ histories.old.entries) × IsUnkept K.failed keeper.old what.now why keeper.new) }

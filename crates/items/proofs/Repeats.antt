@@ -9,13 +9,14 @@ use Rattle.std.proofs.lemmas.List.{map-append, take_more}
 use Rattle.std.proofs.lemmas.List.Folds.{list_any-append}
 use Rattle.std.proofs.lemmas.Map.Keys.{IsDistinct-push}
 use Rattle.std.proofs.lemmas.Map.Text.{is_eq-slice_cmp}
-use Rattle.prefixtree.specs.Placement.{Items, index_cmp, HasDistinctIndices}
+use Rattle.prefixtree.specs.Placement.{Items, HasDistinctIndices}
 use Rattle.items.specs.Items.{is_among}
 use Rattle.items.specs.Listing.{IsFirstRepeat}
+use Rattle.encoding.specs.Bytes.{bytes_cmp}
 
 -- a set of indices has those of the items
 abbrev pub HasSeen : List (List ℕ) → Items → Type 0
-HasSeen seen items = (index : List ℕ) → list_any (is_at (index_cmp index)) seen ≡ is_among index items
+HasSeen seen items = (index : List ℕ) → list_any (is_at (bytes_cmp index)) seen ≡ is_among index items
 
 pub HasSeen-none : HasSeen [] []
 HasSeen-none index = refl
@@ -41,7 +42,7 @@ is_among-push index items item =
     or-one false = refl
 
 pub HasSeen-more : (old new : List (List ℕ)) (items : Items) (item : List ℕ × List ℕ) → HasSeen old items
-    → ((index : List ℕ) → list_any (is_at (index_cmp index)) new ≡ cond (is_at (index_cmp item.0) index) true (list_any (is_at (index_cmp index)) old))
+    → ((index : List ℕ) → list_any (is_at (bytes_cmp index)) new ≡ cond (is_at (bytes_cmp item.0) index) true (list_any (is_at (bytes_cmp index)) old))
     → HasSeen new (items ++ item ∷ [])
 HasSeen-more old new items item seen updates index =
     updates index

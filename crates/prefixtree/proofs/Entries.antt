@@ -6,32 +6,32 @@ use Rattle.std.specs.Map.{lookup}
 use Rattle.std.specs.Ordering.{match_ordering, is_eq}
 use Rattle.std.specs.declared.cmp.Ordering.{Ordering}
 use Rattle.std.specs.declared.cmp.Ordering.TheVariants.{Less, Equal, Greater}
-use Rattle.prefixtree.specs.Placement.{index_cmp}
 use Rattle.prefixtree.proofs.Order.{same-equal, equal-same, is_at-other}
+use Rattle.encoding.specs.Bytes.{bytes_cmp}
 
 abbrev Map : Type 0 → Type 0
 Map X = List (List ℕ × X)
 
 abbrev at : {X : Type 0} → Map X → List ℕ → Option X
-at map name = lookup (is_at (index_cmp name)) map
+at map name = lookup (is_at (bytes_cmp name)) map
 
 abbrev put : {X : Type 0} → Map X → List ℕ → X → Map X
-put map name x = insert_entry index_cmp map name x
+put map name x = insert_entry bytes_cmp map name x
 
-pub same_name : (name : List ℕ) → is_at (index_cmp name) name ≡ true
+pub same_name : (name : List ℕ) → is_at (bytes_cmp name) name ≡ true
 same_name name = ap is_eq (equal-same name name refl)
 
 -- the name of an entry that passes the test, and of one that does not
-pub is_name : (name other : List ℕ) → is_at (index_cmp name) other ≡ true → other ≡ name
-is_name name other is = by (index_cmp name other) refl is
+pub is_name : (name other : List ℕ) → is_at (bytes_cmp name) other ≡ true → other ≡ name
+is_name name other is = by (bytes_cmp name other) refl is
   where
-    by : (r : Ordering) → index_cmp name other ≡ r → is_eq r ≡ true → other ≡ name
+    by : (r : Ordering) → bytes_cmp name other ≡ r → is_eq r ≡ true → other ≡ name
     by Less e t = absurd cc
     by Equal e t = sym (same-equal name other e)
     by Greater e t = absurd cc
 
-pub is_no_name : (name other : List ℕ) → is_at (index_cmp name) other ≡ false → other ≢ name
-is_no_name name other is e = false_true (sym is ∙ ap (λ (x : List ℕ). is_at (index_cmp name) x) e ∙ same_name name)
+pub is_no_name : (name other : List ℕ) → is_at (bytes_cmp name) other ≡ false → other ≢ name
+is_no_name name other is e = false_true (sym is ∙ ap (λ (x : List ℕ). is_at (bytes_cmp name) x) e ∙ same_name name)
   where
     false_true : false ≡ true → ⊥
     false_true e = absurd cc
@@ -39,9 +39,9 @@ is_no_name name other is e = false_true (sym is ∙ ap (λ (x : List ℕ). is_at
 module _ {X : Type 0} (name : List ℕ) (x : X) where
   pub at_put_same : (map : Map X) → at (put map name x) name ≡ Some x
   at_put_same [] = rw (same_name name) refl
-  at_put_same (e ∷ es) = by (index_cmp name e.0) refl (at_put_same es)
+  at_put_same (e ∷ es) = by (bytes_cmp name e.0) refl (at_put_same es)
     where
-      by : (r : Ordering) → index_cmp name e.0 ≡ r → at (put es name x) name ≡ Some x
+      by : (r : Ordering) → bytes_cmp name e.0 ≡ r → at (put es name x) name ≡ Some x
           → at (match_ordering r ((name, x) ∷ e ∷ es) ((e.0, x) ∷ es) (e ∷ put es name x)) name ≡ Some x
       by Less is more = rw (same_name name) refl
       by Equal is more = rw is refl
@@ -49,17 +49,17 @@ module _ {X : Type 0} (name : List ℕ) (x : X) where
 
   pub at_put_other : (map : Map X) (other : List ℕ) → other ≢ name → at (put map name x) other ≡ at map other
   at_put_other [] other differ = rw (is_at-other other name differ) refl
-  at_put_other (e ∷ es) other differ = by (index_cmp name e.0) refl (at_put_other es other differ)
+  at_put_other (e ∷ es) other differ = by (bytes_cmp name e.0) refl (at_put_other es other differ)
     where
-      by : (r : Ordering) → index_cmp name e.0 ≡ r → at (put es name x) other ≡ at es other
+      by : (r : Ordering) → bytes_cmp name e.0 ≡ r → at (put es name x) other ≡ at es other
           → at (match_ordering r ((name, x) ∷ e ∷ es) ((e.0, x) ∷ es) (e ∷ put es name x)) other ≡ at (e ∷ es) other
       by Less is more = rw (is_at-other other name differ) refl
       by Equal is more = rw (is_at-other other e.0 (λ same. differ (same ∙ sym (same-equal name e.0 is)))) refl
-      by Greater is more = ap (cond (is_at (index_cmp other) e.0) (Some e.1)) more
+      by Greater is more = ap (cond (is_at (bytes_cmp other) e.0) (Some e.1)) more
 
   pub all_put : (P : List ℕ → Type 0) (Q : X → Type 0) (map : Map X) → P name → Q x → AllByRecursion (λ e. P e.0 × Q e.1) map → AllByRecursion (λ e. P e.0 × Q e.1) (put map name x)
   all_put P Q [] p q all = ((p, q), tt)
-  all_put P Q (e ∷ es) p q all = by (index_cmp name e.0) (all_put P Q es p q all.1)
+  all_put P Q (e ∷ es) p q all = by (bytes_cmp name e.0) (all_put P Q es p q all.1)
     where
       by : (r : Ordering) → AllByRecursion (λ e. P e.0 × Q e.1) (put es name x)
           → AllByRecursion (λ e. P e.0 × Q e.1) (match_ordering r ((name, x) ∷ e ∷ es) ((e.0, x) ∷ es) (e ∷ put es name x))
@@ -74,16 +74,16 @@ module _ {X : Type 0} where
     pub none : at es name ≡ None
 
   pub misses : (name : List ℕ) (e : List ℕ × X) (es : Map X) → at (e ∷ es) name ≡ None → Misses name e es
-  misses name e es none = by (is_at (index_cmp name) e.0) refl none
+  misses name e es none = by (is_at (bytes_cmp name) e.0) refl none
     where
-      by : (t : Bool) → is_at (index_cmp name) e.0 ≡ t → cond t (Some e.1) (at es name) ≡ None → Misses name e es
+      by : (t : Bool) → is_at (bytes_cmp name) e.0 ≡ t → cond t (Some e.1) (at es name) ≡ None → Misses name e es
       by true is h = absurd cc
       by false is h = record { differs = is_no_name name e.0 is; none = h }
 
   pub hits : (name : List ℕ) (x : X) (e : List ℕ × X) (es : Map X) → at (e ∷ es) name ≡ Some x → ((e.0 ≡ name) × (e.1 ≡ x)) ⊎ ((e.0 ≢ name) × (at es name ≡ Some x))
-  hits name x e es found = by (is_at (index_cmp name) e.0) refl found
+  hits name x e es found = by (is_at (bytes_cmp name) e.0) refl found
     where
-      by : (t : Bool) → is_at (index_cmp name) e.0 ≡ t → cond t (Some e.1) (at es name) ≡ Some x → ((e.0 ≡ name) × (e.1 ≡ x)) ⊎ ((e.0 ≢ name) × (at es name ≡ Some x))
+      by : (t : Bool) → is_at (bytes_cmp name) e.0 ≡ t → cond t (Some e.1) (at es name) ≡ Some x → ((e.0 ≡ name) × (e.1 ≡ x)) ⊎ ((e.0 ≢ name) × (at es name ≡ Some x))
       by true is h = inl (is_name name e.0 is, cc)
       by false is h = inr (is_no_name name e.0 is, h)
 

@@ -8,10 +8,10 @@ use Rattle.std.specs.Ordering.{match_ordering}
 use Rattle.std.specs.List.Sorted.{IsStrictlySortedBy}
 use Rattle.std.proofs.lemmas.Bool.{eq-eqb, ne_eqb}
 use Rattle.encoding.specs.Bits.{bit, cut, with_one}
-use Rattle.encoding.specs.Bytes.{Is32Bytes}
+use Rattle.encoding.specs.Bytes.{bytes_cmp, Is32Bytes}
 use Rattle.encoding.proofs.Agreement.{bit-cases}
 use Rattle.encoding.proofs.Prefixes.{cut_zero, cut_one}
-use Rattle.prefixtree.specs.Placement.{Item, Items, index_cmp, put, put_all}
+use Rattle.prefixtree.specs.Placement.{Item, Items, put, put_all}
 use Rattle.prefixtree.specs.Node.{half, node_count}
 use Rattle.prefixtree.specs.Under.{IsUnder}
 use Rattle.prefixtree.specs.Changes.{made_count}
@@ -133,9 +133,9 @@ pub put-other : (x c : Item) (changes : Items) → changes ≡ c ∷ [] → c.0 
 put-other x c changes is other = omega (arith, ap (λ (l : Items). length (put_all (x ∷ []) l)) is, length-put-other c.0 c.1 x.0 x.1 other)
 
 two-changes : (x c d : Item) → d.0 ≢ c.0 → 1 < length (put (put (x ∷ []) c.0 c.1) d.0 d.1)
-two-changes x c d apart = by (index_cmp c.0 x.0) refl
+two-changes x c d apart = by (bytes_cmp c.0 x.0) refl
   where
-    by : (o : Ordering) → index_cmp c.0 x.0 ≡ o → 1 < length (put (put (x ∷ []) c.0 c.1) d.0 d.1)
+    by : (o : Ordering) → bytes_cmp c.0 x.0 ≡ o → 1 < length (put (put (x ∷ []) c.0 c.1) d.0 d.1)
     by Equal e =
         let same : c.0 ≡ x.0 = same-equal c.0 x.0 e in
         let one : put (x ∷ []) c.0 c.1 ≡ (x.0, c.1) ∷ [] = ap (λ (o : Ordering). match_ordering o ((c.0, c.1) ∷ x ∷ []) ((x.0, c.1) ∷ []) (x ∷ (c.0, c.1) ∷ [])) e in

@@ -5,10 +5,10 @@ use Rattle.std.specs.declared.cmp.Ordering.{Ordering}
 use Rattle.std.specs.declared.cmp.Ordering.TheVariants.{Less, Equal, Greater}
 use Rattle.std.proofs.lemmas.Bool.{cases_lt}
 use Rattle.encoding.specs.Bits.{bit, cut, with_one}
-use Rattle.encoding.specs.Bytes.{Is32Bytes}
+use Rattle.encoding.specs.Bytes.{bytes_cmp, Is32Bytes}
 use Rattle.encoding.proofs.Agreement.{agree_in_next, bit-cases}
 use Rattle.encoding.proofs.Prefixes.{cut_zero, cut_one}
-use Rattle.prefixtree.specs.Placement.{Items, IsPlacement, commitment_of, index_cmp, put, put_all}
+use Rattle.prefixtree.specs.Placement.{Items, IsPlacement, commitment_of, put, put_all}
 use Rattle.prefixtree.specs.Node.{half, level_of, node_count}
 use Rattle.prefixtree.specs.Paths.{agreeing, EndsAt}
 use Rattle.prefixtree.specs.Under.{IsUnder}
@@ -145,14 +145,14 @@ one-few left index c level end [] at w under h le few =
     record { new = omega (arith, le, one, count); replaced = λ s. omega (arith, le, one, count) }
 one-few left index c level end (x ∷ []) at w under h le few =
     let one = made_count-few (256 - level) (x ∷ []) ((index, c) ∷ []) h (omega arith) in
-    by (index_cmp index x.0) refl one
+    by (bytes_cmp index x.0) refl one
   where
     other : index ≢ x.0 → made_count (256 - level) (x ∷ []) ((index, c) ∷ []) ≡ node_count (256 - level) (put (x ∷ []) index c) → IsOneMade index c level end (x ∷ [])
     other apart one =
         let count = forked left index c x.0 x.1 level end at w under.placement.indices.0 apart (sym under.prefixed.0) le few in
         record { new = omega (arith, one, count); replaced = λ s. not_found index x.0 x.1 _ _ apart s }
 
-    by : (o : Ordering) → index_cmp index x.0 ≡ o → made_count (256 - level) (x ∷ []) ((index, c) ∷ []) ≡ node_count (256 - level) (put (x ∷ []) index c) → IsOneMade index c level end (x ∷ [])
+    by : (o : Ordering) → bytes_cmp index x.0 ≡ o → made_count (256 - level) (x ∷ []) ((index, c) ∷ []) ≡ node_count (256 - level) (put (x ∷ []) index c) → IsOneMade index c level end (x ∷ [])
     by Equal e one =
         let same : put (x ∷ []) index c ≡ (index, c) ∷ [] = put-same index c x.0 x.1 (same-equal index x.0 e) in
         let count = node_count-few (256 - level) (put (x ∷ []) index c) (omega (arith, ap length same)) in

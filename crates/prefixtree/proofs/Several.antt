@@ -7,8 +7,8 @@ use Rattle.std.specs.List.{AllByRecursion}
 use Rattle.std.specs.List.Sorted.{IsStrictlySortedBy}
 use Rattle.std.specs.Map.{keys_of}
 use Rattle.encoding.specs.Bits.{cut, with_one}
-use Rattle.encoding.specs.Bytes.{Is32Bytes}
-use Rattle.prefixtree.specs.Placement.{Item, Items, index_cmp, put, put_all, IsPlacement}
+use Rattle.encoding.specs.Bytes.{bytes_cmp, Is32Bytes}
+use Rattle.prefixtree.specs.Placement.{Item, Items, put, put_all, IsPlacement}
 use Rattle.prefixtree.specs.Node.{half, node_count}
 use Rattle.prefixtree.specs.Under.{IsPrefix, IsUnder}
 use Rattle.prefixtree.proofs.Counts.{node_count-halves}
@@ -55,13 +55,13 @@ module _ (prefix : List ℕ) (level : ℕ) (p : level < 256) where
 
 -- ---- into none
 
-put_all-past : (x : Item) (ys cs : Items) → AllByRecursion (λ index. index_cmp x.0 index ≡ Less) (keys_of cs) → put_all (x ∷ ys) cs ≡ x ∷ put_all ys cs
+put_all-past : (x : Item) (ys cs : Items) → AllByRecursion (λ index. bytes_cmp x.0 index ≡ Less) (keys_of cs) → put_all (x ∷ ys) cs ≡ x ∷ put_all ys cs
 put_all-past x ys [] h = refl
 put_all-past x ys (c ∷ cs) h =
     ap (λ (o : Ordering). put_all (match_ordering o ((c.0, c.1) ∷ x ∷ ys) ((x.0, c.1) ∷ ys) (x ∷ put ys c.0 c.1)) cs) (greater-less c.0 x.0 h.0)
     ∙ put_all-past x (put ys c.0 c.1) cs h.1
 
-pub put_all-none : (cs : Items) → IsStrictlySortedBy index_cmp (keys_of cs) → put_all [] cs ≡ cs
+pub put_all-none : (cs : Items) → IsStrictlySortedBy bytes_cmp (keys_of cs) → put_all [] cs ≡ cs
 unfolding IsStrictlySortedBy
 put_all-none [] h = refl
 put_all-none (c ∷ cs) h = put_all-past c [] cs h.0 ∙ ap (λ (l : Items). c ∷ l) (put_all-none cs h.1)

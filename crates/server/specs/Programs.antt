@@ -3,8 +3,8 @@ use Rattle.std.specs.Prelude.{◌≡◌, ◌⊎◌, ℕ, false, List, Option, No
 use Rattle.std.specs.Io.KnownBytes.{Appends, Keeps}
 use Rattle.rand_chacha.specs.ChaCha.{ChaCha}
 use Rattle.nodehash.specs.Sha256.{sha256}
-use Rattle.vrfiface.specs.StandIns.{keyed_value}
-use Rattle.sigiface.specs.StandIn.{keyed_signature}
+use Rattle.vrfiface.specs.StandIns.{keyed_value, KeyedAccepts}
+use Rattle.sigiface.specs.StandIn.{keyed_signature, KeyedVerifies}
 use Rattle.book.specs.declared.keeper.NoKeeper.{NoKeeper}
 use Rattle.book.specs.declared.record.Record.{Record}
 use Rattle.hub.specs.DeskRuns.{ShowHonestRun}
@@ -31,21 +31,15 @@ abbrev pub NeverFails : NoKeeper → Record → NoKeeper → Type 0
 NeverFails before what after = ⊥
 
 -- the checks of the stand-ins
-abbrev pub IsKeyedValue : List ℕ → List ℕ → List ℕ → Type 0
-IsKeyedValue key name value = value ≡ keyed_value key name
-
-abbrev pub IsKeyedSignature : List ℕ → List ℕ → List ℕ → Type 0
-IsKeyedSignature key message signature = signature ≡ keyed_signature key message
-
 module _ {K : Type 0} (kept failed : K → Record → K → Type 0) where
   -- what the desk of a served directory replies to the messages of its one session
   abbrev pub ServedReplied : DeskState ChaCha K → List Exchange → DeskState ChaCha K → Type 0
-  ServedReplied = RepliedHonestly sha256 keyed_value keyed_signature salts kept failed IsKeyedValue IsKeyedSignature 1
+  ServedReplied = RepliedHonestly sha256 keyed_value keyed_signature salts kept failed KeyedAccepts KeyedVerifies 1
 
   -- its desk serves these sessions, one after another, and their messages show one run of its directory
   abbrev pub AllServedBy : DeskState ChaCha K → List (ℕ × List Exchange) → DeskState ChaCha K → Type 0
   AllServedBy before served after = AllServed (DeskAnswers sha256 keyed_value keyed_signature salts kept failed) before served after
-      × ShowHonestRun sha256 keyed_value keyed_signature salts kept failed IsKeyedValue IsKeyedSignature before (all_lines served) after
+      × ShowHonestRun sha256 keyed_value keyed_signature salts kept failed KeyedAccepts KeyedVerifies before (all_lines served) after
 
 -- the directory of these keys is begun, and one session is served
 abbrev pub ServesFrom : DirectoryOptions → Option (List ℕ) → Option (List ℕ) → Result (Unit {0}) ServeFault → Option (List ℕ) → Option (List ℕ) → Type 0

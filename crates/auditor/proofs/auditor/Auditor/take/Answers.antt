@@ -1,13 +1,14 @@
 use Rattle.std.proofs.Common.{rules, ◌≡◌, Some}
 use Rattle.std.specs.BTreeMap.{is_at}
 use Rattle.std.specs.Map.{set_value}
-use Rattle.auditor.specs.Chains.{IsHeld, chain_of, key_cmp}
+use Rattle.auditor.specs.Chains.{IsHeld, chain_of}
 use Rattle.auditor.proofs.Holding.{found-held, result-holds, set-held, taken-held, takes}
 use Rattle.auditor.proofs.auditor.Auditor.take.Goals as goal
+use Rattle.encoding.specs.Bytes.{bytes_cmp}
 
 pub invariant_of-self : goal.invariant_of-self
 invariant_of-self g c =
-    let set : (c.get_mut.follows.lender c.take.new.self).entries ≡ set_value (is_at (key_cmp c.args.provider_key.now)) c.self.inside.chains.entries c.take.new.self = search rules in
+    let set : (c.get_mut.follows.lender c.take.new.self).entries ≡ set_value (is_at (bytes_cmp c.args.provider_key.now)) c.self.inside.chains.entries c.take.new.self = search rules in
     let found : chain_of c.self.inside.chains.entries c.args.provider_key.now ≡ Some c.in-Some.chain.now = search rules in
     let held : IsHeld c.args.provider_key.now c.in-Some.chain.now = rw found at (found-held c.self.inside.chains.entries c.args.provider_key.now c.self.invariant) in
     rw set (set-held c.self.inside.chains.entries c.args.provider_key.now c.take.new.self c.self.invariant
@@ -15,7 +16,7 @@ invariant_of-self g c =
 
 pub returns-clause-takes : goal.returns-clause-takes
 returns-clause-takes g c =
-    let set : (c.get_mut.follows.lender c.take.new.self).entries ≡ set_value (is_at (key_cmp c.args.provider_key.now)) c.self.inside.chains.entries c.take.new.self = search rules in
+    let set : (c.get_mut.follows.lender c.take.new.self).entries ≡ set_value (is_at (bytes_cmp c.args.provider_key.now)) c.self.inside.chains.entries c.take.new.self = search rules in
     let found : chain_of c.self.inside.chains.entries c.args.provider_key.now ≡ Some c.in-Some.chain.now = search rules in (
       c.in-Some.chain.now,
       c.take.new.self,
