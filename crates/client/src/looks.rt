@@ -64,22 +64,13 @@ impl Looks {
     {
         let place = LookPlace {
             asked: Asked {
-                name: owned(self.alloc, name.bytes())?,
+                name: Vec::from_slice(self.alloc, name.bytes())?,
                 epoch,
             },
             number: self.replies.len(),
         };
-        let reply = owned(self.alloc, reply)?;
+        let reply = Vec::from_slice(self.alloc, reply)?;
         self.replies.insert(place, reply)?;
         Ok(())
     }
-}
-
-/// A copy of the bytes in newly allocated memory.
-fn owned(alloc: Global, bytes: &[u8]) -> Result<Vec<u8>, AllocError>
-    ensures { IfOk result (λ own. own.items ≡ bytes.now) }
-{
-    let mut own = Vec::with_capacity(alloc, bytes.len())?;
-    own.extend_from_slice(bytes)?;
-    Ok(own)
 }
