@@ -1,8 +1,7 @@
 -- What is read at the front of bytes is read there whatever follows.
-use Rattle.std.proofs.Common.{◌≡◌, ℕ, ◌-◌, ◌<◌, ◌≤◌, Bool, true, false, cond, ltb, List, [], ◌∷◌, ◌++◌, length, take, drop, Result, Ok, Err, refl, sym, ap, subst, ◌∙◌, append_assoc, length-append, arith, inl, inr}
+use Rattle.std.proofs.Common.{◌≡◌, ℕ, ◌-◌, ◌<◌, ◌≤◌, Bool, false, cond, ltb, List, [], ◌∷◌, ◌++◌, length, take, drop, Ok, Err, refl, sym, ap, subst, ◌∙◌, append_assoc, length-append, arith, inl, inr}
 use Rattle.std.proofs.lemmas.Bool.{ltb-false, le-ltb}
 use Rattle.std.proofs.lemmas.List.{take_at, drop_at, take-append-drop, length-take}
-use Rattle.encoding.specs.declared.fault.Fault.{Fault}
 use Rattle.encoding.specs.declared.fault.Fault.TheVariants.{Short, OutOfRange}
 use Rattle.encoding.specs.Endian.{big_number}
 use Rattle.encoding.specs.Reading.{Reading, ◌>>=◌, is_within, read_as, read_both, read_byte, read_bytes, read_number, read_then, read_where}
