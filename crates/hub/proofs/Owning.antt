@@ -22,6 +22,7 @@ use Rattle.hub.proofs.Outputting.{insert_found, other_stays}
 use Rattle.hub.proofs.Running.{of_session}
 use Rattle.hub.proofs.Steps.{bytes_changed, bytes_completed}
 use Rattle.hub.proofs.Streaming.{messages_more}
+use Rattle.hub.specs.declared.sessions.TheConstants.{MAX_SESSIONS}
 
 -- ---- one stream
 
@@ -141,7 +142,7 @@ open_own : (n : ℕ) (streams : Streams) (more : List Happening) → due streams
 open_own n streams more fine next =
     let new : Stream = fresh (Rest []) in
     let later : List Happening = own_events n (changed streams (Open n)) more in
-    let none : at streams n ≡ None = open_finds (nat_le 1024 (length streams)) (at streams n) fine in
+    let none : at streams n ≡ None = open_finds (nat_le MAX_SESSIONS (length streams)) (at streams n) fine in
     rw (fine, same_is n, none) (
     next ∙ ap (λ (found : Option Stream). later_messages found later) (insert_found streams n new)
     ∙ ap (λ (t : List Message). t ++ flat_map stream_messages (opened later)) (fresh_messages (Rest []) (pieces later))
@@ -184,7 +185,7 @@ Kept n streams = StandsOnce n streams × AreCounted (at streams n)
 
 own_kept : (streams : Streams) (it : Happening) → due streams it ≡ None → Kept (number it) streams → Kept (number it) (changed streams it)
 own_kept streams (Open n) fine (once, counted) = (
-  opened_once streams n (fresh (Rest [])) (open_finds (nat_le 1024 (length streams)) (at streams n) fine),
+  opened_once streams n (fresh (Rest [])) (open_finds (nat_le MAX_SESSIONS (length streams)) (at streams n) fine),
   subst AreCounted (sym (insert_found streams n (fresh (Rest [])))) (omega arith),
 )
 own_kept streams (Bytes n piece) fine (once, counted) =

@@ -8,6 +8,7 @@ use Rattle.hub.specs.declared.event.Event.{Event}
 use Rattle.hub.specs.declared.event.Event.TheVariants as event
 use Rattle.hub.specs.declared.hub_refusal.HubRefusal.{HubRefusal}
 use Rattle.hub.specs.declared.hub_refusal.HubRefusal.TheVariants.{TooManySessions, SessionOpen, NoSession}
+use Rattle.hub.specs.declared.sessions.TheConstants.{MAX_SESSIONS}
 
 -- an event, regardless of where its bytes lie
 pub data Happening : Type 0 where
@@ -35,7 +36,7 @@ at sessions session = lookup (is_at (nat_cmp session)) sessions
 
 -- the refusal that applies, memory aside: at most 1,024 sessions are open
 abbrev pub due : {X : Type 0} → BySession X → Happening → Option HubRefusal
-due sessions (Open session) = if nat_le 1024 (length sessions) then Some TooManySessions else (if is_some (at sessions session) then Some SessionOpen else None)
+due sessions (Open session) = if nat_le MAX_SESSIONS (length sessions) then Some TooManySessions else (if is_some (at sessions session) then Some SessionOpen else None)
 due sessions (Bytes session piece) = if is_some (at sessions session) then None else Some NoSession
 due sessions (End session) = if is_some (at sessions session) then None else Some NoSession
 

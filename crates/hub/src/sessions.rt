@@ -30,7 +30,7 @@ use vrfiface::Vuf;
 use wire::Feed;
 
 /// The most sessions that are open at once.
-const MAX_SESSIONS: usize = 1024;
+pub(crate) const MAX_SESSIONS: usize = 1024;
 
 /// A service, and the sessions that are open, each with what its stream holds.
 #[derive(Drop)]
