@@ -17,17 +17,17 @@
 mod desk;
 mod drain;
 mod event;
+mod hub_refusal;
 mod laws;
 mod laws_desk;
 mod outputs;
-mod hub_refusal;
 mod service;
 mod sessions;
 
 pub use desk::Desk;
 pub use event::Event;
+pub use hub_refusal::HubRefusal;
 pub use laws::{events_join, sessions_hear_their_own};
 pub use laws_desk::{cuts_do_not_matter, replies_are_honest};
-pub use hub_refusal::HubRefusal;
 pub use service::Service;
 pub use sessions::Hub;

@@ -3,7 +3,7 @@
 use crate::stand_ins::{AnySign, Functions, keyed};
 use crate::telling::{refuse_root, say_evidence};
 use auditor::{Auditor, Evidence, Observed, judge};
-use encoding::{Hash32, ProofText};
+use encoding::{Hash32, PROOF_TEXT_ROOM, ProofText};
 use nodehash::{NodeHash, Sha256Hash};
 use proofs::BrokenPromise;
 use questions::Case;
@@ -14,9 +14,6 @@ use vrfiface::VufCheck;
 type Kept<H> = Auditor<H, KeyedSign>;
 
 pub(crate) type KeyedAuditor = Kept<Sha256Hash>;
-
-/// The most bytes of a proof.
-const MAX_PROOF: usize = 10_700;
 
 pub(crate) fn answer(case: &mut Case<'_>, kept: &mut KeyedAuditor) {
     match case.word() {
@@ -207,7 +204,7 @@ fn broken(case: &mut Case<'_>, promise: &[u8], root: &[u8]) -> Result<Evidence, 
 /// The bytes as those of a proof.
 pub(crate) fn proof_text(case: &mut Case<'_>, bytes: &[u8]) -> ProofText {
     let mut proof = ProofText::new();
-    if bytes.len() <= MAX_PROOF {
+    if bytes.len() <= PROOF_TEXT_ROOM {
         proof.push_slice(bytes);
     } else {
         case.spoil();

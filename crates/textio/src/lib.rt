@@ -16,17 +16,17 @@
 #![tactic(auto)]
 
 mod digits;
-mod some_bytes;
 mod line;
 mod output;
 mod program_fault;
+mod some_bytes;
 mod stream_fault;
 mod whole;
 
 pub use digits::{HASH_DIGITS, HASH_SIZE, hex_digits, hex32, option_hex32, option_nonce};
-pub use some_bytes::read_some;
 pub use line::next_line;
 pub use output::write_text;
 pub use program_fault::ProgramFault;
+pub use some_bytes::read_some;
 pub use stream_fault::StreamFault;
 pub use whole::{file_fault, read_whole};

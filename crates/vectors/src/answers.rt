@@ -1,13 +1,10 @@
 //! Of `wire`: responses that are written.
 ghost use Rattle.wire.specs.Responses.{HasFewRoots};
 
-use encoding::ProofText;
+use encoding::{PROOF_TEXT_ROOM, ProofText};
 use questions::Case;
 use rootchain::{MAX_ROOTS, RootList, SignedRoot};
 use wire::{Answer, Response};
-
-/// The room of a reply.
-const REPLY: usize = 10_700;
 
 /// `answer KIND BODY`: a response, read and then written as a frame.
 pub(crate) fn written(case: &mut Case<'_>) {
@@ -40,7 +37,7 @@ fn write(case: &mut Case<'_>, answer: &Answer<'_>)
 }
 
 fn write_proof(case: &mut Case<'_>, reply: &[u8]) {
-    if REPLY < reply.len() {
+    if PROOF_TEXT_ROOM < reply.len() {
         return case.spoil();
     }
     let mut text = ProofText::new();
