@@ -10,7 +10,7 @@ use Rattle.encoding.specs.declared.fault.Fault.TheVariants.{Short, OutOfRange}
 use Rattle.encoding.specs.Bytes.{Is32Bytes}
 use Rattle.encoding.specs.Forms.{counted_bytes}
 use Rattle.encoding.specs.Reading.{◌>>=◌, is_within, read_bytes, read_number, whole_of, Reading}
-use Rattle.encoding.proofs.Fields.{numbers_field, ok_is}
+use Rattle.encoding.proofs.Fields.{bind_ok, numbers_field, ok_is, short_ok}
 use Rattle.rootchain.specs.declared.body.Body.{Body}
 use Rattle.rootchain.specs.declared.signed_root.SignedRoot.{SignedRoot}
 use Rattle.rootchain.specs.declared.root_feed.Next.{Next}
@@ -24,14 +24,6 @@ use Rattle.rootchain.specs.Readable.{signed_root_field}
 use Rattle.rootchain.proofs.RootLists.{count_field}
 
 -- ---- what was read is read also where more bytes follow
-
-bind_ok : {A B : Type 0} (r : Result A Fault) (next : A → Result B Fault) (y : B) → (r >>= next) ≡ Ok y → (x : A) × (r ≡ Ok x) × (next x ≡ Ok y)
-bind_ok (Ok x) next y e = (x, refl, e)
-bind_ok (Err _) next y e = absurd cc
-
-short_ok : {A : Type 0} (short : Bool) (fault : Fault) (r : Result A Fault) (y : A) → cond short (Err fault) r ≡ Ok y → (short ≡ false) × (r ≡ Ok y)
-short_ok true fault r y e = absurd cc
-short_ok false fault r y e = (refl, e)
 
 short_err : {A : Type 0} (short : Bool) (r : A) (fault : Fault) → cond short (Err Short) (Ok r) ≡ Err fault → (short ≡ true) × (fault ≡ Short)
 short_err true r fault e = (refl, cc)

@@ -1,12 +1,12 @@
 -- What comes of a piece, and of one piece after another.
-use Rattle.std.proofs.Common.{◌≡◌, ◌≢◌, ◌⊎◌, ℕ, List, [], ◌∷◌, ◌++◌, Result, Ok, Err, refl, sym, ap, subst, ◌∙◌, append_assoc, inl, inr}
+use Rattle.std.proofs.Common.{◌≡◌, ◌≢◌, ◌⊎◌, ℕ, List, [], ◌∷◌, ◌++◌, Result, Ok, Err, refl, sym, ap, subst, ◌∙◌, append_assoc, arith, length, length-append, inl, inr}
 use Rattle.rootchain.specs.declared.signed_root.SignedRoot.{SignedRoot}
 use Rattle.rootchain.specs.declared.list_refusal.ListRefusal.{ListRefusal}
 use Rattle.rootchain.specs.declared.list_refusal.ListRefusal.TheVariants as list
 use Rattle.rootchain.specs.declared.piece_refusal.PieceRefusal.{PieceRefusal}
 use Rattle.rootchain.specs.declared.piece_refusal.PieceRefusal.TheVariants.{Malformed, Root, Memory}
 use Rattle.rootchain.specs.Chains.{IsChain, KeyedRoots}
-use Rattle.rootchain.specs.RootFeeds.{told_from, Held, Counts, Failed}
+use Rattle.rootchain.specs.RootFeeds.{told_from, Held, Counts, Done, Failed}
 use Rattle.rootchain.specs.TakingLists.{with_roots, StopsAt, Takes}
 use Rattle.rootchain.specs.TakingPieces.{joined, of_piece, TakesPiece, TakesPieces, TakesTold, CuttingDoesNotMatter}
 use Rattle.rootchain.proofs.RootFeeds.{from-more, from-nothing, from-start, list-spelled}
@@ -104,11 +104,22 @@ module _ (hash : List ℕ → List ℕ) (verified : List ℕ → List ℕ → Li
   piece-chain chain held piece (Ok _) after held' is takes = takes-chain hash verified (told_from held piece).0 chain after is takes.0
   piece-chain chain held piece (Err Malformed) after held' is takes = takes-chain hash verified (told_from held piece).0 chain after is takes.0
   piece-chain chain held piece (Err (Root why)) after held' is takes = takes-chain hash verified takes.0.0 chain after is takes.0.4
-  piece-chain chain held piece (Err Memory) after held' is takes = subst (IsChain hash verified) (sym takes.1) is
+  piece-chain chain held piece (Err Memory) after held' is takes = subst (IsChain hash verified) (sym takes.2) is
 
   pub piece-grows : {A : Type 0} (chain : KeyedRoots) (held : Held) (piece : List ℕ) (answer : Result A PieceRefusal) (after : KeyedRoots) (held' : Held)
       → TakesPiece hash verified chain held piece answer after held' → (more : List SignedRoot) × (after ≡ with_roots chain more)
   piece-grows chain held piece (Ok _) after held' takes = takes-grows hash verified (told_from held piece).0 chain after takes.0
   piece-grows chain held piece (Err Malformed) after held' takes = takes-grows hash verified (told_from held piece).0 chain after takes.0
   piece-grows chain held piece (Err (Root why)) after held' takes = takes-grows hash verified takes.0.0 chain after takes.0.4
-  piece-grows chain held piece (Err Memory) after held' takes = ([], takes.1 ∙ grows-nothing chain)
+  piece-grows chain held piece (Err Memory) after held' takes = ([], takes.2 ∙ grows-nothing chain)
+
+  -- ---- nothing comes after a list
+
+  done-tells : (piece : List ℕ) → (told_from Done piece).0 ≡ []
+  done-tells [] = refl
+  done-tells (byte ∷ piece) = refl
+
+  pub done-never-stops : (chain after : KeyedRoots) (held : Held) (piece : List ℕ) (why : ListRefusal) → held ≡ Done → StopsAt hash verified chain (told_from held piece).0 why after → ⊥
+  done-never-stops chain after held piece why done stops =
+      let none = ap length (ap (λ (h : Held). (told_from h piece).0) (sym done) ∙ stops.3) in
+      omega (arith, ap length (done-tells piece), none, length-append stops.0 (stops.1 ∷ stops.2))

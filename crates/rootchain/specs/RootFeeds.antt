@@ -43,7 +43,7 @@ pub data Held : Type 0 where
   Counts : List ℕ → Held
   -- so many roots are still to come, and these bytes of the first of them are there
   Owes : ℕ → List ℕ → Held
-  -- bytes came that no list has there
+  -- bytes came that no list has there, or a root was refused
   Failed : Held
 
 -- the list has come, and nothing after it

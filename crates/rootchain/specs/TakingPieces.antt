@@ -26,12 +26,12 @@ of_piece (list.Evidence evidence) = Root (list.Evidence evidence)
 module _ (hash : List ℕ → List ℕ) (verified : List ℕ → List ℕ → List ℕ → Type 0) where
   -- What comes of a piece: the roots that it makes whole are taken in order, each before the next one is
   -- looked at, up to the first that is refused. After a refusal the feed has failed; only want of memory
-  -- changes nothing.
+  -- changes nothing, and it comes only while roots are still to come.
   abbrev pub TakesPiece : {A : Type 0} → KeyedRoots → Held → List ℕ → Result A PieceRefusal → KeyedRoots → Held → Type 0
   TakesPiece chain held piece (Ok _) after held' = Takes hash verified chain (told_from held piece).0 after × (held' ≡ (told_from held piece).1) × (held' ≢ Failed)
   TakesPiece chain held piece (Err Malformed) after held' = Takes hash verified chain (told_from held piece).0 after × ((told_from held piece).1 ≡ Failed) × (held' ≡ Failed)
   TakesPiece chain held piece (Err (Root why)) after held' = StopsAt hash verified chain (told_from held piece).0 why after × (why ≢ list.Memory) × (held' ≡ Failed)
-  TakesPiece chain held piece (Err Memory) after held' = (held ≢ Failed) × (after ≡ chain) × (held' ≡ held)
+  TakesPiece chain held piece (Err Memory) after held' = (held ≢ Failed) × (held ≢ Done) × (after ≡ chain) × (held' ≡ held)
 
   -- the same, but where memory runs out some roots may have been taken
   abbrev pub TakesTold : {A : Type 0} → KeyedRoots → Held → List ℕ → Result A PieceRefusal → KeyedRoots → Held → Type 0

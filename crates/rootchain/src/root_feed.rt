@@ -4,22 +4,17 @@ ghost use Rattle.rootchain.specs.FeedViews.{held_of, IsFront, IsRootOf, TellsNex
 ghost use Rattle.rootchain.specs.RootFeeds.{front, read_signature_len, Counts, Done, Failed, IsHeld, Owes, Part};
 
 use crate::SignedRoot;
+use crate::body::BODY_LEN;
 use crate::root_list::{MAX_ROOTS, read_count};
 use crate::signed_root::SignedRootText;
-use encoding::{Cursor, Fault, Form};
+use encoding::{Cursor, Fault, Form, MAX_SMALL_LEN};
 use std::marker::Model;
 
 /// How many bytes the number of roots has.
 const COUNT_LEN: usize = 2;
 
-/// How many bytes a body has.
-const BODY_LEN: usize = 146;
-
 /// How many bytes a body and the length of the signature behind it have.
-const FIXED_LEN: usize = 148;
-
-/// The length of the longest signature.
-const MAX_SIGNATURE_LEN: usize = 256;
+const FIXED_LEN: usize = BODY_LEN + 2;
 
 /// What a feed has next.
 #[derive(Debug, Drop)]
@@ -192,7 +187,7 @@ fn first_of<'a>(held: &mut SignedRootText, piece: &'a [u8]) -> Next<'a>
     let Ok(signature_len) = read_signature_len(&mut Cursor::new(held.bytes())) else {
         return Next::Wait;
     };
-    if MAX_SIGNATURE_LEN < signature_len {
+    if MAX_SMALL_LEN < signature_len {
         return Next::Failed;
     }
     let len = FIXED_LEN + signature_len;

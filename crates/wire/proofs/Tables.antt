@@ -7,15 +7,11 @@ use Rattle.encoding.specs.declared.fault.Fault.{Fault}
 use Rattle.encoding.specs.Bytes.{IsBytes}
 use Rattle.encoding.specs.Fields.{IsField, Spells}
 use Rattle.encoding.specs.Reading.{Reading, ◌>>=◌, read_as}
-use Rattle.encoding.proofs.Fields.{ok_is, one_spelling, whole-read, whole-refused, whole-left}
+use Rattle.encoding.proofs.Fields.{bind_ok, ok_is, one_spelling, whole-read, whole-refused, whole-left}
 use Rattle.wire.specs.declared.refusals.ReadRefusal.{ReadRefusal}
 use Rattle.wire.specs.declared.refusals.ReadRefusal.TheVariants.{BadKind, BadBody}
 use Rattle.wire.specs.Tables.{KindRow, MessageParts, Of, Content, kind_among, or_bad_body, parts_frame, parts_kind, parts_message, read_by, reader, spelling, Allowed, IsCounted, MayHave}
 use Rattle.wire.proofs.Forms.{any, form_field}
-
-bind_ok : {A B : Type 0} (r : Result A Fault) (next : A → Result B Fault) (y : B) → (r >>= next) ≡ Ok y → (x : A) × (r ≡ Ok x) × (next x ≡ Ok y)
-bind_ok (Ok x) next y e = (x, refl, e)
-bind_ok (Err _) next y e = absurd cc
 
 -- a case of a data type, read by its parts
 made_field : {A B : Type 0} (to : A → B) (f : List ℕ → Reading A) (s : A → List ℕ) (P : A → Type 0) (t : B → List ℕ) (Q : B → Type 0)

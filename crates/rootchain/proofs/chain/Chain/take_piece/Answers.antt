@@ -5,6 +5,7 @@ use Rattle.rootchain.specs.Chains.{IsChain, KeyedRoots}
 use Rattle.rootchain.specs.RootFeeds.{told_from}
 use Rattle.rootchain.specs.TakingLists.{StopsAt, Takes}
 use Rattle.rootchain.proofs.TakingLists.{grows-nothing, stop-holds, taken-off, takes-grows}
+use Rattle.rootchain.proofs.TakingPieces.{done-never-stops}
 use Rattle.rootchain.proofs.chain.Chain.take_piece.Goals as goal
 
 pub returns-in-Ok-clause-grows : goal.returns-in-Ok-clause-grows
@@ -52,9 +53,10 @@ returns-in-Err-Memory-clause-takes g c =
     let had : c.len-before.result ≡ length c.args.self.now.roots =
     omega (arith, c.len-before.ensures, c.self.inside.roots.ok.0, ap (λ (chain : KeyedRoots). length chain.roots) c.self.view_is) in (
       search rules,
+      (λ done. done-never-stops g.H.NodeHash.digest_of g.S.Verifier.verified c.args.self.now c.take_told.new.self c.args.feed.now c.args.piece.now Memory done stops),
       rw (c.truncate.ensures.items) (taken-off c.args.self.now c.take_told.new.self c.self-2.inside.key c.self-2.inside.roots.items grown.0 c.len-before.result c.self-2.view_is grown.1 had),
       c.copied-held.ensures,
     )
 
 pub returns-in-Err-Memory-clause-grows : goal.returns-in-Err-Memory-clause-grows
-returns-in-Err-Memory-clause-grows g c = ([], (returns-in-Err-Memory-clause-takes g c).1 ∙ grows-nothing c.args.self.now)
+returns-in-Err-Memory-clause-grows g c = ([], (returns-in-Err-Memory-clause-takes g c).2 ∙ grows-nothing c.args.self.now)
