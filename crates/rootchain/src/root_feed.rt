@@ -83,7 +83,9 @@ impl RootFeed {
     }
 
     /// The most roots that are still to come.
-    pub(crate) fn owed(&self) -> usize {
+    pub(crate) fn owed(&self) -> usize
+        ensures { self.now ≡ Done → result ≡ 0 }
+    {
         match self.stage {
             Stage::Count => MAX_ROOTS,
             Stage::Roots(left) => left,

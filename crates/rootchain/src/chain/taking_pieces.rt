@@ -42,7 +42,7 @@ impl<H: NodeHash, S: Verifier> Chain<H, S> {
         if feed.has_failed() {
             return Err(PieceRefusal::Malformed);
         }
-        if !feed.done() && self.roots.reserve(feed.owed()).is_err() {
+        if self.roots.reserve(feed.owed()).is_err() {
             return Err(PieceRefusal::Memory);
         }
         let held = feed.copied();

@@ -11,8 +11,8 @@ returns-in_default-clause-front c =
     let none : read_signature_len c.fill-rest.new.held ≡ Err c.in_default.field-0 = search rules in
     waits _ _ _ _ fills c.in_default.field-0 none
 
-pub returns-then-signature_len-gt-MAX_SIGNATURE_LEN-clause-front : goal.returns-then-signature_len-gt-MAX_SIGNATURE_LEN-clause-front
-returns-then-signature_len-gt-MAX_SIGNATURE_LEN-clause-front c =
+pub returns-then-signature_len-gt-MAX_SMALL_LEN-clause-front : goal.returns-then-signature_len-gt-MAX_SMALL_LEN-clause-front
+returns-then-signature_len-gt-MAX_SMALL_LEN-clause-front c =
     let fills : Fills c.args.held.now c.args.piece.now 148 c.fill-rest.new.held c.fill-rest.result.now = record { joined = c.fill-rest.ensures.joined; full = c.fill-rest.ensures.full; most = c.fill-rest.ensures.most; stays = c.fill-rest.ensures.stays } in
     let told : read_signature_len c.fill-rest.new.held ≡ Ok (c.in-Ok.signature_len, c.read_signature_len.new.cursor) = search rules in
     fails _ _ _ _ fills c.in-Ok.signature_len c.read_signature_len.new.cursor told (search rules)
