@@ -43,12 +43,9 @@ impl Version {
     ) -> Result<Version, AllocError>
         ensures { IfOk result (λ version. version ≡ record { number = first_page; binding = record { key = key.now; salt = salt } }) }
     {
-        let bytes = key.bytes();
-        let mut own = Vec::with_capacity(alloc, bytes.len())?;
-        own.extend_from_slice(bytes)?;
         Ok(Version {
             first_page,
-            key: own,
+            key: Vec::from_slice(alloc, key.bytes())?,
             salt,
         })
     }

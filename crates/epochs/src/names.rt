@@ -1,10 +1,8 @@
-ghost use Rattle.std.specs.Prelude.{◌≡◌, [], IfOk, MatchResult, None};
-ghost use Rattle.std.specs.BTreeMap.{get_by};
+ghost use Rattle.std.specs.Prelude.{◌≡◌, [], MatchResult};
 ghost use Rattle.std.specs.Option.{option_map};
 ghost use Rattle.book.specs.Maps.{at};
-ghost use Rattle.epochs.specs.Addresses.{named, with_history, with_name};
+ghost use Rattle.epochs.specs.Addresses.{named, with_name};
 ghost use Rattle.epochs.specs.Versions.{AllBefore, AreHistories, IsUnkept, versions_of};
-ghost use Rattle.encoding.specs.Bytes.{bytes_cmp};
 
 use crate::address::Address;
 use crate::history::{History, Version};
@@ -137,9 +135,9 @@ fn add_to_new<K: Keeper>(
         (λ _. K.kept keeper.old what.now keeper.new × (named (λ key. key.items) histories.new.entries ≡ with_name (named (λ key. key.items) histories.old.entries) name.now address.now version))
         (λ why. (named (λ key. key.items) histories.new.entries ≡ named (λ key. key.items) histories.old.entries) × IsUnkept K.failed keeper.old what.now why keeper.new) }
 {
-    let value = owned(alloc, address.value.bytes())?;
+    let value = Vec::from_slice(alloc, address.value.bytes())?;
     let mut versions = Vec::with_capacity(alloc, 1)?;
-    match histories.entry(owned(alloc, name.bytes())?)? {
+    match histories.entry(Vec::from_slice(alloc, name.bytes())?)? {
         Entry::Occupied(place) => place.into_mut().add(keeper, what, version),
         Entry::Vacant(place) => {
             versions.push_reserved(version);
@@ -158,13 +156,4 @@ fn add_to_new<K: Keeper>(
             }
         }
     }
-}
-
-// These bytes, in memory of their own.
-fn owned(alloc: Global, bytes: &[u8]) -> Result<Vec<u8>, AllocError>
-    ensures { IfOk result (λ own. own.items ≡ bytes.now) }
-{
-    let mut own = Vec::with_capacity(alloc, bytes.len())?;
-    own.extend_from_slice(bytes)?;
-    Ok(own)
 }

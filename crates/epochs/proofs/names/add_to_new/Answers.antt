@@ -16,8 +16,8 @@ behind after before = before ∙ after
 pub add-requires : goal.add-requires
 add-requires g c =
     let es = c.args.histories.now.entries in
-    let is : c.in_ok-owned.field-0.items ≡ c.args.name.now = c.in_ok-owned.ensures ∙ c.bytes-2.ensures.value in
-    let found = found-at (λ key. key.items) c.args.name.now c.in_ok-owned.field-0 es (Some c.into_mut.result.now) is (sym (rw c.in-Occupied.is at c.in_ok-place.ensures.value) ∙ c.into_mut.ensures.value) in
+    let is : c.in_ok-from_slice.field-0.items ≡ c.args.name.now = c.in_ok-from_slice.ensures.items ∙ c.bytes-2.ensures.value in
+    let found = found-at (λ key. key.items) c.args.name.now c.in_ok-from_slice.field-0 es (Some c.into_mut.result.now) is (sym (rw c.in-Occupied.is at c.in_ok-place.ensures.value) ∙ c.into_mut.ensures.value) in
     record { later = rw (versions-there (λ key. key.items) c.args.name.now es c.into_mut.result.now found) at c.requires.later }
 
 pub returns-in-Occupied : goal.returns-in-Occupied
@@ -25,9 +25,9 @@ returns-in-Occupied g c =
     let es = c.args.histories.now.entries in
     let kept = g.K.Keeper.kept c.args.keeper.now c.args.what.now c.add.new.keeper in
     let unkept = λ (why : Refusal). IsUnkept g.K.Keeper.failed c.args.keeper.now c.args.what.now why c.add.new.keeper in
-    let is : c.in_ok-owned.field-0.items ≡ c.args.name.now = c.in_ok-owned.ensures ∙ c.bytes-2.ensures.value in
-    let found = found-at (λ key. key.items) c.args.name.now c.in_ok-owned.field-0 es (Some c.into_mut.result.now) is (sym (rw c.in-Occupied.is at c.in_ok-place.ensures.value) ∙ c.into_mut.ensures.value) in
-    added-inserted kept unkept c.args.name.now c.args.address.now c.args.version (λ key. key.items) c.add.result es _ c.in_ok-owned.field-0 c.into_mut.result.now c.add.new.self
+    let is : c.in_ok-from_slice.field-0.items ≡ c.args.name.now = c.in_ok-from_slice.ensures.items ∙ c.bytes-2.ensures.value in
+    let found = found-at (λ key. key.items) c.args.name.now c.in_ok-from_slice.field-0 es (Some c.into_mut.result.now) is (sym (rw c.in-Occupied.is at c.in_ok-place.ensures.value) ∙ c.into_mut.ensures.value) in
+    added-inserted kept unkept c.args.name.now c.args.address.now c.args.version (λ key. key.items) c.add.result es _ c.in_ok-from_slice.field-0 c.into_mut.result.now c.add.new.self
     (ascending (λ key. key.items) es c.in_ok-place.ensures.ordered) is found
     (search rules) c.add.ensures
 
@@ -36,15 +36,15 @@ returns-in-Ok g c =
     let es = c.args.histories.now.entries in
     let kept = g.K.Keeper.kept c.args.keeper.now c.args.what.now c.keep.new.self in
     let unkept = λ (why : Refusal). IsUnkept g.K.Keeper.failed c.args.keeper.now c.args.what.now why c.keep.new.self in
-    let is : c.in_ok-owned.field-0.items ≡ c.args.name.now = c.in_ok-owned.ensures ∙ c.bytes-2.ensures.value in
-    let none = found-at (λ key. key.items) c.args.name.now c.in_ok-owned.field-0 es None is (rw c.in-Vacant.is at c.in_ok-place.ensures.found) in
-    let same : c.new-history.result ≡ record { address = c.args.address.now; versions = c.args.version ∷ [] } = rw (c.push_reserved.ensures.items, c.in_ok-versions.ensures.items, c.in_ok-value.ensures, c.bytes.ensures.value) at c.new-history.ensures in
+    let is : c.in_ok-from_slice.field-0.items ≡ c.args.name.now = c.in_ok-from_slice.ensures.items ∙ c.bytes-2.ensures.value in
+    let none = found-at (λ key. key.items) c.args.name.now c.in_ok-from_slice.field-0 es None is (rw c.in-Vacant.is at c.in_ok-place.ensures.found) in
+    let same : c.new-history.result ≡ record { address = c.args.address.now; versions = c.args.version ∷ [] } = rw (c.push_reserved.ensures.items, c.in_ok-versions.ensures.items, c.in_ok-value.ensures.items, c.bytes.ensures.value) at c.new-history.ensures in
     added-new kept unkept c.args.name.now c.args.address.now c.args.version (λ key. key.items) (Ok tt) es _ none
-    (search rules, named-inserted (λ key. key.items) c.args.name.now c.in_ok-owned.field-0 c.new-history.result es _ is (search rules) ∙ ap (with_history (named (λ key. key.items) es) c.args.name.now) same)
+    (search rules, named-inserted (λ key. key.items) c.args.name.now c.in_ok-from_slice.field-0 c.new-history.result es _ is (search rules) ∙ ap (with_history (named (λ key. key.items) es) c.args.name.now) same)
 
 pub returns-in-Err : goal.returns-in-Err
 returns-in-Err g c =
     let es = c.args.histories.now.entries in
-    let none : lookup (is_at (λ key. bytes_cmp c.in_ok-owned.field-0.items key.items)) es ≡ None = rw c.in-Vacant.is at c.in_ok-place.ensures.found in
-    let gone : (map_without_entry (Vacant c.in-Vacant.place)).entries ≡ es = (rw c.in-Vacant.is at c.in_ok-place.ensures.removal).1 ∙ remove-missing (is_at (λ key. bytes_cmp c.in_ok-owned.field-0.items key.items)) es none in
+    let none : lookup (is_at (λ key. bytes_cmp c.in_ok-from_slice.field-0.items key.items)) es ≡ None = rw c.in-Vacant.is at c.in_ok-place.ensures.found in
+    let gone : (map_without_entry (Vacant c.in-Vacant.place)).entries ≡ es = (rw c.in-Vacant.is at c.in_ok-place.ensures.removal).1 ∙ remove-missing (is_at (λ key. bytes_cmp c.in_ok-from_slice.field-0.items key.items)) es none in
     (ap (named (λ key. key.items)) (behind gone (search rules)), inr (refl, search rules))

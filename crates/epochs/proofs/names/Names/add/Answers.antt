@@ -2,7 +2,6 @@ use Rattle.book.specs.declared.refusal.Refusal.{Refusal}
 use Rattle.epochs.specs.Versions.{IsUnkept}
 use Rattle.epochs.proofs.Named.{histories_after}
 use Rattle.epochs.proofs.names.Names.add.Goals as goal
-use Rattle.encoding.specs.Bytes.{bytes_cmp}
 
 pub invariant_of-self : goal.invariant_of-self
 invariant_of-self g c =
