@@ -107,7 +107,7 @@ def of_pieces(q, rng):
         end()
         q.ask("client from", cut, whole[:1])
     for client in ["client", "client-sum"]:
-        provider = KEYED if client == "client" else SUMMED
+        provider = KEYED if client == "client" else SUMS
         x, y = provider.pages([4, 5])
         q.ask(f"{client} start", SIGN_KEY, written(x))
         q.ask(f"{client} feed")
