@@ -9,6 +9,21 @@ from sessions import SIGN_KEY, Client
 SUBJECTS, subject = subjects()
 
 
+@subject("in a few lines: three Heads in one piece, and a list of roots in pieces")
+def of_few_lines(q, rng):
+    q.ask("hub new", 1, ZERO32)
+    q.ask("hub open", 1)
+    q.ask("hub bytes", 1, 3 * request_frame("head"))
+    q.ask("hub bytes", 1, b"")
+    a, b, c = KEYED.pages([3, 7, 9])
+    lets(q, a=a, b=b, c=c)
+    q.ask("client start", SIGN_KEY, written(a))
+    q.ask("client feed")
+    q.ask("client from", 100, roots(a, b, c))
+    q.ask("client head")
+    q.ask("client done")
+
+
 @subject("clients and monitors: lists of roots in pieces")
 def of_pieces(q, rng):
     a, b, c = KEYED.pages([3, 7, 9])
