@@ -94,6 +94,8 @@ LOOK_REPLY = 249 + 32 * LOOK_SIBLINGS
 LOOK_RUNS = {1: (1, 20), 10: (2, 10), 100: (10, 5), 1_000: (20, 3)}
 # The lists of 64 roots that a client takes when it has so many lists, and the runs.
 UPDATE_LISTS, UPDATE_RUNS = 100, {16: 10, 160: 10, 1_600: 10}
+# The lists that a client has before others come in pieces, the bytes of a piece (more than a list has), and the runs.
+PIECES_BEFORE, PIECE_SIZES, PIECE_RUNS = 160, [32_768, 4_096, 64, 1], 10
 # The epochs of a round that a monitor watches, the rounds, and the runs.
 WATCH_EPOCHS, WATCH_ROUNDS, WATCH_RUNS = 1_000, 10, 3
 
@@ -1061,11 +1063,11 @@ def look_row(epochs):
     return [f"{looks:,}", *turns.cells(), f"{statistics.median(memory):.0f}"]
 
 
-def update_row(before):
-    """The row of a client that has so many lists of 64 roots."""
+def update_row(before, piece=0, runs_made=None):
+    """The row of a client that has so many lists of 64 roots, for lists that come whole or in pieces."""
     digests, taken, known = [[], []], [], []
-    for _ in range(UPDATE_RUNS[before]):
-        words = [before, UPDATE_LISTS, DIGESTS // 10]
+    for _ in range(runs_made or UPDATE_RUNS[before]):
+        words = [before, UPDATE_LISTS, DIGESTS // 10, piece]
         _, run_steps = steps(7, "updates", *words)
         body, signature, first, more, again, *after = run_steps
         roots = [64 * before, 64 * (before + UPDATE_LISTS)]
@@ -1076,7 +1078,7 @@ def update_row(before):
         taken.append(more.seconds)
         known.append(again.seconds)
     body, signature = (min(times) * 10 / DIGESTS for times in digests)
-    row = [f"{64 * before:,}"]
+    row = [f"{piece or 64 * before:,}"]
     for times, each in ((taken, body + signature), (known, signature)):
         spread = Spread(times, UPDATE_LISTS)
         row += [f"{1 / spread.least:,.0f}", *spread.cells(1e6, 1)]
@@ -1101,6 +1103,9 @@ def client(_folder):
     spread = ["least", "median", "greatest", "ratio"]
     head = ["roots", "new/s", *spread, "known/s", *spread, "body, ns", "signature, ns"]
     table("an update by 64 roots, new ones and known ones, microseconds", head, rows)
+    rows = [update_row(PIECES_BEFORE, size, PIECE_RUNS) for size in PIECE_SIZES]
+    head = ["piece", *head[1:]]
+    table("64 roots in pieces of so many bytes, new ones and known ones, microseconds", head, rows)
     title = "a step of a monitor, and the reading and check of its reply, microseconds"
     table(title, TURN_HEAD, [watch_row()])
 

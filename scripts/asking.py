@@ -164,6 +164,29 @@ def spoiled(rng, data):
     ])
 
 
+def beginnings(data):
+    """Each proper beginning."""
+    return [data[:size] for size in range(len(data))]
+
+
+def raised(data):
+    """With each byte in turn replaced by its value plus 1."""
+    return [changed_at(data, at, (byte + 1) % 256) for at, byte in enumerate(data)]
+
+
+def flipped(data):
+    """With each bit in turn flipped."""
+    return [changed_at(data, at, byte ^ 1 << bit) for at, byte in enumerate(data) for bit in range(8)]
+
+
+def spliced(one, other):
+    """Of two values in their parts: the first parts of the one and the other parts of the other, at each boundary,
+    both ways; those that are neither."""
+    pairs = [(one, other), (other, one)]
+    mixed = [b"".join(a[:at] + b[at:]) for a, b in pairs for at in range(1, min(len(a), len(b)))]
+    return [data for data in mixed if data not in (b"".join(one), b"".join(other))]
+
+
 def an_index(rng):
     """An index of few bits, so that many begin alike."""
     return rng.choice([

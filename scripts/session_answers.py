@@ -24,6 +24,7 @@ from sessions import *
 HUB_TOKEN = bytes([4]) * 32
 MAX_PROOF_TEXT = 10700
 MAX_SESSION = 2**32 - 1
+MAX_PIECE = 65536
 MOST_EVENTS = 1000
 EVIDENCE_KINDS = (FORK, LINK, SKIP, BROKEN)
 # Refusals that no question leads to.
@@ -70,6 +71,7 @@ class Values:
     def __init__(self, digest, vuf):
         self.digest, self.vuf = digest, vuf
         self.directory = self.client = self.other = None
+        self.feed = RootFeed()
 
 
 class SessionAnswers(Lines):
@@ -284,6 +286,29 @@ class SessionAnswers(Lines):
         """`update LIST`"""
         return self.done(self.client().update, w.bytes())
 
+    def client_feed(self, w):
+        """A new list begins."""
+        self.values.feed = RootFeed()
+        return ["ok"]
+
+    def client_done(self, w):
+        """Whether the list has come whole."""
+        return [yes(self.values.feed.done())]
+
+    def client_from(self, w):
+        """`from SIZE BYTES`: the bytes in pieces of that size, or in one if it is 0, up to the first refusal."""
+        return self.in_pieces(self.client(), w)
+
+    def in_pieces(self, taker, w):
+        size, data = w.number(MAX_PIECE), w.bytes()
+        cuts = range(0, len(data), size) if size else [0]
+
+        def take():
+            for start in cuts:
+                taker.update_from(self.values.feed, data[start : start + size] if size else data)
+
+        return self.done(take)
+
     @staticmethod
     def done(call, *words):
         """`ok`, or the refusal, behind the evidence that it has."""
@@ -350,6 +375,10 @@ class SessionAnswers(Lines):
     def monitor_update(self, w):
         """`update LIST`"""
         return self.done(there(self.monitor).update, w.bytes())
+
+    def monitor_from(self, w):
+        """`from SIZE BYTES`, as of a client."""
+        return self.in_pieces(there(self.monitor), w)
 
     def monitor_any(self, w):
         """`any NAME ROOT LIST KEY PROMISE`: a monitor of its own, under a verifier that accepts each signature."""

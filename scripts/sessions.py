@@ -522,6 +522,48 @@ class Look(NamedTuple):
     accepted: Accepted
 
 
+class RootFeed:
+    """A list of roots in pieces: how many roots are to come, or None, and the bytes that were not taken yet."""
+
+    def __init__(self):
+        self.left, self.bytes, self.failed = None, b"", False
+
+    def done(self):
+        return self.left == 0 and not self.bytes and not self.failed
+
+    def take(self, piece):
+        if self.failed:
+            raise RootRefusal(MALFORMED)
+        self.bytes += piece
+
+    def cut(self, size):
+        """The first bytes, or None while fewer have come."""
+        if len(self.bytes) < size:
+            return None
+        front, self.bytes = self.bytes[:size], self.bytes[size:]
+        return front
+
+    def next(self):
+        """The first root, once it is whole, or None."""
+        if self.left is None:
+            count = self.cut(2)
+            if count is None:
+                return None
+            self.left = int.from_bytes(count, "big")
+        if self.left > MAX_ROOTS or (self.left == 0 and self.bytes):
+            raise RootRefusal(MALFORMED)
+        if self.left == 0 or len(self.bytes) < 148:
+            return None
+        signature = int.from_bytes(self.bytes[146:148], "big")
+        if signature > 256:
+            raise RootRefusal(MALFORMED)
+        root = self.cut(148 + signature)
+        if root is None:
+            return None
+        self.left -= 1
+        return SignedRoot.read(root)
+
+
 class Client:
     """A user of the provider that has a key: its chain, the looks that were accepted, the promises to test. The kind
     of the chain says which signatures verify."""
@@ -546,6 +588,16 @@ class Client:
             if refusal.evidence is not None:
                 raise ClientRefusal(21, refusal.evidence) from None
             raise RootRefusal(LIST_REFUSALS[refusal.why]) from None
+
+    def update_from(self, feed, piece):
+        """Takes each root that a piece makes whole, before the next one is looked at."""
+        feed.take(piece)
+        try:
+            while (root := feed.next()) is not None:
+                self.update(write_list([root]))
+        except Refusal:
+            feed.failed = True
+            raise
 
     def look(self, name, epoch, reply):
         """The key that a reply states of a name at an epoch (0: the head's), or None. The look is kept."""
@@ -642,6 +694,9 @@ class Monitor:
 
     def update(self, roots):
         self.client.update(roots)
+
+    def update_from(self, feed, piece):
+        self.client.update_from(feed, piece)
 
     def expected(self, epoch):
         """The key of the change with the greatest promise epoch below this one, else what was at the start."""

@@ -37,8 +37,12 @@ module _ (hash : List ℕ → List ℕ) (verified : List ℕ → List ℕ → Li
       let more = chain-takes pieces middle between after held' later in
       let chain : one.0 ≡ middle.chain = sym (ap (λ (c : Client). c.chain) one.3) in (
         (
-          Err one.1, middle.chain, between, subst (λ (c : KeyedRoots). TakesPiece hash verified {A = Unit} before.chain held piece (Err one.1) c between) chain one.2,
-          some-room why one.1 one.4 some, more.0,
+          Err one.1,
+          middle.chain,
+          between,
+          subst (λ (c : KeyedRoots). TakesPiece hash verified {A = Unit} before.chain held piece (Err one.1) c between) chain one.2,
+          some-room why one.1 one.4 some,
+          more.0,
         ),
         more.1 ∙ ap (λ (c : Client). with_chain c after.chain) one.3,
       )

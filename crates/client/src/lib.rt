@@ -3,7 +3,8 @@
 //!
 //! To the layers above: a look is accepted exactly where its reply is accepted under the chain's root of
 //! its epoch, and each accepted look is kept. A promise is tested against the first root after its own,
-//! and anyone can judge one that is reported as broken. A refused call leaves the client as it was.
+//! and anyone can judge one that is reported as broken. A refused call leaves the client as it was,
+//! but `update_from` keeps the roots before the one that it refuses.
 //!
 //! ```text
 //! let mut client: Client<Sha256Hash, KeyedVuf, KeyedSign> = Client::start(alloc, &verifier, key, first)?;

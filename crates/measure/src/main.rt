@@ -37,7 +37,7 @@ const USAGE: &str = "usage: measure digests BYTES COUNT | texts COUNT ROUNDS \
     | changes ITEMS CHANGES LISTS ROUNDS DIGESTS | replies SIBLINGS REPLIES ROUNDS DIGESTS \
     | chains ROOTS SHARED ROUNDS | epochs NAMES CHANGES ROUNDS LOOK_UPS LOOK_UP_ROUNDS DIGESTS \
     | journal NAMES DIGESTS | hub NAMES FRAMES PIECE ROUNDS | feed FRAMES TIMES \
-    | audit ROOTS MORE SIBLINGS TIMES DIGESTS | updates BEFORE LISTS DIGESTS \
+    | audit ROOTS MORE SIBLINGS TIMES DIGESTS | updates BEFORE LISTS DIGESTS PIECE \
     | looks NAMES SIBLINGS ROOTS EPOCHS ROUNDS | watch SIBLINGS EPOCHS ROUNDS \
     | clients SIBLINGS NAMES SHARED EPOCHS ROUNDS | all \
     | ask PORT NAMES FRAMES IN_FLIGHT ROUNDS | exchange PORT NAMES FRAMES ROUNDS \
@@ -182,11 +182,12 @@ fn run_on_clients(
             };
             looking::measure(rt, alloc, &wanted)
         }
-        ("updates", &[before, lists, digests]) => {
+        ("updates", &[before, lists, digests, piece]) => {
             let wanted = updating::Updates {
                 before,
                 lists,
                 digests,
+                piece,
             };
             updating::measure(rt, alloc, &wanted)
         }
@@ -260,7 +261,8 @@ fn run_all(rt: &(impl Print + Input), alloc: Global) -> Result<()> {
     run(rt, alloc, "feed", &[3, 2])?;
     run(rt, alloc, "audit", &[5, 3, 2, 2, 1])?;
     run(rt, alloc, "looks", &[3, 12, 4, 2, 2])?;
-    run(rt, alloc, "updates", &[1, 2, 1])?;
+    run(rt, alloc, "updates", &[1, 2, 1, 0])?;
+    run(rt, alloc, "updates", &[1, 2, 1, 64])?;
     run(rt, alloc, "watch", &[12, 2, 2])?;
     run(rt, alloc, "clients", &[12, 3, 1, 2, 2])
 }

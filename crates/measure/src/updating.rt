@@ -5,7 +5,7 @@ use crate::steps::end_step;
 use anyhow::Result;
 use client::Client;
 use nodehash::Sha256Hash;
-use rootchain::MAX_ROOTS;
+use rootchain::{MAX_ROOTS, RootFeed};
 use sigiface::Signer;
 use std::alloc::Global;
 
@@ -18,16 +18,36 @@ pub(crate) struct Updates {
     pub(crate) lists: usize,
     /// The digests of each length that are timed before and after.
     pub(crate) digests: usize,
+    /// The bytes of the pieces in which a list comes, or 0 if it comes whole.
+    pub(crate) piece: usize,
 }
 
-/// The client takes these lists. Returns the epoch of its head.
-fn update_all(client: &mut Following, lists: &[Vec<u8>]) -> Result<u64> {
+/// The client takes these lists, in pieces of so many bytes. Returns the epoch of its head.
+fn update_all(client: &mut Following, lists: &[Vec<u8>], piece: usize) -> Result<u64> {
     let mut hash = Sha256Hash::new();
     let verifier = provider();
     for list in lists {
-        client.update(&mut hash, &verifier, list)?;
+        if piece == 0 {
+            client.update(&mut hash, &verifier, list)?;
+        } else {
+            update_in_pieces(client, &mut hash, list, piece)?;
+        }
     }
     Ok(client.chain().head().body.epoch)
+}
+
+fn update_in_pieces(
+    client: &mut Following,
+    hash: &mut Sha256Hash,
+    list: &[u8],
+    piece: usize,
+) -> Result<()> {
+    let verifier = provider();
+    let mut feed = RootFeed::new();
+    for bytes in list.chunks(piece.max(1)) {
+        client.update_from(hash, &verifier, &mut feed, bytes)?;
+    }
+    Ok(())
 }
 
 /// The steps of digests: of bodies, and of what is signed of them.
@@ -46,9 +66,11 @@ fn measure_updates(
     client: &mut Following,
     before: &[Vec<u8>],
     more: &[Vec<u8>],
+    piece: usize,
 ) -> Result<()> {
-    for part in [before, more, more] {
-        end_step(rt, alloc, update_all(client, part)?)?;
+    end_step(rt, alloc, update_all(client, before, 0)?)?;
+    for _ in 0..2 {
+        end_step(rt, alloc, update_all(client, more, piece)?)?;
     }
     Ok(())
 }
@@ -66,7 +88,7 @@ fn measure_lists(
     let mut client = Client::start(alloc, &verifier, verifier.public(), first.bytes())?;
     end_step(rt, alloc, 0)?;
     measure_digests(rt, alloc, wanted.digests)?;
-    measure_updates(rt, alloc, &mut client, before, more)?;
+    measure_updates(rt, alloc, &mut client, before, more, wanted.piece)?;
     measure_digests(rt, alloc, wanted.digests)
 }
 

@@ -3,7 +3,8 @@
 //! To the layers above: `step` takes each epoch of the chain in order, and answers exactly whether the
 //! accepted reply states what the owner expects. A change of the key is expected only where the provider
 //! promised it, from the epoch after the promise's on, so what is expected of a watched epoch never
-//! changes. The monitor's client keeps a look of every watched epoch. A refused call changes nothing.
+//! changes. The monitor's client keeps a look of every watched epoch. A refused call changes nothing, but
+//! `update_from` keeps the roots before the one that it refuses.
 //!
 //! ```text
 //! let mut monitor = Monitor::new(alloc, client, name, Some(key));

@@ -3,9 +3,10 @@
 //!
 //! Callers can rely on this: `read` accepts exactly the bytes of a form, each value has one spelling,
 //! and `write` produces it. The roots of a chain verify under one key, each root names the one before
-//! it, and a root that may not follow is refused. A list of roots is taken whole or not at all. Three
-//! answers are exact: where a root stands to a chain, how two chains compare, and whether two roots are
-//! evidence against their provider. Only chains and `write_list` allocate.
+//! it, and a root that may not follow is refused. A list of roots is taken whole or not at all, or root
+//! by root as its pieces come, wherever it is cut. Three answers are exact: where a root stands to a
+//! chain, how two chains compare, and whether two roots are evidence against their provider. Only
+//! chains and `write_list` allocate.
 //!
 //! ```
 //! let first = SignedRoot::read(first_bytes)?;

@@ -1,5 +1,6 @@
 //! Of `client`: a client, and another one, which stay for the next lines.
 
+use crate::feeds;
 use crate::stand_ins::{AnySign, Functions, keyed, summed};
 use crate::telling::{say_evidence, say_option};
 use client::{Client, Due, Outcome, Refusal, reconcile};
@@ -7,16 +8,18 @@ use encoding::Hash32;
 use nodehash::{NodeHash, Sha256Hash, SumHash};
 use proofs::Statement;
 use questions::Case;
+use rootchain::RootFeed;
 use sigiface::KeyedSign;
 use vrfiface::{KeyedVuf, PlainVuf, VufCheck};
 
 type Kept<H, V> = Client<H, V, KeyedSign>;
 
-/// A client, and the one that was put aside.
+/// A client, the one that was put aside, and a list of roots that comes in pieces.
 #[derive(Drop)]
 pub(crate) struct Clients<H: NodeHash + Drop, V: VufCheck + Drop> {
     pub(crate) client: Option<Kept<H, V>>,
     pub(crate) other: Option<Kept<H, V>>,
+    pub(crate) feed: RootFeed,
 }
 
 pub(crate) type KeyedClients = Clients<Sha256Hash, KeyedVuf>;
@@ -40,6 +43,12 @@ where
         b"start" => start(case, by, &mut clients.client),
         b"any" => any(case, by),
         b"put-aside" => put_aside(case, clients),
+        b"feed" => feeds::begin(case, &mut clients.feed),
+        b"done" => feeds::done(case, &clients.feed),
+        b"from" => match &mut clients.client {
+            Some(client) => feeds::update_client(case, by, &mut clients.feed, client),
+            None => case.spoil(),
+        },
         b"reconcile" => {
             reconcile_both(case, by, clients.client.as_ref(), clients.other.as_ref());
         }

@@ -19,11 +19,12 @@
 //! | | `run` | `run`, `run-on`, `seen`, `seen-sum` |
 //! | `serve` | `serve_unkept`, which calls `serve` | `run`, `keys` |
 //! | `client` | `Client::start`, `update`, `look` | `start`, `update`, `look` |
+//! | | `update_from`; `RootFeed::new`, `done` | `from`; `feed`, `done` |
 //! | | `keep_promise`, `due`, `due_epoch` | `keep`, `due`, `due-epoch` |
 //! | | `key`, `chain` | `key`, `head` |
 //! | | `reconcile` | `reconcile`, `reconcile-self`; `put-aside` makes the client the other one |
 //! | | `start`, `update`, `keep_promise` under a verifier that accepts all | `any` |
-//! | `monitor` | `Monitor::new`, `update` | `new`, `update` |
+//! | `monitor` | `Monitor::new`, `update`, `update_from` | `new`, `update`, `from` |
 //! | | `next_epoch`, `step` | `next`, `step` |
 //! | | `expect_change` with `read_promise` and `keep_read` of a client | `expect` |
 //! | | `expected`, `name`, `client` | `expected`, `name`, `client` |
@@ -45,6 +46,7 @@ mod auditors;
 mod clients;
 mod directories;
 mod evidences;
+mod feeds;
 mod hubs;
 mod journals;
 mod monitors;
@@ -63,6 +65,7 @@ use directories::{KeyedDirectory, SummedDirectory};
 use hubs::KeptHub;
 use monitors::KeyedMonitor;
 use questions::{Case, Subjects, answer_all};
+use rootchain::RootFeed;
 use std::alloc::Global;
 use std::fs::Files;
 use std::io::{self, BufReader};
@@ -90,10 +93,12 @@ impl<'a, F: Files> State<'a, F> {
             clients: Clients {
                 client: None,
                 other: None,
+                feed: RootFeed::new(),
             },
             summed_clients: Clients {
                 client: None,
                 other: None,
+                feed: RootFeed::new(),
             },
             monitor: None,
             auditor: Auditor::new(alloc),

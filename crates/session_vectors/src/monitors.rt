@@ -3,6 +3,7 @@
 use crate::clients::{
     KeyedClients, reconcile_both, refuse as refuse_client, say_cause, say_statement, tell_done,
 };
+use crate::feeds;
 use crate::stand_ins::{AnySign, Functions, keyed};
 use crate::telling::say_option;
 use client::Client;
@@ -29,6 +30,12 @@ pub(crate) fn answer(
             let client = kept.as_ref().map(|monitor| monitor.client());
             reconcile_both(case, &mut keyed(), client, clients.other.as_ref());
         }
+        b"from" => match kept {
+            Some(monitor) => {
+                feeds::update_monitor(case, &mut keyed(), &mut clients.feed, monitor)
+            }
+            None => case.spoil(),
+        },
         verb => match kept {
             Some(monitor) => answer_on(case, &mut keyed(), verb, monitor),
             None => case.spoil(),

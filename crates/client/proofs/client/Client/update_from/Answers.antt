@@ -18,9 +18,11 @@ pub returns-clause-updates : goal.returns-clause-updates
 returns-clause-updates g c = elim c.match-take_piece.branch [
   | in-Ok w ↦ rw (w.result-is, ← c.self.view_is) (c.take_piece.new.self, w.in-Ok.ensures.takes, refl)
   | in-Err w ↦ rw w.result-is (
-    c.take_piece.new.self, w.in-Err.why,
+    c.take_piece.new.self,
+    w.in-Err.why,
     subst (λ (before : Client). TakesPiece g.H.NodeHash.digest_of g.S.Verifier.verified {A = Unit} before.chain c.args.feed.now c.args.piece.now (Err w.in-Err.why) c.take_piece.new.self c.take_piece.new.feed) c.self.view_is w.in-Err.ensures.takes,
-    ap (λ (before : Client). with_chain before c.take_piece.new.self) c.self.view_is, w.tell_piece.ensures,
+    ap (λ (before : Client). with_chain before c.take_piece.new.self) c.self.view_is,
+    w.tell_piece.ensures,
   )
 ]
 
