@@ -4,7 +4,7 @@ from asking import beginnings, flipped, raised, spliced
 from evidence_questions import json_of, json_parts
 from formats import *
 from session_subjects import *
-from sessions import SIGN_KEY, Client
+from sessions import SIGNING_KEY, Client
 
 SUBJECTS, subject = subjects()
 
@@ -17,7 +17,7 @@ def of_few_lines(q, rng):
     q.ask("hub bytes", 1, b"")
     a, b, c = KEYED.pages([3, 7, 9])
     lets(q, a=a, b=b, c=c)
-    q.ask("client start", SIGN_KEY, written(a))
+    q.ask("client start", SIGNING_KEY, written(a))
     q.ask("client feed")
     q.ask("client from", 100, roots(a, b, c))
     q.ask("client head")
@@ -33,7 +33,7 @@ def of_pieces(q, rng):
     q.let("list", whole)
 
     def begin(client="client"):
-        q.ask(f"{client} start", SIGN_KEY, written(a))
+        q.ask(f"{client} start", SIGNING_KEY, written(a))
         q.ask(f"{client} feed")
 
     def end(client="client"):
@@ -69,7 +69,7 @@ def of_pieces(q, rng):
     for client in ["client", "client-sum"]:
         provider = KEYED if client == "client" else SUMS
         x, y = provider.pages([4, 5])
-        q.ask(f"{client} start", SIGN_KEY, written(x))
+        q.ask(f"{client} start", SIGNING_KEY, written(x))
         q.ask(f"{client} feed")
         q.ask(f"{client} from", 100, roots(x, y))
         end(client)
@@ -81,7 +81,7 @@ def of_pieces(q, rng):
         end()
         q.ask("client from", 0, whole[place:])
         end()
-        q.ask("client start", SIGN_KEY, written(a))
+        q.ask("client start", SIGNING_KEY, written(a))
     q.note("Lists of no root, of 64 and of 65.")
     for data in [roots(), u16(64) + written(b) * 64, u16(65) + written(b) * 65, u16(65), u16(2**16 - 1), b"\1", b"\1\0"]:
         begin()
@@ -104,7 +104,7 @@ def of_pieces(q, rng):
     fork, link = KEYED.page(7, a, nonce=run(1)), KEYED.page(12, KEYED.page(9, b, nonce=run(2)))
     for pages in [
         (a, b, c, fork), (a, b, link), (b, fork, c), (b, KEYED.page(1)), (b, KEYED.page(12, KEYED.page(11, c)), c),
-        (c, b), (b, a, b, c, a), (b, KEYED.page(8, a)), (b, KEYED.page(9, b, sign_key=OTHER_KEY), c),
+        (c, b), (b, a, b, c, a), (b, KEYED.page(8, a)), (b, KEYED.page(9, b, signing_key=OTHER_KEY), c),
     ]:
         for cut in [1, 0]:
             begin()
@@ -136,8 +136,8 @@ def of_altered_promises(q, rng):
     lets(q, a=a)
     q.let("one", one)
     q.let("other", other)
-    q.ask("client start", SIGN_KEY, written(a))
-    client = Client(SIGN_KEY, written(a), sha256, KeyedVuf)
+    q.ask("client start", SIGNING_KEY, written(a))
+    client = Client(SIGNING_KEY, written(a), sha256, KeyedVuf)
 
     def parts(data):
         cuts = [0, 2, 10, 42, 74, 76, 77, 79, 81, 83, 115]
@@ -159,7 +159,7 @@ def of_altered_promises(q, rng):
 
 @subject("evidence as JSON: each beginning, and each byte raised by 1")
 def of_altered_files(q, rng):
-    key = q.let("key", SIGN_KEY.hex().encode())
+    key = q.let("key", SIGNING_KEY.hex().encode())
     first = dict(reversed(list(cheats())))
     for kind in (FORK, BROKEN):
         text = q.let(kind, json_of(kind, *json_parts(kind, first[kind])))
