@@ -58,6 +58,10 @@ CLIENT_ROUNDS, CLIENT_RUNS = {10: 500, 100: 50, 1_000: 5}, 3
 EPOCH_RUNS = {1_000: 10, 10_000: 10, 100_000: 10, 1_000_000: 5}
 # How often each size of a journal is measured, and the bytes of a record beside those of a start and a page.
 JOURNAL_RUNS, JOURNAL_BYTES, OTHER_BYTES = {10_000: 10, 100_000: 10, 1_000_000: 3}, 86, 115
+# The registrations that `serve` answers in one stream, those that it answers one at a time, and the runs.
+SERVED, SERVED_ALONE, SERVED_RUNS = 20_000, 1_000, 7
+# The kind byte of a reply that promises.
+PROMISE = 0x81
 EPOCH_ROUNDS, EPOCH_CHANGES = 100, 1_000
 EPOCH_LOOK_UPS, LOOK_UP_ROUNDS = 10_000, 10
 # The last epochs of a run, in which the memory that a change keeps is measured. The first ones use
@@ -743,7 +747,67 @@ class Journals:
         return [*row, *opened.cells(1, 3), f"{ratio:.2f}", f"{statistics.median(self.memory):.2f}"]
 
 
+def register_frame(number):
+    name, key = b"name %011d" % number, b"%032d" % number
+    body = b"\1" + b"".join(len(part).to_bytes(2, "big") + part for part in (name, key))
+    return len(body).to_bytes(4, "big") + body
+
+
+def serve_words(path):
+    words = [word for key, value in SERVE_KEYS.items() for word in (f"--{key}", value * 32)]
+    return [DIRECTORYD, "serve", *words, *(["--journal", path] if path else [])]
+
+
+def check_served(process, path, count):
+    status = process.wait(60)
+    size = os.path.getsize(path) if path else None
+    if status != 0 or size not in (None, 106 + JOURNAL_BYTES * count):
+        sys.exit(f"directoryd serve: status {status}, a journal of {size} bytes")
+
+
+def served_at_once(path):
+    """The seconds of `serve` for a registration of a stream, with a journal of this path, if one is given."""
+    with tempfile.TemporaryFile() as stream:
+        stream.write(b"".join(register_frame(number) for number in range(SERVED)))
+        stream.seek(0)
+        begun = time.perf_counter()
+        quiet = {"stdout": subprocess.DEVNULL, "stderr": subprocess.DEVNULL}
+        process = subprocess.Popen(serve_words(path), stdin=stream, **quiet)
+        check_served(process, path, SERVED)
+        return (time.perf_counter() - begun) / SERVED
+
+
+def served_alone(path):
+    """The same, where each registration waits for the reply to the one before."""
+    pipes = {"stdin": subprocess.PIPE, "stdout": subprocess.PIPE, "stderr": subprocess.DEVNULL}
+    process = subprocess.Popen(serve_words(path), bufsize=0, **pipes)
+    for number in range(SERVED_ALONE + 1):
+        if number == 1:
+            begun = time.perf_counter()
+        process.stdin.write(register_frame(number))
+        reply = process.stdout.read(65536)
+        if reply[4] != PROMISE:
+            sys.exit(f"a registration got the kind {reply[4]:02x}")
+    taken = time.perf_counter() - begun
+    process.stdin.close()
+    check_served(process, path, SERVED_ALONE + 1)
+    return taken / SERVED_ALONE
+
+
+def served_row(name, folder):
+    """The rates of `serve` with a journal in a folder, or with none."""
+    row = [name]
+    for number, serve in enumerate((served_at_once, served_alone)):
+        times = Spread([serve(folder and f"{folder}/journal {number} {run}") for run in range(SERVED_RUNS)])
+        row += [f"{1 / times.least:,.0f}", f"{1 / times.median:,.0f}"]
+    return row
+
+
 def journal(_folder):
+    with tempfile.TemporaryDirectory(dir="/dev/shm") as memory, tempfile.TemporaryDirectory(dir=".") as disk:
+        rows = [served_row(*each) for each in (("none", None), ("in memory", memory), ("on the disk", disk))]
+    head = ["journal", "in a stream", "median", "one at a time", "median"]
+    table("registrations a second through directoryd serve, by the clock; with a journal each piece is synced", head, rows)
     sizes = [Journals(size) for size in JOURNAL_RUNS]
     digests = Spread([time for each in sizes for time in each.digests], DIGESTS)
     print_digest(LEAF, digests)

@@ -18,6 +18,7 @@
 # hundreds of times slower. So a library in front of the C library's counts allocations in the built program.
 set -uo pipefail
 cd "$(dirname "$0")/.." || exit 1
+. scripts/library.sh
 crates=$PWD/crates
 
 seconds=300
@@ -37,12 +38,8 @@ workers=$(nproc)
 folder=$(mktemp -d)
 trap 'rm -rf "$folder"' EXIT
 
-# The kit's compiler, or another one.
-kit=$(dirname "$(dirname "$(readlink -f "$(command -v rt)")")")
-compiler=$kit/toolchain/bin/clang
-[ -x "$compiler" ] || compiler=cc
 library=$folder/fail_nth.so
-"$compiler" -O1 -fPIC -shared -nostdlib -o "$library" scripts/fail_nth.c || exit 1
+library scripts/fail_nth.c "$library" || exit 1
 
 # Answers the questions of a subject, where the allocation of this number fails, in the folder that has the
 # program's files: run PROGRAM SUBJECT NUMBER OUTPUT COUNT

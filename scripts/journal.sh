@@ -9,6 +9,7 @@
 # status is 0 where none failed. It ends after five minutes whatever happens.
 set -uo pipefail
 cd "$(dirname "$0")/.." || exit 1
+. scripts/library.sh
 
 if [ -z "${JOURNAL_LIMIT:-}" ]; then
     JOURNAL_LIMIT=300 exec timeout --kill-after=10 300 "scripts/journal.sh"
@@ -125,6 +126,37 @@ got=0
 same "a line that cannot be written, status" 1 "$got"
 same "a line that cannot be written, output" "" "$(od -An -v -tx1 "$folder/out")"
 
+# Starts on the journal, where the allocation of this number fails: starts NUMBER COUNT
+starts() {
+    FAIL_NTH=$1 LD_PRELOAD=$folder/fail_nth.so \
+        "$program" serve $keys --journal "$journal" </dev/null 2>"$folder/err" 3>"$2"
+}
+
+# Each allocation of a start fails in turn. A start that can do without one is well.
+starves() {
+    local number all
+    starts 0 "$folder/count"
+    all=$(cat "$folder/count")
+    for ((number = 1; number <= all; number++)); do
+        if ! starts $number /dev/null && [ "$(tail -n 1 "$folder/err")" != "out of memory" ]; then
+            fails "allocation $number fails: '$(cat "$folder/err")'"
+        fi
+    done
+    same "a start that lacks memory" "1" "$((all > 20))"
+    same "a journal for which memory was wanting" "" "$(cmp "$journal" "$folder/whole" 2>&1)"
+}
+
+if library scripts/fail_nth.c "$folder/fail_nth.so"; then
+    starves
+else
+    fails "fail_nth.c is not built"
+fi
 well "a file that may not grow" scripts/journaled.py "$program" "$folder" full
+well "three lives of a file" scripts/journaled.py "$program" "$folder" lives
+if library scripts/sync_order.c "$folder/sync_order.so"; then
+    well "records on the disk before their answers" scripts/journaled.py "$program" "$folder" synced "$folder/sync_order.so"
+else
+    fails "sync_order.c is not built"
+fi
 well "kills at 200 moments, or at as many as there is time for" scripts/journaled.py "$program" "$folder" kills 200
 finish

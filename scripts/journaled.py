@@ -1,35 +1,41 @@
 #!/usr/bin/env python3
 """Stops servers that keep a journal, starts them again on the file, and asks for all that was answered.
 
-    scripts/journaled.py PROGRAM FOLDER kills COUNT  the server is killed at so many moments of a run of registrations
-                                                     and closings
-    scripts/journaled.py PROGRAM FOLDER full         the file may not grow any more: a registration is refused 19, and
-                                                     look-ups go on; with room again, the server is started again
+    scripts/journaled.py PROGRAM FOLDER kills COUNT     the server is killed at so many moments of a run of registrations,
+                                                        changes and closings
+    scripts/journaled.py PROGRAM FOLDER lives           three lives of one file, each with salts of a stream of its own
+    scripts/journaled.py PROGRAM FOLDER full            the file may not grow any more: a registration is refused 19, and
+                                                        look-ups go on; with room again, the server is started again
+    scripts/journaled.py PROGRAM FOLDER synced LIBRARY  the order of records, syncs and answers, and syncs that fail one
+                                                        after another, by the library of sync_order.c
 
 The journals are files of the folder. Prints what is not so. The status is 0 where all is.
 """
 
+import os
 import random
 import resource
 import signal
-import socket
 import subprocess
 import sys
 import threading
 import time
+from typing import NamedTuple
 
 sys.dont_write_bytecode = True
 from formats import *
 from send_frames import connected
-from worked import SIGNING_KEY, TOKEN, keys
+from worked import SALT_KEY, SIGNING_KEY, TOKEN, keys
 
 KILLS_OF_A_FILE = 20
 LONGEST_RUN = 0.06
 # After so many seconds no more kills are made, so that a slow machine ends in time.
 KILLS_SECONDS = 150
 BATCH = 8
+AT_ONCE = 64
 KEEP_FAILED = 19
 ROOM = 2048
+FAILING_SYNCS = 4
 
 
 def limit_files():
@@ -37,14 +43,31 @@ def limit_files():
     resource.setrlimit(resource.RLIMIT_FSIZE, (ROOM, ROOM))
 
 
+def records_of(journal):
+    """The whole records of a file: a start, and then others."""
+    found = []
+    with open(journal, "rb") as file:
+        cursor = Cursor(file.read())
+    try:
+        while True:
+            found.append(read_front(take_later_record if found else take_start_record, cursor))
+    except Fault:
+        return found
+
+
+def salts_of(records):
+    """The salts of the bindings among records, in order."""
+    return [record[1] for record in records[1:] if record[0] in VERBS]
+
+
 class Server:
     """A server on a journal. `line` is what it says of the journal."""
 
-    def __init__(self, program, journal, before=None):
+    def __init__(self, program, journal, **how):
         words = [program, "listen", *keys().split(), "--journal", journal, "127.0.0.1:0"]
-        self.process = subprocess.Popen(
-            words, stderr=subprocess.PIPE, stdout=subprocess.DEVNULL, text=True, preexec_fn=before, restore_signals=False
-        )
+        pipes = {"stderr": subprocess.PIPE, "stdout": subprocess.DEVNULL}
+        self.journal = journal
+        self.process = subprocess.Popen(words, text=True, restore_signals=False, **pipes, **how)
         self.line = self.process.stderr.readline().strip()
         self.address = self.process.stderr.readline().removeprefix("listening on ").strip()
 
@@ -54,72 +77,129 @@ class Server:
         self.process.stderr.close()
 
     def ask(self, requests):
-        """The replies to these requests over one connection, as (kind, body)."""
-        received = b""
+        """The replies to these requests over one connection, as (kind, body), as far as they come."""
+        answers, rest = [], b""
         with connected(self.address) as client:
-            for request in requests:
-                client.sendall(request_frame(*request))
-            client.shutdown(socket.SHUT_WR)
-            while piece := client.recv(65536):
-                received += piece
-        return split_frames(received)[0]
+            for start in range(0, len(requests), AT_ONCE):
+                some = requests[start : start + AT_ONCE]
+                try:
+                    client.sendall(b"".join(request_frame(*request) for request in some))
+                    while len(answers) < start + len(some):
+                        piece = client.recv(65536)
+                        if not piece:
+                            return answers
+                        found, rest, _ = split_frames(rest + piece)
+                        answers += found
+                except OSError:
+                    return answers
+        return answers
+
+
+class Version(NamedTuple):
+    """A key of a name, as it was promised over an epoch."""
+
+    key: bytes
+    epoch: int
+    promise: bytes
 
 
 class Answered:
-    """What a server answered: the root of each epoch, and each name with its key and its promise."""
+    """What a server answered: the root of each epoch, and the versions of each name."""
 
     def __init__(self):
-        self.roots, self.promises = {}, {}
-        self.names, self.epoch = 0, 1
+        self.roots, self.names = {}, {}
+        # The keys of changes that got no answer, by name. Such a name is not changed again.
+        self.doubted = {}
+        self.made, self.epoch, self.head = 0, 1, 1
+
+    def is_shown(self, name):
+        """Whether the last version of a name is on the last page, so that nothing waits."""
+        return self.names[name][-1].epoch < self.head
+
+    def changeable(self):
+        """Some name of which nothing waits, if one is found."""
+        for name in random.sample(list(self.names), min(len(self.names), 4)):
+            if name not in self.doubted and self.is_shown(name):
+                return name
+        return None
+
+    def first(self):
+        """Registrations and a closing, so that there is something to change."""
+        for _ in range(BATCH):
+            self.made += 1
+            yield "register", b"name %d" % self.made, b"first key"
+        self.epoch += 1
+        yield "close", TOKEN, self.epoch
 
     def batch(self):
-        """Registrations of new names, and perhaps the closing of an epoch."""
+        """Registrations of new names and changes of others, and perhaps the closing of an epoch."""
+        taken = {None}
         for _ in range(random.randrange(1, BATCH)):
-            self.names += 1
-            name = f"name {self.names}".encode()
-            yield "register", name, b"key of " + name
+            self.made += 1
+            name = self.changeable()
+            if random.random() < 0.5 and name not in taken:
+                taken.add(name)
+                yield "change", name, b"key %d of " % self.made + name
+            else:
+                name = b"name %d" % self.made
+                yield "register", name, b"key of " + name
         if random.random() < 0.3:
             self.epoch += 1
             yield "close", TOKEN, self.epoch
 
     def take(self, request, kind, body):
         """Keeps an answer, and says what is wrong with it."""
-        if request[0] == "register" and kind == PROMISE:
-            self.promises[request[1]] = (request[2], SignedPromise.read(body).promise.epoch, body)
+        if request[0] in VERBS and kind == PROMISE:
+            promise = SignedPromise.read(body).promise
+            if (promise.name, promise.key) != request[1:]:
+                yield f"{request[0]} of {request[1]} got the promise of {promise.name}"
+            self.names.setdefault(request[1], []).append(Version(request[2], promise.epoch, body))
         elif request[0] == "close" and kind == ROOT:
             self.roots[request[2]] = body
+            self.head = request[2]
         else:
             yield f"{request[0]} got the kind {kind:02x} and {body[:8].hex()}"
+
+    def doubt(self, requests):
+        """These got no answer."""
+        for verb, name, key in (request for request in requests if request[0] == "change"):
+            self.doubted.setdefault(name, set()).add(key)
+
+    def ask(self, server, requests):
+        """Asks, and keeps what comes."""
+        answers = server.ask(requests)
+        for request, answer in zip(requests, answers):
+            yield from self.take(request, *answer)
+        self.doubt(requests[len(answers) :])
 
     def run(self, server, seconds):
         """Asks until the server is gone, which is killed after this time."""
         timer = threading.Timer(seconds, server.process.kill)
-        asked, answers, rest = [], [], b""
+        asked, rest = [], b""
         with connected(server.address) as client:
             timer.start()
             try:
                 while True:
-                    batch = list(self.batch())
-                    asked += batch
-                    client.sendall(b"".join(request_frame(*request) for request in batch))
-                    while len(answers) < len(asked):
+                    asked = list(self.batch())
+                    client.sendall(b"".join(request_frame(*request) for request in asked))
+                    while asked:
                         piece = client.recv(65536)
                         if not piece:
                             raise ConnectionError
                         found, rest, _ = split_frames(rest + piece)
-                        answers += found
+                        for answer in found:
+                            yield from self.take(asked.pop(0), *answer)
             except OSError:
                 pass
         timer.join()
         server.stop()
-        for request, answer in zip(asked, answers):
-            yield from self.take(request, *answer)
+        self.doubt(asked)
 
     def check(self, server, roots_from, names):
         """Asks a server for the roots from this epoch on and for these names, and says what is missing or other."""
         ((_, head),) = server.ask([("head",)])
         root = SignedRoot.read(head)
-        self.epoch = max(self.epoch, root.epoch)
+        self.epoch, self.head = max(self.epoch, root.epoch), root.epoch
         roots, start = {}, roots_from
         while start <= root.epoch:
             ((kind, body),) = server.ask([("history", start, 64)])
@@ -132,55 +212,103 @@ class Answered:
         for epoch, body in self.roots.items():
             if epoch >= roots_from and roots.get(epoch) != body:
                 yield f"the root of epoch {epoch} is gone or another"
-        requests = []
-        for name in names:
-            key, epoch, promise = self.promises[name]
-            requests.append(("lookup", 0, name) if epoch < root.epoch else ("promise", name))
-        for name, request, (kind, body) in zip(names, requests, server.ask(requests)):
-            key, epoch, promise = self.promises[name]
+        self.roots.update(roots)
+        salts = {record[2:]: record[1] for record in records_of(server.journal)[1:] if record[0] in VERBS}
+        questions = [question for name in names for question in self.questions(name)]
+        answers = server.ask([request for request, *_ in questions])
+        if len(answers) < len(questions):
+            yield f"{len(answers)} answers to {len(questions)} questions"
+        for (request, version, others), (kind, body) in zip(questions, answers):
+            name = request[-1]
             if request[0] == "promise":
-                if (kind, body) != (PROMISE, promise):
+                if (kind, body) != (PROMISE, version.promise):
                     yield f"the promise of {name} is gone or another"
-            elif kind != PROOF or not self.shows(root, name, key, body):
-                yield f"{name}, promised in epoch {epoch}, is not in epoch {root.epoch}"
+            else:
+                shown = self.shown(request[1] or root.epoch, name, body) if kind == PROOF else None
+                if shown is None or shown.key not in others | {version.key}:
+                    yield f"{name}, promised over epoch {version.epoch}, is not in epoch {request[1]}"
+                elif shown.salt != salts.get((name, shown.key)):
+                    yield f"{name} in epoch {request[1]} has not the salt of its record"
 
-    @staticmethod
-    def shows(root, name, key, body):
+    def questions(self, name):
+        """What to ask of each version of a name: the request, the version, and the keys that may have come after it."""
+        versions, others = self.names[name], self.doubted.get(name, set())
+        for version, later in zip(versions, versions[1:]):
+            yield ("lookup", later.epoch, name), version, set()
+        last = versions[-1]
+        if self.is_shown(name):
+            yield ("lookup", 0, name), last, others
+        else:
+            yield ("promise", name), last, set()
+
+    def shown(self, epoch, name, body):
+        """What a reply to a look-up shows under the root of an epoch, where it is accepted."""
+        root = SignedRoot.read(self.roots[epoch])
         try:
             accepted = accept(sha256, KeyedVuf, root.body, name, body)
         except Refusal:
-            return False
+            return None
         end = accepted.reply.end
-        return root.verifies(SIGNING_KEY) and isinstance(end, Opening) and end.key == key
+        return end if root.verifies(SIGNING_KEY) and isinstance(end, Opening) else None
 
 
 def kills(program, folder, count):
     """Kills the server so often, or as often as the time allows."""
-    counted, end = 0, time.monotonic() + KILLS_SECONDS
+    counted, changes, end = 0, 0, time.monotonic() + KILLS_SECONDS
     for number in range(int(count)):
         if number % KILLS_OF_A_FILE == 0:
             journal, answered = f"{folder}/journal {number}", Answered()
-        server = Server(program, journal)
-        before = list(answered.promises)
+            server = Server(program, journal)
+            begun = time.monotonic()
+            yield from answered.ask(server, [*answered.first()])
+            longest = max(LONGEST_RUN, 4 * (time.monotonic() - begun))
+        else:
+            server = Server(program, journal)
+        before = {name: len(versions) for name, versions in answered.names.items()}
         roots_from = answered.epoch
-        yield from answered.run(server, random.random() * LONGEST_RUN)
+        yield from answered.run(server, random.random() * longest)
         server = Server(program, journal)
         is_over = number + 1 == int(count) or time.monotonic() > end
         is_last = is_over or (number + 1) % KILLS_OF_A_FILE == 0
-        names = [name for name in answered.promises if is_last or name not in before]
-        yield from answered.check(server, 1 if is_last else roots_from, names)
+        new = [name for name, versions in answered.names.items() if len(versions) != before.get(name)]
+        yield from answered.check(server, 1 if is_last else roots_from, answered.names if is_last else new)
         server.stop()
-        counted += len(names) if not is_last else 0
+        counted += len(new)
+        changes += sum(len(answered.names[name]) > 1 for name in new)
+        if is_last and len(set(salts := salts_of(records_of(journal)))) < len(salts):
+            yield "a salt was drawn twice"
         if is_over:
             break
-    print(f"{counted} promises were asked for after a kill", file=sys.stderr)
-    if not counted:
+    print(f"{number + 1} kills; {counted} names, {changes} of them changed, were asked for after one", file=sys.stderr)
+    if not counted or not changes:
         yield "nothing was answered"
+
+
+def lives(program, folder):
+    """Three lives of one file. Each draws the salts of the stream whose number is that of the records it found."""
+    journal, answered = f"{folder}/lives", Answered()
+    for life in range(1, 4):
+        found = len(records_of(journal)) if os.path.exists(journal) else 0
+        server = Server(program, journal)
+        if server.line != f"journal: {found} records taken":
+            yield f"life {life}: {server.line}"
+        yield from answered.check(server, 1, answered.names)
+        changes = [("change", name, b"key of life %d" % life) for name in answered.names if answered.is_shown(name)]
+        registers = [("register", b"name %d of life %d" % (number, life), b"key") for number in range(3)]
+        closing, waits = ("close", TOKEN, 10 * life), ("register", b"waits in life %d" % life, b"key")
+        yield from answered.ask(server, changes + registers + [closing, waits])
+        server.stop()
+        drawn = salts_of(records_of(journal))[len(salts_of(records_of(journal)[: max(found, 1)])) :]
+        if len(drawn) != len(changes) + 4 or any(one != two for one, two in zip(drawn, salts(SALT_KEY, found))):
+            yield f"life {life}: the salts are not those of stream {found}"
+    server = Server(program, journal)
+    yield from answered.check(server, 1, answered.names)
+    server.stop()
 
 
 def full(program, folder):
     journal, answered = f"{folder}/full", Answered()
-    server = Server(program, journal, limit_files)
+    server = Server(program, journal, preexec_fn=limit_files)
     if server.line != "journal: 0 records taken":
         yield f"a new journal: {server.line}"
     refused = None
@@ -203,13 +331,117 @@ def full(program, folder):
             yield f"{request[0]} after a lost record got the kind {kind:02x}"
     server.stop()
     server = Server(program, journal)
-    if not server.line.startswith(f"journal: {len(answered.promises) + 1} records taken"):
+    if not server.line.startswith(f"journal: {len(answered.names) + 1} records taken"):
         yield f"with room again: {server.line}"
-    yield from answered.check(server, 1, list(answered.promises))
+    yield from answered.check(server, 1, answered.names)
     server.stop()
 
 
-WAYS = {"kills": kills, "full": full}
+class Log:
+    """The calls of a process that hand bytes to files and connections, as the library logs them."""
+
+    def __init__(self, path, library, fails=0):
+        self.path = path
+        self.file = open(path, "wb")
+        words = {"LD_PRELOAD": library, "SYNC_LOG": str(self.file.fileno()), "FAIL_SYNC": str(fails)}
+        self.how = {"env": {**os.environ, **words}, "pass_fds": (self.file.fileno(),)}
+
+    def calls(self):
+        """Each call so far: its name, its descriptor, and whether it was well."""
+        with open(self.path) as file:
+            words = [line.split() for line in file]
+        return [(name, int(descriptor), int(result) >= 0) for name, descriptor, result in words]
+
+    def count(self, name):
+        return sum(call[0] == name for call in self.calls())
+
+
+def synced_file(calls):
+    """The descriptor of the one file that is synced."""
+    (journal,) = {descriptor for name, descriptor, _ in calls if name == "fdatasync"}
+    return journal
+
+
+def wrong_order(calls):
+    """Says what left before its records were on the disk, and what came after a sync that failed."""
+    journal = synced_file(calls)
+    is_synced, has_failed = False, False
+    for name, descriptor, is_well in calls:
+        if name == "fdatasync":
+            has_failed = has_failed or not is_well
+            is_synced = not has_failed
+        elif descriptor == journal and name == "write":
+            is_synced = False
+            if has_failed:
+                yield "a record was written after a sync that failed"
+        elif name == "send" or descriptor == 1:
+            if has_failed:
+                yield "an answer left after a sync that failed"
+            elif not is_synced:
+                yield "an answer left before its record was on the disk"
+
+
+def ordered(program, folder, library):
+    """Records are on the disk before their answers leave, and what needs no sync makes none."""
+    log, answered = Log(f"{folder}/log", library), Answered()
+    server = Server(program, f"{folder}/synced", **log.how)
+    for _ in range(50):
+        yield from answered.ask(server, list(answered.batch()))
+    syncs = log.count("fdatasync")
+    # A call is logged once it is over, so the last send may not be there yet.
+    if not 50 <= syncs < log.count("write") or log.count("send") < 49:
+        yield f"{syncs} syncs, {log.count('write')} writes, {log.count('send')} sends"
+    server.ask([("head",), ("lookup", 0, b"name 1"), ("register", b"name 1", b"key")])
+    if log.count("fdatasync") != syncs:
+        yield "a sync without a record"
+    calls = log.calls()
+    yield from wrong_order(calls)
+    if next(call for call in calls if call[0] == "fsync" or call[:2] == ("write", synced_file(calls)))[0] != "fsync":
+        yield "the entry of the file is not synced in its folder"
+    server.stop()
+
+
+def failing(program, folder, library, number):
+    """The sync of this number fails: none of its answers leaves and none after them, and a restart has the others."""
+    log, answered = Log(f"{folder}/log {number}", library, number), Answered()
+    journal = f"{folder}/failing {number}"
+    server = Server(program, journal, **log.how)
+    asked = []
+    for _ in range(number):
+        batch = list(answered.batch())
+        asked += batch
+        yield from answered.ask(server, batch)
+    if sum(map(len, answered.names.values())) + len(answered.roots) >= len(asked):
+        yield f"sync {number} fails, and all is answered"
+    for request in ("head",), ("register", b"other", b"key"), ("head",):
+        if server.ask([request]):
+            yield f"an answer to {request[0]} after sync {number} failed"
+    yield from wrong_order(log.calls())
+    server.stop()
+    server = Server(program, journal)
+    yield from answered.check(server, 1, answered.names)
+    server.stop()
+
+
+def unserved(program, folder, library):
+    """`serve` ends where its sync fails, and writes nothing."""
+    log = Log(f"{folder}/log of serve", library, 1)
+    words = [program, "serve", *keys().split(), "--journal", f"{folder}/unserved"]
+    served = subprocess.run(words, input=request_frame("head"), capture_output=True, **log.how)
+    told = (served.returncode, served.stdout, served.stderr.split(b"\n")[-2])
+    if told != (1, b"", b"cannot write"):
+        yield f"serve, whose sync fails: {told}"
+    yield from wrong_order(log.calls())
+
+
+def synced(program, folder, library):
+    yield from ordered(program, folder, library)
+    for number in range(1, FAILING_SYNCS + 1):
+        yield from failing(program, folder, library, number)
+    yield from unserved(program, folder, library)
+
+
+WAYS = {"kills": kills, "lives": lives, "full": full, "synced": synced}
 
 
 def main(program, folder, way, *words):

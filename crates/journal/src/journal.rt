@@ -1,8 +1,27 @@
+ghost use Rattle.std.specs.Prelude.{◌≡◌, IfErr, OnOk};
+ghost use Rattle.std.specs.Io.KnownBytes.{Appends};
+ghost use Rattle.textio.specs.Output.{WritesBeginning};
+ghost use Rattle.journal.specs.Records.{record_bytes, IsRecord};
+
 use crate::text::record_text;
 use book::{KeepFailed, Keeper, Record};
 use std::io::Write;
 use std::marker::Model;
-use textio::write_text;
+use textio::{StreamFault, write_text};
+
+/// Writes a record at the end of a writer.
+///
+/// # Errors
+///
+/// `CannotWrite`, with a beginning of the record written.
+pub fn write_record<W: Write>(writer: &mut W, what: &Record) -> Result<(), StreamFault>
+    ensures record { IsRecord what.now }
+    ensures ok { OnOk result (Appends (W.contents writer.old) (W.contents writer.new) (record_bytes what.now)) }
+    ensures err { IfErr result (λ fault. (fault ≡ StreamFault.CannotWrite)
+        × WritesBeginning (W.contents writer.old) (W.contents writer.new) (record_bytes what.now)) }
+{
+    write_text(writer, record_text(what).bytes())
+}
 
 /// Writes each record at the end of a writer. After a write that failed it keeps nothing more.
 #[derive(Drop)]
@@ -44,7 +63,7 @@ impl<W: Write + Drop> Keeper for Journal<W> {
         if self.is_broken {
             return Err(KeepFailed);
         }
-        if write_text(&mut self.writer, record_text(what).bytes()).is_err() {
+        if write_record(&mut self.writer, what).is_err() {
             self.is_broken = true;
             return Err(KeepFailed);
         }

@@ -25,7 +25,7 @@ mod refusal;
 mod text;
 
 pub use counting::records;
-pub use journal::Journal;
+pub use journal::{Journal, write_record};
 pub use laws::{
     faults_are_settled, journals_go_on, journals_open_to_their_runs, openings_are_settled,
 };

@@ -1,6 +1,7 @@
 // Records are read so that a refusal says whether the bytes were cut short: `Short` exactly where they
 // begin a record that more bytes could end. So a length is refused at its first byte where no second one
 // could mend it.
+ghost use Rattle.std.specs.Prelude.{◌/◌};
 ghost use Rattle.encoding.specs.Reading.{Gives, read_counted};
 ghost use Rattle.journal.specs.Reading.{read_bound, read_later, read_start, read_up_to, read_verb};
 
@@ -51,8 +52,8 @@ fn read_bound(cursor: &mut Cursor<'_>) -> Result<Record, Fault>
     Ok(Record::Bound {
         verb: read_verb(cursor)?,
         salt: cursor.hash32()?,
-        name: read_up_to(cursor, 0)?,
-        key: read_up_to(cursor, 8)?,
+        name: read_up_to(cursor)?,
+        key: read_up_to(cursor)?,
     })
 }
 
@@ -67,12 +68,12 @@ fn read_verb(cursor: &mut Cursor<'_>) -> Result<Verb, Fault>
     }
 }
 
-/// Bytes behind their length, whose first byte is at most `most`.
-fn read_up_to<const MOST: usize>(cursor: &mut Cursor<'_>, most: u8) -> Result<Bounded<MOST>, Fault>
-    ensures { Gives (λ text. text) result cursor.new (read_up_to most (read_counted 1 MOST) cursor.old) }
+/// Bytes behind their length, whose first byte is at most that of the greatest length.
+fn read_up_to<const MOST: usize>(cursor: &mut Cursor<'_>) -> Result<Bounded<MOST>, Fault>
+    ensures { Gives (λ text. text) result cursor.new (read_up_to (MOST / 256) (read_counted 1 MOST) cursor.old) }
 {
     match cursor.copied().u8() {
-        Ok(first) if first > most => Err(Fault::OutOfRange),
+        Ok(first) if usize::from(first) > MOST / 256 => Err(Fault::OutOfRange),
         _ => cursor.bounded(),
     }
 }

@@ -1,6 +1,6 @@
 -- What comes behind a journal that was opened.
-use Rattle.std.proofs.Common.{◌≡◌, ℕ, List, Bool, false, Option, None, Result, Ok, Err, refl, ap, inl, inr}
-use Rattle.std.specs.Prelude.{OnOk}
+use Rattle.std.proofs.Common.{◌≡◌, ℕ, List, false, Option, Result, Ok, Err, ap, inl, inr}
+use Rattle.std.specs.Prelude.{OnOk, ⊤}
 use Rattle.std.specs.Io.KnownBytes.{Appends}
 use Rattle.rand_chacha.specs.ChaCha.{ChaCha}
 use Rattle.epochs.specs.DirectoryStates.{DirectoryState}
@@ -15,23 +15,27 @@ use Rattle.server.specs.Listening.{ServesConnections}
 use Rattle.server.specs.Programs.{AfterJournal, AllServedBy, IsReopened, KeepsInFile, KeptDesk, LosesInFile}
 use Rattle.server.specs.Reopening.{journal_line, HasReopened}
 
-reopened : (keys : DirectoryKeys) (directory : DirectoryState ChaCha) (journal : JournalState DiskFile) (known after : Option (List ℕ)) (records cut : ℕ) (token : List ℕ) (desk : KeptDesk)
-    → HasReopened keys known directory journal.is_broken after records cut → desk ≡ record { directory = directory; keeper = journal; token = token } → token ≡ keys.token
+-- what comes of a journal that is not opened, or whose line is not written, is the same whatever is next
+pub undone : (keys : DirectoryKeys) (errors errors_new : Option (List ℕ)) (fault : ProgramFault) (Undone : Type 0) (Next : KeptDesk → Option (List ℕ) → Type 0)
+    → AfterJournal keys errors errors_new (Err fault) ⊤ (λ _ _. ⊥) → Undone → AfterJournal keys errors errors_new (Err fault) Undone Next
+undone keys errors errors_new fault Undone Next (inl (why, is, unopened, keeps, _)) u = inl (why, is, unopened, keeps, u)
+undone keys errors errors_new fault Undone Next (inr (desk, records, cut, is, inl (failed, writes, _))) u = inr (desk, records, cut, is, inl (failed, writes, u))
+undone keys errors errors_new fault Undone Next (inr (desk, records, cut, is, inr (between, line, never))) u = absurd never
+
+pub untold : (keys : DirectoryKeys) (desk : KeptDesk) (errors errors_new : Option (List ℕ)) (records cut : ℕ) (fault : ProgramFault)
+    → IsReopened keys desk records cut → (fault ≡ CannotWrite) × WritesBeginning errors errors_new (journal_line records cut)
+    → AfterJournal keys errors errors_new (Err fault) ⊤ (λ _ _. ⊥)
+untold keys desk errors errors_new records cut fault is (failed, writes) = inr (desk, records, cut, is, inl (ap Err failed, writes, tt))
+
+pub told : (keys : DirectoryKeys) (desk : KeptDesk) (errors between errors_new : Option (List ℕ)) (result : Result (Unit {0}) ProgramFault) (Undone : Type 0) (Next : KeptDesk → Option (List ℕ) → Type 0)
+    → ((records cut : ℕ) × IsReopened keys desk records cut × Appends errors between (journal_line records cut)) → Next desk between
+    → AfterJournal keys errors errors_new result Undone Next
+told keys desk errors between errors_new result Undone Next (records, cut, is, line) next = inr (desk, records, cut, is, inr (between, line, next))
+
+pub reopened : (keys : DirectoryKeys) (directory : DirectoryState ChaCha) (journal : JournalState DiskFile) (known after : Option (List ℕ)) (records cut : ℕ) (token : List ℕ) (desk : KeptDesk)
+    → HasReopened keys known directory after records cut → journal.is_broken ≡ false → desk ≡ record { directory = directory; keeper = journal; token = token } → token ≡ keys.token
     → IsReopened keys desk records cut
-reopened keys directory journal known after records cut token desk (whole, bytes, held, turns, leads) is same = rw is (bytes, held, leads, same, whole)
-
-pub untold : (keys : DirectoryKeys) (directory : DirectoryState ChaCha) (journal : JournalState DiskFile) (known after errors errors_new : Option (List ℕ)) (records cut : ℕ) (fault : ProgramFault) (Undone : Type 0) (Next : KeptDesk → Option (List ℕ) → Type 0)
-    → HasReopened keys known directory journal.is_broken after records cut → (fault ≡ CannotWrite) × WritesBeginning errors errors_new (journal_line records cut) → Undone
-    → AfterJournal keys errors errors_new (Err fault) Undone Next
-untold keys directory journal known after errors errors_new records cut fault Undone Next has (is, writes) undone =
-    let desk : KeptDesk = record { directory = directory; keeper = journal; token = keys.token } in
-    inr (desk, records, cut, reopened keys directory journal known after records cut keys.token desk has refl refl, inl (ap Err is, writes, undone))
-
-pub told : (keys : DirectoryKeys) (directory : DirectoryState ChaCha) (journal : JournalState DiskFile) (known after errors between errors_new : Option (List ℕ)) (records cut : ℕ) (token : List ℕ) (desk : KeptDesk) (result : Result (Unit {0}) ProgramFault) (Undone : Type 0) (Next : KeptDesk → Option (List ℕ) → Type 0)
-    → HasReopened keys known directory journal.is_broken after records cut → desk ≡ record { directory = directory; keeper = journal; token = token } → token ≡ keys.token
-    → Appends errors between (journal_line records cut) → Next desk between → AfterJournal keys errors errors_new result Undone Next
-told keys directory journal known after errors between errors_new records cut token desk result Undone Next has is same line next =
-    inr (desk, records, cut, reopened keys directory journal known after records cut token desk has is same, inr (between, line, next))
+reopened keys directory journal known after records cut token desk (bytes, held, turns, leads) whole is same = rw is (bytes, held, leads, same, whole)
 
 pub connections : (result : Result (Unit {0}) ProgramFault) (desk after : KeptDesk) → OnOk result ((served : List (ℕ × List Exchange)) × AllServedBy KeepsInFile LosesInFile desk served after) → ServesConnections result desk
 connections (Ok done) desk after (served, all) = (served, after, all)

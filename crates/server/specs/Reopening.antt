@@ -1,5 +1,6 @@
 -- What a server makes of the file of a journal: the directory that it goes on with, and what the file then holds.
-use Rattle.std.specs.Prelude.{◌≡◌, ◌⊎◌, ℕ, ◌+◌, ◌==◌, if◌then◌else◌, Bool, false, List, [], ◌∷◌, ◌++◌, length, take, Option, None, Some, IfSome, codes, decimal, ⊤}
+use Rattle.std.specs.Prelude.{◌≡◌, ◌⊎◌, ℕ, ◌+◌, ◌==◌, if◌then◌else◌, List, [], ◌∷◌, ◌++◌, length, take, Option, None, Some, IfSome, codes, decimal, ⊤}
+use Rattle.std.specs.Io.KnownBytes.{Keeps}
 use Rattle.rand_chacha.specs.ChaCha.{ChaCha, of_seed}
 use Rattle.nodehash.specs.Sha256.{sha256}
 use Rattle.vrfiface.specs.StandIns.{keyed_value}
@@ -10,7 +11,9 @@ use Rattle.epochs.specs.DirectoryStates.{book, DirectoryState}
 use Rattle.journal.specs.declared.beginning.Beginning.{Beginning}
 use Rattle.journal.specs.declared.refusal.Refusal.{Refusal}
 use Rattle.journal.specs.declared.refusal.Refusal.TheVariants as refusal
+use Rattle.journal.specs.declared.opening.Opened.{Opened}
 use Rattle.journal.specs.Counting.{Counts}
+use Rattle.journal.specs.Opened.{Opens}
 use Rattle.journal.specs.Openings.{HasOtherKeys, IsBad, IsCut, OpensTo}
 use Rattle.journal.specs.Records.{start_bytes, IsStart}
 use Rattle.textio.specs.declared.program_fault.ProgramFault.{ProgramFault}
@@ -62,15 +65,25 @@ module _ (keys : DirectoryKeys) (bytes : List ℕ) where
   abbrev pub IsRefused : Type 0
   IsRefused = (records : ℕ) × Counts bytes records × IsBad (index_by keys) keys.signing_key keys.vuf_key (salts (at_stream keys.salt_key records)) bytes
 
--- the bytes that a file holds, where they are known, are cut to none, and the start of a new directory is written
-abbrev pub HasStarted : DirectoryKeys → Option (List ℕ) → DirectoryState ChaCha → Bool → Option (List ℕ) → Type 0
-HasStarted keys known directory is_broken after = Begins keys directory × (is_broken ≡ false) × IfSome known (λ all. after ≡ Some (start_bytes (beginning_of keys)))
+-- what the bytes of a file open to, with the salts to come from the stream that has the number of their records
+abbrev pub HasRead : {H V S : Type 0} → DirectoryKeys → Option (List ℕ) → Opened H V S ChaCha → ℕ → ℕ → Type 0
+HasRead keys known opened records size = (bytes : List ℕ) × Holds known bytes × (length bytes ≡ size) × Counts bytes records
+    × Opens (index_by keys) keys.signing_key keys.vuf_key (salts (at_stream keys.salt_key records)) salts bytes opened
 
--- the bytes of a file lead to this directory, with this many records and this many bytes cut off, and the journal
--- goes on behind what the file then holds
-abbrev pub HasReopened : DirectoryKeys → Option (List ℕ) → DirectoryState ChaCha → Bool → Option (List ℕ) → ℕ → ℕ → Type 0
-HasReopened keys known directory is_broken after records cut = (is_broken ≡ false)
-    × (bytes held : List ℕ) × Turns known bytes after held × Reopens keys bytes directory held records cut
+-- the bytes that a file holds, where they are known, are cut to none, and the start of a new directory is written
+abbrev pub HasStarted : DirectoryKeys → Option (List ℕ) → DirectoryState ChaCha → Option (List ℕ) → Type 0
+HasStarted keys known directory after = Begins keys directory × IfSome known (λ all. after ≡ Some (start_bytes (beginning_of keys)))
+
+-- the bytes of a file lead to this directory, with this many records and this many bytes cut off, and this is what
+-- the file then holds
+abbrev pub HasReopened : DirectoryKeys → Option (List ℕ) → DirectoryState ChaCha → Option (List ℕ) → ℕ → ℕ → Type 0
+HasReopened keys known directory after records cut =
+    (bytes held : List ℕ) × Turns known bytes after held × Reopens keys bytes directory held records cut
+
+-- a file stays as it was, unless a write to it failed
+abbrev pub StaysAt : ProgramFault → Option (List ℕ) → Option (List ℕ) → Type 0
+StaysAt CannotWrite known after = ⊤
+StaysAt _ known after = Keeps known after
 
 abbrev pub of_refusal : Refusal → ProgramFault
 of_refusal refusal.BadRecord = BadRecord

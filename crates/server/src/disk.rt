@@ -13,7 +13,7 @@ use textio::{StreamFault, write_text};
 
 /// How what was written to a file stands on its disk.
 #[derive(Clone, Copy, Debug, PartialEq, Eq)]
-pub(crate) enum DiskState {
+enum DiskState {
     Synced,
     Unsynced,
     /// A sync failed. What the disk has is then not known, so that nothing is written or told any more.
@@ -21,13 +21,21 @@ pub(crate) enum DiskState {
 }
 
 /// A file and the mark of what was written to it.
-#[derive(Clone, Copy)]
-pub(crate) struct Disk<'a> {
-    pub(crate) file: &'a File,
-    pub(crate) state: &'a Cell<DiskState>,
+#[derive(Drop)]
+pub(crate) struct Disk {
+    pub(crate) file: File,
+    state: Cell<DiskState>,
 }
 
-impl Disk<'_> {
+impl Disk {
+    /// A file that was just opened. What it has may be in the memory of the system alone.
+    pub(crate) fn new(file: File) -> Self {
+        Disk {
+            file,
+            state: Cell::new(DiskState::Unsynced),
+        }
+    }
+
     /// Writes to the end of the file.
     pub(crate) fn write(&self, bytes: &[u8]) -> io::Result<usize>
         ensures { WritesAtMost result bytes.now }
@@ -36,7 +44,7 @@ impl Disk<'_> {
             return Err(Error::from(ErrorKind::Other));
         }
         self.state.set(DiskState::Unsynced);
-        (&mut &*self.file).write(bytes)
+        (&mut &self.file).write(bytes)
     }
 
     /// Puts on the disk what was written since the last sync, if anything was.
@@ -62,7 +70,7 @@ impl Disk<'_> {
 ///
 /// `CannotWrite`, with a beginning of the answers written, and none of them if the sync failed.
 pub(crate) fn write_answers<W: Write>(
-    disk: Option<Disk<'_>>,
+    disk: Option<&Disk>,
     writer: &mut W,
     answers: &[u8],
 ) -> Result<(), StreamFault>

@@ -33,11 +33,11 @@ pub trait JournalFile: Write {
 /// The file of a journal on a disk. Contracts do not know what it holds.
 #[derive(Clone, Copy)]
 pub struct DiskFile<'a> {
-    disk: Disk<'a>,
+    disk: &'a Disk,
 }
 
 impl<'a> DiskFile<'a> {
-    pub(crate) fn new(disk: Disk<'a>) -> Self {
+    pub(crate) fn new(disk: &'a Disk) -> Self {
         DiskFile { disk }
     }
 }
@@ -54,7 +54,7 @@ impl Write for DiskFile<'_> {
 
 impl JournalFile for DiskFile<'_> {
     fn read_all(&mut self, alloc: Global) -> Result<Vec<u8>, ProgramFault> {
-        read_whole(alloc, &mut &*self.disk.file)
+        read_whole(alloc, &mut &self.disk.file)
     }
 
     fn cut(&mut self, size: usize) -> Result<(), ProgramFault> {

@@ -6,22 +6,18 @@ ghost use Rattle.hub.specs.Exchanges.{Exchange};
 ghost use Rattle.textio.specs.declared.program_fault.ProgramFault.TheVariants.{BadHex};
 ghost use Rattle.server.specs.DirectoryOptions.{values_of};
 ghost use Rattle.server.specs.Directories.{keys_of};
-ghost use Rattle.server.specs.Listening.{ListenTells, ServesConnections, TellsAddress, TellsKept};
-ghost use Rattle.server.specs.Programs.{AfterJournal, AllServedBy, ServedReplied};
+ghost use Rattle.server.specs.Listening.{ListenTells, TellsAddress, TellsKept};
+ghost use Rattle.server.specs.Programs.{AllServedBy, ServedReplied};
 
-use crate::disk::{Disk, DiskState};
-use crate::journal_file::DiskFile;
+use crate::disk::Disk;
 use crate::keys::{Keys, ServedDesk};
-use crate::opening::open_journal;
-use crate::reopening::{Reopened, reopen};
+use crate::opening::{open_file, open_journal};
 use crate::serving::serve_on;
 use crate::streams::SESSION;
-use crate::telling::tell_journal;
 use crate::{ListenOrder, ServeFault};
 use book::{Keeper, NoKeeper};
 use hub::Hub;
 use std::alloc::Global;
-use std::cell::Cell;
 use std::fs::{File, Files};
 use std::io::Write;
 use std::net::{Net, SocketAddr, TcpListener, TcpStream};
@@ -33,7 +29,7 @@ fn answer<K: Keeper + Drop>(
     alloc: Global,
     hub: &mut Hub<ServedDesk<K>>,
     stream: &TcpStream,
-    disk: Option<Disk<'_>>,
+    disk: Option<&Disk>,
 ) -> Result<(), ServeFault>
     requires { hub.old.sessions ≡ [] }
     ensures ended { hub.new.sessions ≡ [] }
@@ -49,7 +45,7 @@ fn answer_next<K: Keeper + Drop>(
     alloc: Global,
     hub: &mut Hub<ServedDesk<K>>,
     listener: &TcpListener,
-    disk: Option<Disk<'_>>,
+    disk: Option<&Disk>,
 )
     requires { hub.old.sessions ≡ [] }
     ensures ended { hub.new.sessions ≡ [] }
@@ -68,7 +64,7 @@ pub(crate) fn answer_all<K: Keeper + Drop>(
     alloc: Global,
     hub: &mut Hub<ServedDesk<K>>,
     listener: &TcpListener,
-    disk: Option<Disk<'_>>,
+    disk: Option<&Disk>,
     count: u64,
 )
     requires { hub.old.sessions ≡ [] }
@@ -107,7 +103,7 @@ fn listen_from<N, K, E>(
     alloc: Global,
     net: &N,
     hub: &mut Hub<ServedDesk<K>>,
-    disk: Option<Disk<'_>>,
+    disk: Option<&Disk>,
     order: ListenOrder<'_>,
     errors: &mut E,
 ) -> Result<(), ProgramFault>
@@ -150,38 +146,6 @@ where
     listen_from(alloc, net, &mut hub, None, order, errors)
 }
 
-/// Listens with the directory in a file.
-fn listen_file<N, E>(
-    alloc: Global,
-    net: &N,
-    keys: &Keys,
-    disk: Disk<'_>,
-    order: ListenOrder<'_>,
-    errors: &mut E,
-) -> Result<(), ProgramFault>
-where
-    N: Net<Listener = TcpListener, Stream = TcpStream>,
-    E: Write,
-    ensures tells { AfterJournal keys.now (E.contents errors.old) (E.contents errors.new) result ⊤
-        (λ desk told. TellsAddress told result (E.contents errors.new) × ServesConnections result desk) }
-    ensures good_hex { IfErr result (λ fault. fault ≢ BadHex) }
-{
-    let Reopened {
-        directory,
-        journal,
-        records,
-        cut,
-    } = match reopen(alloc, keys, DiskFile::new(disk)) {
-        Ok(reopened) => reopened,
-        Err(fault) => return Err(fault),
-    };
-    if let Err(fault) = tell_journal(records, cut, errors) {
-        return Err(fault);
-    }
-    let mut hub = Hub::new(alloc, directory, journal, keys.token());
-    listen_from(alloc, net, &mut hub, Some(disk), order, errors)
-}
-
 /// Listens with the directory that is kept in the file of this path.
 fn listen_kept<N, E>(
     alloc: Global,
@@ -197,17 +161,12 @@ where
     ensures tells { TellsKept (values_of order.entry.directory) (E.contents errors.old) result (E.contents errors.new) }
 {
     let keys = Keys::read(&order.directory)?;
-    let file = match open_journal(system, path) {
-        Ok(file) => file,
+    let disk = open_file(system, path)?;
+    let mut hub = match open_journal(alloc, &keys, &disk, errors) {
+        Ok(hub) => hub,
         Err(fault) => return Err(fault),
     };
-    // What the file already has may be in the memory of the system alone.
-    let state = Cell::new(DiskState::Unsynced);
-    let disk = Disk {
-        file: &file,
-        state: &state,
-    };
-    listen_file(alloc, system, &keys, disk, order, errors)
+    listen_from(alloc, system, &mut hub, Some(&disk), order, errors)
 }
 
 /// Listens on the address, and answers connections, one after another, from a directory that begins

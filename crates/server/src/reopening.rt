@@ -1,14 +1,14 @@
-// The file of a journal is read, opened and cut, and a new directory's start is written. Then records are
-// written behind what the file holds.
-ghost use Rattle.std.specs.Prelude.{◌≡◌, MatchResult};
+// The file of a journal is read and opened. Then it is cut, or a new directory's start is written. A file
+// that is refused stays as it was.
+ghost use Rattle.std.specs.Prelude.{◌≡◌, IfErr, MatchResult};
+ghost use Rattle.std.specs.Io.KnownBytes.{Keeps};
 ghost use Rattle.journal.specs.Opened.{IsUnopened as IsRefusal, Opens};
 ghost use Rattle.server.specs.Directories.{salts};
-ghost use Rattle.server.specs.Reopening.{at_stream, index_by, HasStarted, HasReopened, of_refusal, IsSystemFault, IsUnopened};
+ghost use Rattle.server.specs.Reopening.{at_stream, index_by, of_refusal, HasRead, HasReopened, HasStarted, IsSystemFault, IsUnopened, StaysAt};
 
 use crate::JournalFile;
 use crate::keys::{Keys, ServedDirectory};
-use book::Keeper;
-use journal::{Journal, Opened, Refusal, open, records};
+use journal::{Opened, Refusal, open, records, write_record};
 use nodehash::Sha256Hash;
 use rand_chacha::ChaCha20Rng;
 use sigiface::KeyedSign;
@@ -16,11 +16,20 @@ use std::alloc::Global;
 use textio::ProgramFault;
 use vrfiface::KeyedVuf;
 
-/// A directory as its journal left it, with the journal behind it.
+/// What the bytes of a file open to.
 #[derive(Drop)]
-pub(crate) struct Reopened<F: JournalFile + Drop> {
+struct Reading {
+    opened: Opened<Sha256Hash, KeyedVuf, KeyedSign, ChaCha20Rng>,
+    /// How many whole records stand at the front of the bytes.
+    records: u64,
+    /// How many bytes there are.
+    size: usize,
+}
+
+/// A directory as its journal left it.
+#[derive(Drop)]
+pub(crate) struct Reopened {
     pub(crate) directory: ServedDirectory,
-    pub(crate) journal: Journal<F>,
     /// How many records were taken.
     pub(crate) records: u64,
     /// How many bytes were cut off.
@@ -59,59 +68,77 @@ fn open_bytes(
     )
 }
 
-/// Begins a directory, and has the file hold its start alone.
-fn start_anew<F: JournalFile + Drop>(
+/// Reads the file, and opens its bytes. The file stays as it was, whatever comes.
+fn read_journal<F: JournalFile>(
     alloc: Global,
     keys: &Keys,
-    mut file: F,
-) -> Result<(ServedDirectory, Journal<F>), ProgramFault>
-    ensures { MatchResult result (λ begun. HasStarted keys.now (F.contents file) begun.0 begun.1.is_broken (F.contents begun.1.writer))
-        (λ fault. IsSystemFault fault) }
+    file: &mut F,
+) -> Result<Reading, ProgramFault>
+    ensures opens { MatchResult result (λ reading. HasRead keys.now (F.contents file.old) reading.opened reading.records reading.size)
+        (IsUnopened keys.now (F.contents file.old)) }
+    ensures stays { Keeps (F.contents file.old) (F.contents file.new) }
+{
+    let bytes = file.read_all(alloc)?;
+    let records = records(&bytes);
+    match open_bytes(alloc, keys, &bytes, records) {
+        Ok(opened) => Ok(Reading {
+            opened,
+            records,
+            size: bytes.len(),
+        }),
+        Err(refusal) => Err(fault_of(refusal)),
+    }
+}
+
+/// Begins a directory, and has the file hold its start alone.
+fn start_anew<F: JournalFile>(
+    alloc: Global,
+    keys: &Keys,
+    file: &mut F,
+) -> Result<ServedDirectory, ProgramFault>
+    ensures starts { MatchResult result (λ directory. HasStarted keys.now (F.contents file.old) directory (F.contents file.new)) IsSystemFault }
+    ensures stays { IfErr result (λ fault. StaysAt fault (F.contents file.old) (F.contents file.new)) }
 {
     let directory = keys.begin(alloc)?;
     file.cut(0)?;
-    let mut journal = Journal::new(file);
-    match journal.keep(&keys.start()) {
-        Ok(()) => Ok((directory, journal)),
-        Err(_) => Err(ProgramFault::CannotWrite),
-    }
+    write_record(file, &keys.start())?;
+    Ok(directory)
 }
 
 /// Goes on with the directory of the file, or begins one in it.
 ///
 /// # Errors
 ///
-/// `BadRecord` and `OtherKeys`, with the file as it was; `CannotRead`, `CannotWrite`, `OutOfMemory`.
-pub(crate) fn reopen<F: JournalFile + Drop>(
+/// `BadRecord` and `OtherKeys`; `CannotRead`, `OutOfMemory`, `CannotWrite`. The file is as it was, unless it
+/// is `CannotWrite`.
+pub(crate) fn reopen<F: JournalFile>(
     alloc: Global,
     keys: &Keys,
-    mut file: F,
-) -> Result<Reopened<F>, ProgramFault>
-    ensures { MatchResult result
-        (λ now. HasReopened keys.now (F.contents file) now.directory now.journal.is_broken (F.contents now.journal.writer) now.records now.cut)
-        (IsUnopened keys.now (F.contents file)) }
+    file: &mut F,
+) -> Result<Reopened, ProgramFault>
+    ensures opens { MatchResult result
+        (λ now. HasReopened keys.now (F.contents file.old) now.directory (F.contents file.new) now.records now.cut)
+        (IsUnopened keys.now (F.contents file.old)) }
+    ensures stays { IfErr result (λ fault. StaysAt fault (F.contents file.old) (F.contents file.new)) }
 {
-    let bytes = file.read_all(alloc)?;
-    let count = records(&bytes);
-    match open_bytes(alloc, keys, &bytes, count) {
-        Ok(Opened::Nothing) => {
-            let (directory, journal) = start_anew(alloc, keys, file)?;
-            Ok(Reopened {
-                directory,
-                journal,
-                records: 0,
-                cut: bytes.len(),
-            })
-        }
-        Ok(Opened::Directory(directory, taken)) => {
+    let Reading {
+        opened,
+        records,
+        size,
+    } = read_journal(alloc, keys, file)?;
+    match opened {
+        Opened::Nothing => Ok(Reopened {
+            directory: start_anew(alloc, keys, file)?,
+            records: 0,
+            cut: size,
+        }),
+        Opened::Directory(directory, taken) => {
             file.cut(taken)?;
             Ok(Reopened {
                 directory,
-                journal: Journal::new(file),
-                records: count,
-                cut: bytes.len() - taken,
+                records,
+                cut: size - taken,
             })
         }
-        Err(refusal) => Err(fault_of(refusal)),
     }
 }

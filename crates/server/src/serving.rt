@@ -32,7 +32,7 @@ fn answer_piece<S: Service + Drop, W: Write>(
     session: u32,
     piece: &[u8],
     writer: &mut W,
-    disk: Option<Disk<'_>>,
+    disk: Option<&Disk>,
 ) -> Result<(), ServeFault>
     requires { due hub.old.sessions (AreBytes session piece.now) ≡ None }
     ensures { AnswersPiece S.answers hub.old session piece.now (W.contents writer.old) result hub.new (W.contents writer.new) }
@@ -54,7 +54,7 @@ fn converse<S: Service + Drop, R: Read, W: Write>(
     session: u32,
     reader: &mut R,
     writer: &mut W,
-    disk: Option<Disk<'_>>,
+    disk: Option<&Disk>,
 ) -> Result<(), ServeFault>
     requires { at hub.old.sessions session ≡ Some (Rest []) }
     ensures keeps { (kept : Remainder) × (hub.new.sessions ≡ set_value (is_at (nat_cmp session)) hub.old.sessions kept) }
@@ -112,7 +112,7 @@ pub(crate) fn serve_on<H, V, S, G, K, R, W>(
     session: u32,
     reader: &mut R,
     writer: &mut W,
-    disk: Option<Disk<'_>>,
+    disk: Option<&Disk>,
 ) -> Result<(), ServeFault>
 where
     H: NodeHash + Drop,
@@ -142,7 +142,7 @@ fn serve_any<S: Service + Drop, R: Read, W: Write>(
     session: u32,
     reader: &mut R,
     writer: &mut W,
-    disk: Option<Disk<'_>>,
+    disk: Option<&Disk>,
 ) -> Result<(), ServeFault>
     requires { due hub.old.sessions (IsOpen session) ≡ None }
     ensures serves { Serves (AllReplied S.answers session) hub.old.service (R.remaining reader.old) (W.contents writer.old) result

@@ -1,4 +1,3 @@
-use Rattle.std.proofs.Common.{ℕ, List}
 use Rattle.nodehash.specs.Sha256.{sha256}
 use Rattle.vrfiface.specs.StandIns.{keyed_value, KeyedAccepts}
 use Rattle.sigiface.specs.StandIn.{keyed_signature, KeyedVerifies}

@@ -1,0 +1,15 @@
+use Rattle.std.proofs.Common.{inr}
+use Rattle.server.proofs.Behind.{connections, told, undone}
+use Rattle.server.proofs.listening.listen_kept.Goals as goal
+
+pub returns-in-Err-clause-tells : goal.returns-in-Err-clause-tells
+returns-in-Err-clause-tells g c = inr (c.in_ok-keys.keys, c.in_ok-keys.ensures, undone c.in_ok-keys.keys _ _ c.in-Err.fault _ _ c.in-Err.ensures.err tt)
+
+pub returns-clause-tells : goal.returns-clause-tells
+returns-clause-tells g c =
+    inr (
+      c.in_ok-keys.keys,
+      c.in_ok-keys.ensures,
+      told c.in_ok-keys.keys c.in-Ok.hub.service _ _ _ _ _ _ (c.in-Ok.ensures.ok.1, c.in-Ok.ensures.ok.2, c.in-Ok.ensures.ok.3, c.in-Ok.ensures.ok.4)
+          (c.listen_from.ensures.tells, connections c.listen_from.result c.in-Ok.hub.service _ c.listen_from.ensures.served),
+    )

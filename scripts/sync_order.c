@@ -1,0 +1,55 @@
+// A library that is loaded before the C library, for scripts/journaled.py. It logs the calls that hand bytes to a
+// file or to a connection, or put them on a disk: a line each on the descriptor SYNC_LOG, with the call, its
+// descriptor and what it returned. The fdatasync of number FAIL_SYNC, counted from 1, does nothing and fails. What is
+// used of the C library is declared here, so that no header is needed.
+
+void *dlsym(void *handle, const char *name);
+char *getenv(const char *name);
+unsigned long strtoul(const char *text, char **end, int base);
+int dprintf(int descriptor, const char *format, ...);
+int *__errno_location(void);
+
+#define NEXT ((void *)-1)
+#define EIO 5
+
+static int log_to = -1;
+static unsigned long count, nth;
+
+__attribute__((constructor)) static void begin(void) {
+    const char *text = getenv("SYNC_LOG");
+    log_to = text ? (int)strtoul(text, 0, 10) : -1;
+    text = getenv("FAIL_SYNC");
+    nth = text ? strtoul(text, 0, 10) : 0;
+}
+
+// The call is over, so `errno` is its own again once the line is written.
+static long logged(const char *name, int descriptor, long result) {
+    int error = *__errno_location();
+    dprintf(log_to, "%s %d %ld\n", name, descriptor, result);
+    *__errno_location() = error;
+    return result;
+}
+
+long write(int descriptor, const void *bytes, unsigned long size) {
+    long (*next)(int, const void *, unsigned long) = dlsym(NEXT, "write");
+    return logged("write", descriptor, next(descriptor, bytes, size));
+}
+
+long send(int descriptor, const void *bytes, unsigned long size, int flags) {
+    long (*next)(int, const void *, unsigned long, int) = dlsym(NEXT, "send");
+    return logged("send", descriptor, next(descriptor, bytes, size, flags));
+}
+
+int fsync(int descriptor) {
+    int (*next)(int) = dlsym(NEXT, "fsync");
+    return (int)logged("fsync", descriptor, next(descriptor));
+}
+
+int fdatasync(int descriptor) {
+    int (*next)(int) = dlsym(NEXT, "fdatasync");
+    if (++count == nth) {
+        *__errno_location() = EIO;
+        return (int)logged("fdatasync", descriptor, -1);
+    }
+    return (int)logged("fdatasync", descriptor, next(descriptor));
+}
