@@ -1,4 +1,4 @@
-"""The stored questions and answers of the test programs.
+"""The stored questions and answers of the test programs, and the scripts of the crate `play`.
 
 Each of the modules of questions has `files()`, which gives the text of each stored file by its path in the
 repository.
@@ -8,6 +8,7 @@ import pathlib
 
 import fault_questions
 import questions
+import script_specs
 import session_questions
 
 ROOT = pathlib.Path(__file__).resolve().parent.parent
@@ -15,7 +16,7 @@ ROOT = pathlib.Path(__file__).resolve().parent.parent
 
 def files():
     """All stored files."""
-    return questions.files() | session_questions.files() | fault_questions.files()
+    return questions.files() | session_questions.files() | fault_questions.files() | script_specs.files()
 
 
 def write():

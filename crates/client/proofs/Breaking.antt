@@ -25,7 +25,7 @@ all-at P (y ∷ xs) zero x all is = let same : y ≡ x = cc in subst P same all.
 all-at P (y ∷ xs) (suc k) x all is = all-at P xs k x all.1 is
 
 -- the chain's next root after one of its roots names that one
-next-names : (hash : List ℕ → List ℕ) (roots : List SignedRoot) (key : List ℕ) (own root : SignedRoot) → AllAdjacentBelow (Links hash) roots (length roots) → Contains roots own
+pub next-names : (hash : List ℕ → List ℕ) (roots : List SignedRoot) (key : List ℕ) (own root : SignedRoot) → AllAdjacentBelow (Links hash) roots (length roots) → Contains roots own
     → IsNextAfter (record { key = key; roots = roots }) own.body.epoch root → Names hash own root
 next-names hash roots key own root linked has next = elim (cases_lt has.0 next.0.0) [
   | inl later ↦

@@ -1,0 +1,9 @@
+pub mod Answering
+pub mod Calling
+pub mod Checking
+pub mod Following
+pub mod GoingOn
+pub mod Hearing
+pub mod InTime
+pub mod Lists
+pub mod Plain

@@ -1,0 +1,113 @@
+-- What a line of a script says (the form is this directory's own).
+use Rattle.std.specs.Prelude.{ℕ, ◌^◌, ◌-◌, ◌==◌, ◌&&◌, nat_le, if◌then◌else◌, List, [], ◌∷◌, Option, Some, None, codes, decimal, option_and_then, replicate}
+use Rattle.std.specs.List.{slice_split}
+use Rattle.std.specs.Str.{bytes_eq}
+use Rattle.std.specs.Result.{result_ok}
+use Rattle.std.specs.Str.Parse.{digits_value}
+use Rattle.hex.specs.Hex.{decode_of}
+use Rattle.commands.specs.declared.edit.Verb.TheVariants.{Register, Change}
+use Rattle.commands.specs.Operations.{Promise, Lookup, History, Head}
+use Rattle.wire.specs.Frames.{frame_size}
+use Rattle.wire.specs.Requests.{RequestContent, Query, Put, Turn, request_frame}
+use Rattle.book.specs.Answers.{is_within}
+
+pub data Line : Type 0 where
+  -- nothing: the line is empty, or a note
+  Pass : Line
+  -- ask the directory, through session 0
+  Ask : RequestContent → Line
+  -- a monitor of this name, whose owner expects this key, or none
+  Watch : List ℕ → Option (List ℕ) → Line
+  -- a piece of this session's stream
+  Piece : ℕ → List ℕ → Line
+  -- this session ends
+  End : ℕ → Line
+
+-- the token of the operator
+abbrev pub token : List ℕ
+token = replicate 32 0
+
+-- ---- words
+
+-- the words of a line, which one space parts
+abbrev pub words : List ℕ → List (List ℕ)
+words = slice_split (λ byte. byte == 32)
+
+-- bytes in hexadecimal digits of either case, or `-` for none
+abbrev pub hex_word : List ℕ → Option (List ℕ)
+hex_word [] = None
+hex_word (digit ∷ digits) = if bytes_eq (digit ∷ digits) (codes "-") then Some [] else result_ok (decode_of (digit ∷ digits))
+
+-- a number in decimal digits with no zero in front, at most this
+abbrev pub number_word : ℕ → List ℕ → Option ℕ
+number_word most word = let number = digits_value 10 word in if bytes_eq word (decimal number) && nat_le number most then Some number else None
+
+abbrev pub epoch_word : List ℕ → Option ℕ
+epoch_word = number_word (2 ^ 64 - 1)
+
+abbrev pub count_word : List ℕ → Option ℕ
+count_word = number_word (2 ^ 16 - 1)
+
+-- a session's number; 0 is the session of the lines that ask
+abbrev pub session_word : List ℕ → Option ℕ
+session_word word = option_and_then (λ session. if session == 0 then None else Some session) (number_word (2 ^ 32 - 1) word)
+
+-- ---- what the words behind a command say
+
+abbrev pub with_none : Option Line → List (List ℕ) → Option Line
+with_none said [] = said
+with_none said (_ ∷ _) = None
+
+abbrev pub with_one : {A : Type 0} → (List ℕ → Option A) → (A → Option Line) → List (List ℕ) → Option Line
+with_one word said [] = None
+with_one word said (one ∷ []) = option_and_then said (word one)
+with_one word said (_ ∷ _ ∷ _) = None
+
+abbrev pub with_two : {A B : Type 0} → (List ℕ → Option A) → (List ℕ → Option B) → (A → B → Option Line) → List (List ℕ) → Option Line
+with_two word other_word said [] = None
+with_two word other_word said (_ ∷ []) = None
+with_two word other_word said (one ∷ other ∷ []) = option_and_then (λ a. option_and_then (said a) (other_word other)) (word one)
+with_two word other_word said (_ ∷ _ ∷ _ ∷ _) = None
+
+-- a request that a frame can hold
+abbrev pub asking : RequestContent → Option Line
+asking requested = if nat_le (frame_size (request_frame requested)) 65536 then Some (Ask requested) else None
+
+abbrev pub key_or_none : List ℕ → Option (List ℕ)
+key_or_none [] = None
+key_or_none (byte ∷ bytes) = Some (byte ∷ bytes)
+
+-- a name and a key of lengths that are allowed, or no key
+abbrev pub watching : List ℕ → List ℕ → Option Line
+watching name key = if is_within 1 255 name && is_within 0 2048 key then Some (Watch name (key_or_none key)) else None
+
+-- ---- lines
+
+-- the first word of each command, and what the words behind it say
+abbrev pub verbs : List (List ℕ × (List (List ℕ) → Option Line))
+verbs =
+    (codes "register", with_two hex_word hex_word (λ name key. asking (Put Register name key)))
+    ∷ (codes "change", with_two hex_word hex_word (λ name key. asking (Put Change name key)))
+    ∷ (codes "promise", with_one hex_word (λ name. asking (Query (Promise name))))
+    ∷ (codes "close", with_one epoch_word (λ epoch. asking (Turn token epoch)))
+    ∷ (codes "head", with_none (asking (Query Head)))
+    ∷ (codes "lookup", with_two hex_word epoch_word (λ name epoch. asking (Query (Lookup name epoch))))
+    ∷ (codes "history", with_two epoch_word count_word (λ from count. asking (Query (History from count))))
+    ∷ (codes "watch", with_two hex_word hex_word watching)
+    ∷ (codes "bytes", with_two session_word hex_word (λ session piece. Some (Piece session piece)))
+    ∷ (codes "end", with_one session_word (λ session. Some (End session)))
+    ∷ []
+
+-- the command of these that the verb names, with the words behind it
+abbrev pub said_among : List (List ℕ × (List (List ℕ) → Option Line)) → List ℕ → List (List ℕ) → Option Line
+said_among [] verb behind = None
+said_among (command ∷ more) verb behind = if bytes_eq verb command.0 then command.1 behind else said_among more verb behind
+
+abbrev pub line_of_words : List (List ℕ) → Option Line
+line_of_words [] = None
+line_of_words (verb ∷ behind) = said_among verbs verb behind
+
+-- what a line says, or none where it is no command; `#` begins a note
+abbrev pub line_of : List ℕ → Option Line
+line_of [] = Some Pass
+line_of (byte ∷ bytes) = if byte == 35 then Some Pass else line_of_words (words (byte ∷ bytes))
