@@ -233,7 +233,7 @@ module _ (provider : Provider) (accepted verified : List ℕ → List ℕ → Li
 
       told : (page : Page) → IsOf page root watching.name text → (own : SignedRoot) (reply : Spelled) → IsFound provider.hash accepted watching text own reply
           → (step : Step) → Tells watching.watch own.body.epoch (stated reply.end) step
-          → (step ≡ step_of.DirectoryState) ↔ (key_at page watching.name ≡ expected watching.watch page.epoch)
+          → (step ≡ step_of.Kept) ↔ (key_at page watching.name ≡ expected watching.watch page.epoch)
       told page o own reply found step tells = by step tells
         where
           one : own ≡ root
@@ -245,8 +245,8 @@ module _ (provider : Provider) (accepted verified : List ℕ → List ℕ → Li
           states : stated reply.end ≡ key_at page watching.name
           states = o.states reply (subst (λ (r : SignedRoot). IsAcceptedReply provider.hash accepted r.body watching.name text reply) one found.1)
 
-          by : (step : Step) → Tells watching.watch own.body.epoch (stated reply.end) step → (step ≡ step_of.DirectoryState) ↔ (key_at page watching.name ≡ expected watching.watch page.epoch)
-          by step_of.DirectoryState tells = ((λ e. sym states ∙ tells ∙ ap (expected watching.watch) epoch), (λ e. refl))
+          by : (step : Step) → Tells watching.watch own.body.epoch (stated reply.end) step → (step ≡ step_of.Kept) ↔ (key_at page watching.name ≡ expected watching.watch page.epoch)
+          by step_of.Kept tells = ((λ e. sym states ∙ tells ∙ ap (expected watching.watch) epoch), (λ e. refl))
           by (step_of.Alarm at_epoch key_found) tells = ((λ e. absurd cc), (λ e. absurd (tells.0 (states ∙ e ∙ sym (ap (expected watching.watch) epoch)))))
 
       by : (page : Page) → IsOf page root watching.name text → (result : Result Step MonitorRefusal) → Steps provider.hash accepted watching text result later → StepsRight provider page watching result
@@ -353,7 +353,7 @@ module _ (provider : Provider) (accepted verified : List ℕ → List ℕ → Li
       → IsFollowed provider key after holder.chain → IsSound provider.hash accepted verified holder → IsTested holder.promises given.promise.name place given → IsGiven commands replies given
       → IsNextAfter holder.chain given.promise.epoch root → IsShown before commands replies given.promise.name root.body.epoch text
       → Tests provider.hash accepted holder.chain given.promise.name text given result
-      → result ≡ Ok due_of.DirectoryState
+      → result ≡ Ok due_of.Kept
   unfolding HasRootOf Names
   due holder place given text root result f sound tested (command, said) next at tests = by result tests
     where
@@ -378,8 +378,8 @@ module _ (provider : Provider) (accepted verified : List ℕ → List ℕ → Li
       shown-of : (page : Page) × IsOf page root given.promise.name text
       shown-of = shown given.promise.name text root (in-book holder.chain f root next.0) at
 
-      by : (result : Result Due Refusal) → Tests provider.hash accepted holder.chain given.promise.name text given result → result ≡ Ok due_of.DirectoryState
-      by (Ok due_of.DirectoryState) tests = refl
+      by : (result : Result Due Refusal) → Tests provider.hash accepted holder.chain given.promise.name text given result → result ≡ Ok due_of.Kept
+      by (Ok due_of.Kept) tests = refl
       by (Ok (due_of.Broken broken)) tests =
           let holds = due-holds provider.hash accepted verified holder given.promise.name text (is-chain holder.chain f) sound place given tested (due_of.Broken broken) tests in
           let is : broken ≡ record { promise = given; root = tests.0; proof = text } = tests.4.2 in

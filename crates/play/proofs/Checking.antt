@@ -228,8 +228,8 @@ module _ (provider : Provider) (accepted verified : List ℕ → List ℕ → Li
       told : (step : Step) (statement : Option (List ℕ)) (root_next : SignedRoot) → IsNext watching root_next → statement ≡ key_at page name → Tells watching.watch root_next.body.epoch statement step
           → (test : Bool) → same_key (key_at page name) (expected watcher.watch page.epoch) ≡ test
           → TellsStep name page (Ok step) (verdict_text test (place_text name page) (key_at page name))
-      told step_of.DirectoryState statement root_next is states tells true e = refl
-      told step_of.DirectoryState statement root_next is states tells false e =
+      told step_of.Kept statement root_next is states tells true e = refl
+      told step_of.Kept statement root_next is states tells false e =
           let kept : key_at page name ≡ expected watcher.watch page.epoch = sym states ∙ tells ∙ wanted root_next is in
           let clash : true ≡ false = sym ((same-keys (key_at page name) (expected watcher.watch page.epoch)).1 kept) ∙ e in
           absurd cc

@@ -62,7 +62,7 @@ LooksRight provider page name (Err why) = MayRefuse provider page name why
 
 -- what a step of a monitor answers: that all is well exactly where the page has what the owner expects
 abbrev pub StepsRight : Provider → Page → Monitor → Result Step monitors.Refusal → Type 0
-StepsRight provider page monitor_before (Ok told) = (told ≡ step.DirectoryState) ↔ (key_at page monitor_before.name ≡ watch.expected monitor_before.watch page.epoch)
+StepsRight provider page monitor_before (Ok told) = (told ≡ step.Kept) ↔ (key_at page monitor_before.name ≡ watch.expected monitor_before.watch page.epoch)
 StepsRight provider page monitor_before (Err (monitor.Client why)) = MayRefuse provider page monitor_before.name why
 StepsRight provider page monitor_before (Err monitor.OtherPromise) = ⊥
 
@@ -127,7 +127,7 @@ module _ (provider : Provider) (accepted verified : List ℕ → List ℕ → Li
         → IsFollowed provider key after holder.chain → IsSound provider.hash accepted verified holder → IsTested holder.promises given.promise.name place given → IsGiven commands replies given
         → IsNextAfter holder.chain given.promise.epoch root → IsShown before commands replies given.promise.name root.body.epoch text
         → Tests provider.hash accepted holder.chain given.promise.name text given result
-        → result ≡ Ok due.DirectoryState
+        → result ≡ Ok due.Kept
     -- a monitor of its name expects its key, unless it expects that of a later promise or has watched an epoch
     -- above the promise's
     pub expected : (watching later : Monitor) (given : SignedPromise) (root : SignedRoot) (result : Result (Unit {0}) monitors.Refusal)

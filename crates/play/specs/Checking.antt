@@ -20,7 +20,7 @@ use Rattle.monitor.specs.Stepping.{Steps}
 use Rattle.monitor.specs.declared.refusal.Refusal as monitors
 use Rattle.monitor.specs.declared.refusal.Refusal.TheVariants as monitor
 use Rattle.monitor.specs.declared.step.Step.{Step}
-use Rattle.monitor.specs.declared.step.Step.TheVariants.{DirectoryState, Alarm}
+use Rattle.monitor.specs.declared.step.Step.TheVariants.{Kept, Alarm}
 use Rattle.play.specs.Lines.{checked_text, is_double, refused_proof, statement_text}
 use Rattle.play.specs.Watchers.{Watcher, alarm_key, place_text, watched_text}
 
@@ -40,7 +40,7 @@ TellsLook epoch (Err why) line = TellsRefusal why line
 
 -- the line of a step of a monitor of this name, at a page
 abbrev pub TellsStep : List ℕ → Page → Result Step monitors.Refusal → List ℕ → Type 0
-TellsStep name page (Ok DirectoryState) line = line ≡ codes "kept " ++ place_text name page
+TellsStep name page (Ok Kept) line = line ≡ codes "kept " ++ place_text name page
 TellsStep name page (Ok (Alarm epoch found)) line = (epoch ≡ page.epoch) × (line ≡ codes "alarm " ++ place_text name page ++ codes " " ++ alarm_key (key_stated found))
 TellsStep name page (Err (monitor.Client why)) line = TellsRefusal why line
 TellsStep name page (Err monitor.OtherPromise) line = ⊥

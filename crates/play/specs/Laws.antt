@@ -86,7 +86,7 @@ NothingIsRefused = (index_of : List ℕ → List ℕ) (salts : Stream) (script :
 -- watches which has that page behind it.
 abbrev pub HistoryGoesOn : Type 0
 HistoryGoesOn = (index_of : List ℕ → List ℕ) (book : Book) (front more : List Page) (page : Page) (count : ℕ) → IsSound index_of book → pages book ≡ front ++ page ∷ more
-    → told book (page.epoch + 1) count ≡ take count more
+    → page_range book (page.epoch + 1) count ≡ take count more
 
 abbrev pub MonitorsGoOn : Type 0
 MonitorsGoOn = (index_of : List ℕ → List ℕ) (book : Book) (front more : List Page) (page : Page) (watcher : Watcher) → IsSound index_of book → pages book ≡ front ++ page ∷ more

@@ -25,7 +25,7 @@ use vrfiface::VufCheck;
 
 /// What users see of an honest provider's run (`IsHonest`, which the runs of a directory and of a hub
 /// ensure) decides what their own calls return: looks and promises are accepted, promises are found kept,
-/// a monitor's step is `DirectoryState` exactly where the page has what the owner expects, an auditor follows the
+/// a monitor's step is `Kept` exactly where the page has what the owner expects, an auditor follows the
 /// roots, and nothing that was issued is evidence.
 pub fn honest<V: VufCheck, S: Verifier>()
     ensures { (provider : Provider) (key : List ℕ) (before after : Book) (commands : List Operation) (replies : List Reply)
