@@ -165,7 +165,7 @@ def draw_roots(picture):
         picture.text(768, 100 + 20 * row, words, "note")
     picture.text(768, 216, "signature of the body,\nunder the provider's key", "note")
     picture.arrow((530, 54), (612, 54), (612, 96), (652, 96))
-    picture.text(572, 46, "must be equal", "note")
+    picture.text(582, 46, "must be equal", "note")
     picture.arrow((768, 244), (768, 308))
     picture.text(760, 272, "names the one before,\nby the hash of its body", "note", "end")
     picture.box(640, 308, 256, 44, "signed root of epoch 2", "", "held")
