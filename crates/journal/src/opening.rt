@@ -110,9 +110,7 @@ fn replay_all<H: NodeHash, V: Vuf, S: Signer, R: Rng>(
             Err(Fault::Trailing) => return Err(Refusal::BadRecord),
             Err(Fault::OutOfRange) => return Err(Refusal::BadRecord),
         };
-        if let Err(why) = replay(directory, &what) {
-            return Err(why);
-        }
+        replay(directory, &what)?;
         taken += later_size(&what);
         *cursor = ahead;
     }

@@ -1,4 +1,4 @@
-use Rattle.std.proofs.Common.{◌≡◌, length, length-append, ℕ, List, inl, sym, ap, subst, ◌∙◌, arith, Ok, Err, Some}
+use Rattle.std.proofs.Common.{rules, ◌≡◌, length, length-append, ℕ, List, inl, sym, ap, subst, ◌∙◌, arith, Ok, Err, Some}
 use Rattle.book.specs.Shows.{index_of}
 use Rattle.book.specs.Replays.{replayed}
 use Rattle.epochs.specs.DirectoryStates.{book, provider}
@@ -31,9 +31,9 @@ loop-preserved g c =
     let by = index_of (provider g.H.NodeHash.digest_of g.V.Vuf.value_of g.S.Signer.signature_of c.args.directory.now) in
     let one = subst (λ (index : List ℕ → List ℕ). replayed index (book g.R.Rng.stream c.loop.directory) c.in-Ok.what ≡ Some (book g.R.Rng.stream c.replay.new.directory))
     (same_index g.H.NodeHash.digest_of g.V.Vuf.value_of g.S.Signer.signature_of c.args.directory.now c.loop.directory c.loop.invariant.1)
-    c.in_default.ensures.replays in
+    c.in_ok-replay.ensures.replays in
     let on = replaying_on by c.loop.invariant.0 c.in-Ok.what c.read_later.new.cursor (book g.R.Rng.stream c.replay.new.directory) read one in
-    (rw c.later_size-taken.ensures on, (c.in_default.ensures.keys.0 ∙ c.loop.invariant.1.0, c.in_default.ensures.keys.1 ∙ c.loop.invariant.1.1))
+    (rw c.later_size-taken.ensures on, (c.in_ok-replay.ensures.keys.0 ∙ c.loop.invariant.1.0, c.in_ok-replay.ensures.keys.1 ∙ c.loop.invariant.1.1))
 
 pub returns-in-Err-Trailing : goal.returns-in-Err-Trailing
 returns-in-Err-Trailing g c =
@@ -55,15 +55,16 @@ returns-in-Err-OutOfRange g c =
       keys = c.loop.invariant.1;
     }
 
-pub returns-in-Err-clause-replays : goal.returns-in-Err-clause-replays
-returns-in-Err-clause-replays g c =
+pub returns-in_err-replay-clause-replays : goal.returns-in_err-replay-clause-replays
+returns-in_err-replay-clause-replays g c =
+    let passed : c.from_residual.result ≡ Err c.in_err-replay.field-0.0 = search rules in
     let read = later_is c.loop.cursor (Ok c.in-Ok.what) c.read_later.new.cursor c.copied-ahead.ensures.bytes (ap read_later (sym c.copied-ahead.ensures.value) ∙ c.in-Ok.ensures) in
     let by = index_of (provider g.H.NodeHash.digest_of g.V.Vuf.value_of g.S.Signer.signature_of c.args.directory.now) in
     let one = subst (λ (index : List ℕ → List ℕ). (book g.R.Rng.stream c.replay.new.directory ≡ book g.R.Rng.stream c.loop.directory)
-    × IsNotReplayed index (book g.R.Rng.stream c.loop.directory) c.in-Ok.what c.in-Err.why)
+    × IsNotReplayed index (book g.R.Rng.stream c.loop.directory) c.in-Ok.what c.in_err-replay.field-0.0)
     (same_index g.H.NodeHash.digest_of g.V.Vuf.value_of g.S.Signer.signature_of c.args.directory.now c.loop.directory c.loop.invariant.1)
-    c.in-Err.ensures.replays in
-    stopped by c.loop.invariant.0 c.in-Ok.what c.read_later.new.cursor (book g.R.Rng.stream c.replay.new.directory) c.in-Err.why read one
+    c.in_err-replay.ensures.replays in
+    rw passed (stopped by c.loop.invariant.0 c.in-Ok.what c.read_later.new.cursor (book g.R.Rng.stream c.replay.new.directory) c.in_err-replay.field-0.0 read one)
 
 pub returns-clause-replays : goal.returns-clause-replays
 returns-clause-replays g c = (leads_here _ c.loop.invariant.0, nothing_cut c.loop.cursor (omega (arith, c.loop.invariant.0.within, c.loop-test.false)), c.loop.invariant.0.read)
