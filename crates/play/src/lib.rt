@@ -4,9 +4,9 @@
 //! directory, a piece of another session, or the watching of a name, and prints what comes of it. What it
 //! prints is the definition `printed`, which computes. The call that plays a script is still to come.
 //!
-//! Callers can rely on this: what a directory and a hub answer, and what clients and monitors make of it, is
-//! what the definition prints. No script prints evidence. What users see of an honest provider's run decides
-//! what their own calls return.
+//! Callers can rely on this: what a directory and a hub answer, unless memory ran out or a record was not
+//! kept, and what clients and monitors make of it, is what the definition prints. It has no line for evidence.
+//! What users see of an honest provider's run decides what their own calls return.
 #![tactic(auto)]
 
 mod laws;
