@@ -31,6 +31,8 @@ KILLS_OF_A_FILE = 20
 LONGEST_RUN = 0.06
 # After so many seconds no more kills are made, so that a slow machine ends in time.
 KILLS_SECONDS = 150
+# Fewer kills in that time are too few.
+FEWEST_KILLS = 10
 BATCH = 8
 AT_ONCE = 64
 KEEP_FAILED = 19
@@ -174,7 +176,13 @@ class Answered:
 
     def run(self, server, seconds):
         """Asks until the server is gone, which is killed after this time."""
-        timer = threading.Timer(seconds, server.process.kill)
+        killed = threading.Event()
+
+        def kill():
+            killed.set()
+            server.process.kill()
+
+        timer = threading.Timer(seconds, kill)
         asked, rest = [], b""
         with connected(server.address) as client:
             timer.start()
@@ -190,7 +198,8 @@ class Answered:
                         for answer in found:
                             yield from self.take(asked.pop(0), *answer)
             except OSError:
-                pass
+                if not killed.is_set():
+                    yield "the connection ended before the server was killed"
         timer.join()
         server.stop()
         self.doubt(asked)
@@ -282,6 +291,8 @@ def kills(program, folder, count):
     print(f"{number + 1} kills; {counted} names, {changes} of them changed, were asked for after one", file=sys.stderr)
     if not counted or not changes:
         yield "nothing was answered"
+    if number + 1 < min(int(count), FEWEST_KILLS):
+        yield f"only {number + 1} kills in {KILLS_SECONDS} seconds"
 
 
 def lives(program, folder):
@@ -396,7 +407,8 @@ def ordered(program, folder, library):
         yield "a sync without a record"
     calls = log.calls()
     yield from wrong_order(calls)
-    if next(call for call in calls if call[0] == "fsync" or call[:2] == ("write", synced_file(calls)))[0] != "fsync":
+    first = next(call for call in calls if call[0] == "fsync" or call[:2] == ("write", synced_file(calls)))
+    if first[0] != "fsync" or first[1] == synced_file(calls):
         yield "the entry of the file is not synced in its folder"
     server.stop()
 
