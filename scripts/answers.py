@@ -703,17 +703,12 @@ class Answers(Lines):
         items = self.items(w)
         return ["repeated"] if len(dict(items)) < len(items) else self.put_in(self.tree, items)
 
-    def trees_renew(self, w):
-        """`renew NONCE`: the same items under another nonce."""
-        tree = Tree(sha256, w.hash(), self.tree.items.items())
-        return self.kept(tree, len(tree.places()))
-
     def trees_copy(self, w):
         """`copy`: goes on with a copy of the tree."""
         return [told(self.tree.root())]
 
     def trees_count(self, w):
-        """`count`: the digests that the last `new`, `with`, `from`, `more` or `renew` took."""
+        """`count`: the digests that the last `new`, `with`, `from` or `more` took."""
         return [str(self.count)]
 
     def trees_root(self, w):

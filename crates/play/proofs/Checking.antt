@@ -50,6 +50,7 @@ use Rattle.play.specs.Checking.{step_text, TellsLook, TellsStep}
 use Rattle.play.specs.Lines.{is_double, refused_proof, statement_text}
 use Rattle.play.specs.Watchers.{Watcher, same_key, verdict_text, place_text}
 use Rattle.play.proofs.Calling.{accepts-stated, one-asked, one-next, rooted-epoch, same-index, spelled-read}
+use Rattle.play.proofs.Lists.{all-in}
 
 -- ---- names with one index
 
@@ -111,13 +112,9 @@ module _ (provider : Provider) (accepted verified : List ℕ → List ℕ → Li
   own-index : (bindings : Map Binding) → AreApart provider (HasName bindings) → HasName bindings name → ((entry : List ℕ × Binding) → Contains bindings entry → index_of provider entry.0 ≡ index_of provider name → entry.0 ≡ name)
   own-index bindings apart has entry there same = apart entry.0 name (entry-named bindings entry there) has same
 
-  all-of : (bindings : Map Binding) → ((entry : List ℕ × Binding) → Contains bindings entry → index_of provider entry.0 ≡ index_of provider name → entry.0 ≡ name) → Alone provider name bindings
-  all-of [] each = tt
-  all-of (entry ∷ more) each = (each entry (first-there entry more), all-of more (λ other there. each other (later-there entry more other there)))
-
   alone : is_double (index_of provider) page name ≡ false → Alone provider name page.bindings
   alone single = elim (named-or-not page.bindings name) [
-    | inl has ↦ all-of page.bindings (own-index page.bindings page-apart has)
+    | inl has ↦ all-in (λ (entry : List ℕ × Binding). index_of provider entry.0 ≡ index_of provider name → entry.0 ≡ name) page.bindings (own-index page.bindings page-apart has)
     | inr none ↦ none-double (index_of provider) name page.bindings (ap (λ (found : Option Binding). is_none found && has_its_index (index_of provider) name page.bindings) (sym none) ∙ single)
   ]
 

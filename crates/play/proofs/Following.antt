@@ -1,6 +1,5 @@
 -- What users make of roots and promises that they take as the provider tells them.
 use Rattle.std.proofs.Common.{◌≡◌, ℕ, ◌<◌, ◌≤◌, List, [], ◌∷◌, ◌++◌, length, Result, Ok, Err, Contains, refl, sym, ap, subst, ◌∙◌, inl, inr, append_assoc, arith}
-use Rattle.std.specs.List.{AllByRecursion}
 use Rattle.std.proofs.lemmas.List.Elements.{All-contains, Contains-append_right}
 use Rattle.encoding.proofs.Fields.{one_spelling}
 use Rattle.rootchain.specs.Chains.{IsHead, KeyedRoots, Links, Names, Verifies}
@@ -19,24 +18,20 @@ use Rattle.book.specs.declared.reply.Reply.{Reply}
 use Rattle.book.specs.Books.{Book}
 use Rattle.book.specs.Honest.{AreConsecutive, IsHonest}
 use Rattle.book.specs.Shows.{Provider, roots}
-use Rattle.book.proofs.Members.{first-there, later-there}
 use Rattle.book.proofs.Stretches.{consecutive-there}
 use Rattle.client.specs.Clients.{Client}
 use Rattle.client.specs.Updating.{told_as, Updates}
 use Rattle.client.specs.declared.refusal.Refusal.{Refusal}
 use Rattle.play.specs.Calls.{IsFollowed, UpdatesRight}
+use Rattle.play.proofs.Lists.{all-in}
 
-pub one-list : (bytes : List ℕ) (one other : List SignedRoot) → SpellsRoots bytes one → SpellsRoots bytes other → one ≡ other
+one-list : (bytes : List ℕ) (one other : List SignedRoot) → SpellsRoots bytes one → SpellsRoots bytes other → one ≡ other
 one-list bytes one other is also =
     (one_spelling read_root_list root_list_bytes IsRootList root_list_field one other [] [] is.1 also.1 (ap (λ (t : List ℕ). t ++ []) (sym is.0 ∙ also.0))).0
 
-pub some-more : (xs ys : List SignedRoot) → 0 < length xs → 0 < length (xs ++ ys)
+some-more : (xs ys : List SignedRoot) → 0 < length xs → 0 < length (xs ++ ys)
 some-more [] ys some = absurd (omega (arith, some))
 some-more (x ∷ xs) ys some = omega arith
-
-all-in : (P : SignedRoot → Type 0) (xs : List SignedRoot) → ((x : SignedRoot) → Contains xs x → P x) → AllByRecursion P xs
-all-in P [] each = tt
-all-in P (x ∷ xs) each = (each x (first-there x xs), all-in P xs (λ y there. each y (later-there x xs y there)))
 
 -- a part of what stands one behind another stands so
 front-consecutive : (all some more : List SignedRoot) → AreConsecutive all (some ++ more) → AreConsecutive all some
@@ -66,7 +61,7 @@ module _ (provider : Provider) (accepted verified : List ℕ → List ℕ → Li
       )
 
   -- a list of the roots behind those of a chain is taken whole
-  pub takes-all : (next : List SignedRoot) (chain later : KeyedRoots) → IsFollowed provider key after chain → AreConsecutive (roots provider after) (chain.roots ++ next) → Takes provider.hash verified chain next later
+  takes-all : (next : List SignedRoot) (chain later : KeyedRoots) → IsFollowed provider key after chain → AreConsecutive (roots provider after) (chain.roots ++ next) → Takes provider.hash verified chain next later
       → later ≡ with_roots chain next
   takes-all [] chain later f are takes = takes ∙ grows-nothing chain
   takes-all (root ∷ more) chain later f are (middle, (verifies, inl (known, stays)), rest) =

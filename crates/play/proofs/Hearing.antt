@@ -9,6 +9,7 @@ use Rattle.proofs.specs.declared.refusal.Refusal.TheVariants.{OtherRoot}
 use Rattle.proofs.proofs.Passing.{one_reply}
 use Rattle.commands.specs.Operations as ask
 use Rattle.commands.specs.Operations.{Operation, Question, Query, Edit, Put, Promise, Lookup, History, Head}
+use Rattle.wire.specs.Frames.{Frame}
 use Rattle.wire.specs.declared.refusals.ReadRefusal.{ReadRefusal}
 use Rattle.wire.specs.declared.refusals.ReadRefusal.TheVariants.{BadKind, BadBody}
 use Rattle.wire.specs.Refusals.{read_refusal_number}
@@ -37,8 +38,8 @@ use Rattle.book.proofs.Stepping.{Does, due_steps, finds, refused_due, stepped}
 use Rattle.book.proofs.Turning.{asked-page}
 use Rattle.hub.specs.DeskRuns.{AreRead, IsTurnedAway, Reaches, ShowReplies}
 use Rattle.hub.specs.Desks.{reply_frame, IsRead, IsResponseOf}
-use Rattle.hub.specs.Runs.{Line}
-use Rattle.play.specs.Hearing.{response_text, HasBytes, IsGranted, IsHeard, IsOfBytes}
+use Rattle.hub.specs.Runs.{Line, asked as asked_of}
+use Rattle.play.specs.Hearing.{response_text, HasBytes, IsGranted, IsHeard, IsOfBytes, RunsAreHeard}
 use Rattle.play.specs.Lines.{answer_text, last_epoch, numbered_text}
 use Rattle.play.specs.Messages.{Numbered, asks, comes_of, numbered, reading_asks, request_asks}
 use Rattle.play.specs.Played.{answered}
@@ -95,6 +96,15 @@ frame-asks requested is small = by (read_request (request_kind requested) (reque
     by (Ok (other, byte ∷ more)) e = absurd ((reads_more (request_kind requested) (request_body requested) other (byte ∷ more) (λ f. absurd cc) e).1 requested own)
     by (Err BadKind) e = absurd (is_unknown (request_kind requested) (request_body requested) e (requested, refl))
     by (Err BadBody) e = absurd ((reads_none (request_kind requested) (request_body requested) e).1 requested own)
+
+-- ---- runs of a hub
+
+messages-asked : (lines : List Line) → map (λ (line : Line). line.message) lines ≡ map (λ (one : ℕ × Message). one.1) (map asked_of lines)
+messages-asked [] = refl
+messages-asked (line ∷ more) = ap (λ (rest : List Message). line.message ∷ rest) (messages-asked more)
+
+pub runs-heard : {S : Type 0} (answers : S → Frame → List ℕ → S → Type 0) → RunsAreHeard answers
+runs-heard answers before after events lines run = (messages-asked lines ∙ ap (map (λ (one : ℕ × Message). one.1)) run.messages, run.left)
 
 -- ---- the last root
 
@@ -209,7 +219,7 @@ module _ (provider : Provider) where
 
   module _ {K : Type 0} (kept failed : K → Record → K → Type 0) where
     -- what a turn tells of the step, where it was granted
-    record IsTurned (book : Book) (asked : Operation) (said : Reply) (after : Book) (responded : ResponseContent) : Type 0 where
+    pub record IsTurned (book : Book) (asked : Operation) (said : Reply) (after : Book) (responded : ResponseContent) : Type 0 where
       pub book_after : (Comes book asked).1 ≡ after
       pub line : response_text responded ≡ numbered_text (answer_text after) (Comes book asked).0
       pub latest : latest_after book.last.epoch asked said ≡ after.last.epoch
@@ -226,19 +236,20 @@ module _ (provider : Provider) where
           latest = latest-now book after asked answer said done shows;
         }
 
+    -- where a command was granted, it is refused as its step is
+    pub given-up : (keeper later : K) (why : Refusal) (answer : Answer) (lost : Option Record) → IsGranted (reply_of.Refused why) → Declines provider kept failed (Answers answer) lost keeper why later → ⊥
+    given-up keeper later why answer None granted d = d
+    given-up keeper later why answer (Some lost) granted (inl memory) = granted.0 (ap Refused memory.0)
+    given-up keeper later why answer (Some lost) granted (inr unkept) = granted.1 (ap Refused unkept.0)
+
     turned-refusal : (book after : Book) (keeper later : K) (asked : Operation) (why : Refusal) (responded : ResponseContent) → after ≡ book
         → Declines provider kept failed (step (index_of provider) book asked).0 (kept_of book asked) keeper why later → IsGranted (reply_of.Refused why)
         → responded ≡ response.Refused (refusal_number why) → IsTurned book asked (reply_of.Refused why) after responded
     turned-refusal book after keeper later asked why responded stays declines granted responds = by (step (index_of provider) book asked).0 refl declines
       where
-        given-up : (answer : Answer) (lost : Option Record) → Declines provider kept failed (Answers answer) lost keeper why later → ⊥
-        given-up answer None d = d
-        given-up answer (Some lost) (inl memory) = granted.0 (ap Refused memory.0)
-        given-up answer (Some lost) (inr unkept) = granted.1 (ap Refused unkept.0)
-
         by : (outcome : Outcome) → (step (index_of provider) book asked).0 ≡ outcome → Declines provider kept failed outcome (kept_of book asked) keeper why later
             → IsTurned book asked (reply_of.Refused why) after responded
-        by (Answers answer) is d = absurd (given-up answer (kept_of book asked) d)
+        by (Answers answer) is d = absurd (given-up keeper later why answer (kept_of book asked) granted d)
         by (Refuses due) is d =
             let all : step (index_of provider) book asked ≡ (Refuses due, book) = due_steps (index_of provider) book asked due (refused_due (index_of provider) book asked due is) in
             let comes : Comes book asked ≡ (Err (refusal_number due), book) = ap (λ (now : Outcome × Book). (numbered now.0, now.1)) all in
@@ -248,7 +259,7 @@ module _ (provider : Provider) where
               latest = refused-latest book.last.epoch asked why ∙ ap (λ (b : Book). b.last.epoch) (sym stays);
             }
 
-    turned : (book after : Book) (keeper later : K) (asked : Operation) (said : Reply) (responded : ResponseContent) → AllPairs IsBefore (pages after)
+    pub turned : (book after : Book) (keeper later : K) (asked : Operation) (said : Reply) (responded : ResponseContent) → AllPairs IsBefore (pages after)
         → Turn provider kept failed book keeper asked said after later → IsGranted said → IsResponseOf said responded → AreOfPages book.last.epoch (asked ∷ []) (said ∷ [])
         → IsTurned book asked said after responded
     turned book after keeper later asked (reply_of.Refused why) responded up (stays, declines) granted responds of_pages = turned-refusal book after keeper later asked why responded stays declines granted responds

@@ -1,7 +1,7 @@
 -- Which lines a script prints.
 use Rattle.std.proofs.Common.{◌≡◌, ◌⊎◌, ℕ, zero, suc, ◌+◌, ◌<◌, ◌/◌, ◌%◌, Bool, true, false, not, cond, List, [], ◌∷◌, ◌++◌, length, map, Option, Some, None, Result, Ok, Err, Contains, refl, sym, subst, ◌∙◌, inl, inr, append_assoc, arith}
 use Rattle.std.specs.Bool.{⊤}
-use Rattle.std.specs.Prelude.{◌==◌, ◌&&◌, if◌then◌else◌, codes, decimal, filter, find, is_none, is_some, nat_lt}
+use Rattle.std.specs.Prelude.{◌==◌, ◌&&◌, if◌then◌else◌, codes, decimal, find, is_none, is_some, nat_lt}
 use Rattle.std.specs.Fmt.{digit_glyph, digits, digits_onto}
 use Rattle.std.specs.List.{AllByRecursion}
 use Rattle.std.specs.Str.{bytes_eq}
@@ -32,6 +32,7 @@ use Rattle.play.specs.Printing as printing
 use Rattle.play.specs.Printing.{played_from}
 use Rattle.play.specs.Scripts.{Line, Pass, Ask, Watch as Watching, Piece, End, line_of, token}
 use Rattle.play.specs.Watchers.{Watcher, ahead, all_through, expecting, handed, onto_line, place_text, same_key, through, verdict_text, watched_text}
+use Rattle.play.proofs.Lists.{all-in, both, filtered}
 
 -- ---- texts
 
@@ -94,23 +95,6 @@ statement-plain epoch None = refl
 statement-plain epoch (Some key) = refl
 
 -- ---- lists
-
-module _ {X : Type 0} (R : X → Type 0) where
-  both : (xs ys : List X) → AllByRecursion R xs → AllByRecursion R ys → AllByRecursion R (xs ++ ys)
-  both [] ys is also = also
-  both (x ∷ xs) ys is also = (is.0, both xs ys is.1 also)
-
-  all-in : (xs : List X) → ((x : X) → Contains xs x → R x) → AllByRecursion R xs
-  all-in [] each = tt
-  all-in (x ∷ xs) each = (each x (first-there x xs), all-in xs (λ y there. each y (later-there x xs y there)))
-
-  filtered : (test : X → Bool) (xs : List X) → AllByRecursion R xs → AllByRecursion R (filter test xs)
-  filtered test [] is = tt
-  filtered test (x ∷ xs) is = by (test x) (filtered test xs is.1)
-    where
-      by : (b : Bool) → AllByRecursion R (filter test xs) → AllByRecursion R (cond b (x ∷ filter test xs) (filter test xs))
-      by true rest = (is.0, rest)
-      by false rest = rest
 
 find-there : {X : Type 0} (test : X → Bool) (xs : List X) (x : X) → find test xs ≡ Some x → Contains xs x
 find-there test [] x is = absurd cc

@@ -14,8 +14,9 @@ use Rattle.book.specs.Replies.{seen, Refused}
 use Rattle.commands.specs.Operations.{Operation}
 use Rattle.book.specs.Books.{Book}
 use Rattle.hub.specs.DeskRuns.{IsTurnedAway, Reaches}
-use Rattle.hub.specs.Runs.{Line}
-use Rattle.play.specs.Messages.{asks, request_asks}
+use Rattle.hub.specs.Events.{Happening, HubState}
+use Rattle.hub.specs.Runs.{Line, Runs}
+use Rattle.play.specs.Messages.{asks, heard, held_after, request_asks}
 use Rattle.play.specs.Played.{answered}
 use Rattle.play.specs.Scripts.{token}
 
@@ -58,3 +59,8 @@ abbrev pub AreHeard : (List ℕ → List ℕ) → Book → List Line → Book �
 AreHeard index_of before lines after =
     let told = answered index_of before (map (λ (line : Line). line.message) lines) in
     (told.1 ≡ after) × AllZip IsHeard lines told.0
+
+-- the messages of a run of a hub are those that the definition hears, and the sessions then hold what it says
+abbrev pub RunsAreHeard : {S : Type 0} → (S → Frame → List ℕ → S → Type 0) → Type 0
+RunsAreHeard {S} answers = (before after : HubState S) (events : List Happening) (lines : List Line) → Runs answers before events lines after
+    → (map (λ (line : Line). line.message) lines ≡ heard before.sessions events) × (after.sessions ≡ held_after before.sessions events)

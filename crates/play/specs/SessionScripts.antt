@@ -1,4 +1,4 @@
--- Scripts of other sessions: each line with the lines that it prints.
+-- Scripts of other sessions: each line beside the lines that it prints. `scripts/script_specs.py` writes this file.
 use Rattle.std.specs.Prelude.{List, [], ◌∷◌, ◌++◌, codes}
 use Rattle.play.specs.Rows.{Row, repeated}
 
@@ -15,6 +15,7 @@ two_sessions =
     ∷ (codes "bytes 2 0000000c020005616c69636500026b32", codes "2: promise 2" ∷ [])
     ∷ (codes "end 1", [])
     ∷ (codes "bytes 1 0000002907" ++ repeated 39 (codes "00") ++ codes "05000000100400000000000000000005616c6963650000000b0500000000000000020002", codes "1: root 5 after 2" ∷ codes "1: proof 5" ∷ codes "1: roots 2 5" ∷ [])
+    ∷ (codes "# What the client accepts of each page.", [])
     ∷ (codes "lookup 616c696365 1", codes "absent 1" ∷ [])
     ∷ (codes "lookup 616c696365 2", codes "present 2 6b31" ∷ [])
     ∷ (codes "lookup 616c696365 5", codes "present 5 6b32" ∷ [])
@@ -26,8 +27,8 @@ two_sessions =
     ∷ []
 
 -- Each refusal of the directory, as another session is told.
-abbrev pub refusals : List Row
-refusals =
+abbrev pub refusals_in_frames : List Row
+refusals_in_frames =
     (codes "bytes 1 000000070100016100016b", codes "1: promise 1" ∷ [])
     ∷ (codes "bytes 1 000000070100016100016c", codes "1: refused 8" ∷ [])
     ∷ (codes "bytes 1 000000070200016100016b", codes "1: refused 7" ∷ [])
@@ -52,9 +53,9 @@ refusals =
     ∷ (codes "bytes 1 000000070200016100016c", codes "1: refused 8" ∷ [])
     ∷ []
 
--- Only the operator's token closes an epoch, and it is tested before the epoch.
-abbrev pub tokens : List Row
-tokens =
+-- The token is tested before the epoch.
+abbrev pub only_the_operator_closes : List Row
+only_the_operator_closes =
     (codes "bytes 1 0000002907" ++ repeated 31 (codes "00") ++ codes "010000000000000002", codes "1: refused 12" ∷ [])
     ∷ (codes "bytes 1 000000290701" ++ repeated 38 (codes "00") ++ codes "02", codes "1: refused 12" ∷ [])
     ∷ (codes "bytes 1 0000002907" ++ repeated 31 (codes "00") ++ codes "010000000000000001", codes "1: refused 12" ∷ [])

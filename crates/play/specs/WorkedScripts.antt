@@ -1,4 +1,4 @@
--- Worked scripts: each line with the lines that it prints.
+-- Worked scripts: each line beside the lines that it prints. `scripts/script_specs.py` writes this file.
 use Rattle.std.specs.Prelude.{List, [], ◌∷◌, ◌++◌, codes}
 use Rattle.play.specs.Rows.{Row, repeated}
 
@@ -35,22 +35,47 @@ changes =
     ∷ (codes "register 61 6d", codes "refused 6" ∷ [])
     ∷ []
 
--- Epochs only rise, up to the greatest.
+-- Epochs only rise, up to the greatest. Nothing is asked for behind it.
 abbrev pub last_epoch : List Row
 last_epoch =
-    (codes "close 1", codes "refused 11" ∷ [])
-    ∷ (codes "close 18446744073709551615", codes "root 18446744073709551615 after 1" ∷ [])
+    (codes "watch 61 -", codes "kept 61 1" ∷ [])
+    ∷ (codes "close 0", codes "refused 11" ∷ [])
+    ∷ (codes "close 1", codes "refused 11" ∷ [])
+    ∷ (codes "close 18446744073709551615", codes "root 18446744073709551615 after 1" ∷ codes "kept 61 18446744073709551615" ∷ [])
     ∷ (codes "close 18446744073709551615", codes "refused 11" ∷ [])
+    ∷ (codes "close 2", codes "refused 11" ∷ [])
+    ∷ (codes "register 61 6b", codes "promise 18446744073709551615" ∷ [])
+    ∷ (codes "promise 61", codes "promise 18446744073709551615" ∷ [])
+    ∷ (codes "lookup 61 18446744073709551615", codes "absent 18446744073709551615" ∷ [])
+    ∷ (codes "lookup 61 0", codes "absent 18446744073709551615" ∷ [])
+    ∷ (codes "lookup 61 18446744073709551614", codes "refused 10" ∷ [])
+    ∷ (codes "history 18446744073709551615 64", codes "roots 18446744073709551615" ∷ [])
+    ∷ (codes "history 18446744073709551614 1", codes "roots 18446744073709551615" ∷ [])
+    ∷ (codes "history 0 1", codes "roots 1" ∷ [])
+    ∷ (codes "history 2 1", codes "roots 18446744073709551615" ∷ [])
+    ∷ (codes "head", codes "root 18446744073709551615 after 1" ∷ [])
+    ∷ (codes "watch 62 6b", codes "alarm 62 18446744073709551615 absent" ∷ [])
+    ∷ (codes "bytes 1 0000002907" ++ repeated 32 (codes "00") ++ codes "ffffffffffffffff", codes "1: refused 11" ∷ [])
     ∷ []
 
 -- From 1 to 64 roots are asked for, and fewer told only where there are no more.
-abbrev pub histories : List Row
-histories =
+abbrev pub limits_of_histories : List Row
+limits_of_histories =
     (codes "history 0 65", codes "refused 15" ∷ [])
     ∷ (codes "history 0 0", codes "refused 15" ∷ [])
+    ∷ (codes "history 0 65535", codes "refused 15" ∷ [])
     ∷ (codes "history 0 64", codes "roots 1" ∷ [])
     ∷ (codes "history 9 1", codes "roots" ∷ [])
     ∷ (codes "lookup 61 5", codes "refused 10" ∷ [])
+    ∷ (codes "close 5", codes "root 5 after 1" ∷ [])
+    ∷ (codes "close 9", codes "root 9 after 5" ∷ [])
+    ∷ (codes "history 0 2", codes "roots 1 5" ∷ [])
+    ∷ (codes "history 2 64", codes "roots 5 9" ∷ [])
+    ∷ (codes "history 9 1", codes "roots 9" ∷ [])
+    ∷ (codes "history 10 64", codes "roots" ∷ [])
+    ∷ (codes "history 5 1", codes "roots 5" ∷ [])
+    ∷ (codes "history 6 1", codes "roots 9" ∷ [])
+    ∷ (codes "history 18446744073709551615 64", codes "roots" ∷ [])
     ∷ []
 
 -- A message takes its place when its last byte arrives, whatever other sessions send between.
@@ -62,15 +87,36 @@ half_messages =
     ∷ (codes "lookup 61 2", codes "absent 2" ∷ [])
     ∷ (codes "close 3", codes "root 3 after 2" ∷ [])
     ∷ (codes "lookup 61 3", codes "present 3 6b" ∷ [])
+    ∷ (codes "# A look-up and a history that are cut, around a closing.", [])
+    ∷ (codes "bytes 3 0000000c0400000000000000000001", [])
+    ∷ (codes "bytes 4 0000000b0500000000", [])
+    ∷ (codes "bytes 2 0000002907" ++ repeated 39 (codes "00") ++ codes "07", codes "2: root 7 after 3" ∷ [])
+    ∷ (codes "bytes 3 61", codes "3: proof 7" ∷ [])
+    ∷ (codes "bytes 4 000000020040", codes "4: roots 2 3 7" ∷ [])
     ∷ []
 
--- A bad length is refused once. Then the session prints nothing.
-abbrev pub bad_lengths : List Row
-bad_lengths =
+-- A bad length is refused once. Then the session prints nothing, until it is ended and opened again.
+abbrev pub failed_streams : List Row
+failed_streams =
     (codes "bytes 1 00000000", codes "1: refused 1" ∷ [])
     ∷ (codes "bytes 1 0000000106", [])
     ∷ (codes "bytes 2 0000000106", codes "2: root 1 after 0" ∷ [])
     ∷ (codes "bytes 3 00010001", codes "3: refused 1" ∷ [])
+    ∷ (codes "bytes 4 000000010600000000", codes "4: root 1 after 0" ∷ codes "4: refused 1" ∷ [])
+    ∷ (codes "bytes 4 0000000106", [])
+    ∷ (codes "bytes 5 00010000", [])
+    ∷ (codes "bytes 1 -", [])
+    ∷ (codes "end 1", [])
+    ∷ (codes "bytes 1 0000000106", codes "1: root 1 after 0" ∷ [])
+    ∷ (codes "end 4", [])
+    ∷ (codes "end 4", [])
+    ∷ (codes "bytes 4 00", [])
+    ∷ (codes "bytes 4 000001", [])
+    ∷ (codes "bytes 4 06", codes "4: root 1 after 0" ∷ [])
+    ∷ (codes "bytes 5 06", [])
+    ∷ (codes "bytes 6 ffffffff06", codes "6: refused 1" ∷ [])
+    ∷ (codes "bytes 6 0000000106", [])
+    ∷ (codes "head", codes "root 1 after 0" ∷ [])
     ∷ []
 
 -- Each message of a piece is answered. One of another kind or form is refused, and the session goes on.
@@ -79,9 +125,12 @@ messages_in_one_piece =
     (codes "bytes 1 000000010600000001060000000106", codes "1: root 1 after 0" ∷ codes "1: root 1 after 0" ∷ codes "1: root 1 after 0" ∷ [])
     ∷ (codes "bytes 1 0000000109", codes "1: refused 2" ∷ [])
     ∷ (codes "bytes 1 000000020600", codes "1: refused 3" ∷ [])
+    ∷ (codes "bytes 1 0000000106", codes "1: root 1 after 0" ∷ [])
+    ∷ (codes "bytes 1 000000010000000001810000000109", codes "1: refused 2" ∷ codes "1: refused 2" ∷ codes "1: refused 2" ∷ [])
+    ∷ (codes "bytes 1 00000001ff0000000106", codes "1: refused 2" ∷ codes "1: root 1 after 0" ∷ [])
     ∷ []
 
--- Three messages, a byte a piece, and then the same two.
+-- Three messages, a byte a piece.
 abbrev pub messages_byte_by_byte : List Row
 messages_byte_by_byte =
     (codes "bytes 1 00", [])
@@ -99,27 +148,4 @@ messages_byte_by_byte =
     ∷ (codes "bytes 1 00", [])
     ∷ (codes "bytes 1 01", [])
     ∷ (codes "bytes 1 06", codes "1: root 1 after 0" ∷ [])
-    ∷ (codes "bytes 1 0000000109", codes "1: refused 2" ∷ [])
-    ∷ (codes "bytes 1 000000020600", codes "1: refused 3" ∷ [])
-    ∷ []
-
--- A change that the owner did not ask for.
-abbrev pub alarm : List Row
-alarm =
-    (codes "watch 61 -", codes "kept 61 1" ∷ [])
-    ∷ (codes "register 61 6b", codes "promise 1" ∷ [])
-    ∷ (codes "close 2", codes "root 2 after 1" ∷ codes "kept 61 2" ∷ [])
-    ∷ (codes "bytes 1 000000070200016100016c", codes "1: promise 2" ∷ [])
-    ∷ (codes "close 5", codes "root 5 after 2" ∷ codes "alarm 61 5 6c" ∷ [])
-    ∷ []
-
--- The owner's change waits, so nobody else's is taken.
-abbrev pub change_by_another_session : List Row
-change_by_another_session =
-    (codes "watch 61 -", codes "kept 61 1" ∷ [])
-    ∷ (codes "register 61 6b", codes "promise 1" ∷ [])
-    ∷ (codes "close 2", codes "root 2 after 1" ∷ codes "kept 61 2" ∷ [])
-    ∷ (codes "change 61 6c", codes "promise 2" ∷ [])
-    ∷ (codes "bytes 1 000000070200016100016d", codes "1: refused 8" ∷ [])
-    ∷ (codes "close 4", codes "root 4 after 2" ∷ codes "kept 61 4" ∷ [])
     ∷ []

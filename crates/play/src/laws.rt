@@ -10,20 +10,23 @@ ghost use Rattle.book.specs.Sound.{IsSound};
 ghost use Rattle.book.specs.Turns.{Run};
 ghost use Rattle.hub.specs.DeskRuns.{AreRead, ShowReplies};
 ghost use Rattle.hub.specs.Runs.{Line};
+ghost use Rattle.play.specs.Answering.{AnswersAreTold, LookupsAreShown};
 ghost use Rattle.play.specs.Calls.{CallsAreHonest};
 ghost use Rattle.play.specs.Checking.{LooksAreTold, StepsAreTold};
-ghost use Rattle.play.specs.Hearing.{AreHeard, AsksWhatReaches, FramesAsk, IsGranted, IsOfBytes};
+ghost use Rattle.play.specs.Hearing.{AreHeard, AsksWhatReaches, FramesAsk, IsGranted, IsOfBytes, RunsAreHeard};
+ghost use Rattle.play.specs.InTime.{MonitorsAreInTime, PromisesAreLater};
 ghost use Rattle.play.specs.Laws.{HistoryGoesOn, LinesArePlain, MonitorsGoOn, NothingIsRefused};
 ghost use Rattle.play.specs.Scripts.{token};
 
 use book::Keeper;
+use hub::Service;
 use sigiface::Verifier;
 use vrfiface::VufCheck;
 
 /// What users see of an honest provider's run (`IsHonest`, which the runs of a directory and of a hub
-/// ensure) decides what their own calls return: looks and promises are accepted, promises are found kept,
-/// a monitor's step is `Kept` exactly where the page has what the owner expects, an auditor follows the
-/// roots, and nothing that was issued is evidence.
+/// ensure) decides what their own calls return, if memory does not run out: looks and promises are accepted
+/// (but for the look at a double index), promises are found kept, a monitor's step is `Kept` exactly where
+/// the page has what the owner expects, an auditor follows the roots, and nothing that was issued is evidence.
 pub fn honest<V: VufCheck, S: Verifier>()
     ensures { (provider : Provider) (key : List ℕ) (before after : Book) (commands : List Operation) (replies : List Reply)
         → IsHonest provider V.accepted S.verified key before after commands replies
@@ -39,7 +42,8 @@ pub fn lines_are_plain()
 
 /// The definition of scripts asks of a directory what the messages of sessions ask of it, and tells what
 /// the frames of their replies say, if no command was refused for want of memory or since a record was not
-/// kept. The premises are what a run of a hub ensures.
+/// kept, and each message is bytes. The other premises are what `Hub::run` and the clause `well` of
+/// `Hub::head` ensure.
 pub fn sessions_are_heard<V: VufCheck, S: Verifier, K: Keeper>()
     ensures asks { AsksWhatReaches }
     ensures frames { FramesAsk }
@@ -66,4 +70,25 @@ pub fn checks_are_told<V: VufCheck, S: Verifier>()
 pub fn pages_go_on()
     ensures history { HistoryGoesOn }
     ensures monitors { MonitorsGoOn }
+{}
+
+/// The messages of a run of a hub, of whichever sessions, are those that the definition of scripts hears of
+/// its events, and each session then holds what the definition says. Any service may stand behind the hub.
+pub fn runs_are_heard<D: Service>()
+    ensures { RunsAreHeard D.answers }
+{}
+
+/// A promise that is handed to a monitor is above all changes that it expects. (That no later epoch was
+/// watched is not said here.)
+pub fn promises_are_in_time()
+    ensures monitors { MonitorsAreInTime }
+    ensures promises { PromisesAreLater }
+{}
+
+/// What a directory answers to a line that asks is what the definition of scripts says of the line, unless
+/// memory ran out or a record was not kept: the line of its response, or, to a look-up, a reply of which
+/// `checks_are_told` says what a client makes of it.
+pub fn answers_are_told<K: Keeper>()
+    ensures answers { (provider : Provider) → AnswersAreTold provider K.kept K.failed }
+    ensures lookups { (provider : Provider) → LookupsAreShown provider K.kept K.failed }
 {}

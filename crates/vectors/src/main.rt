@@ -29,7 +29,6 @@
 //! | | `take`, `extend` under a verifier that accepts all | `any`, `any-extended` |
 //! | `trees` | `Tree::new`, `with`, `copy` | `new`, `with`, `copy` |
 //! | | `placed`, `from_items`, `with_all` | `from`, `more` |
-//! | | `renew` | `renew` |
 //! | | `root`, `get`, `path`, `Path::level` | `root`, `get`, `path` |
 //! | | `end_text`, `joined_text`, `climb`, `leads`, `Path::leads` | `end-text`, `joined`, `climb`, `leads` |
 //! | `replies` | `ReplyView::read`, `statement`, `siblings` | `read` |

@@ -10,6 +10,14 @@ pub returns-clause-lines : goal.returns-clause-lines
 unfolding read_frame read_request read_counted encode_with decode_pairs digits
 returns-clause-lines c = refl
 
+pub returns-clause-long_key : goal.returns-clause-long_key
+unfolding read_frame read_request read_counted encode_with decode_pairs digits
+returns-clause-long_key c = refl
+
+pub returns-clause-long : goal.returns-clause-long
+unfolding read_frame read_request read_counted encode_with decode_pairs digits
+returns-clause-long c = refl
+
 pub returns-clause-place : goal.returns-clause-place
 unfolding read_frame read_request read_counted encode_with decode_pairs digits
 returns-clause-place c = λ index_of salts. refl

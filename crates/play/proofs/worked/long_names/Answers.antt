@@ -8,4 +8,4 @@ use Rattle.play.proofs.worked.long_names.Goals as goal
 
 pub returns : goal.returns
 unfolding read_frame read_request read_counted encode_with decode_pairs digits
-returns c = record { limits = λ salts. refl }
+returns c = record { limits_of_names_and_keys = λ salts. refl }

@@ -10,10 +10,10 @@ pub returns-clause-two_sessions : goal.returns-clause-two_sessions
 unfolding read_frame read_request read_counted encode_with decode_pairs digits
 returns-clause-two_sessions c = λ salts. refl
 
-pub returns-clause-refusals : goal.returns-clause-refusals
+pub returns-clause-refusals_in_frames : goal.returns-clause-refusals_in_frames
 unfolding read_frame read_request read_counted encode_with decode_pairs digits
-returns-clause-refusals c = λ salts. refl
+returns-clause-refusals_in_frames c = λ salts. refl
 
-pub returns-clause-tokens : goal.returns-clause-tokens
+pub returns-clause-only_the_operator_closes : goal.returns-clause-only_the_operator_closes
 unfolding read_frame read_request read_counted encode_with decode_pairs digits
-returns-clause-tokens c = λ index_of salts. refl
+returns-clause-only_the_operator_closes c = λ index_of salts. refl

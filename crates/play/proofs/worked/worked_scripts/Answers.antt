@@ -22,17 +22,17 @@ pub returns-clause-last_epoch : goal.returns-clause-last_epoch
 unfolding read_frame read_request read_counted encode_with decode_pairs digits
 returns-clause-last_epoch c = λ index_of salts. refl
 
-pub returns-clause-histories : goal.returns-clause-histories
+pub returns-clause-limits_of_histories : goal.returns-clause-limits_of_histories
 unfolding read_frame read_request read_counted encode_with decode_pairs digits
-returns-clause-histories c = λ index_of salts. refl
+returns-clause-limits_of_histories c = λ index_of salts. refl
 
 pub returns-clause-half_messages : goal.returns-clause-half_messages
 unfolding read_frame read_request read_counted encode_with decode_pairs digits
 returns-clause-half_messages c = λ index_of salts. refl
 
-pub returns-clause-bad_lengths : goal.returns-clause-bad_lengths
+pub returns-clause-failed_streams : goal.returns-clause-failed_streams
 unfolding read_frame read_request read_counted encode_with decode_pairs digits
-returns-clause-bad_lengths c = λ index_of salts. refl
+returns-clause-failed_streams c = λ index_of salts. refl
 
 pub returns-clause-messages_in_one_piece : goal.returns-clause-messages_in_one_piece
 unfolding read_frame read_request read_counted encode_with decode_pairs digits
@@ -41,11 +41,3 @@ returns-clause-messages_in_one_piece c = λ index_of salts. refl
 pub returns-clause-messages_byte_by_byte : goal.returns-clause-messages_byte_by_byte
 unfolding read_frame read_request read_counted encode_with decode_pairs digits
 returns-clause-messages_byte_by_byte c = λ index_of salts. refl
-
-pub returns-clause-alarm : goal.returns-clause-alarm
-unfolding read_frame read_request read_counted encode_with decode_pairs digits
-returns-clause-alarm c = λ index_of salts. refl
-
-pub returns-clause-change_by_another_session : goal.returns-clause-change_by_another_session
-unfolding read_frame read_request read_counted encode_with decode_pairs digits
-returns-clause-change_by_another_session c = λ index_of salts. refl

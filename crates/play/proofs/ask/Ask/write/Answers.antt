@@ -1,4 +1,0 @@
-use Rattle.play.proofs.ask.Ask.write.Goals as goal
-
-pub returns-in-Close-clause-form : goal.returns-in-Close-clause-form
-returns-in-Close-clause-form c = rw c.in-Close.is (rw c.new.ensures at c.write-in-Close.ensures.form)
