@@ -2,14 +2,15 @@
 """Times the built programs and prints the tables of the scripts beside it. docs/SPEED.md says what
 the columns mean.
 
-usage: bench/bench.py root|tree|changes|replies|reconcile|epochs|journal|hub|serve|audit|client, at the top of
-the repository
+usage: bench/bench.py root|tree|changes|replies|reconcile|epochs|journal|hub|serve|audit|client|play, at the top
+of the repository
 
 BEFORE, if it is set, is the top of another clone, in which directoryd and measure are built. `root` and
 `hub` then time the programs of both, in turn.
 """
 
 import bisect
+import collections
 import hashlib
 import os
 import random
@@ -53,6 +54,10 @@ CHAIN_ROUNDS, CHAIN_RUNS = {10_000: 200, 100_000: 20}, 10
 # which they look all up, how often they are reconciled in a run. And the runs.
 CLIENT_NAMES, CLIENT_SHARED = 100, {"all": 100, "one in ten": 10, "none": 0}
 CLIENT_ROUNDS, CLIENT_RUNS = {10: 500, 100: 50, 1_000: 5}, 3
+# The script of `play`: its names, of which so many are watched; its closings; its look-ups; and the runs.
+PLAY_NAMES, PLAY_WATCHED, PLAY_CLOSINGS, PLAY_LOOK_UPS, PLAY_RUNS = 10_000, 10, 100, 10_000, 15
+# The lengths of other texts that are digested: an empty node, a body, a body that is signed, and a value.
+EMPTY, BODY, SIGNED_BODY, VALUE = 69, 146, 179, 32
 # How often each size of a directory is measured. In a run: the epochs with changes, the changes of
 # each, the look-ups of a step, and the steps of look-ups.
 EPOCH_RUNS = {1_000: 10, 10_000: 10, 100_000: 10, 1_000_000: 5}
@@ -63,7 +68,7 @@ SERVED, SERVED_ALONE, SERVED_RUNS = 20_000, 1_000, 7
 # The kind byte of a reply that promises.
 PROMISE = 0x81
 EPOCH_ROUNDS, EPOCH_CHANGES = 100, 1_000
-EPOCH_LOOK_UPS, LOOK_UP_ROUNDS = 10_000, 10
+EPOCH_LOOK_UPS, LOOK_UP_ROUNDS, ROTATIONS = 10_000, 10, 3
 # The last epochs of a run, in which the memory that a change keeps is measured. The first ones use
 # memory that was free again after the registrations.
 LATE_ROUNDS = 40
@@ -638,15 +643,18 @@ class Epochs:
         self.size = size
         self.closed = digests_of_closings(by_number, indices)
         self.levels = levels_of_look_ups(by_number, indices)
+        self.nodes = changed_nodes(indices, indices, 0, size)
         self.digests, self.registrations, self.changes, self.closings = [], [], [], []
         self.at_head, self.at_old, self.bytes_a_name, self.bytes_a_change = [], [], [], []
+        self.rotations = []
         for _ in range(EPOCH_RUNS[size]):
             self.run()
 
     def run(self):
         words = [EPOCH_CHANGES, EPOCH_ROUNDS, EPOCH_LOOK_UPS, LOOK_UP_ROUNDS, DIGESTS]
-        count = 4 + 3 * EPOCH_ROUNDS + 2 * LOOK_UP_ROUNDS
+        count = 4 + 3 * EPOCH_ROUNDS + 2 * LOOK_UP_ROUNDS + ROTATIONS
         _, (before, names, first, *middle, after) = steps(count, "epochs", self.size, *words)
+        middle, rotations = middle[:-ROTATIONS], middle[-ROTATIONS:]
         rounds, look_ups = middle[: 3 * EPOCH_ROUNDS], middle[3 * EPOCH_ROUNDS :]
         told = [sum(249 + 32 * level for level in step) for step in self.levels]
         if [step.number for step in look_ups] != told + told:
@@ -655,6 +663,7 @@ class Epochs:
         self.registrations.append(names.seconds)
         self.changes += [step.seconds for step in rounds[1::3]]
         self.closings += [step.seconds for step in rounds[2::3]]
+        self.rotations += [step.seconds for step in rotations]
         self.at_head += [step.seconds for step in look_ups[:LOOK_UP_ROUNDS]]
         self.at_old += [step.seconds for step in look_ups[LOOK_UP_ROUNDS:]]
         late = sum(step.memory for step in rounds[-3 * LATE_ROUNDS :])
@@ -685,6 +694,11 @@ class Epochs:
         row = [f"{self.size:,}", f"{each:.0f}", *times.cells(1e3 * each, 2), f"{ratio:.2f}"]
         return [*row, f"{change * 1e6:.2f}", f"{change / (CHANGE_DIGESTS * digest):.2f}"]
 
+    def rotation_row(self, digest):
+        # One for each node, one for the body, and the stand-in's for the signature.
+        digests, times = self.nodes + 2, Spread(self.rotations)
+        return [f"{self.size:,}", f"{digests:,}", *times.cells(1e3, 2), f"{times.least / (digests * digest):.2f}"]
+
     def look_up_row(self, digest):
         levels = statistics.mean(level for step in self.levels for level in step)
         row = [f"{self.size:,}", f"{levels:.2f}"]
@@ -709,6 +723,8 @@ def epochs(_folder):
     title = f"the closing of {EPOCH_CHANGES:,} changes, milliseconds; a change with its share of it"
     rows = [each.closing_row(digest) for each in sizes]
     table(title, [*head, "a change, us", f"of {CHANGE_DIGESTS} digests"], rows)
+    rows = [each.rotation_row(digest) for each in sizes]
+    table("a rotation, milliseconds", head[:6], rows)
     spread = [*spread[:-1], "in digests"]
     head = ["names", "levels", "head/s", *spread, "old/s", *spread]
     rows = [each.look_up_row(digest) for each in sizes]
@@ -1174,12 +1190,107 @@ def client(_folder):
     table(title, TURN_HEAD, [watch_row()])
 
 
+def made_nodes(new, old, low, high, old_low, old_high, prefix=0, level=0, is_old=True):
+    """The lengths of the texts of the nodes at and below a prefix of `level` bits, which sorted new[low:high] have,
+    and which sorted old[old_low:old_high], all of them new ones too, have not."""
+    if is_old and high - low == old_high - old_low:
+        return
+    if high - low < 2:
+        yield LEAF if high > low else EMPTY
+        return
+    yield INTERIOR
+    one = prefix | 1 << (255 - level)
+    middle = bisect.bisect_left(new, one, low, high)
+    old_middle = bisect.bisect_left(old, one, old_low, old_high)
+    is_below = is_old and old_high - old_low > 1
+    yield from made_nodes(new, old, low, middle, old_low, old_middle, prefix, level + 1, is_below)
+    yield from made_nodes(new, old, middle, high, old_middle, old_high, one, level + 1, is_below)
+
+
+class Play:
+    """A script of registrations, closings, monitors and look-ups: its lines, what it prints, and how many texts
+    of each length are digested for it."""
+
+    def __init__(self):
+        self.lines, self.printed, self.digests = [], [], collections.Counter()
+        self.indices, self.by_name = [], {}
+        names = [b"name-%05d" % number for number in range(PLAY_NAMES)]
+        watched, step = names[:: PLAY_NAMES // PLAY_WATCHED], PLAY_NAMES // PLAY_CLOSINGS
+        for name in watched:
+            self.say(f"watch {name.hex()} -", [f"kept {name.hex()} 1"])
+        for epoch in range(1, PLAY_CLOSINGS + 1):
+            for name in names[epoch - 1 :: PLAY_CLOSINGS]:
+                self.register(name, epoch)
+            self.close(epoch + 1, watched)
+            held = list(self.by_name)
+            for number in range(PLAY_LOOK_UPS // PLAY_CLOSINGS):
+                self.look_up(held[(number * 7919 + epoch) % len(held)], epoch + 1)
+
+    def say(self, line, printed):
+        self.lines.append(line)
+        self.printed += printed
+
+    @staticmethod
+    def key(name):
+        return hashlib.sha256(name).digest()
+
+    def digest(self, *lengths):
+        self.digests.update(lengths)
+
+    def register(self, name, epoch):
+        self.say(f"register {name.hex()} {self.key(name).hex()}", [f"promise {epoch}"])
+        value = hashlib.sha256(b"V" + bytes([2] * 32) + name).digest()
+        self.by_name[name] = int.from_bytes(hashlib.sha256(value).digest(), "big")
+        # The value of the name and its index, the commitment, and the signature of the promise.
+        rest = len(name) + 32
+        self.digest(33 + len(name), VALUE, 38 + rest, 33 + 78 + rest)
+
+    def close(self, epoch, watched):
+        self.say(f"close {epoch}", [f"root {epoch} after {epoch - 1}"])
+        old, self.indices = self.indices, sorted(self.by_name.values())
+        self.digest(*made_nodes(self.indices, old, 0, len(self.indices), 0, len(old)), BODY, SIGNED_BODY)
+        # The client, the auditor and each monitor hash the body and check its signature.
+        self.digest(*(2 + len(watched)) * [BODY, SIGNED_BODY])
+        for name in watched:
+            known = name in self.by_name
+            self.printed.append(f"kept {name.hex()} {epoch}")
+            self.check(name) if known else self.digest(33 + len(name), VALUE, LEAF)
+
+    def look_up(self, name, epoch):
+        self.say(f"lookup {name.hex()} 0", [f"present {epoch} {self.key(name).hex()}"])
+        self.check(name)
+
+    def check(self, name):
+        """The check of a reply: the value and the index, the commitment, the leaf, and the nodes above it."""
+        level = level_of(self.indices, self.by_name[name])
+        self.digest(33 + len(name), VALUE, 38 + len(name) + 32, LEAF, *level * [INTERIOR])
+
+
+def play(folder):
+    script = Play()
+    with open(f"{folder}/script", "w", encoding="ascii") as file:
+        file.writelines(f"{line}\n" for line in script.lines)
+    printed = "".join(f"{line}\n" for line in script.printed).encode()
+    each = {length: digest_times(length).least for length in script.digests}
+    clock, processor = [], []
+    for _ in range(PLAY_RUNS):
+        taken, used = run(["play"], f"{folder}/script", printed)
+        clock.append(taken)
+        processor.append(used)
+    count, digests = script.digests.total(), sum(each[length] * count for length, count in script.digests.items())
+    times, lines = Spread(processor), len(script.lines)
+    head = ["lines", "a second", "by the clock", "least", "median", "greatest", "digests", "their time", "ratio"]
+    row = [f"{lines:,}", f"{lines / times.median:,.0f}", f"{statistics.median(clock):.3f}", *times.cells(1, 3)]
+    row += [f"{count:,}", f"{digests:.3f}", f"{times.least / digests:.2f}"]
+    table("directoryd play, seconds", head, [row])
+
+
 def main(which):
     with tempfile.TemporaryDirectory() as folder:
         print_machine()
         of = {"root": root, "tree": tree, "changes": changes, "replies": replies}
         of |= {"reconcile": reconcile, "epochs": epochs, "journal": journal, "hub": hub, "serve": serve}
-        of |= {"audit": audit, "client": client}
+        of |= {"audit": audit, "client": client, "play": play}
         of[which](folder)
     print(f"\nload at the end {os.getloadavg()[0]:.2f}")
 

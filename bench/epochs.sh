@@ -1,6 +1,6 @@
 #!/usr/bin/env bash
 # Measures a directory of 1,000, 10,000, 100,000 and 1,000,000 names of 16 bytes with keys of 32:
-# registrations, changes, the closing of 1,000 changes, and look-ups at the head and at an old epoch.
+# registrations, changes, the closing of 1,000 changes, look-ups at the head and at an old epoch, and rotations.
 #
 #   bench/epochs.sh
 #

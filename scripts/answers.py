@@ -278,6 +278,7 @@ FAULTS = {
     "bad-hex": "bad hex",
     "bad-item": "line {}: bad item",
     "index-repeated": "line {}: index repeated",
+    "not-a-command": "line {}: not a command",
     "not-evidence": "not an evidence file",
     "bad-record": "journal: bad record",
     "other-keys": "journal: other keys",
@@ -703,12 +704,17 @@ class Answers(Lines):
         items = self.items(w)
         return ["repeated"] if len(dict(items)) < len(items) else self.put_in(self.tree, items)
 
+    def trees_renew(self, w):
+        """`renew NONCE`: the same items under another nonce."""
+        tree = Tree(sha256, w.hash(), self.tree.items.items())
+        return self.kept(tree, len(tree.places()))
+
     def trees_copy(self, w):
         """`copy`: goes on with a copy of the tree."""
         return [told(self.tree.root())]
 
     def trees_count(self, w):
-        """`count`: the digests that the last `new`, `with`, `from` or `more` took."""
+        """`count`: the digests that the last `new`, `with`, `from`, `more` or `renew` took."""
         return [str(self.count)]
 
     def trees_root(self, w):
@@ -891,6 +897,11 @@ class Answers(Lines):
         """`turn ROOM EPOCH`"""
         room = w.number(JOURNAL_ROOM)
         return self.kept_twice(room, turned_record(w.number()))
+
+    def journal_rotate(self, w):
+        """`rotate ROOM EPOCH NONCE`"""
+        room = w.number(JOURNAL_ROOM)
+        return self.kept_twice(room, rotated_record(w.number(), w.hash()))
 
     def journal_records(self, w):
         """`records BYTES`"""

@@ -97,6 +97,58 @@ def of_replays(q, rng):
         q.ask("directory lookup", name_of(k), 0)
 
 
+@subject("a directory: pages under other nonces")
+def of_rotations(q, rng):
+    one, other = b"\1" + bytes(31), run(0xA0)
+    new_directory(q)
+    q.note("what waits comes with the nonce, and proofs of old pages have the old one")
+    for name in [b"alice", b"bob"]:
+        q.ask("directory register", name, b"k1")
+    q.ask("directory rotate", 2, one)
+    for epoch in [0, 1, 2]:
+        q.ask("directory lookup", b"alice", epoch)
+    q.ask("directory promise", b"alice")
+    q.note("refused as a closing is, which leaves the nonce")
+    for epoch in [0, 1, 2]:
+        q.ask("directory rotate", epoch, other)
+    q.ask("directory head")
+    q.note("a closing keeps the nonce; an equal one; back to the first one, with a change")
+    q.ask("directory change", b"alice", b"k2")
+    q.ask("directory close", 3)
+    q.ask("directory rotate", 5, one)
+    q.ask("directory change", b"bob", b"k2")
+    q.ask("directory rotate", 6, ZERO32)
+    for epoch in [0, 1, 2, 3, 5, 6]:
+        for name in [b"alice", b"bob", b"carol"]:
+            q.ask("directory lookup", name, epoch)
+    q.note("carried out once more")
+    q.ask("directory register", b"carol", b"k1")
+    for epoch in [6, 7, 7]:
+        q.ask("directory replay rotate", epoch, other)
+    q.ask("directory head")
+    q.ask("directory lookup", b"carol", 7)
+    q.ask("directory rotate", TOP, one)
+    q.ask("directory rotate", TOP, one)
+    q.ask("directory rotate", TOP)
+    q.ask("directory history", 0, 64)
+    q.note("many names, under one nonce after another")
+    new_directory(q)
+    for number in range(300):
+        q.ask("directory register", name_of(number), b"k")
+        if number in (3, 40, 299):
+            q.ask("directory rotate", number, rng.randbytes(32))
+    for number in range(300, 310):
+        q.ask("directory register", name_of(number), b"k")
+    for epoch in [400, 401]:
+        q.ask("directory rotate", epoch, rng.randbytes(32))
+        q.ask("directory lookup", name_of(305), 0)
+    q.ask("directory-sum new", 1, ZERO32, SIGNING_KEY, SALT_KEY)
+    q.ask("directory-sum register", b"ab", b"k")
+    q.ask("directory-sum rotate", 2, one)
+    for epoch in [1, 2]:
+        q.ask("directory-sum lookup", b"ab", epoch)
+
+
 @subject("a directory: names of 0, 1, 255 and 256 bytes, keys of 0, 1, 2,048 and 2,049")
 def of_limits(q, rng):
     new_directory(q)
@@ -193,6 +245,8 @@ def of_runs(q, rng):
     q.ask("directory run", 1, ZERO32, message("head") + b"\0")
     q.ask("directory run", 1, ZERO32, b"\x09")
     q.ask("directory run", 5, run(0xA0), message("close", ZERO32, 9), message("close", run(0), 9), message("head"))
+    rotations = [message("rotate", run(0), epoch, nonce) for epoch, nonce in [(9, run(1)), (9, run(2)), (12, ZERO32)]]
+    q.ask("directory run", 5, run(0xA0), *rotations, message("close", run(0), 13), message("head"))
     q.note("70 pages, of the epochs 10, 20 and so on, and parts of their history.")
     pages = [message("close", ZERO32, 10 * page) for page in range(2, 71)]
     for start, count in [

@@ -227,6 +227,8 @@ def of_json(q, rng):
     ]:
         q.ask("evidence json", kind, first, second)
         q.ask("evidence read", json_of(kind, first, second))
+    for kind in ["promise", "Broken-promise", "broken promise"]:
+        q.ask("evidence read", json_of(kind, promise, root + reply))
     short = replace(SignedRoot.read(root), signature=b"s").write()
     q.ask("evidence json", LINK, short, root)
     q.ask("evidence read", json_of(LINK, short, root))

@@ -11,8 +11,8 @@
 # The questions of each subject, which stand between empty lines, are a run of their own. First each allocation of
 # the short subjects fails, whose notes begin with `in a few lines`; then every 4,096th one of the others, and the
 # distance is halved. It ends where all were tried, or the most that is given, or where the seconds are over (300
-# unless given). It takes as many processors as there are. The last line is `N passed, N failed`, and the status
-# is 0 where none failed.
+# unless given); those of the short subjects that were not tried count as failed. It takes as many processors as
+# there are. The last line is `N passed, N failed`, and the status is 0 where none failed.
 #
 # `rt try --fail-alloc` makes an allocation fail too, but builds for a minute each time, and what it builds is
 # hundreds of times slower. So a library in front of the C library's counts allocations in the built program.
@@ -106,6 +106,17 @@ try_part() {
         done
 }
 
+# How many allocations of the short subjects were not tried. They come first, and each part takes its share in order.
+untried() {
+    local worker left=0 share tried
+    for ((worker = 0; worker < workers; worker++)); do
+        share=$(numbers first | awk -v workers="$workers" -v worker=$worker 'NR % workers == worker' | wc -l)
+        tried=$(wc -l <"$folder/ends.$worker")
+        [ "$tried" -ge "$share" ] || left=$((left + share - tried))
+    done
+    echo $left
+}
+
 # Tells of a wrong run: the first line of the answers that differs.
 tell() {
     local note
@@ -139,5 +150,9 @@ for program in "${programs[@]}"; do
     echo "$program: $tried of $all allocations failed in turn, $early of them before the first answer"
 done
 failed=$((failed + $(grep -c " failed$" "$folder/ends")))
+short=$(numbers first | wc -l)
+left=$(untried)
+echo "$((short - left)) of $short allocations of the short subjects were tried"
+failed=$((failed + left))
 echo "$(grep -vc " failed$" "$folder/ends") passed, $failed failed"
 [ $failed = 0 ]

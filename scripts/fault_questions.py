@@ -6,13 +6,15 @@ a read and of a write, and the bytes that the reader gives. VERB and ARGUMENTS a
     write TEXT, tell LINE             writes a text, or the fault of a line
     read MOST, lines                  writes what it reads at once, or the first 130 bytes of each line
     root HASH NONCE, prove INDEX HASH NONCE, audit KEY, judge KEY FILE
+    play                              what a script prints, line by line
     serve, sessions                   one session, or one and then another one that asks for the head
 
 and DEVICES one of `never`, `read-fails`, `read-interrupted`, `read-interrupted-twice`, `write-fails`,
 `write-takes-nothing`, `write-interrupted` and `write-interrupted-twice`. PIECE is at most 8,192. A session asks for
-4,096 bytes at once, and its reader gives no more; the other verbs read through a buffer of PIECE bytes. The answer is the output of a run without a failure, and then a row for runs that ended alike while the first call
-failed, the second, and so on to a run that ended before that call: COUNT FAULT WRITTEN, and the epoch that the next
-session was told.
+4,096 bytes at once, and its reader gives no more; the other verbs read through a buffer of PIECE bytes. The answer
+is the output of a run without a failure, and then a row for runs that ended alike while the first call failed, the
+second, and so on to a run that ended before that call: COUNT FAULT WRITTEN, and the epoch that the next session was
+told.
 
 `directory MESSAGE..` and `hub PIECE FRAMES` ask a directory whose keeper fails at its first call, its second, and so
 on. The answer is what is replied without a failure, and in each of these runs.
@@ -135,20 +137,33 @@ def rows(program, piece, how):
         yield f"{count} {fault} {written}" + (f" next {head}" if head is not None else "") + ";"
 
 
-def by_lines(data, piece, texts):
+def by_lines(data, piece, texts, fault=None):
     """Writes the texts of each line once it is read whole. If the last line has no LF, a read that finds the end
-    tells that it is whole, and the next one that no line follows."""
+    tells that it is whole, and the next one that no line follows. A line without texts ends the run with the fault."""
     steps, done = [], 0
     for at in range(0, len(data), piece):
         whole = data[: at + piece].count(b"\n")
         steps += [Read(), *sum(texts[done:whole], [])]
+        if whole > len(texts):
+            return Program(steps, fault=fault)
         done = whole
-    return Program([*steps, Read(), *sum(([*text, Read()] for text in texts[done:]), [])])
+    return Program([*steps, Read(), *sum(([*text, Read()] for text in texts[done:]), [])], fault=fault)
 
 
 def by_all_lines(data, piece, text):
     """Reads all lines, and then writes a text."""
     return Program([*by_lines(data, piece, [[] for _ in lines_of(data)]).steps, text])
+
+
+def played_by_lines(script, piece):
+    """Plays a script: what a line prints is written at once."""
+    run, texts = sessions.Played(), []
+    for number, line in enumerate(lines_of(script), 1):
+        try:
+            texts.append(["".join(f"{told}\n" for told in run.line(line)).encode()])
+        except sessions.NotACommand:
+            return by_lines(script, piece, texts, f"line {number}: not a command")
+    return by_lines(script, piece, texts)
 
 
 # The provider --------------------------------------------------------------------------------------------
@@ -172,10 +187,10 @@ class LossyDirectory(sessions.Directory):
         self.keep()
         return super().let_wait(name, key, salt)
 
-    def close(self, epoch):
+    def turn(self, epoch, nonce):
         if epoch > self.head().epoch:
             self.keep()
-        return super().close(epoch)
+        return super().turn(epoch, nonce)
 
 
 def new_recorded():
@@ -287,6 +302,9 @@ class Sweeps(Lines):
     def of_judge(self, words):
         key, file = words.text(), words.bytes()
         return lambda data, piece: Program([sessions.judge_file(key, file)[1]])
+
+    def of_play(self, words):
+        return played_by_lines
 
     def of_serve(self, words):
         return lambda data, piece: self.served(data, piece, lambda hub: None)
@@ -454,6 +472,42 @@ def of_audits(q):
 
 
 HEAD = request_frame("head")
+# Each command; and a session that changes a watched name and closes an epoch.
+PLAYED = """watch 61 -
+register 61 6b
+close 2
+change 61 6c
+promise 61
+lookup 61 0
+history 0 64
+head
+close 3
+bytes 1 000000070200016100016d00000029%s0000000000000007
+end 1
+lookup 62 0
+""" % ("07" + "00" * 32)
+
+
+def of_short_script(q):
+    q.ask("play never 64", PLAYED.encode())
+
+
+def of_scripts(q):
+    q.note("What a script prints is written line by line. At a failure it is a beginning.")
+    script = q.let("script", PLAYED.encode())
+    stopped = q.let("stopped", b"# note\nhead\n\nclose 2\nclose two\nhead\n")
+    for devices in READS + WRITES:
+        q.ask("play", devices, 40, script)
+        q.ask("play", devices, 9, script[:-1])
+        q.ask("play", devices, 5, stopped)
+    q.ask("play read-fails 1", stopped)
+    q.ask("play read-fails 5", stopped[:-6])
+    q.ask("play write-fails 1", script)
+    for text in (b"", b"\n", b"x", b"# note"):
+        q.ask("play read-fails 50", text)
+    q.note("Lines of thousands of reads.")
+    for text in (b"#" + b"x" * 5000, b"bytes 1 " + b"00000001ff" * 700 + b"\n", b"bytes 1 " + b"0" * 5001):
+        q.ask("play never 1", text)
 
 
 def times(data, count):
@@ -499,13 +553,13 @@ def messages_of(script):
             command, words = sessions.command_of(line.encode())
             if command not in ("watch", "bytes", "end"):
                 request = sessions.request_of(command, words)
-                yield ("close", TOKEN, *request[2:]) if command == "close" else request
+                yield (command, TOKEN, *request[2:]) if command in ("close", "rotate") else request
 
 
 LOST_OPERATIONS = [
     "register 61 6b", "register 62 6c", "promise 62", "register 62 6c", "head", "close 2", "promise 61", "head",
     "lookup 61 0", "lookup 62 0", "register 61 6d", "change 61 6d", "promise 61", "change 61 6e", "change 63 6d",
-    "close 2", "close 3", "history 0 64", "promise 61", "lookup 61 0", "lookup 61 2", "lookup 62 3", "register 63 6f",
+    "close 2", "rotate 3 " + "07" * 32, "history 0 64", "promise 61", "lookup 61 0", "lookup 61 2", "lookup 62 3", "register 63 6f",
     "change 62 70", "close 18446744073709551615", "close 18446744073709551615", "lookup 61 0", "lookup 62 0",
     "lookup 63 0", "lookup 63 3", "history 0 64",
 ]
@@ -527,10 +581,10 @@ def of_keepers(q):
     q.ask("hub 15", HEAD * 3)
 
 
-# Two registrations, a change and three closings; and what shows roots, promises that wait, and their salts.
+# Two registrations, a change, two closings and a rotation; and what shows roots, promises that wait, and their salts.
 RECORDED = [
     ("register", b"a", b"k"), ("register", b"bb", b"kk"), ("close", TOKEN, 2), ("change", b"a", b"l"),
-    ("close", TOKEN, 5), ("close", TOKEN, 6),
+    ("close", TOKEN, 5), ("rotate", TOKEN, 6, SIGNING_KEY),
 ]
 SHOWN = [
     ("head",), ("history", 0, 64), ("promise", b"a"), ("promise", b"bb"), ("lookup", 0, b"a"), ("lookup", 0, b"bb"),
@@ -540,14 +594,18 @@ SHOWN = [
 
 def of_journals(q):
     q.note("A journal that stops at each byte, or before each record, opens to a beginning of the run.")
-    shown = [request_frame(*request)[4:] for request in SHOWN]
 
-    def ask(piece, run):
-        q.ask("journal", piece, len(run), *(request_frame(*request)[4:] for request in run), *shown)
+    def ask(piece, run, shown=SHOWN):
+        q.ask("journal", piece, len(run), *(request_frame(*request)[4:] for request in [*run, *shown]))
 
     for piece in [1, 7, 40, 4096]:
         ask(piece, RECORDED)
     ask(1, [])
+    for script in SCRIPTS[:3]:
+        run = list(messages_of(session_scripts.SCRIPTS[script]()))
+        names = dict.fromkeys(request[1] for request in run if request[0] == "register")
+        shows = [(verb, *words, name) for name in names for verb, *words in [("promise",), ("lookup", 0)]]
+        ask(1, run, [("head",), ("history", 0, 64), *shows, ("close", TOKEN, MAX_EPOCH), *shows])
     q.note("Commands that are refused have no record.")
     refused = [("register", b"a", b"m"), ("change", b"c", b"m"), ("close", TOKEN, 1), ("promise", b"a")]
     ask(1, [step for request in RECORDED for step in (request, *refused)])
@@ -560,6 +618,8 @@ SUBJECTS = {
     "items": of_items,
     "audits": of_audits,
     "sessions": of_sessions,
+    "in a few lines: a script": of_short_script,
+    "scripts": of_scripts,
     "keepers of records": of_keepers,
     "journals": of_journals,
 }

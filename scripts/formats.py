@@ -470,6 +470,10 @@ class Tree:
                 nodes.pop((level, cut(index, level)), None)
         return Tree(self.digest, self.nonce, self.items | changes, nodes)
 
+    def renewed(self, nonce):
+        """The tree of the same items under another nonce. No node is as before."""
+        return Tree(self.digest, nonce, self.items)
+
     def split(self, low, high, level):
         """Where the rows of bit 1 begin, of rows that agree in so many bits."""
         return bisect_left(self.rows, 1, low, high, key=lambda index: bit(index, level))
@@ -1000,6 +1004,11 @@ def turned_record(epoch):
     return b"C" + u64(epoch)
 
 
+def rotated_record(epoch, nonce):
+    """4b, epoch, nonce: 41 bytes."""
+    return b"K" + u64(epoch) + nonce
+
+
 def take_start_record(cursor):
     if cursor.take(2) != b"N\x01":
         raise Fault(OUT_OF_RANGE)
@@ -1007,10 +1016,12 @@ def take_start_record(cursor):
 
 
 def take_later_record(cursor):
-    """A verb, a salt, a name and a key; or `turn` and an epoch."""
+    """A verb, a salt, a name and a key; `turn` and an epoch; or `rotate`, an epoch and a nonce."""
     kind = cursor.u8()
     if kind == 0x43:
         return "turn", cursor.u64()
+    if kind == 0x4B:
+        return "rotate", cursor.u64(), cursor.hash32()
     verbs = {byte: verb for verb, byte in VERBS.items()}
     if kind != 0x4F or (byte := cursor.u8()) not in verbs:
         raise Fault(OUT_OF_RANGE)
@@ -1035,8 +1046,9 @@ def is_cut_start(data):
 
 def is_cut_record(data):
     """Whether more bytes, at least one, make a record of a command of these."""
-    if data[:1] == b"C":
-        return len(data) < 9
+    for head, size in (b"C", 9), (b"K", 41):
+        if data[:1] == head:
+            return len(data) < size
     if not any(head.startswith(data[:2]) for head in (b"C", b"O\x01", b"O\x02")):
         return False
     rest = data[34:]
@@ -1067,6 +1079,7 @@ REQUESTS = {
     0x05: ("history", "u64", "u16"),
     0x06: ("head",),
     0x07: ("close", "hash32", "u64"),
+    0x08: ("rotate", "hash32", "u64", "hash32"),
 }
 REQUEST_KINDS = {fields[0]: kind for kind, fields in REQUESTS.items()}
 WRITERS = {"counted": counted, "u64": u64, "u16": u16, "hash32": bytes}

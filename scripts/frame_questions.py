@@ -14,10 +14,11 @@ PROMISE_OF_FRAMES = SignedPromise(Promise(7, run(0x20), run(0x40), b"a", b"k"), 
 def of_requests(q, rng):
     requests = [
         ("register", b"a", b"k"), ("change", b"", b"key"), ("promise", b"a"), ("lookup", 9, b"ab"),
-        ("history", TOP, 64), ("head",), ("close", run(0x20), 2), ("register", LONG_NAME, LONG_KEY),
+        ("history", TOP, 64), ("head",), ("close", run(0x20), 2), ("rotate", run(0x20), 2, run(0x40)),
+        ("register", LONG_NAME, LONG_KEY),
         ("change", LONG_NAME + b"\0", LONG_KEY + b"\0"), ("promise", b""), ("lookup", 0, b""),
         ("lookup", TOP, LONG_NAME),
-        ("history", 0, 0), ("history", 0, 65535), ("close", ZERO32, TOP),
+        ("history", 0, 0), ("history", 0, 65535), ("close", ZERO32, TOP), ("rotate", ZERO32, TOP, ZERO32),
     ]
     q.let("name", LONG_NAME)
     q.let("key", LONG_KEY)
@@ -29,7 +30,7 @@ def of_requests(q, rng):
         if body:
             q.ask("frames request", kind, body[:-1])
     q.note("kinds that no request has, also where the body is none")
-    for kind in [0, 8, 9, 10, 127, 128, 129, 132, 254, 255]:
+    for kind in [0, 9, 10, 127, 128, 129, 132, 254, 255]:
         q.ask("frames request", kind, b"")
         q.ask("frames request", kind, counted(b"a"))
     q.note("lengths at the front: of nothing, of more than there is")
@@ -42,6 +43,8 @@ def of_requests(q, rng):
     for kind in [4, 5, 7]:
         for size in [0, 1, 7, 8, 9, 10, 11, 12, 39, 40, 41]:
             q.ask("frames request", kind, bytes(size))
+    for size in [0, 1, 32, 39, 40, 41, 71, 72, 73]:
+        q.ask("frames request", 8, bytes(size))
     q.note("as long as a frame may be, and a byte longer")
     for request in [
         ("register", b"\7" * 65531, b""), ("register", b"\7" * 65532, b""), ("register", b"", b"\7" * 65531),
@@ -62,6 +65,7 @@ def a_request(rng):
         ("register", name, key), ("change", name, key), ("promise", name),
         ("lookup", rng.getrandbits(64), name), ("history", rng.getrandbits(64), rng.randrange(70)),
         ("head",), ("close", rng.randbytes(32), rng.getrandbits(64)),
+        ("rotate", rng.randbytes(32), rng.getrandbits(64), rng.randbytes(32)),
     ])
 
 

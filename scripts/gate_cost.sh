@@ -1,6 +1,7 @@
 #!/usr/bin/env bash
-# Measures what the gate costs from nothing, by crates, and prints the tables of docs/ARCHITECTURE.md,
-# "The gate": processor time for proofs, edits, and programs that are built and run. It changes nothing.
+# Measures what the gate costs from nothing, and prints it in tables by parts and by crates: processor time for
+# proofs, edits, and programs that are built and run. docs/ARCHITECTURE.md, "The gate", has the targets. It
+# changes nothing.
 #
 #   scripts/gate_cost.sh                  # rt ci --anew: proves all, whatever earlier runs kept
 #   scripts/gate_cost.sh COMMAND WORD..   # another command, as rt ci --anew lanes, or .ci/run

@@ -58,7 +58,7 @@ ends() {
 well() {
     local what=$1
     shift
-    if timeout --foreground 240 "$@" >"$folder/printed" 2>&1; then
+    if timeout --foreground 290 "$@" >"$folder/printed" 2>&1; then
         passed=$((passed + 1))
     else
         fails "$what: status $?"
@@ -158,5 +158,8 @@ if library scripts/sync_order.c "$folder/sync_order.so"; then
 else
     fails "sync_order.c is not built"
 fi
-well "kills at 200 moments, or at as many as there is time for" scripts/journaled.py "$program" "$folder" kills 200
+# On a slow machine there is no time for all kills. Some of it is left for what follows the last one.
+well "kills at 200 moments, or at as many as there is time for" \
+    scripts/journaled.py "$program" "$folder" kills 200 $((250 - SECONDS))
+tail -n 1 "$folder/printed"
 finish

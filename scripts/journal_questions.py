@@ -18,6 +18,8 @@ def of_kept_records(q, rng):
         q.ask("journal start", room, *start)
     for room in [0, 1, 8, 9, 10, 17, 18, 19]:
         q.ask("journal turn", room, 2)
+    for room in [0, 1, 40, 41, 42, 81, 82, 83]:
+        q.ask("journal rotate", room, 2, run(0x20))
     for room in [0, 1, 2, 34, 39, 40, 41, 79, 80, 81]:
         q.ask("journal register", room, SALT, b"a", b"k")
         q.ask("journal change", room, SALT, b"a", b"k")
@@ -25,6 +27,7 @@ def of_kept_records(q, rng):
     for epoch in [0, 1, 255, 256, TOP]:
         q.ask("journal start", 106, epoch, run(1), run(2), run(3))
         q.ask("journal turn", 9, epoch)
+        q.ask("journal rotate", 41, epoch, run(0xF0))
     for name, key in [(b"n" * 255, b"k" * 2048), (b"n" * 255, b"k"), (b"n", b"k" * 2048), (b"\0", b"\xff" * 256)]:
         size = len(bound_record("register", SALT, name, key))
         for room in [size - 1, size, 2 * size - 1, 2 * size]:
@@ -40,8 +43,14 @@ def of_counted_records(q, rng):
     for size in range(len(whole) + 1):
         q.ask("journal records", whole[:size])
     q.note("followed by a byte that begins no record, by one that begins a start, and by a record")
-    for more in [b"\0", b"N", b"O", b"C", turn, turn[:-1], journal_of(), register, register[:5]]:
+    for more in [b"\0", b"N", b"O", b"C", b"K", turn, turn[:-1], journal_of(), register, register[:5]]:
         q.ask("journal records", whole + more)
+    q.note("a rotation behind it, cut to each length; and others behind that")
+    rotated = q.let("rotated", whole + rotated_record(3, run(0x40)))
+    for size in range(len(whole), len(rotated) + 1):
+        q.ask("journal records", rotated[:size])
+    for more in [b"\0", b"K", turned_record(4), rotated_record(4, ZERO32), rotated_record(4, ZERO32)[:-1]]:
+        q.ask("journal records", rotated + more)
     q.note("each byte of it changed")
     for place in range(len(whole)):
         q.ask("journal records", changed_at(whole, place, whole[place] ^ 1))

@@ -1,13 +1,15 @@
 #!/usr/bin/env python3
 """Stops servers that keep a journal, starts them again on the file, and asks for all that was answered.
 
-    scripts/journaled.py PROGRAM FOLDER kills COUNT     the server is killed at so many moments of a run of registrations,
-                                                        changes and closings
+    scripts/journaled.py PROGRAM FOLDER kills COUNT SECONDS
+                                                        the server is killed at so many moments of a run of registrations,
+                                                        changes and closings, or at as many as there is time for
     scripts/journaled.py PROGRAM FOLDER lives           three lives of one file, each with salts of a stream of its own
     scripts/journaled.py PROGRAM FOLDER full            the file may not grow any more: a registration is refused 19, and
                                                         look-ups go on; with room again, the server is started again
     scripts/journaled.py PROGRAM FOLDER synced LIBRARY  the order of records, syncs and answers, and syncs that fail one
-                                                        after another, by the library of sync_order.c
+                                                        after another, by the library of sync_order.c; and a file that
+                                                        cannot be cut
 
 The journals are files of the folder. Prints what is not so. The status is 0 where all is.
 """
@@ -25,13 +27,11 @@ from typing import NamedTuple
 sys.dont_write_bytecode = True
 from formats import *
 from send_frames import connected
-from worked import SALT_KEY, SIGNING_KEY, TOKEN, keys
+from worked import SALT_KEY, SIGNING_KEY, TOKEN, VUF_KEY, keys
 
 KILLS_OF_A_FILE = 20
 LONGEST_RUN = 0.06
-# After so many seconds no more kills are made, so that a slow machine ends in time.
-KILLS_SECONDS = 150
-# Fewer kills in that time are too few.
+# Fewer kills in the time that there is are too few.
 FEWEST_KILLS = 10
 BATCH = 8
 AT_ONCE = 64
@@ -134,7 +134,7 @@ class Answered:
         yield "close", TOKEN, self.epoch
 
     def batch(self):
-        """Registrations of new names and changes of others, and perhaps the closing of an epoch."""
+        """Registrations of new names and changes of others, and perhaps a closing or a rotation."""
         taken = {None}
         for _ in range(random.randrange(1, BATCH)):
             self.made += 1
@@ -147,7 +147,8 @@ class Answered:
                 yield "register", name, b"key of " + name
         if random.random() < 0.3:
             self.epoch += 1
-            yield "close", TOKEN, self.epoch
+            closing, rotation = ("close", TOKEN, self.epoch), ("rotate", TOKEN, self.epoch, random.randbytes(32))
+            yield random.choice([closing, rotation])
 
     def take(self, request, kind, body):
         """Keeps an answer, and says what is wrong with it."""
@@ -156,7 +157,7 @@ class Answered:
             if (promise.name, promise.key) != request[1:]:
                 yield f"{request[0]} of {request[1]} got the promise of {promise.name}"
             self.names.setdefault(request[1], []).append(Version(request[2], promise.epoch, body))
-        elif request[0] == "close" and kind == ROOT:
+        elif request[0] in ("close", "rotate") and kind == ROOT:
             self.roots[request[2]] = body
             self.head = request[2]
         else:
@@ -261,9 +262,9 @@ class Answered:
         return end if root.verifies(SIGNING_KEY) and isinstance(end, Opening) else None
 
 
-def kills(program, folder, count):
-    """Kills the server so often, or as often as the time allows."""
-    counted, changes, end = 0, 0, time.monotonic() + KILLS_SECONDS
+def kills(program, folder, count, seconds):
+    """Kills the server so often, or as often as these seconds allow."""
+    counted, changes, end = 0, 0, time.monotonic() + float(seconds)
     for number in range(int(count)):
         if number % KILLS_OF_A_FILE == 0:
             journal, answered = f"{folder}/journal {number}", Answered()
@@ -292,7 +293,7 @@ def kills(program, folder, count):
     if not counted or not changes:
         yield "nothing was answered"
     if number + 1 < min(int(count), FEWEST_KILLS):
-        yield f"only {number + 1} kills in {KILLS_SECONDS} seconds"
+        yield f"only {number + 1} kills in {seconds} seconds"
 
 
 def lives(program, folder):
@@ -345,16 +346,20 @@ def full(program, folder):
     if not server.line.startswith(f"journal: {len(answered.names) + 1} records taken"):
         yield f"with room again: {server.line}"
     yield from answered.check(server, 1, answered.names)
+    yield from answered.ask(server, [("register", b"other", b"key"), ("close", TOKEN, 2)])
+    server.stop()
+    server = Server(program, journal)
+    yield from answered.check(server, 1, answered.names)
     server.stop()
 
 
 class Log:
     """The calls of a process that hand bytes to files and connections, as the library logs them."""
 
-    def __init__(self, path, library, fails=0):
+    def __init__(self, path, library, fails=0, **more):
         self.path = path
         self.file = open(path, "wb")
-        words = {"LD_PRELOAD": library, "SYNC_LOG": str(self.file.fileno()), "FAIL_SYNC": str(fails)}
+        words = {"LD_PRELOAD": library, "SYNC_LOG": str(self.file.fileno()), "FAIL_SYNC": str(fails), **more}
         self.how = {"env": {**os.environ, **words}, "pass_fds": (self.file.fileno(),)}
 
     def calls(self):
@@ -446,11 +451,29 @@ def unserved(program, folder, library):
     yield from wrong_order(log.calls())
 
 
+def uncut(program, folder, library):
+    """A file that cannot be cut stays as it was."""
+    journal, start = f"{folder}/uncut", start_record(1, ZERO32, SIGNING_KEY, VUF_KEY)
+    words = [program, "serve", *keys().split(), "--journal", journal]
+    for data in (start, start + turned_record(2) + b"C", start[:-1]):
+        with open(journal, "wb") as file:
+            file.write(data)
+        log = Log(f"{folder}/log of cuts", library, FAIL_CUT="1")
+        served = subprocess.run(words, input=request_frame("head"), capture_output=True, **log.how)
+        told = (served.returncode, served.stdout, served.stderr.split(b"\n")[-2])
+        if told != (1, b"", b"cannot write"):
+            yield f"serve, which cannot cut its journal: {told}"
+        with open(journal, "rb") as file:
+            if file.read() != data:
+                yield "a journal that cannot be cut is another"
+
+
 def synced(program, folder, library):
     yield from ordered(program, folder, library)
     for number in range(1, FAILING_SYNCS + 1):
         yield from failing(program, folder, library, number)
     yield from unserved(program, folder, library)
+    yield from uncut(program, folder, library)
 
 
 WAYS = {"kills": kills, "lives": lives, "full": full, "synced": synced}

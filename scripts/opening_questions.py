@@ -1,6 +1,8 @@
 """Questions of `session_vectors` on journals that are opened."""
 
-from asking import changed_at, run
+import itertools
+
+from asking import changed_at, flipped, raised, run, spliced
 from formats import *
 from session_scripts import key_of, name_of
 from session_subjects import OTHER_KEY, SALT_KEY, SIGNING_KEY, TOP, VUF_KEY, subjects
@@ -56,13 +58,49 @@ def of_worked(q, rng):
     q.ask("directory head")
 
 
-@subject("a journal: each byte changed")
+def fields(journal):
+    """A journal of a start, a binding of one byte to one byte, and a closing, in its fields."""
+    sizes = [1, 1, 8, 32, 32, 32, 1, 1, 32, 2, 1, 2, 1, 1, 8]
+    assert sum(sizes) == len(journal)
+    ends = [*itertools.accumulate(sizes)]
+    return [journal[end - size : end] for size, end in zip(sizes, ends)]
+
+
+@subject("a journal with rotations: cut to each length")
+def of_rotations(q, rng):
+    directory = recorded(nonce=run(0xA0))
+    for verb, *words in [
+        ("register", b"a", b"k"), ("rotate", 2, ZERO32), ("change", b"a", b"l"), ("rotate", 4, run(0x40)), ("close", 5),
+        ("rotate", 6, run(0x40)),
+    ]:
+        getattr(directory, verb)(*words)
+    journal = q.let("journal", directory.journal)
+    assert opens_to(directory)
+    for size in range(len(start()), len(journal) + 1):
+        ask_open(q, journal[:size])
+    for epoch in [0, 1, 2, 4, 5, 6]:
+        q.ask("directory lookup", b"a", epoch)
+    q.ask("directory close", 7)
+    q.note("followed by others, and by some that the directory refuses")
+    for more in [rotated_record(7, ZERO32), rotated_record(6, ZERO32), rotated_record(7, ZERO32)[:-1], b"K", TURN, b"J"]:
+        ask_open(q, journal + more)
+        q.ask("directory head")
+
+
+@subject("a journal: each byte raised by 1, each bit flipped, and splices")
 def of_changed_bytes(q, rng):
-    q.let("journal", WORKED)
-    for place in range(len(WORKED)):
-        ask_open(q, changed_at(WORKED, place, (WORKED[place] + 1) % 256))
+    q.let("j", WORKED)
+    for data in dict.fromkeys(raised(WORKED) + flipped(WORKED)):
+        ask_open(q, data)
     for place in range(len(WORKED)):
         ask_open(q, changed_at(WORKED, place, WORKED[place] ^ 0x80)[: place + 1])
+    q.note("and a journal of other values; one of other keys; and one with a change in place of the registration")
+    register, change = (bound_record(verb, run(0x30), b"b", b"l") for verb in ("register", "change"))
+    other = start_record(3, run(0xA0), SIGNING_KEY, VUF_KEY) + register + turned_record(4)
+    for journal in [other, start(9, OTHER_KEY, SIGNING_KEY) + REGISTER + TURN, start() + change + TURN]:
+        q.let("o", journal)
+        for data in dict.fromkeys(spliced(fields(WORKED), fields(journal))):
+            ask_open(q, data)
 
 
 @subject("a journal: first epochs")
@@ -262,6 +300,7 @@ def of_lives(q, rng):
 @subject("a journal of some hundreds of records")
 def of_hundreds(q, rng):
     directory = recorded(3)
+    directory.salts = (bytes([k % 256]) * 32 for k in itertools.count())
     for k in range(300):
         directory.register(name_of(k), key_of(k))
         if k % 30 == 29:

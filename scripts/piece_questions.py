@@ -1,6 +1,6 @@
 """Questions of `session_vectors` on lists of roots in pieces, and on promises and evidence of which bytes were changed."""
 
-from asking import beginnings, flipped, raised, spliced
+from asking import beginnings, changed_at, flipped, raised, spliced
 from evidence_questions import json_of, json_parts
 from formats import *
 from session_subjects import *
@@ -129,7 +129,7 @@ def of_pieces(q, rng):
         q.lines.append(line)
 
 
-@subject("clients: a promise: each beginning, each byte raised by 1, each bit flipped, and splices")
+@subject("clients: a promise: each beginning, each byte raised by 1, each bit flipped, lengths, and splices")
 def of_altered_promises(q, rng):
     a, b = KEYED.pages([3, 7])
     one, other = a.promise(b"a", b"k1"), a.promise(b"b", b"k2")
@@ -144,7 +144,9 @@ def of_altered_promises(q, rng):
         assert cuts[-1] == len(data)
         return [data[start:end] for start, end in zip(cuts, cuts[1:])]
 
-    for altered in (beginnings(one), raised(one), flipped(one), spliced(parts(one), parts(other))):
+    limits = {74: (0, 2, 256, 65535), 77: (0, 1, 3, 2049, 65535), 81: (0, 31, 33, 257, 65535)}
+    lengths = [changed_at(one, place, *u16(number)) for place, numbers in limits.items() for number in numbers]
+    for altered in (beginnings(one), raised(one), flipped(one), lengths, spliced(parts(one), parts(other))):
         for data in dict.fromkeys(altered):
             try:
                 client.keep_promise(data)
@@ -157,12 +159,27 @@ def of_altered_promises(q, rng):
     q.ask("client keep", other)
 
 
-@subject("evidence as JSON: each beginning, and each byte raised by 1")
+def json_pieces(kind, parts):
+    """The text of evidence in pieces: the digits of each part, the kind, and what stands between them."""
+    first, *second = (part.hex() for part in parts)
+    pieces = ['{"', "first", '":"', first, '","', "kind", '":"', kind, '","', "second", '":"', *second, '"}']
+    return [piece.encode() for piece in pieces]
+
+
+@subject("evidence as JSON: each beginning, each byte raised by 1, each bit flipped but in digits, and splices")
 def of_altered_files(q, rng):
-    key = q.let("key", SIGNING_KEY.hex().encode())
-    first = dict(reversed(list(cheats())))
-    for kind in (FORK, BROKEN):
-        text = q.let(kind, json_of(kind, *json_parts(kind, first[kind])))
+    key = q.let("k", SIGNING_KEY.hex().encode())
+    kinds = dict(reversed(list(cheats())))
+    for name, kind in (("f", FORK), ("b", BROKEN)):
+        text = q.let(name, json_of(kind, *json_parts(kind, kinds[kind])))
         q.ask("evidence judge", key, text)
         for data in [*beginnings(text), *raised(text)]:
+            q.ask("evidence judge", key, data)
+    pieces = json_pieces(FORK, kinds[FORK])
+    for place, piece in enumerate(pieces):
+        for altered in flipped(piece) if len(piece) < 10 else ():
+            q.ask("evidence judge", key, b"".join([*pieces[:place], altered, *pieces[place + 1 :]]))
+    for kind in (LINK, SKIP, BROKEN):
+        q.let("o", json_of(kind, *json_parts(kind, kinds[kind])))
+        for data in dict.fromkeys(spliced(pieces, json_pieces(kind, kinds[kind]))):
             q.ask("evidence judge", key, data)

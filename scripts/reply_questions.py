@@ -59,9 +59,9 @@ def of_worked_replies(q, rng):
     far = reply(b"a", Other(index(0x80), number32(0x16B)), 0xD3)
     for name, text in [(b"b", reply(b"b", leaf_of_a)), (b"a", reply(b"a", leaf_of_a)), (b"a", far)]:
         q.ask("replies accept-sum", body.write(), name, text)
-    q.note("cut short, and one byte more")
-    for size in [0, 1, 2, 145, 146, 147, 148, 149, 150, 181, 182, 183, 184, 185, 186, 187]:
-        q.ask("replies read", ab[:size])
+    q.note("cut to each length, and one byte more")
+    for data in beginnings(ab):
+        q.ask("replies read", data)
     q.ask("replies read", ab + b"\0")
     q.ask("replies read", ab + ab)
     q.ask("replies accept-sum", body.write(), b"a", ab[:187])

@@ -23,6 +23,7 @@ FILES = {
         "several_closings_in_one_piece",
     ],
     "SessionScripts": ["two_sessions", "refusals_in_frames", "only_the_operator_closes"],
+    "Rotations": ["rotations", "rotations_in_frames"],
 }
 TITLES = {
     "WorkedScripts": "Worked scripts",
@@ -30,6 +31,7 @@ TITLES = {
     "NamesAndEpochs": "Scripts on the words of lines, and on old epochs",
     "MonitorScripts": "Scripts with monitors",
     "SessionScripts": "Scripts of other sessions",
+    "Rotations": "Scripts on rotations",
 }
 
 # A byte in hexadecimal digits, at least this often, is written as a number of times.

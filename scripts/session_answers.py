@@ -129,6 +129,10 @@ class SessionAnswers(Lines):
         """`close EPOCH`"""
         return [told(self.directory().close(w.number()).write())]
 
+    def directory_rotate(self, w):
+        """`rotate EPOCH NONCE`"""
+        return [told(self.directory().rotate(w.number(), w.hash()).write())]
+
     def directory_lookup(self, w):
         """`lookup NAME EPOCH`"""
         return [told(self.directory().lookup(w.bytes(), w.number()).write())]
@@ -139,10 +143,12 @@ class SessionAnswers(Lines):
         return [str(len(roots)), told(b"".join(root.write() for root in roots))]
 
     def directory_replay(self, w):
-        """`replay register SALT NAME KEY`, `replay change` the same, or `replay turn EPOCH`"""
+        """`replay register SALT NAME KEY`, `replay change` the same, `replay turn EPOCH`, or `replay rotate EPOCH NONCE`"""
         directory, kind = self.directory(), w.word()
         if kind == "turn":
             directory.close(w.number())
+        elif kind == "rotate":
+            directory.rotate(w.number(), w.hash())
         elif kind in ("register", "change"):
             salt, name, key = w.hash(), w.name(), w.key()
             getattr(directory, kind)(name, key, salt)

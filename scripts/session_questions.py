@@ -121,7 +121,7 @@ def files():
     scripts = session_scripts.texts()
     lines = questions()
     told = SessionAnswers(scripts).answers(lines)
-    stored = {f"{FOLDER}/data/{name}.script": text for name, text in scripts.items()}
+    stored = {f"{session_scripts.FOLDER}/{name}.script": text for name, text in scripts.items()}
     stored[f"{FOLDER}/stdin"] = "".join(f"{line}\n" for line in lines)
     stored[f"{FOLDER}/stdout"] = "".join(f"{line}\n" for line in told)
     return stored

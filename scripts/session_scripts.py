@@ -9,6 +9,7 @@ import random
 from formats import *
 from sessions import TOKEN
 
+FOLDER = "crates/session_vectors/data"
 SCRIPTS = {}
 TOP = MAX_EPOCH
 
@@ -65,6 +66,10 @@ def piece(session, data):
 
 def closing(epoch, token=TOKEN):
     return request_frame("close", token, epoch)
+
+
+def rotation(epoch, nonce, token=TOKEN):
+    return request_frame("rotate", token, epoch, nonce)
 
 
 HEAD = request_frame("head")
@@ -210,6 +215,24 @@ def only_the_operator_closes():
 
 
 @script
+def rotations():
+    yield "# The page of an epoch may have another nonce. Proofs of the pages before keep theirs."
+    one = b"\1" + bytes(31)
+    yield from ["register 61 6b", f"rotate 2 {one.hex()}", "lookup 61 2", "lookup 61 1", f"rotate 2 {one.hex()}"]
+    yield from [piece(1, rotation(3, ZERO32)), piece(1, rotation(3, one)), piece(1, rotation(3, one, b"t" * 32))]
+    yield piece(1, rotation(4, one)[:72])
+    yield "# A closing keeps the nonce, and an equal one is no fault."
+    yield from ["watch 61 6b", "change 61 6c", "close 5", "lookup 61 5", "lookup 61 3", f"rotate 6 {ZERO32.hex()}"]
+    yield from [f"rotate 7 {ZERO32.hex()}", "lookup 61 0", "lookup 61 2", "history 0 64"]
+
+
+@script
+def rotations_in_frames():
+    yield "# Only the operator rotates, as a session is told."
+    yield from [piece(1, rotation(2, ZERO32)), piece(1, rotation(3, ZERO32, bytes(31) + b"\1")), "head"]
+
+
+@script
 def refusals_in_frames():
     yield "# Each refusal of the directory, as another session is told."
     frames = [
@@ -278,6 +301,12 @@ STOPS = {
     "number_with_zero": "close 02",
     "number_with_sign": "close +2",
     "number_negative": "close -2",
+    "rotation_without_nonce": "rotate 2",
+    "rotation_with_short_nonce": "rotate 2 " + "00" * 31,
+    "rotation_with_long_nonce": "rotate 2 " + "00" * 33,
+    "rotation_with_dash": "rotate 2 -",
+    "rotation_with_letter": "rotate 2 " + "00" * 31 + "0g",
+    "rotation_without_epoch": "rotate " + "00" * 32,
     "number_in_hex": "close 0x2",
     "number_is_dash": "close -",
     "epoch_too_great": "close 18446744073709551616",

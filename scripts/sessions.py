@@ -86,6 +86,7 @@ from formats import (
     request_fits,
     request_frame,
     response_frame,
+    rotated_record,
     salts,
     same_or_collision,
     sha256,
@@ -236,6 +237,14 @@ class Directory:
         return SignedPromise.signed(promise, self.signing_key)
 
     def close(self, epoch):
+        """Adds a page under the nonce of the last one."""
+        return self.turn(epoch, self.last().root.body.nonce)
+
+    def rotate(self, epoch, nonce):
+        """Adds a page under another nonce."""
+        return self.turn(epoch, nonce)
+
+    def turn(self, epoch, nonce):
         """Adds a page: the bindings of the last one, overwritten by what waits."""
         last = self.last()
         if epoch <= last.epoch:
@@ -245,8 +254,9 @@ class Directory:
             for name, (key, salt) in self.waiting.items()
         }
         before = replace(last.root.body, previous_epoch=last.epoch, previous_hash=self.head_hash())
-        body = replace(before, epoch=epoch)
-        page = self.page_of(body, last.bindings | self.waiting, last.tree.changed(commitments))
+        body = replace(before, epoch=epoch, nonce=nonce)
+        tree = last.tree if nonce == last.root.body.nonce else last.tree.renewed(nonce)
+        page = self.page_of(body, last.bindings | self.waiting, tree.changed(commitments))
         self.pages.append(page)
         self.waiting = {}
         return self.head()
@@ -296,6 +306,8 @@ class Directory:
                     return ROOT, self.head()
                 case "close", _, epoch:
                     return ROOT, self.close(epoch)
+                case "rotate", _, epoch, nonce:
+                    return ROOT, self.rotate(epoch, nonce)
         except DirectoryRefusal as refusal:
             return REFUSED, refusal.number
 
@@ -346,6 +358,11 @@ class Recorded(Directory):
         self.journal += turned_record(epoch)
         return root
 
+    def rotate(self, epoch, nonce):
+        root = super().rotate(epoch, nonce)
+        self.journal += rotated_record(epoch, nonce)
+        return root
+
 
 def open_journal(data, digest, vuf, signing_key, salts):
     """The directory after the whole records that begin the bytes, and how many bytes these have. None where
@@ -382,6 +399,8 @@ def replay(directory, verb, *words):
     try:
         if verb == "turn":
             directory.close(*words)
+        elif verb == "rotate":
+            directory.rotate(*words)
         else:
             salt, name, key = words
             getattr(directory, verb)(name, key, salt)
@@ -435,7 +454,7 @@ class Hub:
             request = read_request(kind, body)
         except Refusal as refusal:
             return REFUSED, refusal.number
-        if request[0] == "close" and request[1] != self.token:
+        if request[0] in ("close", "rotate") and request[1] != self.token:
             return REFUSED, 12
         return self.directory.answer(request)
 
@@ -864,6 +883,14 @@ def hex_word(word):
     return bytes.fromhex(word.decode())
 
 
+def nonce_word(word):
+    """The bytes of a word of 64 digits."""
+    nonce = hex_word(word)
+    if len(nonce) != 32:
+        raise NotACommand
+    return nonce
+
+
 EPOCH, COUNT, SESSION = number(0, MAX_EPOCH), number(0, 2**16 - 1), number(1, 2**32 - 1)
 
 COMMANDS = {
@@ -874,6 +901,7 @@ COMMANDS = {
     b"history": (EPOCH, COUNT),
     b"head": (),
     b"close": (EPOCH,),
+    b"rotate": (EPOCH, nonce_word),
     b"watch": (hex_word, hex_word),
     b"bytes": (SESSION, hex_word),
     b"end": (SESSION,),
@@ -893,7 +921,7 @@ def request_of(command, words):
     """The request of a command that goes through session 0, whose name and key have to fit in a frame."""
     if command == "lookup":
         words = words[1], words[0]
-    elif command == "close":
+    elif command in ("close", "rotate"):
         words = TOKEN, *words
     elif command != "history" and any(len(word) >= 2**16 for word in words):
         raise NotACommand

@@ -1,7 +1,7 @@
 #!/usr/bin/env bash
-# Runs directoryd as a process, and compares its status and what it writes with the README's table of
-# statuses and with clap's words. No clause can speak of the process's own streams or of clap's texts, so
-# they are shown here.
+# Runs directoryd as a process, and compares its status and what it writes with the table of statuses in
+# docs/OPERATING.md and with clap's words. No clause can speak of the process's own streams or of clap's texts,
+# so they are shown here.
 #
 #   scripts/statuses.sh
 #
@@ -142,9 +142,19 @@ ones=$(printf '01%.0s' {1..32})
 item="$zeros $zeros"
 keys="--sign-key $zeros --vuf-key $zeros --salt-key $zeros --token $zeros"
 
-# What each subcommand's help has to show: its options with the names of their values, and an example.
+# What the program's help has to show: its commands, that it protects nobody, its statuses, and where the documents
+# are. And its version, behind which stands the kit that it was proved with.
 helps --help -- "A CONIKS key directory" "Usage: directoryd <COMMAND>" \
-    "  root " "  prove " "  audit " "  judge " "  serve " "  listen "
+    "  root " "  prove " "  audit " "  judge " "  play " "  serve " "  listen " "-V, --version" "protects
+nobody yet" "Status 0: " "Status 1: " "Status 2: " "Status 3: " "README.md" "docs/OPERATING.md" "docs/FORMATS.md" \
+    "Example: directoryd "
+for word in --version -V; do
+    given "x\n" $word
+    ends 0 "directoryd 0.1.0
+rattle-kit-13b logic dac8208d650f15bf" ""
+done
+
+# What each subcommand's help has to show: its options with the names of their values, and an example.
 helps root --help -- "Usage: directoryd root [OPTIONS]" "--hash <" "sha256, sum" "default: sha256" \
     "--nonce <HEX>" "INDEX COMMITMENT, each 64 hexadecimal digits" "Example: directoryd root "
 helps prove --help -- "Usage: directoryd prove [OPTIONS] --index <HEX>" "--index <HEX>" "--hash <" \
@@ -152,6 +162,7 @@ helps prove --help -- "Usage: directoryd prove [OPTIONS] --index <HEX>" "--index
 helps audit --help -- "Usage: directoryd audit --key <HEX>" "--key <HEX>" "refused 1" "Example: directoryd audit "
 helps judge --help -- "Usage: directoryd judge --key <HEX> <FILE>" "--key <HEX>" "<FILE>" "The file of evidence" \
     "Example: directoryd judge "
+helps play --help -- "Usage: directoryd play" "Example: directoryd play "
 for name in serve listen; do
     helps $name --help -- "--sign-key <HEX>" "--vuf-key <HEX>" "--salt-key <HEX>" "--token <HEX>" "--epoch <E>" \
         "The key that gives names their indices, 64 hexadecimal digits" \
@@ -177,6 +188,7 @@ refused "'directoryd' requires a subcommand but one was not provided"
 refused "unrecognized subcommand 'roots'" roots
 refused "unrecognized subcommand 'ROOT'" ROOT
 refused "unexpected argument '--hash' found" --hash sum root
+refused "unexpected argument '--version' found" root --version
 refused "unexpected argument 'root' found" root root
 refused "unexpected argument '--has' found" root --has sum
 refused "unexpected argument '-n' found" root -n
@@ -196,6 +208,8 @@ refused "unexpected argument 'file' found" audit --key 5e file
 refused "the following required arguments were not provided:" judge --key 5e
 refused "the following required arguments were not provided:" judge file
 refused "unexpected argument 'another' found" judge --key 5e file another
+refused "unexpected argument 'file' found" play file
+refused "unexpected argument '--key' found" play --key 5e
 for name in serve listen; do
     address=
     [ $name = serve ] || address=here:1
@@ -309,16 +323,35 @@ ends 1 "" "line 2: index repeated"
 given "$item\n$item\nx\n" prove --index $zeros
 ends 1 "" "line 2: index repeated"
 
+# The script in the help of `play` prints what stands below it. scripts/play.sh plays many others.
+given "" play --help
+awk '/^In this script/ { part = "script" } /^It prints:/ { part = "printed" } sub(/^    /, "") && part { print > (folder "/help." part) }' \
+    folder="$folder" "$folder/out"
+over "$folder/help.script" play
+ends 0 "$(<"$folder/help.printed")" ""
+[ "$(wc -l <"$folder/help.printed")" = 6 ] || fails "the help of play has no whole script"
+over examples/day.script play
+ends 0 "$(<examples/day.script.stdout)" ""
+given "" play
+ends 0 "" ""
+given "# a note\n\nhead\nx\nhead\n" play
+ends 1 "root 1 after 0" "line 4: not a command"
+given "head" play
+ends 0 "root 1 after 0" ""
+
 # Streams that fail, and want of memory.
-for words in root "prove --index $zeros" "audit --key $ones" "serve $keys"; do
+for words in root "prove --index $zeros" "audit --key $ones" play "serve $keys"; do
     over "$folder" $words
     ends 1 "" "cannot read"
 done
 given '\0\0\0\1\6' serve $keys
-for words in --help "serve $keys" "audit --key $ones"; do
+for words in --help --version "serve $keys" "audit --key $ones"; do
     full out $words
     ends 1 "" "cannot write"
 done
+given "head\n" play
+full out play
+ends 1 "" "cannot write"
 given "" root
 for words in root "prove --index $zeros"; do
     full out $words
@@ -339,6 +372,10 @@ if [ $is_limited = yes ]; then
     done
     within 40000 /dev/null judge --key $ones /dev/zero
     ends 1 "" "out of memory"
+    python3 -c 'for k in range(200000): print(f"register {k:064x} 6b")' >"$folder/script"
+    within 40000 "$folder/script" play
+    sort -u -o "$folder/out" "$folder/out"
+    ends 1 "promise 1" "out of memory"
 fi
 
 # `audit`, over lines whose answers Python computed, in lower case, in upper case, and with a last line
@@ -360,6 +397,12 @@ ends 0 "refused 1" ""
 if [ $is_limited = yes ]; then
     within 100000 <(head -c 400000000 /dev/zero | tr '\0' 0) audit --key $ones
     ends 0 "refused 1" ""
+fi
+
+# The same as a note of a script, which is kept whole until it ends.
+if [ $is_limited = yes ]; then
+    within 100000 <(head -c 400000000 /dev/zero | tr '\0' '#') play
+    ends 1 "" "out of memory"
 fi
 
 # 400 MB of frames of the greatest length and of no kind that there is, of which no more than one is kept.

@@ -1,4 +1,5 @@
-"""The stored questions and answers of the test programs, and the scripts of the crate `play`.
+"""The stored questions and answers of the test programs, the scripts of the crate `play`, and those of the program
+`play` with what they print.
 
 Each of the modules of questions has `files()`, which gives the text of each stored file by its path in the
 repository.
@@ -7,16 +8,20 @@ repository.
 import pathlib
 
 import fault_questions
+import plays
 import questions
 import script_specs
 import session_questions
 
 ROOT = pathlib.Path(__file__).resolve().parent.parent
+# Where scripts stand, and what they print.
+SCRIPTS = ["crates/*/data/*.script", "scripts/plays/*", "examples/*.script*"]
 
 
 def files():
     """All stored files."""
-    return questions.files() | session_questions.files() | fault_questions.files() | script_specs.files()
+    parts = (questions, session_questions, fault_questions, script_specs, plays)
+    return {path: text for part in parts for path, text in part.files().items()}
 
 
 def write():
@@ -44,9 +49,10 @@ def differences():
         if stored != text.encode():
             number, wanted, got = first_difference(text.encode(), stored)
             yield f"{path}, line {number}: wanted {shown(wanted)}, got {shown(got)}"
-    for file in sorted(ROOT.glob("crates/*/data/*.script")):
-        if str(file.relative_to(ROOT)) not in computed:
-            yield f"{file.relative_to(ROOT)}: no question asks for this script"
+    for folder in SCRIPTS:
+        for file in sorted(ROOT.glob(folder)):
+            if str(file.relative_to(ROOT)) not in computed:
+                yield f"{file.relative_to(ROOT)}: the model has no such script"
 
 
 def check():

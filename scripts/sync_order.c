@@ -1,7 +1,7 @@
 // A library that is loaded before the C library, for scripts/journaled.py. It logs the calls that hand bytes to a
 // file or to a connection, or put them on a disk: a line each on the descriptor SYNC_LOG, with the call, its
-// descriptor and what it returned. The fdatasync of number FAIL_SYNC, counted from 1, does nothing and fails. What is
-// used of the C library is declared here, so that no header is needed.
+// descriptor and what it returned. The fdatasync of number FAIL_SYNC, counted from 1, does nothing and fails, and so
+// does the ftruncate of number FAIL_CUT. What is used of the C library is declared here, so that no header is needed.
 
 void *dlsym(void *handle, const char *name);
 char *getenv(const char *name);
@@ -13,13 +13,18 @@ int *__errno_location(void);
 #define EIO 5
 
 static int log_to = -1;
-static unsigned long count, nth;
+static unsigned long syncs, failing_sync, cuts, failing_cut;
+
+static unsigned long number_in(const char *variable) {
+    const char *text = getenv(variable);
+    return text ? strtoul(text, 0, 10) : 0;
+}
 
 __attribute__((constructor)) static void begin(void) {
     const char *text = getenv("SYNC_LOG");
     log_to = text ? (int)strtoul(text, 0, 10) : -1;
-    text = getenv("FAIL_SYNC");
-    nth = text ? strtoul(text, 0, 10) : 0;
+    failing_sync = number_in("FAIL_SYNC");
+    failing_cut = number_in("FAIL_CUT");
 }
 
 // The call is over, so `errno` is its own again once the line is written.
@@ -47,9 +52,18 @@ int fsync(int descriptor) {
 
 int fdatasync(int descriptor) {
     int (*next)(int) = dlsym(NEXT, "fdatasync");
-    if (++count == nth) {
+    if (++syncs == failing_sync) {
         *__errno_location() = EIO;
         return (int)logged("fdatasync", descriptor, -1);
     }
     return (int)logged("fdatasync", descriptor, next(descriptor));
+}
+
+int ftruncate(int descriptor, long size) {
+    int (*next)(int, long) = dlsym(NEXT, "ftruncate");
+    if (++cuts == failing_cut) {
+        *__errno_location() = EIO;
+        return (int)logged("ftruncate", descriptor, -1);
+    }
+    return (int)logged("ftruncate", descriptor, next(descriptor, size));
 }

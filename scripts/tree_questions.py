@@ -60,6 +60,13 @@ def of_small_trees(q, rng):
         q.ask("trees count")
         for first in changes[:1]:
             q.ask("trees get", index(first))
+    q.note("the same items under another nonce: one digest for each node")
+    for firsts in [[], [0x61], [0x00, 0x80], [0x00, 0x20, 0x40, 0x80, 0xC0]]:
+        q.ask("trees from", ZERO32, *joined((index(first), number32(first)) for first in firsts))
+        for nonce in [index(0x01), index(0x01), ZERO32]:
+            q.ask("trees renew", nonce)
+            q.ask("trees count")
+            q.ask("trees path", index(0x40))
     q.note("two indices that differ in the last bit alone: 256 siblings")
     q.ask("trees from", ZERO32, low, ZERO32)
     q.ask("trees with", last, number32(7))
@@ -161,6 +168,12 @@ def of_wide_trees(q, rng):
         q.ask("trees with", *item)
         q.ask("trees count")
     q.ask("trees copy")
+    q.note("under another nonce, and a change of the new tree")
+    q.ask("trees renew", run(0xA0))
+    q.ask("trees count")
+    q.ask("trees path", items[5][0])
+    q.ask("trees with", *spread_item(1002))
+    q.ask("trees count")
 
 
 def near_item(rng):
@@ -223,6 +236,7 @@ def of_texts(q, rng):
     for number in [1, 2, 9, 10, 99, 2**32, TOP]:
         q.ask("text fault", "bad-item", number)
         q.ask("text fault", "index-repeated", number)
+        q.ask("text fault", "not-a-command", number)
     for name in REFUSALS:
         q.ask("text refusal", name)
 

@@ -1,3 +1,6 @@
+//! An auditor has one chain for each provider, in a map by public key. The first root of a key starts a
+//! chain, and each later one is taken by it: the chain keeps it if it is the next one, and else says where
+//! it stands.
 ghost use Rattle.std.specs.Prelude.{◌≡◌, ◌+◌, ◌≤◌, [], IfOk, IfSome, IsSome, None, option_map};
 ghost use Rattle.auditor.specs.Chains.{chain_of, IsHeld};
 ghost use Rattle.auditor.specs.declared.auditor.Observed.TheVariants.{Started};

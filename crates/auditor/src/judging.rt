@@ -1,4 +1,5 @@
 ghost use Rattle.std.specs.Prelude.{◌≡◌, ◌↔◌, ◌+◌, ◌≤◌, IsTrue};
+ghost use Rattle.prefixtree.specs.declared.path.TheConstants.{MAX_SIBLINGS};
 ghost use Rattle.auditor.specs.Evidence.{IsEvidence};
 ghost use Rattle.proofs.specs.BrokenPromises.{Contradicts, IsBrokenPromise};
 
@@ -21,7 +22,7 @@ pub fn judge<H: NodeHash, V: VufCheck, S: Verifier>(
     evidence: &Evidence,
 ) -> bool
     ensures value { IsTrue result ↔ IsEvidence H.digest_of V.accepted S.verified key.now evidence.now }
-    ensures counted { H.digests hash.new ≤ H.digests hash.old + 259 }
+    ensures counted { H.digests hash.new ≤ H.digests hash.old + (MAX_SIBLINGS + 3) }
 {
     match evidence {
         Evidence::Root(roots) => roots.holds(hash, verifier, key),
@@ -38,7 +39,7 @@ fn is_broken<H: NodeHash, V: VufCheck, S: Verifier>(
     broken: &BrokenPromise,
 ) -> bool
     ensures value { IsTrue result ↔ IsBrokenPromise H.digest_of V.accepted S.verified key.now broken.now.promise broken.now.root broken.now.proof }
-    ensures counted { H.digests hash.new ≤ H.digests hash.old + 259 }
+    ensures counted { H.digests hash.new ≤ H.digests hash.old + (MAX_SIBLINGS + 3) }
 {
     let promise = &broken.promise.promise;
     let body = &broken.root.body;
@@ -59,7 +60,7 @@ fn contradicts<H: NodeHash, V: VufCheck>(
     bytes: &[u8],
 ) -> bool
     ensures value { IsTrue result ↔ Contradicts H.digest_of V.accepted promise.now body.now bytes.now }
-    ensures counted { H.digests hash.new ≤ H.digests hash.old + 259 }
+    ensures counted { H.digests hash.new ≤ H.digests hash.old + (MAX_SIBLINGS + 3) }
 {
     match accept(hash, vuf, body, &promise.name, bytes) {
         Ok(reply) => { reply.index() == promise.index && !reply.statement().binds(&promise.key) }

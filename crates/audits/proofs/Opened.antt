@@ -3,7 +3,7 @@ use Rattle.std.proofs.Common.{◌≡◌, ℕ, List, Option, Some, Result, Ok, Er
 use Rattle.nodehash.specs.Sha256.{sha256}
 use Rattle.textio.specs.Digits.{hex32}
 use Rattle.textio.specs.declared.program_fault.ProgramFault.{ProgramFault}
-use Rattle.textio.specs.declared.program_fault.ProgramFault.TheVariants.{BadHex, BadItem, IndexRepeated, NotEvidence, BadRecord, OtherKeys, CannotRead, CannotWrite, CannotListen, OutOfMemory}
+use Rattle.textio.specs.declared.program_fault.ProgramFault.TheVariants.{BadHex, BadItem, IndexRepeated, NotACommand, NotEvidence, BadRecord, OtherKeys, CannotRead, CannotWrite, CannotListen, OutOfMemory}
 use Rattle.audits.specs.declared.judging.Verdict.{Verdict}
 use Rattle.audits.specs.Verdicts.{Judges, JudgesAt}
 use Rattle.vrfiface.specs.StandIns.{KeyedAccepts}
@@ -18,6 +18,7 @@ judged_at text key file old new (Err OutOfMemory) is judged = rw is (refl, judge
 judged_at text key file old new (Err BadHex) is judged = absurd judged
 judged_at text key file old new (Err (BadItem line)) is judged = absurd judged
 judged_at text key file old new (Err (IndexRepeated line)) is judged = absurd judged
+judged_at text key file old new (Err (NotACommand line)) is judged = absurd judged
 judged_at text key file old new (Err BadRecord) is judged = absurd judged
 judged_at text key file old new (Err OtherKeys) is judged = absurd judged
 judged_at text key file old new (Err CannotRead) is judged = absurd judged

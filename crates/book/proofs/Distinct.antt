@@ -4,7 +4,7 @@ use Rattle.std.specs.Prelude.{is_some, is_none}
 use Rattle.std.specs.BTreeMap.{is_at}
 use Rattle.std.specs.List.{AllByRecursion, find}
 use Rattle.std.specs.Str.{bytes_eq}
-use Rattle.std.proofs.lemmas.Bool.{not-false}
+use Rattle.std.proofs.lemmas.Bool.{not-false, or_parts}
 use Rattle.std.proofs.lemmas.Cmp.{nat_list_eq_equiv}
 use Rattle.std.proofs.lemmas.Slice.Eq.{bytes_eq-Decides}
 use Rattle.book.specs.Answers.{Answer, bad_index, bad_verb, has_its_index, next_page, refusal, with_page, with_pending}
@@ -56,12 +56,6 @@ overwritten-named entries map name has = elim (named-or-not entries name) [
   | inr none ↦ inl (has.0, sym (stays entries map name none) ∙ has.1)
 ]
 
-neither : (a b : Bool) → (a || b) ≡ false → (a ≡ false) × (b ≡ false)
-neither false false e = (refl, refl)
-neither false true e = absurd cc
-neither true false e = absurd cc
-neither true true e = absurd cc
-
 none-passes : {X : Type 0} (p : X → Bool) (xs : List X) → is_some (find p xs) ≡ false → AllByRecursion (λ x. p x ≡ false) xs
 none-passes p [] none = tt
 none-passes p (x ∷ xs) none = by (p x) refl none (none-passes p xs)
@@ -112,20 +106,20 @@ module _ (provider : Provider) where
       now : AreApart (Holds (with_pending book name key))
       now one other a b same = by one other (held one a) (held other b) same
 
-  apart-page : (book : Book) (epoch : ℕ) → IsApart book → IsApart (with_page book (next_page book epoch))
-  apart-page book epoch apart = record { now = now; pages = all-push (λ page. AreApart (HasName page.bindings)) (pages book) (next_page book epoch) apart.pages page }
+  apart-page : (book : Book) (epoch : ℕ) (nonce : Option (List ℕ)) → IsApart book → IsApart (with_page book (next_page book epoch nonce))
+  apart-page book epoch nonce apart = record { now = now; pages = all-push (λ page. AreApart (HasName page.bindings)) (pages book) (next_page book epoch nonce) apart.pages page }
     where
-      page : AreApart (HasName (next_page book epoch).bindings)
+      page : AreApart (HasName (next_page book epoch nonce).bindings)
       page one other a b same = apart.now one other (overwritten-named book.pending book.last.bindings one a) (overwritten-named book.pending book.last.bindings other b) same
 
-      shown : (name : List ℕ) → Holds (with_page book (next_page book epoch)) name → HasName (next_page book epoch).bindings name
+      shown : (name : List ℕ) → Holds (with_page book (next_page book epoch nonce)) name → HasName (next_page book epoch nonce).bindings name
       shown name (inl last) = last
       shown name (inr waits) = absurd (never waits.1)
         where
           never : {x : Binding} → None ≡ Some x → ⊥
           never e = absurd cc
 
-      now : AreApart (Holds (with_page book (next_page book epoch)))
+      now : AreApart (Holds (with_page book (next_page book epoch nonce)))
       now one other a b same = page one other (shown one a) (shown other b) same
 
   pub apart-after : (book after : Book) (asked : Operation) (answer : Answer) → IsApart book → refusal (index_of provider) book asked ≡ None → Does book asked answer after → IsApart after
@@ -140,7 +134,7 @@ module _ (provider : Provider) where
 
       free : (verb : Verb) → (bad_verb verb (at book.last.bindings name)).0 ≡ false → (bad_index (index_of provider) verb book name).0 ≡ false
           → (other : List ℕ) → Holds book other → index_of provider other ≡ index_of provider name → other ≡ name
-      free Register new none other (inl last) same = untaken name book.last.bindings (neither _ (has_its_index (index_of provider) name book.pending) none).0 other last same
-      free Register new none other (inr waits) same = untaken name book.pending (neither (has_its_index (index_of provider) name book.last.bindings) _ none).1 other waits same
+      free Register new none other (inl last) same = untaken name book.last.bindings (or_parts _ (has_its_index (index_of provider) name book.pending) none).0 other last same
+      free Register new none other (inr waits) same = untaken name book.pending (or_parts (has_its_index (index_of provider) name book.last.bindings) _ none).1 other waits same
       free Change shown none other held same = apart.now other name held (inl (there (at book.last.bindings name) shown)) same
-  apart-after book after (Edit (Turn epoch)) answer apart none does = subst IsApart (sym does.1) (apart-page book epoch apart)
+  apart-after book after (Edit (Turn epoch nonce)) answer apart none does = subst IsApart (sym does.1) (apart-page book epoch nonce apart)

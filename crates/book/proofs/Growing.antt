@@ -1,6 +1,6 @@
 -- What a close leaves, and how the pages grow along a run.
-use Rattle.std.proofs.Common.{◌≡◌, ℕ, ◌<◌, List, [], ◌∷◌, ◌++◌, AllPairs, None, sym, ap, subst, ◌∙◌}
-use Rattle.std.specs.Prelude.{nat_le}
+use Rattle.std.proofs.Common.{◌≡◌, ℕ, ◌<◌, List, [], ◌∷◌, ◌++◌, AllPairs, Option, None, sym, ap, subst, ◌∙◌}
+use Rattle.std.specs.Prelude.{nat_le, unwrap_or}
 use Rattle.std.proofs.lemmas.List.{append-nil, append_assoc}
 use Rattle.book.specs.declared.record.Record.{Record}
 use Rattle.book.specs.declared.refusal.Refusal.TheVariants.{EpochNotLater}
@@ -17,11 +17,11 @@ use Rattle.book.proofs.Soundness.{IsBefore, ascend-push}
 use Rattle.book.proofs.Stepping.{Does, stepped}
 use Rattle.book.proofs.Turning.{above-last, passed}
 
-pub closing : (index_of : List ℕ → List ℕ) (book after : Book) (epoch : ℕ) (answer : Answer) → step index_of book (Edit (Turn epoch)) ≡ (Answers answer, after)
-    → (after.last.epoch ≡ epoch) × (after.last.bindings ≡ overwritten book.last.bindings book.pending) × (after.earlier ≡ pages book) × (after.pending ≡ [])
-closing index_of book after epoch answer is =
-    let e = (stepped index_of book (Edit (Turn epoch)) answer after is).does.1 in
-    (ap (λ (b : Book). b.last.epoch) e, ap (λ (b : Book). b.last.bindings) e, ap (λ (b : Book). b.earlier) e, ap (λ (b : Book). b.pending) e)
+pub closing : (index_of : List ℕ → List ℕ) (book after : Book) (epoch : ℕ) (nonce : Option (List ℕ)) (answer : Answer) → step index_of book (Edit (Turn epoch nonce)) ≡ (Answers answer, after)
+    → (after.last.epoch ≡ epoch) × (after.last.nonce ≡ unwrap_or nonce book.last.nonce) × (after.last.bindings ≡ overwritten book.last.bindings book.pending) × (after.earlier ≡ pages book) × (after.pending ≡ [])
+closing index_of book after epoch nonce answer is =
+    let e = (stepped index_of book (Edit (Turn epoch nonce)) answer after is).does.1 in
+    (ap (λ (b : Book). b.last.epoch) e, ap (λ (b : Book). b.last.nonce) e, ap (λ (b : Book). b.last.bindings) e, ap (λ (b : Book). b.earlier) e, ap (λ (b : Book). b.pending) e)
 
 module _ (first : Book) where
   -- the pages are those of the first book, followed by others, and they ascend
@@ -30,11 +30,11 @@ module _ (first : Book) where
     pub is : pages book ≡ pages first ++ more
     pub ascend : AllPairs IsBefore (pages book)
 
-  grown-page : (book : Book) (epoch : ℕ) → HasGrown book → book.last.epoch < epoch → HasGrown (with_page book (next_page book epoch))
-  grown-page book epoch grown above = record {
-    more = grown.more ++ next_page book epoch ∷ [];
-    is = ap (λ (all : List Page). all ++ next_page book epoch ∷ []) grown.is ∙ append_assoc (pages first) grown.more (next_page book epoch ∷ []);
-    ascend = ascend-push book.earlier book.last (next_page book epoch) grown.ascend above;
+  grown-page : (book : Book) (epoch : ℕ) (nonce : Option (List ℕ)) → HasGrown book → book.last.epoch < epoch → HasGrown (with_page book (next_page book epoch nonce))
+  grown-page book epoch nonce grown above = record {
+    more = grown.more ++ next_page book epoch nonce ∷ [];
+    is = ap (λ (all : List Page). all ++ next_page book epoch nonce ∷ []) grown.is ∙ append_assoc (pages first) grown.more (next_page book epoch nonce ∷ []);
+    ascend = ascend-push book.earlier book.last (next_page book epoch nonce) grown.ascend above;
   }
 
   same-pages : (book after : Book) → HasGrown book → pages after ≡ pages book → HasGrown after
@@ -43,8 +43,8 @@ module _ (first : Book) where
   grown-after : (index_of : List ℕ → List ℕ) (book after : Book) (asked : Operation) (answer : Answer) → HasGrown book → refusal index_of book asked ≡ None → Does book asked answer after → HasGrown after
   grown-after index_of book after (Query question) answer grown none does = same-pages book after grown (ap pages does.1)
   grown-after index_of book after (Edit (Put verb name key)) answer grown none does = same-pages book after grown (ap pages does.1)
-  grown-after index_of book after (Edit (Turn epoch)) answer grown none does =
-      subst HasGrown (sym does.1) (grown-page book epoch grown (above-last epoch book.last.epoch (passed (nat_le epoch book.last.epoch, EpochNotLater) [] none).0))
+  grown-after index_of book after (Edit (Turn epoch nonce)) answer grown none does =
+      subst HasGrown (sym does.1) (grown-page book epoch nonce grown (above-last epoch book.last.epoch (passed (nat_le epoch book.last.epoch, EpochNotLater) [] none).0))
 
 pub run-grows : (provider : Provider) {K : Type 0} (kept failed : K → Record → K → Type 0) (commands : List Operation) (replies : List Reply) (book after : Book) (before later : K)
     → AllPairs IsBefore (pages book) → Run provider kept failed book before commands replies after later → HasGrown book after

@@ -40,7 +40,7 @@ root-epoch provider epoch before (page ∷ pages) each is = elim (first-or-later
 refused-latest : (latest : ℕ) (asked : Operation) (why : Refusal) → latest_after latest asked (reply.Refused why) ≡ latest
 refused-latest latest (Query question) why = refl
 refused-latest latest (Edit (Put verb name key)) why = refl
-refused-latest latest (Edit (ask.Turn epoch)) why = refl
+refused-latest latest (Edit (ask.Turn epoch _)) why = refl
 
 -- which command a reply came to, and when
 pub at-said : (now : ℕ) (commands : List Operation) (replies : List Reply) (asked : Operation) (said : Reply) → IsSaid commands replies asked said → (latest : ℕ) × IsSaidAt now commands replies latest asked said
@@ -147,10 +147,10 @@ module _ (provider : Provider) where
       let has = put_passed (index_of provider) book verb name key none in
       subst (λ (b : Book). Answered book b (Edit (Put verb name key)) answer) (sym does.1) (subst (Answered book (with_pending book name key) (Edit (Put verb name key))) (sym does.0)
       (pends book (Edit (Put verb name key)) name key (refl, refl) sound (is-name name has.named are.0) (is-key key has.keyed are.1) (not-there (at book.pending name) has.pending)))
-  answered book after (Edit (ask.Turn epoch)) answer sound are none does =
+  answered book after (Edit (ask.Turn epoch nonce)) answer sound are none does =
       let one = passed (nat_le epoch book.last.epoch, EpochNotLater) [] none in
-      subst (λ (b : Book). Answered book b (Edit (ask.Turn epoch)) answer) (sym does.1) (record {
-        goes = goes-page provider book epoch sound are (above-last epoch book.last.epoch one.0);
+      subst (λ (b : Book). Answered book b (Edit (ask.Turn epoch nonce)) answer) (sym does.1) (record {
+        goes = goes-page provider book epoch nonce sound are.0 are.1 (above-last epoch book.last.epoch one.0);
         promised = λ other binding same. let e = sym does.0 ∙ same in absurd cc;
         found = λ other also is page named binding same. let e = sym does.0 ∙ same in absurd cc;
         told = λ some same. let e = sym does.0 ∙ same in absurd cc;
@@ -234,11 +234,11 @@ module _ (provider : Provider) where
   last-now : (book after : Book) (asked : Operation) (answer : Answer) (said : Reply) → Does book asked answer after → Shows provider after answer said → after.last.epoch ≡ latest_after book.last.epoch asked said
   last-now book after (Query question) answer said does shows = ap (λ (b : Book). b.last.epoch) does.1
   last-now book after (Edit (Put verb name key)) answer said does shows = ap (λ (b : Book). b.last.epoch) does.1
-  last-now book after (Edit (ask.Turn epoch)) answer (reply.Promised promised) does shows = let e = sym does.0 ∙ shows.3 in absurd cc
-  last-now book after (Edit (ask.Turn epoch)) answer (reply.Found text) does shows = let e = sym does.0 ∙ shows.4 in absurd cc
-  last-now book after (Edit (ask.Turn epoch)) answer (reply.Told told_roots) does shows = let e = sym does.0 ∙ shows.1 in absurd cc
-  last-now book after (Edit (ask.Turn epoch)) answer (reply.Last root) does shows = ap (λ (b : Book). b.last.epoch) does.1
-  last-now book after (Edit (ask.Turn epoch)) answer (reply.Refused why) does shows = absurd shows
+  last-now book after (Edit (ask.Turn epoch _)) answer (reply.Promised promised) does shows = let e = sym does.0 ∙ shows.3 in absurd cc
+  last-now book after (Edit (ask.Turn epoch _)) answer (reply.Found text) does shows = let e = sym does.0 ∙ shows.4 in absurd cc
+  last-now book after (Edit (ask.Turn epoch _)) answer (reply.Told told_roots) does shows = let e = sym does.0 ∙ shows.1 in absurd cc
+  last-now book after (Edit (ask.Turn epoch _)) answer (reply.Last root) does shows = ap (λ (b : Book). b.last.epoch) does.1
+  last-now book after (Edit (ask.Turn epoch _)) answer (reply.Refused why) does shows = absurd shows
 
   module _ {K : Type 0} (kept failed : K → Record → K → Type 0) where
     pub record Turned (book after : Book) (asked : Operation) (said : Reply) : Type 0 where

@@ -1,6 +1,6 @@
 -- A sound book stays sound: where a binding begins to wait, and where a page comes.
 use Rattle.std.proofs.Common.{◌≡◌, ℕ, ◌+◌, ◌<◌, ◌^◌, List, [], ◌∷◌, ◌++◌, length, get_or, Bool, true, false, Option, Some, None, All, AllPairs, IsSome, refl, sym, ap, subst, inl, inr, ◌⊎◌, ◌∙◌, arith, leb}
-use Rattle.std.specs.Prelude.{is_some}
+use Rattle.std.specs.Prelude.{is_some, IfSome}
 use Rattle.std.specs.BTreeMap.{is_at}
 use Rattle.std.specs.List.{AllAdjacentBelow, AllByRecursion}
 use Rattle.std.proofs.lemmas.Bool.{leb-true, leb-false}
@@ -15,7 +15,7 @@ use Rattle.book.specs.Fresh.{fresh, IsEpoch}
 use Rattle.book.specs.Maps.{Map, at, overwritten, put}
 use Rattle.book.specs.Sound.{AreBindings, HasNamesOf, IsEntry, IsHeld, IsPage, IsSound}
 use Rattle.book.proofs.Entries.{all_overwritten, all_put, ascends_none, ascends_overwritten, ascends_put, at_put_other, at_put_same, is_name, is_no_name, stays}
-use Rattle.book.proofs.Turning.{the-last}
+use Rattle.book.proofs.Turning.{next-sized, the-last}
 
 -- ---- lists with one element more
 
@@ -177,11 +177,11 @@ module _ (index_of : List ℕ → List ℕ) where
       by one other (inr a) (inr b) same = a ∙ sym b
 
   -- a page comes
-  pub sound_page : (book : Book) (epoch : ℕ) → IsSound index_of book → book.last.epoch < epoch → epoch < 2 ^ 64 → IsSound index_of (with_page book (next_page book epoch))
-  sound_page book epoch sound above fits = record {
-    pages = All-push IsPage (pages book) (next_page book epoch) sound.pages page;
-    ascend = ascend-push book.earlier book.last (next_page book epoch) sound.ascend above;
-    stay = adjacent-push HasNamesOf book.earlier book.last (next_page book epoch) sound.stay (λ name has. has-overwritten book.pending book.last.bindings name has);
+  pub sound_page : (book : Book) (epoch : ℕ) (nonce : Option (List ℕ)) → IsSound index_of book → book.last.epoch < epoch → epoch < 2 ^ 64 → IfSome nonce Is32Bytes → IsSound index_of (with_page book (next_page book epoch nonce))
+  sound_page book epoch nonce sound above fits sized = record {
+    pages = All-push IsPage (pages book) (next_page book epoch nonce) sound.pages page;
+    ascend = ascend-push book.earlier book.last (next_page book epoch nonce) sound.ascend above;
+    stay = adjacent-push HasNamesOf book.earlier book.last (next_page book epoch nonce) sound.stay (λ name has. has-overwritten book.pending book.last.bindings name has);
     pending = no-bindings;
     salt = sound.salt;
     apart = λ one other a b same. sound.apart one other (held one a) (held other b) same;
@@ -190,9 +190,9 @@ module _ (index_of : List ℕ → List ℕ) where
       last : IsPage book.last
       last = the-last IsPage book.earlier book.last (recursion_from_All IsPage (pages book) sound.pages)
 
-      page : IsPage (next_page book epoch)
-      page = record { from_one = omega (arith, above); in_eight_bytes = fits; nonce = last.nonce; bindings = bindings-overwritten book.last.bindings book.pending last.bindings sound.pending }
+      page : IsPage (next_page book epoch nonce)
+      page = record { from_one = omega (arith, above); in_eight_bytes = fits; nonce = next-sized nonce _ last.nonce sized; bindings = bindings-overwritten book.last.bindings book.pending last.bindings sound.pending }
 
-      held : (name : List ℕ) → IsHeld (with_page book (next_page book epoch)) name → IsHeld book name
+      held : (name : List ℕ) → IsHeld (with_page book (next_page book epoch nonce)) name → IsHeld book name
       held name (inl last) = overwritten-has book.pending book.last.bindings name last
       held name (inr waits) = absurd (nobody waits)

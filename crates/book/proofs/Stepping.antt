@@ -15,7 +15,7 @@ use Rattle.book.proofs.Turning.{passed, two-passed}
 abbrev pub Does : Book → Operation → Answer → Book → Type 0
 Does book (Query question) answer after = (read book question ≡ Answers answer) × (after ≡ book)
 Does book (Edit (Put verb name key)) answer after = (answer ≡ Promised name (record { key = key; salt = book.salt })) × (after ≡ with_pending book name key)
-Does book (Edit (Turn epoch)) answer after = (answer ≡ Last (next_page book epoch)) × (after ≡ with_page book (next_page book epoch))
+Does book (Edit (Turn epoch nonce)) answer after = (answer ≡ Last (next_page book epoch nonce)) × (after ≡ with_page book (next_page book epoch nonce))
 
 -- what a query finds
 abbrev pub Finds : Book → Question → Answer → Type 0
@@ -47,12 +47,12 @@ never why answer p q e = by (ap (λ (x : Outcome × Book). x.0) e)
 does_done : (book : Book) (asked : Operation) (answer : Answer) (after : Book) → Does book asked answer after → done book asked ≡ (Answers answer, after)
 does_done book (Query question) answer after does = ap (λ (outcome : Outcome). made outcome book) does.0 ∙ ap (made (Answers answer)) (sym does.1)
 does_done book (Edit (Put verb name key)) answer after does = both_same answer _ _ after does.0 does.1
-does_done book (Edit (Turn epoch)) answer after does = both_same answer _ _ after does.0 does.1
+does_done book (Edit (Turn epoch _)) answer after does = both_same answer _ _ after does.0 does.1
 
 done_does : (book : Book) (asked : Operation) (answer : Answer) (after : Book) → done book asked ≡ (Answers answer, after) → Does book asked answer after
 done_does book (Query question) answer after e = (ap (λ (x : Outcome × Book). x.0) e, sym (ap (λ (x : Outcome × Book). x.1) e))
 done_does book (Edit (Put verb name key)) answer after e = same_both answer _ _ after e
-done_does book (Edit (Turn epoch)) answer after e = same_both answer _ _ after e
+done_does book (Edit (Turn epoch _)) answer after e = same_both answer _ _ after e
 
 answers_same : (a b : Answer) → Answers b ≡ Answers a → a ≡ b
 answers_same a b e = cc
@@ -126,7 +126,7 @@ module _ (index_of : List ℕ → List ℕ) where
   answer_of book (Query (History from count)) none = (Told (page_range book from count), refl)
   answer_of book (Query Head) none = (Last book.last, refl)
   answer_of book (Edit (Put verb name key)) none = (Promised name (record { key = key; salt = book.salt }), refl)
-  answer_of book (Edit (Turn epoch)) none = (Last (next_page book epoch), refl)
+  answer_of book (Edit (Turn epoch nonce)) none = (Last (next_page book epoch nonce), refl)
 
   pub refused_due : (book : Book) (asked : Operation) (why : Refusal) → (step index_of book asked).0 ≡ Refuses why → refusal index_of book asked ≡ Some why
   refused_due book asked why e = by (refusal index_of book asked) refl e

@@ -1,12 +1,12 @@
 -- What one command does to a sound book, and what its reply shows of the book from then on.
 use Rattle.std.proofs.Common.{◌≡◌, ℕ, ◌<◌, ◌^◌, List, [], ◌∷◌, ◌++◌, length, replicate, Bool, true, false, cond, not, ◌&&◌, Option, Some, None, Contains, refl, sym, ap, subst, inl, inr, ◌⊎◌, ◌∙◌, arith, eqb, leb}
-use Rattle.std.specs.Prelude.{is_some, option_map}
+use Rattle.std.specs.Prelude.{is_some, option_map, unwrap_or, IfSome}
 use Rattle.std.specs.BTreeMap.{is_at}
 use Rattle.std.specs.List.{AllByRecursion, find}
 use Rattle.std.proofs.lemmas.Bool.{eqb-true, leb-true, leb-false, not-false}
 use Rattle.std.proofs.lemmas.List.{append-nil, append_assoc}
 use Rattle.std.proofs.lemmas.List.Elements.{Contains-append_left, Contains-push_cases}
-use Rattle.encoding.specs.Bytes.{bytes_cmp, IsBytes}
+use Rattle.encoding.specs.Bytes.{bytes_cmp, Is32Bytes, IsBytes}
 use Rattle.encoding.specs.Limits.{IsWithin, IsName, IsKeyData}
 use Rattle.rootchain.specs.declared.signed_root.SignedRoot.{SignedRoot}
 use Rattle.book.specs.declared.refusal.Refusal.{Refusal}
@@ -94,14 +94,19 @@ sound-pending book name key sound named keyed = record {
   pending = all_put name (record { key = key; salt = book.salt }) IsName IsBinding book.pending named keyed sound.pending;
 }
 
-sound-page : (book : Book) (epoch : ℕ) → IsSound book → epoch < 2 ^ 64 → book.last.epoch < epoch → IsSound (with_page book (next_page book epoch))
-sound-page book epoch sound fits later =
+-- a new page's nonce has the size of the last one's
+pub next-sized : (nonce : Option (List ℕ)) (last : List ℕ) → Is32Bytes last → IfSome nonce Is32Bytes → Is32Bytes (unwrap_or nonce last)
+next-sized None last here sized = here
+next-sized (Some nonce) last here sized = sized
+
+sound-page : (book : Book) (epoch : ℕ) (nonce : Option (List ℕ)) → IsSound book → epoch < 2 ^ 64 → IfSome nonce Is32Bytes → book.last.epoch < epoch → IsSound (with_page book (next_page book epoch nonce))
+sound-page book epoch nonce sound fits sized later =
     let last = the-last IsPage book.earlier book.last sound.pages in
     record {
-      climb = climb-push 0 book.earlier book.last (next_page book epoch) sound.climb later;
-      pages = all-push IsPage (pages book) (next_page book epoch) sound.pages (record {
+      climb = climb-push 0 book.earlier book.last (next_page book epoch nonce) sound.climb later;
+      pages = all-push IsPage (pages book) (next_page book epoch nonce) sound.pages (record {
         epoch = fits;
-        nonce = last.nonce;
+        nonce = next-sized nonce _ last.nonce sized;
         ascends = ascends_overwritten book.last.bindings book.pending last.ascends;
         bindings = all_overwritten IsName IsBinding book.pending book.last.bindings sound.pending last.bindings;
       });
@@ -189,34 +194,34 @@ module _ (provider : Provider) where
       still other owned epoch (inl now) = inl (now.0, other-waits other owned now.1)
       still other owned epoch (inr before) = inr before
 
-  pub goes-page : (book : Book) (epoch : ℕ) → IsSound book → epoch < 2 ^ 64 → book.last.epoch < epoch → Goes book (with_page book (next_page book epoch))
-  goes-page book epoch sound fits above = record {
-    more = record { page = next_page book epoch; root = next.root } ∷ [];
+  pub goes-page : (book : Book) (epoch : ℕ) (nonce : Option (List ℕ)) → IsSound book → epoch < 2 ^ 64 → IfSome nonce Is32Bytes → book.last.epoch < epoch → Goes book (with_page book (next_page book epoch nonce))
+  goes-page book epoch nonce sound fits sized above = record {
+    more = record { page = next_page book epoch nonce; root = next.root } ∷ [];
     grows = next.is;
     holds = λ name key asked held. record { next = λ page root is behind. kept name key asked held page root behind (cases page root is); waits = inr (before asked name key held.waits) };
-    sound = sound-page book epoch sound fits above;
+    sound = sound-page book epoch nonce sound fits sized above;
   }
     where
-      next : IsNext provider book.last (sealed_pages provider book) (sealed_pages provider (with_page book (next_page book epoch))) (next_page book epoch)
-      next = sealed-push provider 0 (replicate 32 0) book.earlier book.last (next_page book epoch)
+      next : IsNext provider book.last (sealed_pages provider book) (sealed_pages provider (with_page book (next_page book epoch nonce))) (next_page book epoch nonce)
+      next = sealed-push provider 0 (replicate 32 0) book.earlier book.last (next_page book epoch nonce)
 
-      cases : (page : Page) (root : SignedRoot) → IsRootOf provider (with_page book (next_page book epoch)) page root
-          → IsRootOf provider book page root ⊎ (sealed_with (next_page book epoch) next.root ≡ sealed_with page root)
+      cases : (page : Page) (root : SignedRoot) → IsRootOf provider (with_page book (next_page book epoch nonce)) page root
+          → IsRootOf provider book page root ⊎ (sealed_with (next_page book epoch nonce) next.root ≡ sealed_with page root)
       cases page root is = Contains-push_cases (sealed_pages provider book) _ _ (subst (λ (all : List SignedPage). Contains all (record { page = page; root = root })) next.is is)
 
       before : (asked : ℕ) (name key : List ℕ) → ((book.last.epoch ≡ asked) × Waits book name key) ⊎ (asked < book.last.epoch) → asked < epoch
       before asked name key (inl now) = omega (arith, now.0)
       before asked name key (inr earlier) = omega (arith, earlier)
 
-      waited : (asked : ℕ) (name key : List ℕ) → ((book.last.epoch ≡ asked) × Waits book name key) ⊎ (asked < book.last.epoch) → book.last.epoch ≡ asked → key_at (next_page book epoch) name ≡ Some key
+      waited : (asked : ℕ) (name key : List ℕ) → ((book.last.epoch ≡ asked) × Waits book name key) ⊎ (asked < book.last.epoch) → book.last.epoch ≡ asked → key_at (next_page book epoch nonce) name ≡ Some key
       waited asked name key (inl now) same =
           ap (option_map (λ (binding : Binding). binding.key)) (overwrites book.pending book.last.bindings name now.1.0 sound.ascends now.1.1) ∙ ap (λ (k : List ℕ). Some k) now.1.2
       waited asked name key (inr earlier) same = absurd (omega (arith, earlier, same))
 
       kept : (name key : List ℕ) (asked : ℕ) → Holds book name key asked → (page : Page) (root : SignedRoot) → root.body.previous_epoch ≡ asked
-          → IsRootOf provider book page root ⊎ (sealed_with (next_page book epoch) next.root ≡ sealed_with page root) → key_at page name ≡ Some key
+          → IsRootOf provider book page root ⊎ (sealed_with (next_page book epoch nonce) next.root ≡ sealed_with page root) → key_at page name ≡ Some key
       kept name key asked held page root behind (inl old) = held.next page root old behind
       kept name key asked held page root behind (inr new) =
           let r = ap (λ (each : SignedPage). each.root.body.previous_epoch) new in
-          let p : next_page book epoch ≡ page = ap (λ (each : SignedPage). each.page) new in
+          let p : next_page book epoch nonce ≡ page = ap (λ (each : SignedPage). each.page) new in
           subst (λ (each : Page). key_at each name ≡ Some key) p (waited asked name key held.waits (sym next.previous ∙ r ∙ behind))

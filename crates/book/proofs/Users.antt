@@ -1,5 +1,5 @@
 -- Where the indices of all names that are asked about differ, no page has another name with the index of one of them.
-use Rattle.std.proofs.Common.{◌≡◌, ℕ, List, [], ◌∷◌, Contains, refl, sym, subst, inl, inr}
+use Rattle.std.proofs.Common.{◌≡◌, ℕ, List, [], ◌∷◌, Option, Contains, refl, sym, subst, inl, inr}
 use Rattle.std.specs.Bool.{⊤}
 use Rattle.std.specs.List.{AllByRecursion}
 use Rattle.std.proofs.lemmas.List.Elements.{All-contains, All-from_recursion}
@@ -32,9 +32,9 @@ module _ (P : List ℕ → Type 0) where
   named-pending : (book : Book) (name key : List ℕ) → IsNamed P book → P name → IsNamed P (with_pending book name key)
   named-pending book name key named here = record { pages = named.pages; pending = all_put name (record { key = key; salt = book.salt }) P (λ binding. ⊤) book.pending here tt named.pending }
 
-  named-page : (book : Book) (epoch : ℕ) → IsNamed P book → IsNamed P (with_page book (next_page book epoch))
-  named-page book epoch named = record {
-    pages = all-push (λ page. AreNamed P page.bindings) (pages book) (next_page book epoch) named.pages
+  named-page : (book : Book) (epoch : ℕ) (nonce : Option (List ℕ)) → IsNamed P book → IsNamed P (with_page book (next_page book epoch nonce))
+  named-page book epoch nonce named = record {
+    pages = all-push (λ page. AreNamed P page.bindings) (pages book) (next_page book epoch nonce) named.pages
         (all_overwritten P (λ binding. ⊤) book.pending book.last.bindings named.pending (the-last (λ page. AreNamed P page.bindings) book.earlier book.last named.pages));
     pending = tt;
   }
@@ -42,7 +42,7 @@ module _ (P : List ℕ → Type 0) where
   named-after : (book after : Book) (asked : Operation) (answer : Answer) → IsNamed P book → ((name : List ℕ) → IsAbout asked name → P name) → Does book asked answer after → IsNamed P after
   named-after book after (Query question) answer named about does = subst (IsNamed P) (sym does.1) named
   named-after book after (Edit (Put verb name key)) answer named about does = subst (IsNamed P) (sym does.1) (named-pending book name key named (about name refl))
-  named-after book after (Edit (Turn epoch)) answer named about does = subst (IsNamed P) (sym does.1) (named-page book epoch named)
+  named-after book after (Edit (Turn epoch nonce)) answer named about does = subst (IsNamed P) (sym does.1) (named-page book epoch nonce named)
 
 pub said-asked : (commands : List Operation) (replies : List Reply) (asked : Operation) (said : Reply) → IsSaid commands replies asked said → Contains commands asked
 said-asked [] replies asked said is = absurd is

@@ -1,7 +1,10 @@
 -- What a book answers to a command, and the first refusal that applies.
-use Rattle.std.specs.Prelude.{ℕ, ◌&&◌, ◌||◌, not, nat_le, Bool, false, if◌then◌else◌, List, [], ◌∷◌, length, filter, take, find, Option, Some, None, is_some, is_none}
+use Rattle.std.specs.Prelude.{ℕ, ◌&&◌, ◌||◌, not, nat_le, Bool, false, if◌then◌else◌, List, [], ◌∷◌, length, filter, take, find, Option, Some, None, is_some, is_none, unwrap_or}
 use Rattle.std.specs.Str.{bytes_eq}
 use Rattle.rand_core.specs.Stream.{fill_bytes}
+use Rattle.encoding.specs.declared.bounded.TheConstants.{MIN_LEN}
+use Rattle.encoding.specs.declared.key_data.TheConstants.{MAX_KEY_DATA_LEN}
+use Rattle.encoding.specs.declared.name.TheConstants.{MAX_NAME_LEN}
 use Rattle.book.specs.declared.refusal.Refusal.{Refusal}
 use Rattle.book.specs.declared.refusal.Refusal.TheVariants.{BadName, BadKey, NameTaken, NoSuchName, PendingExists, IndexTaken, NoSuchEpoch, EpochNotLater, NoPromise, BadRange}
 use Rattle.commands.specs.declared.edit.Verb.{Verb}
@@ -19,10 +22,10 @@ abbrev pub is_within : ℕ → ℕ → List ℕ → Bool
 is_within least most bytes = nat_le least (length bytes) && nat_le (length bytes) most
 
 abbrev pub bad_name : List ℕ → Bool × Refusal
-bad_name name = (not (is_within 1 255 name), BadName)
+bad_name name = (not (is_within MIN_LEN MAX_NAME_LEN name), BadName)
 
 abbrev pub bad_key : List ℕ → Bool × Refusal
-bad_key key = (not (is_within 1 2048 key), BadKey)
+bad_key key = (not (is_within MIN_LEN MAX_KEY_DATA_LEN key), BadKey)
 
 -- what a book answers, where nothing refuses
 pub data Answer : Type 0 where
@@ -43,9 +46,10 @@ with_pending book name key = record book {
   left = (fill_bytes 32 book.left).1;
 }
 
--- the page of this epoch: the last one's bindings, overwritten by what waits
-abbrev pub next_page : Book → ℕ → Page
-next_page book epoch = record { epoch = epoch; nonce = book.last.nonce; bindings = overwritten book.last.bindings book.pending }
+-- the page of this epoch, under this nonce, or under the last one's: the last one's bindings, overwritten by
+-- what waits
+abbrev pub next_page : Book → ℕ → Option (List ℕ) → Page
+next_page book epoch nonce = record { epoch = epoch; nonce = unwrap_or nonce book.last.nonce; bindings = overwritten book.last.bindings book.pending }
 
 abbrev pub with_page : Book → Page → Book
 with_page book page = record book { earlier = pages book; last = page; pending = [] }
@@ -83,7 +87,7 @@ module _ (index_of : List ℕ → List ℕ) where
   -- the first refusal of an edit that applies, if one does, but for want of memory and what is not kept
   abbrev pub edit_refusal : Book → Revision → Option Refusal
   edit_refusal book (Put verb name key) = first (bad_name name ∷ bad_key key ∷ put_tests book verb name)
-  edit_refusal book (Turn epoch) = first ((nat_le epoch book.last.epoch, EpochNotLater) ∷ [])
+  edit_refusal book (Turn epoch _) = first ((nat_le epoch book.last.epoch, EpochNotLater) ∷ [])
 
   -- the first refusal of a command
   abbrev pub refusal : Book → Operation → Option Refusal

@@ -33,7 +33,7 @@ IsSaid (asked ∷ more) (said ∷ replies) command answered = ((asked ≡ comman
 abbrev pub latest_after : ℕ → Operation → Reply → ℕ
 latest_after latest (Query question) said = latest
 latest_after latest (Edit (Put verb name key)) said = latest
-latest_after latest (Edit (Turn epoch)) said = closed said
+latest_after latest (Edit (Turn epoch _)) said = closed said
   where
     closed : Reply → ℕ
     closed (reply.Promised signed) = latest
@@ -85,7 +85,7 @@ IsAbout (Query (Lookup name epoch)) other = name ≡ other
 IsAbout (Query (History from count)) other = ⊥
 IsAbout (Query Head) other = ⊥
 IsAbout (Edit (Put verb name key)) other = name ≡ other
-IsAbout (Edit (Turn epoch)) other = ⊥
+IsAbout (Edit (Turn epoch _)) other = ⊥
 
 -- a promise that answers the command is for this name and key: the command's name, and its key where it
 -- brings one
@@ -95,7 +95,7 @@ IsPromisedBy (Query (Lookup name epoch)) for bound = ⊥
 IsPromisedBy (Query (History from count)) for bound = ⊥
 IsPromisedBy (Query Head) for bound = ⊥
 IsPromisedBy (Edit (Put verb name key)) for bound = (for ≡ name) × (bound ≡ key)
-IsPromisedBy (Edit (Turn epoch)) for bound = ⊥
+IsPromisedBy (Edit (Turn epoch _)) for bound = ⊥
 
 -- the book holds the name, or a command is about it
 abbrev pub IsUsed : Book → List Operation → List ℕ → Type 0

@@ -16,13 +16,13 @@ use Rattle.book.specs.Steps.{Outcome, Answers, Refuses, step}
 abbrev pub kept_edit : Record → Option Revision
 kept_edit (Start epoch nonce signing_key vuf_key) = None
 kept_edit (Bound verb salt name key) = Some (Put verb name key)
-kept_edit (Turned epoch) = Some (Turn epoch)
+kept_edit (Turned epoch nonce) = Some (Turn epoch nonce)
 
 -- the book whose next salt is the record's, where it has one
 abbrev pub with_salt_of : Record → Book → Book
 with_salt_of (Start epoch nonce signing_key vuf_key) book = book
 with_salt_of (Bound verb salt name key) book = record book { salt = salt }
-with_salt_of (Turned epoch) book = book
+with_salt_of (Turned epoch _) book = book
 
 -- the book with the salts to come of another
 abbrev pub with_salts_of : Book → Book → Book

@@ -32,7 +32,7 @@ read book Head = Answers (Last book.last)
 -- what an edit that is not refused does to a book
 abbrev pub edited : Book → Revision → Outcome × Book
 edited book (Put verb name key) = (Answers (Promised name (record { key = key; salt = book.salt })), with_pending book name key)
-edited book (Turn epoch) = (Answers (Last (next_page book epoch)), with_page book (next_page book epoch))
+edited book (Turn epoch nonce) = (Answers (Last (next_page book epoch nonce)), with_page book (next_page book epoch nonce))
 
 -- what a command does to a book that does not refuse it: a query leaves it
 abbrev pub done : Book → Operation → Outcome × Book

@@ -20,7 +20,7 @@ use Rattle.book.specs.Shows.{Provider, index_of, promise, signed_promise, IsRepl
 abbrev pub kept_of : Book → Operation → Option Record
 kept_of book (Query question) = None
 kept_of book (Edit (Put verb name key)) = Some (record_of_a.Bound verb book.salt name key)
-kept_of book (Edit (ask.Turn epoch)) = Some (record_of_a.Turned epoch)
+kept_of book (Edit (ask.Turn epoch nonce)) = Some (record_of_a.Turned epoch nonce)
 
 module _ (provider : Provider) where
   -- the reply shows the answer of a book, as the book is after it

@@ -1,4 +1,4 @@
-ghost use Rattle.std.specs.Prelude.{◌≡◌, ℕ, ◌<◌, List, [], ◌∷◌, ◌++◌, length, map, All, AllPairs, Bool};
+ghost use Rattle.std.specs.Prelude.{◌≡◌, ℕ, ◌<◌, List, [], ◌∷◌, ◌++◌, length, map, All, AllPairs, Bool, Option, unwrap_or};
 ghost use Rattle.std.specs.List.{AllZip};
 ghost use Rattle.encoding.specs.Bytes.{Is32Bytes};
 ghost use Rattle.rand_core.specs.Stream.{fill_bytes, Stream};
@@ -74,12 +74,12 @@ pub fn runs_are_folds<K: Keeper>()
         × AllZip Tells (folded (index_of provider) book commands fates).0 replies }
 {}
 
-/// A close that is not refused makes a page of its epoch, of the last page's map overwritten by
-/// what waited. Every earlier page stays as it was, and nothing waits.
+/// A close that is not refused makes a page of its epoch and nonce, of the last page's map overwritten
+/// by what waited. Every earlier page stays as it was, and nothing waits.
 pub fn closing_overwrites()
-    ensures { (index_of : List ℕ → List ℕ) (book after : Book) (epoch : ℕ) (answer : Answer)
-        → step index_of book (Edit (Turn epoch)) ≡ (Answers answer, after)
-        → (after.last.epoch ≡ epoch)
+    ensures { (index_of : List ℕ → List ℕ) (book after : Book) (epoch : ℕ) (nonce : Option (List ℕ)) (answer : Answer)
+        → step index_of book (Edit (Turn epoch nonce)) ≡ (Answers answer, after)
+        → (after.last.epoch ≡ epoch) × (after.last.nonce ≡ unwrap_or nonce book.last.nonce)
         × (after.last.bindings ≡ overwritten book.last.bindings book.pending)
         × (after.earlier ≡ pages book) × (after.pending ≡ []) }
 {}

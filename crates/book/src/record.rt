@@ -19,8 +19,9 @@ pub enum Record {
         name: Name,
         key: KeyData,
     },
-    /// A new page, of this epoch.
+    /// A new page, of this epoch, and of this nonce, or of the last page's.
     Turned {
         epoch: u64,
+        nonce: Option<Hash32>,
     },
 }

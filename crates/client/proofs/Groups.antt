@@ -14,6 +14,7 @@ use Rattle.std.specs.declared.ops.Bound.TheVariants.{Included, Excluded, Unbound
 use Rattle.client.specs.Agreements.{AreBeside}
 use Rattle.client.specs.declared.looks.Asked.{Asked}
 use Rattle.client.specs.declared.looks.LookPlace.{LookPlace}
+use Rattle.client.proofs.Keeping.{one-more}
 use Rattle.client.proofs.Numbering.{one-number}
 
 abbrev pub cmp_asked : Asked → Asked → Ordering
@@ -236,10 +237,6 @@ pub record AreGone {X : Type 0} (States : LookPlace × X → Type 0) (group rest
 
 pub none-gone : {X : Type 0} (States : LookPlace × X → Type 0) (group rest : Entries X) → rest ≡ group → AreGone States group rest
 none-gone States group rest same = record { done = []; parts = same; each = tt }
-
-pub one-more : {E : Type 0} (P : E → Type 0) (xs : List E) (x : E) → AllByRecursion P xs → P x → AllByRecursion P (xs ++ x ∷ [])
-one-more P [] x all is = (is, tt)
-one-more P (y ∷ xs) x all is = (all.0, one-more P xs x all.1 is)
 
 pub more-gone : {X : Type 0} (States : LookPlace × X → Type 0) (group rest : Entries X) (x : LookPlace × X) (more : Entries X) → AreGone States group rest → rest ≡ x ∷ more → States x → AreGone States group more
 more-gone States group rest x more gone is states = record {

@@ -11,7 +11,8 @@ use Rattle.client.specs.Agreements.{AllState, AreFirstUnlike, AreOfOne, HaveOneS
 use Rattle.client.specs.Clients.{Look}
 use Rattle.client.specs.declared.looks.LookPlace.{LookPlace}
 use Rattle.client.specs.declared.looks.comparing.Unlike.{Unlike}
-use Rattle.client.proofs.Groups.{Entries, IsIn, in-second, of-each, one-more}
+use Rattle.client.proofs.Groups.{Entries, IsIn, in-second, of-each}
+use Rattle.client.proofs.Keeping.{one-more}
 use Rattle.client.proofs.Others.{look_of, spelled-at, AreAll}
 
 -- where an element stands

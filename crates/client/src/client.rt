@@ -60,8 +60,7 @@ impl<H: NodeHash, V: VufCheck, S: Verifier> Client<H, V, S> {
                 promises: Vec::new(alloc),
                 types: PhantomData,
             }),
-            Err(rootchain::Refusal::Memory) => Err(Refusal::Memory),
-            Err(why) => Err(Refusal::Root(why)),
+            Err(why) => Err(Refusal::from(why)),
         }
     }
 

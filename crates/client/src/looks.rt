@@ -1,3 +1,6 @@
+//! The looks that a client accepted, in an ordered map by name, epoch and number, where the number counts
+//! the looks before. So those of one name and epoch stand beside each other, and the numbers give the order
+//! of acceptance.
 ghost use Rattle.std.specs.Prelude.{◌≡◌, ◌++◌, ◌∷◌, [], OnErr, OnOk};
 ghost use Rattle.encoding.specs.Limits.{IsName};
 

@@ -8,7 +8,7 @@ use thiserror::Error;
 pub enum Refusal {
     /// The bytes are not of the form, or the root is refused.
     #[error(transparent)]
-    Root(#[from] rootchain::Refusal),
+    Root(rootchain::Refusal),
     /// The reply is refused.
     #[error(transparent)]
     Proof(#[from] proofs::Refusal),
@@ -37,6 +37,20 @@ impl Refusal {
             Refusal::RootDiffers(_) => 21,
             Refusal::Memory => 22,
             Refusal::NoPromise => 23,
+        }
+    }
+}
+
+impl From<rootchain::Refusal> for Refusal {
+    ghost use Rattle.client.specs.Refusals.{of_root};
+
+    ghost from_gives = { λ given refusal. refusal ≡ of_root given };
+
+    /// Want of memory is `Memory`, whatever ran out of it.
+    fn from(given: rootchain::Refusal) -> Self {
+        match given {
+            rootchain::Refusal::Memory => Refusal::Memory,
+            why => Refusal::Root(why),
         }
     }
 }

@@ -1,6 +1,6 @@
 -- What is asked of a directory, regardless of where its bytes lie, and what it may hold.
-use Rattle.std.specs.Prelude.{ℕ, ◌^◌, ◌<◌, List, ⊤}
-use Rattle.encoding.specs.Bytes.{IsBytes}
+use Rattle.std.specs.Prelude.{ℕ, ◌^◌, ◌<◌, List, Option, IfSome, ⊤}
+use Rattle.encoding.specs.Bytes.{Is32Bytes, IsBytes}
 use Rattle.commands.specs.declared.command.Command.{Command}
 use Rattle.commands.specs.declared.command.Command.TheVariants as command
 use Rattle.commands.specs.declared.edit.Edit.{Edit as EditMade}
@@ -16,10 +16,11 @@ pub data Question : Type 0 where
   History : ℕ → ℕ → Question
   Head : Question
 
--- what is to be changed: a key is put to a name, or a new page is begun
+-- what is to be changed: a key is put to a name; or a new page is begun, under this nonce, or under the last
+-- page's
 pub data Revision : Type 0 where
   Put : Verb → List ℕ → List ℕ → Revision
-  Turn : ℕ → Revision
+  Turn : ℕ → Option (List ℕ) → Revision
 
 pub data Operation : Type 0 where
   Query : Question → Operation
@@ -35,7 +36,7 @@ question query.Head = Head
 -- what an edit asks
 abbrev pub revision : EditMade → Revision
 revision (edit.Put put) = Put put.verb put.name.now put.key.now
-revision (edit.Turn epoch) = Turn epoch
+revision (edit.Turn epoch nonce) = Turn epoch nonce
 
 -- what a command asks
 abbrev pub asked : Command → Operation
@@ -51,7 +52,7 @@ abbrev pub IsAny : ℕ → ℕ → Type 0
 IsAny bits number = ⊤
 
 -- What may be asked, where this holds of names and keys, and this of the numbers of a query. The epoch of a
--- new page fits in eight bytes.
+-- new page fits in eight bytes, and its nonce has 32.
 module _ (OfText : List ℕ → Type 0) (OfNumber : ℕ → ℕ → Type 0) where
   abbrev pub MayRead : Question → Type 0
   MayRead (Promise name) = OfText name
@@ -61,13 +62,13 @@ module _ (OfText : List ℕ → Type 0) (OfNumber : ℕ → ℕ → Type 0) wher
 
   abbrev pub MayChange : Revision → Type 0
   MayChange (Put verb name key) = OfText name × OfText key
-  MayChange (Turn epoch) = FitsIn 64 epoch
+  MayChange (Turn epoch nonce) = FitsIn 64 epoch × IfSome nonce Is32Bytes
 
   abbrev pub MayAsk : Operation → Type 0
   MayAsk (Query read) = MayRead read
   MayAsk (Edit change) = MayChange change
 
--- names and keys are bytes, of any length, and the epoch of a new page fits in eight bytes. What a run shows
--- rests on nothing more: a query may have any numbers
+-- names and keys are bytes, of any length, the epoch of a new page fits in eight bytes, and its nonce has 32.
+-- What a run shows rests on nothing more: a query may have any numbers
 abbrev pub IsCommand : Operation → Type 0
 IsCommand = MayAsk IsBytes IsAny

@@ -1,3 +1,5 @@
+use encoding::Hash32;
+
 /// How a key is put to a name.
 #[derive(Clone, Copy, Debug, PartialEq, Eq)]
 pub enum Verb {
@@ -21,6 +23,7 @@ pub struct Put<'a> {
 pub enum Edit<'a> {
     /// A key for a name.
     Put(Put<'a>),
-    /// The end of an epoch: what waits goes into the page of this new one.
-    Turn { epoch: u64 },
+    /// The end of an epoch: what waits goes into the page of this new one, under this nonce, or under
+    /// the last page's.
+    Turn { epoch: u64, nonce: Option<Hash32> },
 }

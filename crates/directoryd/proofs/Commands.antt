@@ -1,5 +1,6 @@
 -- What clap reads of a command with one more argument.
 use Rattle.std.proofs.Common.{◌≡◌, ◌∙◌, ◌||◌, ap, ap₂, refl, Bool, true, false}
+use Rattle.std.proofs.Math.Bool.{or-false}
 use Rattle.clap.specs.Words.{AddsArg, App, Rule, app_of, rule_of, with_rule}
 use Rattle.clap.specs.declared.builder.arg.Arg.{Arg}
 use Rattle.clap.specs.declared.builder.command.Command.{Command}
@@ -10,10 +11,6 @@ pub with_one : (old new : Command) (a : Arg) (app : App) (rule : Rule) → AddsA
     → app_of new ≡ with_rule app rule
 with_one old new a app rule added local app_is rule_is = added.shape local ∙ ap₂ with_rule app_is rule_is
 
-or_false : (b : Bool) → (b || false) ≡ b
-or_false true = refl
-or_false false = refl
-
 -- and no global argument more
 pub stays_local : (old new : Command) (a : Arg) → AddsArg old a new → a.global ≡ false → (out-Command new).has_globals ≡ (out-Command old).has_globals
-stays_local old new a added local = added.globals ∙ ap (λ b. (out-Command old).has_globals || b) local ∙ or_false (out-Command old).has_globals
+stays_local old new a added local = added.globals ∙ ap (λ b. (out-Command old).has_globals || b) local ∙ or-false (out-Command old).has_globals

@@ -70,22 +70,25 @@ audit_app = with_rule (new_app (codes "audit")) (required_rule (codes "key"))
 abbrev pub judge_app : App
 judge_app = with_rule (with_rule (new_app (codes "judge")) (required_rule (codes "key"))) (positional_rule (codes "file"))
 
+abbrev pub play_app : App
+play_app = new_app (codes "play")
+
 abbrev pub serve_app : App
 serve_app = with_directory (new_app (codes "serve"))
 
 abbrev pub listen_app : App
 listen_app = with_rule (with_rule (with_directory (new_app (codes "listen"))) (number_rule (codes "count") 0 (codes "0"))) (positional_rule (codes "address"))
 
--- the program without its subcommands, of which one has to be there
+-- the program without its subcommands, of which one has to be there; it has a version
 abbrev pub bare_app : App
 bare_app =
     let top : App = new_app (codes "directoryd") in
-    record top { top = record top.top { subcommand_required = true } }
+    record top { top = record top.top { subcommand_required = true; has_version = true } }
 
 abbrev pub directory_app : ValueParser → App
 directory_app names =
-    with_subcommand (with_subcommand (with_subcommand (with_subcommand (with_subcommand (with_subcommand bare_app
-    (root_app names).top) (prove_app names).top) audit_app.top) judge_app.top) serve_app.top) listen_app.top
+    with_subcommand (with_subcommand (with_subcommand (with_subcommand (with_subcommand (with_subcommand (with_subcommand bare_app
+    (root_app names).top) (prove_app names).top) audit_app.top) judge_app.top) play_app.top) serve_app.top) listen_app.top
 
 -- the words are refused, by a kind of fault that clap's function of the words gives
 abbrev pub Refuses : List Text → Error → Type 0

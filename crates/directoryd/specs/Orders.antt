@@ -11,17 +11,18 @@ use Rattle.items.specs.declared.orders.HashChoice.TheVariants.{Sha256, Sum}
 use Rattle.items.specs.TreeOptions.{TreeOptions, values_of}
 use Rattle.server.specs.DirectoryOptions.{DirectoryOptions, values_of as directory_values}
 use Rattle.directoryd.specs.declared.order.subcommands.Order.{Order}
-use Rattle.directoryd.specs.declared.order.subcommands.Order.TheVariants.{Root, Prove, Audit, Judge, Serve, Listen}
+use Rattle.directoryd.specs.declared.order.subcommands.Order.TheVariants.{Root, Prove, Audit, Judge, Play, Serve, Listen}
 use Rattle.directoryd.specs.CommandLine.{directory_app, greatest, IsHashNames}
 
 -- what is ordered: a root; the path of the index that a text gives; an audit under the key that a text
--- gives; the verdict, under such a key, on the file of this name; a directory for one session; or one for
--- so many connections, at the address that a text gives
+-- gives; the verdict, under such a key, on the file of this name; a script; a directory for one session; or
+-- one for so many connections, at the address that a text gives
 pub data Task : Type 0 where
   the_root : TreeOptions → Task
   the_path : Text → TreeOptions → Task
   the_audit : Text → Task
   the_verdict : Text → Text → Task
+  the_script : Task
   the_session : DirectoryOptions → Task
   the_connections : DirectoryOptions → ℕ → Text → Task
 
@@ -30,6 +31,7 @@ values_in (Root order) = the_root (values_of order)
 values_in (Prove order) = the_path order.index.now (values_of order.root)
 values_in (Audit order) = the_audit order.key.now
 values_in (Judge order) = the_verdict order.key.now order.file.now
+values_in Play = the_script
 values_in (Serve order) = the_session (directory_values order)
 values_in (Listen order) = the_connections (directory_values order.directory) order.count order.address.now
 
@@ -61,16 +63,17 @@ directory_in rows = record {
   journal = first_of (codes "journal") rows;
 }
 
--- what a subcommand orders by its name: a path, an audit, a verdict, a session, connections, or else a root
+-- what a subcommand orders by its name: a path, an audit, a verdict, a script, a session, connections, or else a root
 abbrev pub task_in : Text → List Row → Task
 task_in name rows =
     if bytes_eq name (codes "prove") then the_path (text_in (codes "index") rows) (asked_in rows)
     else (if bytes_eq name (codes "audit") then the_audit (text_in (codes "key") rows)
     else (if bytes_eq name (codes "judge") then the_verdict (text_in (codes "key") rows) (text_in (codes "file") rows)
+    else (if bytes_eq name (codes "play") then the_script
     else (if bytes_eq name (codes "serve") then the_session (directory_in rows)
     else (if bytes_eq name (codes "listen")
     then the_connections (directory_in rows) (number_from 0 (text_in (codes "count") rows)) (text_in (codes "address") rows)
-    else the_root (asked_in rows)))))
+    else the_root (asked_in rows))))))
 
 -- what the words order: the values that clap's function of the words gives to the options
 abbrev pub task : ValueParser → List Text → Option Task

@@ -16,12 +16,15 @@ use Rattle.audits.specs.Auditing.{AuditsText}
 use Rattle.audits.specs.Verdicts.{verdict_status, JudgesAt}
 use Rattle.items.specs.Prove.{Proves}
 use Rattle.items.specs.Root.{root_answer}
+use Rattle.play.specs.Beginnings.{script_index, script_salts}
+use Rattle.play.specs.Plays.{PlaysTo}
+use Rattle.play.specs.Printing.{printed}
 use Rattle.server.specs.Directories.{keys_of}
 use Rattle.server.specs.Listening.{ListenTells}
 use Rattle.server.specs.Programs.{DirectoryServes}
 use Rattle.directoryd.specs.declared.ending.Ending.{Ending}
 use Rattle.directoryd.specs.CommandLine.{status_of, Refuses}
-use Rattle.directoryd.specs.Orders.{IsTask, Task, the_root, the_path, the_audit, the_verdict, the_session, the_connections}
+use Rattle.directoryd.specs.Orders.{IsTask, Task, the_root, the_path, the_audit, the_verdict, the_script, the_session, the_connections}
 
 -- a program gives a text for its input, and returns this status if the text was written
 abbrev pub EndsAt : ℕ → (List ℕ → Result (List ℕ) ProgramFault → Type 0) → Option (List ℕ) → Option (List ℕ) → Option (List ℕ) → Result ℕ ProgramFault → Type 0
@@ -43,7 +46,7 @@ verdict_outcome (Ok verdict) = Ok (verdict_status verdict)
 verdict_outcome (Err fault) = Err fault
 
 -- What is ordered is done: a root is written, or the path of an index; an input is audited; a file is
--- judged; a directory begins, or goes on from its journal, and serves one session; or one serves connections, and
+-- judged; a script is played; a directory begins, or goes on from its journal, and serves one session; or one serves connections, and
 -- writes its address to the errors. The line about a journal is on the errors too.
 abbrev pub Obeys : Task → Option (List ℕ) → Option (List ℕ) → Option (List ℕ) → Option (List ℕ) → Option (List ℕ) → Result ℕ ProgramFault → Type 0
 Obeys (the_root asked) input out out-new err err-new outcome = EndsAt 0 (λ input said. root_answer asked input ≡ said) input out out-new outcome × Keeps err err-new
@@ -51,6 +54,8 @@ Obeys (the_path index asked) input out out-new err err-new outcome = EndsAt 0 (P
 Obeys (the_audit key) input out out-new err err-new outcome = IsZero outcome × Keeps err err-new × AuditsText key input out (without_status outcome) out-new
 Obeys (the_verdict key file) input out out-new err err-new outcome = Keeps err err-new
     × (verdict : Result Verdict ProgramFault) × (outcome ≡ verdict_outcome verdict) × JudgesAt key out verdict out-new
+Obeys the_script input out out-new err err-new outcome = IsZero outcome × Keeps err err-new
+    × PlaysTo (printed script_index script_salts) input out out-new (without_status outcome)
 Obeys (the_session asked) input out out-new err err-new outcome = IsZero outcome
     × (left : Option (List ℕ)) × DirectoryServes asked input out err (without_status outcome) left out-new err-new
 Obeys (the_connections asked count address) input out out-new err err-new outcome = IsZero outcome × Keeps out out-new

@@ -10,7 +10,7 @@ ghost use Rattle.directoryd.specs.Programs.{verdict_outcome, EndsAs, Obeys, Runs
 
 use crate::order::{Order, order};
 use crate::refusing::{refuse, refuse_bytes};
-use crate::{audit, judge_at, listen, prove, root, serve_directory};
+use crate::{audit, judge_at, listen, play, prove, root, serve_directory};
 use audits::JudgeOrder;
 use std::alloc::Global;
 use std::convert::AsStr;
@@ -65,6 +65,7 @@ where
         Order::Prove(order) => prove(alloc, order, reader, writer)?,
         Order::Audit(order) => audit(alloc, order, reader, writer)?,
         Order::Judge(order) => return judge(alloc, system, order, writer),
+        Order::Play => play(alloc, reader, writer)?,
         Order::Serve(order) => serve_directory(alloc, system, order, reader, writer, errors)?,
         Order::Listen(order) => listen(alloc, system, order, errors)?,
     }

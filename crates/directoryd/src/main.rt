@@ -10,6 +10,7 @@ pub use audits::{audit, evidence_json, judge_at, judge_file, read_evidence};
 pub use ending::{Ending, end};
 pub use items::{prove, root};
 pub use order::{Order, order};
+pub use play::play;
 pub use server::{listen, serve, serve_directory};
 use std::env;
 use std::io::{self, BufReader};

@@ -3,7 +3,7 @@ ghost use Rattle.std.specs.NonZero.{non_zero_u64_get};
 ghost use Rattle.clap.specs.Words.{app_of, found_of, kind_of, rows_of, rule_of};
 ghost use Rattle.clap.specs.declared.builder.command.Command.TheViews.{out-Command};
 ghost use Rattle.clap.specs.declared.error.kind.ErrorKind.TheVariants.{OutOfMemory};
-ghost use Rattle.directoryd.specs.CommandLine.{audit_app, directory_app, hash_rule, journal_rule, judge_app, listen_app, nonce_rule, number_rule, positional_rule, prove_app, required_rule, root_app, serve_app, text_rule, with_directory, with_keys, IsHashNames, Refuses};
+ghost use Rattle.directoryd.specs.CommandLine.{audit_app, directory_app, hash_rule, journal_rule, judge_app, listen_app, nonce_rule, number_rule, play_app, positional_rule, prove_app, required_rule, root_app, serve_app, text_rule, with_directory, with_keys, IsHashNames, Refuses};
 ghost use Rattle.items.specs.TreeOptions.{values_of};
 ghost use Rattle.server.specs.DirectoryOptions.{values_of as directory_values};
 ghost use Rattle.directoryd.specs.Orders.{asked_in, directory_in, hash_named, number_from, task_in, text_in, values_in, IsTask};
@@ -19,6 +19,26 @@ use std::alloc::{AllocError, Global};
 use std::convert::AsStr;
 use std::num::NonZeroU64;
 pub use subcommands::Order;
+
+/// What `--version` prints behind the program's name: its version, and the kit that it was last proved with.
+static VERSION: &str = "\
+0.1.0
+rattle-kit-13b logic dac8208d650f15bf";
+
+/// What stands below the subcommands.
+static HELP: &str = "\
+In each epoch the directory binds the keys of all users into one root and signs it, and each reply to a
+look-up carries a proof against that root. `audit` and `judge` are for those who watch a provider.
+The signatures and the verifiable function are stand-ins without any security: this program protects
+nobody yet.
+
+Status 0: done, or help or the version was asked for. Status 1: a fault, which is one line on standard
+error. Status 2: the command line is wrong. Status 3: `judge` printed `no evidence`.
+
+`directoryd COMMAND --help` shows the options of a command, and an example. In the repository, README.md
+says what this is, docs/OPERATING.md how to run a directory, and docs/FORMATS.md what each byte means.
+
+Example: directoryd root --hash sum < examples/items.txt";
 
 /// What stands below the options of `root`: the format of its input, and an example.
 static ROOT_HELP: &str = "\
@@ -39,7 +59,7 @@ Example: directoryd prove --index 4000000000000000000000000000000000000000000000
 static AUDIT_HELP: &str = "\
 Signed roots of one provider: one a line, in hexadecimal digits.
 Answers each line with `started`, `extended`, `known`, `ahead`, `before start`, evidence as JSON,
-`refused 1` (no signed root) or `refused 2` (its signature does not verify).
+`refused 1` (not a signed root) or `refused 2` (its signature does not verify).
 
 Example: directoryd audit --key $KEY < roots.txt";
 
@@ -48,6 +68,38 @@ static JUDGE_HELP: &str = "\
 Prints `evidence`, with status 0, or `no evidence`, with status 3.
 
 Example: directoryd judge --key $KEY evidence.json";
+
+/// What stands below the options of `play`: the lines of a script, and a whole one.
+static PLAY_HELP: &str = "\
+A script has one directory, a client that checks look-ups, an auditor, and monitors of names. All is in
+memory, with keys that are always the same. Each line is a command, and prints what comes of it:
+
+    register NAME KEY, change NAME KEY, promise NAME, lookup NAME EPOCH, history FROM COUNT, head,
+    close EPOCH, rotate EPOCH NONCE, watch NAME KEY, bytes SESSION HEX, end SESSION
+
+NAME, KEY and HEX are hexadecimal digits, or `-` for no bytes; the key of `watch` is the one that is
+expected, or `-` for none. NONCE is 64 digits. A look-up at epoch 0 asks for the latest one. A line that
+is empty or begins with `#` prints nothing. The first line that is no command ends the run:
+`line N: not a command`.
+
+In this script alice (616c696365) registers the key 6b31, and her monitor finds it in epoch 2:
+
+    watch 616c696365 -
+    register 616c696365 6b31
+    lookup 616c696365 0
+    close 2
+    lookup 616c696365 0
+
+It prints:
+
+    kept 616c696365 1
+    promise 1
+    absent 1
+    root 2 after 1
+    kept 616c696365 2
+    present 2 6b31
+
+Example: directoryd play < examples/day.script";
 
 /// What stands below the options of `serve`.
 static SERVE_HELP: &str = "\
@@ -241,6 +293,16 @@ fn judge_command<'a>(alloc: Global) -> Result<Command<'a>, AllocError>
     Ok(judge)
 }
 
+/// `play`, which has no option.
+fn play_command<'a>(alloc: Global) -> Command<'a>
+    ensures app { app_of result ≡ play_app }
+    ensures local { (out-Command result).has_globals ≡ false }
+{
+    Command::new(alloc, "play")
+        .about("Plays the script on standard input")
+        .after_help(PLAY_HELP)
+}
+
 /// A command with the keys of a directory and the operator's token.
 fn add_keys<'a>(alloc: Global, command: Command<'a>) -> Result<Command<'a>, AllocError>
     ensures app { IfOk result (λ c. app_of c ≡ with_keys (app_of command.entry)) }
@@ -298,11 +360,14 @@ fn command<'a>(alloc: Global) -> Result<Command<'a>, AllocError>
     let names = hash_names();
     let directoryd = Command::new(alloc, "directoryd")
         .about("A CONIKS key directory")
+        .after_help(HELP)
+        .version(VERSION)
         .subcommand_required(true)
         .subcommand(root_command(alloc, names)?)?
         .subcommand(prove_command(alloc, names)?)?
         .subcommand(audit_command(alloc)?)?
         .subcommand(judge_command(alloc)?)?
+        .subcommand(play_command(alloc))?
         .subcommand(serve_command(alloc)?)?
         .subcommand(listen_command(alloc)?)?;
     Ok(directoryd)
@@ -387,6 +452,7 @@ fn named_order<'a>(name: &str, found: &ArgMatches<'a>) -> Order<'a>
             key: text(found, "key"),
             file: text(found, "file"),
         }),
+        "play" => Order::Play,
         "serve" => Order::Serve(directory_order(found)),
         "listen" => Order::Listen(ListenOrder {
             directory: directory_order(found),

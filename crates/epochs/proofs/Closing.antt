@@ -1,6 +1,7 @@
 -- What the closing of an epoch rests on.
 use Rattle.std.proofs.Common.{◌≡◌, ℕ, ◌<◌, ◌^◌, ◌-◌, List, [], ◌∷◌, ◌++◌, length, Result, Ok, Err, IfOk, refl, sym, ap, subst, ◌∙◌}
-use Rattle.std.specs.Prelude.{slice_index_or}
+use Rattle.std.specs.Prelude.{slice_index_or, unwrap_or, Option, IfSome}
+use Rattle.encoding.specs.Bytes.{Is32Bytes}
 use Rattle.prefixtree.specs.Contents.{Contents}
 use Rattle.prefixtree.specs.Node.{root_of}
 use Rattle.prefixtree.specs.Placement.{Items, put_all}
@@ -21,23 +22,24 @@ use Rattle.epochs.proofs.Parts.{book_of}
 
 module _ (provider : Provider) (parts : Parts) (salt : List ℕ) (left : Stream) (keeps : Keeps provider parts (book_of parts salt left)) where
   -- the last tree with what waits put in is that of the next page
-  pub next_tree_is : (tree made : Contents) (len : ℕ) (changes : Items) → len ≡ length parts.trees → tree ≡ slice_index_or parts.trees (len - 1) tree → changes ≡ parts.waiting
-      → made ≡ record tree { items = put_all tree.items changes }
-      → made ≡ record { nonce = (last_of parts).nonce; items = placement provider (overwritten (last_of parts).bindings (pending_of parts)) }
-  next_tree_is tree made len changes long is same made-is =
-      made-is ∙ (λ i. record (last_tree_is provider parts salt left keeps tree len long is i) { items = put_all (last_tree_is provider parts salt left keeps tree len long is i).items (same i) })
-      ∙ ap (λ (items : Items). record { nonce = (last_of parts).nonce; items = items }) (items_of_page provider parts salt left keeps 0)
+  pub next_tree_is : (nonce : Option (List ℕ)) (tree made : Contents) (len : ℕ) (changes : Items) → len ≡ length parts.trees → tree ≡ slice_index_or parts.trees (len - 1) tree → changes ≡ parts.waiting
+      → made ≡ record { nonce = unwrap_or nonce tree.nonce; items = put_all tree.items changes }
+      → made ≡ record { nonce = unwrap_or nonce (last_of parts).nonce; items = placement provider (overwritten (last_of parts).bindings (pending_of parts)) }
+  next_tree_is nonce tree made len changes long is same made-is =
+      let last = last_tree_is provider parts salt left keeps tree len long is in
+      made-is ∙ (λ i. record { nonce = unwrap_or nonce (last i).nonce; items = put_all (last i).items (same i) })
+      ∙ ap (λ (items : Items). record { nonce = unwrap_or nonce (last_of parts).nonce; items = items }) (items_of_page provider parts salt left keeps 0 nonce)
 
-  pub next_tree_ok : {E : Type 0} (tree : Contents) (len : ℕ) (changes : Items) → len ≡ length parts.trees → tree ≡ slice_index_or parts.trees (len - 1) tree → changes ≡ parts.waiting
-      → (made : Result Contents E) → IfOk made (λ t. t ≡ record tree { items = put_all tree.items changes })
-      → IfOk made (λ t. t ≡ record { nonce = (last_of parts).nonce; items = placement provider (overwritten (last_of parts).bindings (pending_of parts)) })
-  next_tree_ok tree len changes long is same (Ok made) made-is = next_tree_is tree made len changes long is same made-is
-  next_tree_ok tree len changes long is same (Err e) made-is = tt
+  pub next_tree_ok : {E : Type 0} (nonce : Option (List ℕ)) (tree : Contents) (len : ℕ) (changes : Items) → len ≡ length parts.trees → tree ≡ slice_index_or parts.trees (len - 1) tree → changes ≡ parts.waiting
+      → (made : Result Contents E) → IfOk made (λ t. t ≡ record { nonce = unwrap_or nonce tree.nonce; items = put_all tree.items changes })
+      → IfOk made (λ t. t ≡ record { nonce = unwrap_or nonce (last_of parts).nonce; items = placement provider (overwritten (last_of parts).bindings (pending_of parts)) })
+  next_tree_ok nonce tree len changes long is same (Ok made) made-is = next_tree_is nonce tree made len changes long is same made-is
+  next_tree_ok _ tree len changes long is same (Err e) made-is = tt
 
-  module _ (epoch : ℕ) (tree : Contents) (tree-is : tree ≡ record { nonce = (last_of parts).nonce; items = placement provider (overwritten (last_of parts).bindings (pending_of parts)) })
-      (len : ℕ) (long : len ≡ length parts.roots) (last : SignedRoot) (is : last ≡ slice_index_or parts.roots (len - 1) last) (above : (last_of parts).epoch < epoch) (fits : epoch < 2 ^ 64)
+  module _ (epoch : ℕ) (nonce : Option (List ℕ)) (tree : Contents) (tree-is : tree ≡ record { nonce = unwrap_or nonce (last_of parts).nonce; items = placement provider (overwritten (last_of parts).bindings (pending_of parts)) })
+      (len : ℕ) (long : len ≡ length parts.roots) (last : SignedRoot) (is : last ≡ slice_index_or parts.roots (len - 1) last) (above : (last_of parts).epoch < epoch) (fits : epoch < 2 ^ 64) (sized : IfSome nonce Is32Bytes)
       (body : Body)
-      (body-is : body ≡ record { epoch = epoch; previous_epoch = last.body.epoch; root = root_of provider.hash tree.nonce tree.items; previous_hash = parts.body_hash; nonce = last.body.nonce; vuf_key = provider.vuf_key })
+      (body-is : body ≡ record { epoch = epoch; previous_epoch = last.body.epoch; root = root_of provider.hash tree.nonce tree.items; previous_hash = parts.body_hash; nonce = unwrap_or nonce last.body.nonce; vuf_key = provider.vuf_key })
       (root : SignedRoot) (root-is : root ≡ record { body = body; signature = provider.sign (body_bytes body) })
       (hash : List ℕ) (hash-is : hash ≡ provider.hash (body_bytes body)) (copy : SignedRoot) (copied : copy ≡ root) (roots : List SignedRoot) (roots-are : roots ≡ parts.roots ++ copy ∷ [])
       (trees : List Contents) (trees-are : trees ≡ parts.trees ++ tree ∷ []) (waiting : Items) (none : waiting ≡ []) where
@@ -47,65 +49,65 @@ module _ (provider : Provider) (parts : Parts) (salt : List ℕ) (left : Stream)
     last-at : last ≡ last_root parts
     last-at = last_is provider parts salt left keeps len long last is
 
-    tree-with : tree ≡ record { nonce = (last_root parts).body.nonce; items = items_with provider parts salt left keeps epoch }
-    tree-with = tree-is ∙ ap (λ (items : Items). record { nonce = (last_root parts).body.nonce; items = items }) (sym (items_of_page provider parts salt left keeps epoch))
+    tree-with : tree ≡ record { nonce = unwrap_or nonce (last_root parts).body.nonce; items = items_with provider parts salt left keeps epoch nonce }
+    tree-with = tree-is ∙ ap (λ (items : Items). record { nonce = unwrap_or nonce (last_root parts).body.nonce; items = items }) (sym (items_of_page provider parts salt left keeps epoch nonce))
 
-    body-with : body ≡ body_after provider parts salt left keeps epoch
+    body-with : body ≡ body_after provider parts salt left keeps epoch nonce
     body-with = body-is ∙ (λ i. record {
       epoch = epoch;
       previous_epoch = (last-at i).body.epoch;
       root = root_of provider.hash (tree-with i).nonce (tree-with i).items;
       previous_hash = parts.body_hash;
-      nonce = (last-at i).body.nonce;
+      nonce = unwrap_or nonce (last-at i).body.nonce;
       vuf_key = provider.vuf_key;
     })
 
     abbrev signed-with : Body → SignedRoot
     signed-with b = record { body = b; signature = provider.sign (body_bytes b) }
 
-    root-with : root ≡ signed-with (body_after provider parts salt left keeps epoch)
+    root-with : root ≡ signed-with (body_after provider parts salt left keeps epoch nonce)
     root-with = root-is ∙ ap signed-with body-with
 
-    parts-with : parts_closed ≡ with_root provider parts salt left keeps epoch
+    parts-with : parts_closed ≡ with_root provider parts salt left keeps epoch nonce
     parts-with = λ i. record { names = parts.names; roots = all-roots i; trees = all-trees i; waiting = none i; body_hash = all-hash i }
       where
-        all-roots : roots ≡ parts.roots ++ signed-with (body_after provider parts salt left keeps epoch) ∷ []
+        all-roots : roots ≡ parts.roots ++ signed-with (body_after provider parts salt left keeps epoch nonce) ∷ []
         all-roots = roots-are ∙ ap (λ (r : SignedRoot). parts.roots ++ r ∷ []) (copied ∙ root-with)
 
-        all-trees : trees ≡ parts.trees ++ record { nonce = (last_root parts).body.nonce; items = items_with provider parts salt left keeps epoch } ∷ []
+        all-trees : trees ≡ parts.trees ++ record { nonce = unwrap_or nonce (last_root parts).body.nonce; items = items_with provider parts salt left keeps epoch nonce } ∷ []
         all-trees = trees-are ∙ ap (λ (t : Contents). parts.trees ++ t ∷ []) tree-with
 
-        all-hash : hash ≡ provider.hash (body_bytes (body_after provider parts salt left keeps epoch))
+        all-hash : hash ≡ provider.hash (body_bytes (body_after provider parts salt left keeps epoch nonce))
         all-hash = hash-is ∙ ap (λ (b : Body). provider.hash (body_bytes b)) body-with
 
     pub keeps_closed : Keeps provider parts_closed (book_of parts_closed salt left)
-    keeps_closed = subst (λ (p : Parts). Keeps provider p (book_of p salt left)) (sym parts-with) (keeps_page provider parts salt left keeps epoch above fits)
+    keeps_closed = subst (λ (p : Parts). Keeps provider p (book_of p salt left)) (sym parts-with) (keeps_page provider parts salt left keeps epoch nonce above fits sized)
 
-    pub book_closed : book_of parts_closed salt left ≡ with_page (book_of parts salt left) (next_page (book_of parts salt left) epoch)
-    book_closed = ap (λ (p : Parts). book_of p salt left) parts-with ∙ book_with_page provider parts salt left keeps epoch
+    pub book_closed : book_of parts_closed salt left ≡ with_page (book_of parts salt left) (next_page (book_of parts salt left) epoch nonce)
+    book_closed = ap (λ (p : Parts). book_of p salt left) parts-with ∙ book_with_page provider parts salt left keeps epoch nonce
 
-    pub root_closed : Shows provider (book_of parts_closed salt left) (Last (next_page (book_of parts salt left) epoch)) (reply.Last root)
-    root_closed = (next_page (book_of parts salt left) epoch, refl, shown)
+    pub root_closed : Shows provider (book_of parts_closed salt left) (Last (next_page (book_of parts salt left) epoch nonce)) (reply.Last root)
+    root_closed = (next_page (book_of parts salt left) epoch nonce, refl, shown)
       where
-        last-page : last_of parts_closed ≡ next_page (book_of parts salt left) epoch
+        last-page : last_of parts_closed ≡ next_page (book_of parts salt left) epoch nonce
         last-page = ap (λ (b : Book). b.last) book_closed
 
-        kept-root : IsRootOf provider (book_of parts_closed salt left) (last_of parts_closed) (signed-with (body_after provider parts salt left keeps epoch))
+        kept-root : IsRootOf provider (book_of parts_closed salt left) (last_of parts_closed) (signed-with (body_after provider parts salt left keeps epoch nonce))
         kept-root =
-            subst (λ (p : Parts). IsRootOf provider (book_of p salt left) (last_of p) (signed-with (body_after provider parts salt left keeps epoch))) (sym parts-with)
-            (root_of_page provider parts salt left keeps epoch above fits)
+            subst (λ (p : Parts). IsRootOf provider (book_of p salt left) (last_of p) (signed-with (body_after provider parts salt left keeps epoch nonce))) (sym parts-with)
+            (root_of_page provider parts salt left keeps epoch nonce above fits sized)
 
-        shown : IsRootOf provider (book_of parts_closed salt left) (next_page (book_of parts salt left) epoch) root
+        shown : IsRootOf provider (book_of parts_closed salt left) (next_page (book_of parts salt left) epoch nonce) root
         shown =
             subst (λ (page : Page). IsRootOf provider (book_of parts_closed salt left) page root) last-page
             (subst (IsRootOf provider (book_of parts_closed salt left) (last_of parts_closed)) (sym root-with) kept-root)
 
     -- the same of the provider and the book that a call was handed
     pub closed_made : (by : Provider) (before : Book) → provider ≡ by → book_of parts salt left ≡ before
-        → (book_of parts_closed salt left ≡ with_page before (next_page before epoch)) × Shows by (book_of parts_closed salt left) (Last (next_page before epoch)) (reply.Last root)
+        → (book_of parts_closed salt left ≡ with_page before (next_page before epoch nonce)) × Shows by (book_of parts_closed salt left) (Last (next_page before epoch nonce)) (reply.Last root)
     closed_made by before same_by same =
-        subst (λ (b : Book). (book_of parts_closed salt left ≡ with_page b (next_page b epoch)) × Shows by (book_of parts_closed salt left) (Last (next_page b epoch)) (reply.Last root)) same
-        (book_closed, subst (λ (p : Provider). Shows p (book_of parts_closed salt left) (Last (next_page (book_of parts salt left) epoch)) (reply.Last root)) same_by root_closed)
+        subst (λ (b : Book). (book_of parts_closed salt left ≡ with_page b (next_page b epoch nonce)) × Shows by (book_of parts_closed salt left) (Last (next_page b epoch nonce)) (reply.Last root)) same
+        (book_closed, subst (λ (p : Provider). Shows p (book_of parts_closed salt left) (Last (next_page (book_of parts salt left) epoch nonce)) (reply.Last root)) same_by root_closed)
 
   -- ---- a page that is not added
 

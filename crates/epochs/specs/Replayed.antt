@@ -1,7 +1,9 @@
--- What it is to carry out a record once more, and how many digests that takes.
-use Rattle.std.specs.Prelude.{◌≡◌, ℕ, ◌+◌, List, Some, Result, Ok, Err}
+-- What it is to carry out a record once more, and how many digests that and a new page take.
+use Rattle.std.specs.Prelude.{◌≡◌, ℕ, ◌+◌, List, Option, None, Some, Result, Ok, Err}
 use Rattle.rand_core.specs.Stream.{Stream}
 use Rattle.prefixtree.specs.Changes.{made_count}
+use Rattle.prefixtree.specs.Node.{node_count}
+use Rattle.prefixtree.specs.Placement.{Items, put_all}
 use Rattle.commands.specs.declared.edit.Verb.{Verb}
 use Rattle.commands.specs.declared.edit.Verb.TheVariants.{Register, Change}
 use Rattle.book.specs.declared.record.Record.{Record}
@@ -21,8 +23,18 @@ abbrev pub address_digests : Verb → ℕ
 address_digests Register = 1
 address_digests Change = 0
 
+-- digests to put changes into a tree: one for each node that is made, under the tree's own nonce; one for each node,
+-- under another
+abbrev pub changed_digests : Option (List ℕ) → Items → Items → ℕ
+changed_digests None items changes = made_count 256 items changes
+changed_digests (Some nonce) items changes = node_count 256 (put_all items changes)
+
+-- those for the tree of the next page
+abbrev pub tree_digests : {R : Type 0} → Provider → DirectoryState R → Option (List ℕ) → ℕ
+tree_digests provider kept nonce = changed_digests nonce (placement provider kept.last.bindings) (placement provider kept.pending)
+
 -- at most so many digests
 abbrev pub replay_digests : {R : Type 0} → Provider → DirectoryState R → Record → ℕ
 replay_digests provider kept (Start epoch nonce signing_key vuf_key) = 0
 replay_digests provider kept (Bound verb salt name key) = address_digests verb + 1
-replay_digests provider kept (Turned epoch) = made_count 256 (placement provider kept.last.bindings) (placement provider kept.pending) + 1
+replay_digests provider kept (Turned epoch nonce) = tree_digests provider kept nonce + 1

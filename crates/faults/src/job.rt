@@ -4,6 +4,7 @@ use crate::provider;
 use audits::{AuditOrder, audit, judge_file};
 use book::NoKeeper;
 use items::{HashChoice, ProveOrder, RootOrder, prove, root};
+use play::play;
 use questions::Case;
 use server::{DirectoryOrder, ServeFault, serve, serve_unkept};
 use std::alloc::Global;
@@ -30,6 +31,8 @@ pub(crate) enum Job<'a> {
     Prove(ProveOrder<'a>),
     Audit(AuditOrder<'a>),
     Judge { key: &'a str, file: &'a [u8] },
+    /// Plays a script.
+    Play,
     /// Serves a directory.
     Serve,
     /// Serves two sessions of one hub. The second one asks for the head, by devices that do not fail.
@@ -102,6 +105,7 @@ impl<'a> Job<'a> {
                 key: case.text(),
                 file: case.bytes(),
             }),
+            b"play" => Some(Job::Play),
             b"serve" => Some(Job::Serve),
             b"sessions" => Some(Job::Sessions),
             _ => None,
@@ -132,6 +136,7 @@ impl<'a> Job<'a> {
                 Ok(_) => ended(Ok(())),
                 Err(fault) => ended(Err(fault)),
             },
+            Job::Play => ended(play(alloc, reader, writer)),
             // The reader itself, so that it shows how much is asked for at once.
             Job::Serve => serve_one(alloc, reader.get_mut(), writer),
             Job::Sessions => serve_two(alloc, reader.get_mut(), writer),

@@ -23,7 +23,10 @@ fn command<'a>(request: &Request<'a>) -> Command<'a> {
     match request {
         Request::Query(query) => Command::Query(*query),
         Request::Put(put) => Command::Edit(Edit::Put(*put)),
-        Request::Turn { epoch, .. } => Command::Edit(Edit::Turn { epoch: *epoch }),
+        Request::Turn { epoch, nonce, .. } => Command::Edit(Edit::Turn {
+            epoch: *epoch,
+            nonce: *nonce,
+        }),
     }
 }
 

@@ -1,6 +1,6 @@
 -- Where streams are cut, the messages are the same, and so are the bytes that each session gets.
 use Rattle.std.proofs.Common.{◌≡◌, ℕ, List, [], ◌∷◌, ◌++◌, Bool, true, false, cond, filter, flat_map, map, Option, Some, None, refl, sym, ap, ap₂, ◌∙◌}
-use Rattle.std.proofs.lemmas.Bool.{eqb-true}
+use Rattle.std.proofs.lemmas.Bool.{eqb-true, or_parts}
 use Rattle.std.specs.Prelude.{◌==◌, ◌||◌, is_some}
 use Rattle.wire.specs.Streams.{Remainder, Message, messages, with_more}
 use Rattle.hub.specs.declared.hub_refusal.HubRefusal.{HubRefusal}
@@ -82,18 +82,12 @@ none_brought streams (Bytes session piece) none =
     ap (λ (refusal : Option HubRefusal). unless_refused refusal (completed_by streams (Bytes session piece)) []) (ap (λ (t : Bool). cond t None (Some NoSession)) none)
 none_brought streams (End session) none = either_way (due streams (End session)) []
 
-neither : (a b : Bool) → (a || b) ≡ false → (a ≡ false) × (b ≡ false)
-neither false false e = (refl, refl)
-neither false true e = absurd cc
-neither true false e = absurd cc
-neither true true e = absurd cc
-
 none_sent : (streams : Streams) (events : List Happening) (session : ℕ) → was_open streams events session ≡ false → messages_of session (commands streams events) ≡ []
 none_sent streams [] session closed = refl
 none_sent streams (it ∷ more) session closed = by (number it == session) refl (none_sent (after_event streams it) more session c.1)
   where
     c : (is_some (at streams session) ≡ false) × (was_open (after_event streams it) more session ≡ false)
-    c = neither (is_some (at streams session)) (was_open (after_event streams it) more session) closed
+    c = or_parts (is_some (at streams session)) (was_open (after_event streams it) more session) closed
 
     by : (t : Bool) → (number it == session) ≡ t → messages_of session (commands (after_event streams it) more) ≡ []
         → messages_of session (map (λ message. (number it, message)) (brought streams it) ++ commands (after_event streams it) more) ≡ []

@@ -1,5 +1,5 @@
 -- What the users of a whole list of messages see at the desk of an honest provider.
-use Rattle.std.proofs.Common.{◌≡◌, ℕ, List, [], ◌∷◌, Bool, true, false, cond, Some, None, All, sym, subst, inl, inr, arith}
+use Rattle.std.proofs.Common.{◌≡◌, ℕ, List, [], ◌∷◌, Bool, true, false, cond, Option, Some, None, All, sym, subst, inl, inr, arith}
 use Rattle.std.proofs.lemmas.List.Elements.{All-cons, All-nil}
 use Rattle.std.specs.Str.{bytes_eq}
 use Rattle.rand_core.specs.Stream.{Stream}
@@ -30,10 +30,14 @@ question_is Head are = tt
 request_is : (token : List ℕ) (requested : request.RequestContent) (asked : Operation) → request.IsAsked requested → command token requested ≡ Some asked → IsCommand asked
 request_is token (request.Query question) asked are e = subst IsCommand (let same : Query question ≡ asked = cc in same) (question_is question are)
 request_is token (request.Put verb name key) asked (of_name, of_key) e = subst IsCommand (let same : Edit (Put verb name key) ≡ asked = cc in same) (of_name.2, of_key.2)
-request_is token (request.Turn given epoch) asked (of_token, of_epoch) e = by_token (bytes_eq given token) e
+request_is token (request.Turn given epoch nonce) asked are e = by_token (bytes_eq given token) e
   where
-    by_token : (b : Bool) → cond b (Some (Edit (Turn epoch))) None ≡ Some asked → IsCommand asked
-    by_token true same = subst IsCommand (let is : Edit (Turn epoch) ≡ asked = cc in is) (omega (arith, of_epoch))
+    fine : (nonce : Option (List ℕ)) → request.IsAsked (request.Turn given epoch nonce) → IsCommand (Edit (Turn epoch nonce))
+    fine None (of_token, of_epoch) = (omega (arith, of_epoch), tt)
+    fine (Some nonce) (of_token, (of_epoch, of_nonce)) = (omega (arith, of_epoch), of_nonce)
+
+    by_token : (b : Bool) → cond b (Some (Edit (Turn epoch nonce))) None ≡ Some asked → IsCommand asked
+    by_token true same = subst IsCommand (let is : Edit (Turn epoch nonce) ≡ asked = cc in is) (fine nonce are)
     by_token false same = absurd cc
 
 reached_is : (token : List ℕ) (message : Message) (asked : Operation) → Reaches token message asked → IsCommand asked

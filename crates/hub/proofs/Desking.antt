@@ -114,8 +114,8 @@ module _ {R K : Type 0} (digest_of : List ℕ → List ℕ) (value_of signature_
   head_turned directory keeper token output grown root is wrote =
       read_turned directory keeper token Head output directory grown (reply.Last root) (head_reads (provider_of directory) (book_kept stream directory) root root refl is) refl (refl, refl) wrote
 
-  pub close_turned : (directory : DirectoryState R) (keeper : K) (token given : List ℕ) (epoch : ℕ) (output : List ℕ) (later : DirectoryState R) (keeper_after : K) (grown : List ℕ) (said : Reply) → bytes_eq given token ≡ true
-      → Turn (provider_of directory) kept failed (book_kept stream directory) keeper (Edit (ask.Turn epoch)) said (book_kept stream later) keeper_after → HasKeysOf directory later
-      → grown ≡ output ++ frame_bytes (reply_frame said) → Serving directory keeper token (cond (bytes_eq given token) (Some (Edit (ask.Turn epoch))) None) output later keeper_after grown
-  close_turned directory keeper token given epoch output later keeper_after grown said same turn keys wrote =
-      rw same (turned directory keeper token (Edit (ask.Turn epoch)) output later keeper_after grown said turn keys wrote)
+  pub turn_turned : (directory : DirectoryState R) (keeper : K) (token given : List ℕ) (epoch : ℕ) (nonce : Option (List ℕ)) (output : List ℕ) (later : DirectoryState R) (keeper_after : K) (grown : List ℕ) (said : Reply) → bytes_eq given token ≡ true
+      → Turn (provider_of directory) kept failed (book_kept stream directory) keeper (Edit (ask.Turn epoch nonce)) said (book_kept stream later) keeper_after → HasKeysOf directory later
+      → grown ≡ output ++ frame_bytes (reply_frame said) → Serving directory keeper token (cond (bytes_eq given token) (Some (Edit (ask.Turn epoch nonce))) None) output later keeper_after grown
+  turn_turned directory keeper token given epoch nonce output later keeper_after grown said same turn keys wrote =
+      rw same (turned directory keeper token (Edit (ask.Turn epoch nonce)) output later keeper_after grown said turn keys wrote)

@@ -64,7 +64,7 @@ module _ (provider : Provider) where
   found_for : (book after : Book) (asked : Operation) (said : Answer) → Does book asked said after → sort said ≡ 1 → (name : List ℕ) × (epoch : ℕ) × (asked ≡ Query (Lookup name epoch))
   found_for book after (Query question) said does is = finds_for book question said (finds book question said does.0) is
   found_for book after (Edit (Put verb name key)) said does is = absurd (let wrong : 0 ≡ 1 = sym (ap sort does.0) ∙ is in cc)
-  found_for book after (Edit (ask.Turn epoch)) said does is = absurd (let wrong : 3 ≡ 1 = sym (ap sort does.0) ∙ is in cc)
+  found_for book after (Edit (ask.Turn epoch _)) said does is = absurd (let wrong : 3 ≡ 1 = sym (ap sort does.0) ∙ is in cc)
 
   tells_for : (book : Book) (question : Question) (pages : List Page) → step (index_of provider) book (Query question) ≡ (Answers (answer.Told pages), book) → Finds book question (answer.Told pages) → length pages ≤ 64
   tells_for book (Promise name) pages steps finds = absurd (let wrong : 2 ≡ 0 = ap sort finds.2 in cc)
@@ -76,7 +76,7 @@ module _ (provider : Provider) where
   told_for book after (Query question) pages steps does =
       tells_for book question pages (steps ∙ ap (λ (b : Book). (Answers (answer.Told pages), b)) does.1) (finds book question (answer.Told pages) does.0)
   told_for book after (Edit (Put verb name key)) pages steps does = absurd (let wrong : 2 ≡ 0 = ap sort does.0 in cc)
-  told_for book after (Edit (ask.Turn epoch)) pages steps does = absurd (let wrong : 2 ≡ 3 = ap sort does.0 in cc)
+  told_for book after (Edit (ask.Turn epoch _)) pages steps does = absurd (let wrong : 2 ≡ 3 = ap sort does.0 in cc)
 
   module _ {K : Type 0} (kept failed : K → Record → K → Type 0) where
     turn_for : (book after : Book) (before later : K) (asked : Operation) (said : Reply) → Turn provider kept failed book before asked said after later → IsFor asked said

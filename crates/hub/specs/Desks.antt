@@ -36,7 +36,7 @@ IsRead frame (Err BadBody) = IsRequestKind frame.kind × ((requested : request.R
 abbrev pub command : List ℕ → request.RequestContent → Option Operation
 command token (request.Query question) = Some (Query question)
 command token (request.Put verb name key) = Some (Edit (Put verb name key))
-command token (request.Turn given epoch) = if bytes_eq given token then Some (Edit (ask.Turn epoch)) else None
+command token (request.Turn given epoch nonce) = if bytes_eq given token then Some (Edit (ask.Turn epoch nonce)) else None
 
 -- the frame of a reply; that of a look-up has the reply's own bytes
 abbrev pub reply_frame : Reply → Frame

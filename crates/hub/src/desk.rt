@@ -72,7 +72,11 @@ impl<H: NodeHash, V: Vuf, S: Signer, R: Rng, K: Keeper> Desk<H, V, S, R, K> {
         match request {
             Request::Query(query) => self.read(query, output),
             Request::Put(put) => self.put(put, output),
-            Request::Turn { token, epoch } => self.close(token, *epoch, output),
+            Request::Turn {
+                token,
+                epoch,
+                nonce,
+            } => self.turn(token, *epoch, *nonce, output),
         }
     }
 
@@ -141,16 +145,16 @@ impl<H: NodeHash, V: Vuf, S: Signer, R: Rng, K: Keeper> Desk<H, V, S, R, K> {
         write_proof(&self.directory.lookup(name, epoch), output)
     }
 
-    /// Closes the epoch for whoever has the token.
-    fn close(&mut self, token: &Hash32, epoch: u64, output: &mut Vec<u8>)
+    /// Ends the epoch for whoever has the token.
+    fn turn(&mut self, token: &Hash32, epoch: u64, nonce: Option<Hash32>, output: &mut Vec<u8>)
         requires { vec_len output.old + MAX_ANSWER_LEN ≤ vec_capacity output.old }
-        ensures { (reply : List ℕ) × Serves H.digest_of V.value_of S.signature_of R.stream K.kept K.failed self.old (asks.Turn token.now epoch) reply self.new
+        ensures { (reply : List ℕ) × Serves H.digest_of V.value_of S.signature_of R.stream K.kept K.failed self.old (asks.Turn token.now epoch nonce) reply self.new
             × (output.new.items ≡ output.old.items ++ reply) }
     {
         if *token != self.token {
             return write_refused(12, output);
         }
-        write_root(self.directory.close(&mut self.keeper, epoch), output)
+        write_root(self.directory.turn(&mut self.keeper, epoch, nonce), output)
     }
 }
 

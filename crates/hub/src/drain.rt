@@ -1,3 +1,6 @@
+//! A session takes a piece, and its whole messages are answered in order. Room for the longest reply is
+//! reserved before a frame is taken, so a message that is taken is answered; where there is no room, it
+//! stays in the feed with all that follows.
 ghost use Rattle.std.specs.Prelude.{◌≡◌, ◌≢◌, ◌+◌, ◌<◌, ◌≤◌, ◌++◌, vec_len, vec_capacity, OnErr};
 ghost use Rattle.wire.specs.Streams.{Failed};
 ghost use Rattle.hub.specs.Exchanges.{refused_frame, Drained, Hears, LacksRoom};

@@ -1,3 +1,5 @@
+//! A hub keeps a feed for each open session, by number. An event opens or ends a session, or hands it a
+//! piece. A run handles events in order, and appends what each brings to the output of its session.
 ghost use Rattle.std.specs.Prelude.{◌≡◌, ◌⊎◌, ◌∷◌, [], List, map, vec_len, vec_capacity, IfOk, OnErr, OnOk};
 ghost use Rattle.std.specs.List.Sorted.{IsStrictlySortedBy};
 ghost use Rattle.std.specs.Map.{keys_of};

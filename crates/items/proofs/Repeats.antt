@@ -27,10 +27,6 @@ or-cond true false = refl
 or-cond false true = refl
 or-cond false false = refl
 
-or-false : (b : Bool) → (b || false) ≡ b
-or-false true = refl
-or-false false = refl
-
 is_among-push : (index : List ℕ) (items : Items) (item : List ℕ × List ℕ) → is_among index (items ++ item ∷ []) ≡ (is_among index items || bytes_eq index item.0)
 is_among-push index items item =
     ap (list_any (bytes_eq index)) (map-append (λ (e : List ℕ × List ℕ). e.0) items (item ∷ []))

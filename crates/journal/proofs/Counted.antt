@@ -1,5 +1,5 @@
 -- Records at the front of bytes, one after another.
-use Rattle.std.proofs.Common.{◌≡◌, ℕ, suc, ◌+◌, ◌≤◌, ◌<◌, List, [], ◌∷◌, ◌++◌, length, length-append, append_assoc, refl, sym, ap, subst, ◌∙◌, arith}
+use Rattle.std.proofs.Common.{◌≡◌, ℕ, suc, ◌+◌, ◌≤◌, ◌<◌, List, [], ◌∷◌, ◌++◌, length, length-append, append_assoc, Some, None, refl, sym, ap, subst, ◌∙◌, arith}
 use Rattle.encoding.specs.Bytes.{IsBytes}
 use Rattle.encoding.specs.Fields.{Begins, Reads}
 use Rattle.encoding.specs.Reading.{Gives}
@@ -27,7 +27,8 @@ start_is bytes result rest small gives = gives-reads (λ beginning. beginning) r
 pub longer : (kept : Record) (rest : List ℕ) → length rest < length (record_bytes kept ++ rest)
 longer (Start epoch nonce signing_key vuf_key) rest = rw (length-append (record_bytes (Start epoch nonce signing_key vuf_key)) rest) (omega arith)
 longer (Bound verb salt name key) rest = rw (length-append (record_bytes (Bound verb salt name key)) rest) (omega arith)
-longer (Turned epoch) rest = rw (length-append (record_bytes (Turned epoch)) rest) (omega arith)
+longer (Turned epoch None) rest = rw (length-append (record_bytes (Turned epoch None)) rest) (omega arith)
+longer (Turned epoch (Some nonce)) rest = rw (length-append (record_bytes (Turned epoch (Some nonce))) rest) (omega arith)
 
 -- no record stands at the front
 pub none_later : (bytes : List ℕ) → ¬ Begins record_bytes IsLater bytes → HasLater bytes 0

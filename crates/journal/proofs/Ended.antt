@@ -1,5 +1,5 @@
 -- The readers of records tell cuts.
-use Rattle.std.proofs.Common.{◌≡◌, ◌≢◌, ℕ, zero, suc, ◌+◌, ◌*◌, ◌<◌, ◌≤◌, ◌^◌, Bool, true, false, cond, leb, List, [], ◌∷◌, ◌++◌, length, replicate, Ok, Err, refl, sym, ap, subst, ◌∙◌, arith, lit≤}
+use Rattle.std.proofs.Common.{◌≡◌, ◌≢◌, ℕ, zero, suc, ◌+◌, ◌*◌, ◌<◌, ◌≤◌, ◌^◌, Bool, true, false, cond, leb, List, [], ◌∷◌, ◌++◌, length, replicate, Some, None, Ok, Err, refl, sym, ap, subst, ◌∙◌, arith, lit≤}
 use Rattle.std.specs.Prelude.{◌==◌}
 use Rattle.std.specs.Int.{byte_at}
 use Rattle.std.proofs.lemmas.Bool.{and_parts, eqb-true, leb-true, le-leb, le-ltb}
@@ -17,10 +17,10 @@ use Rattle.encoding.proofs.NumberBytes.{bytes-of_number}
 use Rattle.book.specs.declared.record.Record.{Record}
 use Rattle.book.specs.declared.record.Record.TheVariants.{Start, Bound, Turned}
 use Rattle.journal.specs.declared.beginning.Beginning.{Beginning}
-use Rattle.journal.specs.Reading.{beginning_of, bound_of, read_bound, read_later, read_later_of, read_start, read_turned, read_up_to, read_verb, verb_of}
+use Rattle.journal.specs.Reading.{beginning_of, bound_of, read_bound, read_later, read_later_of, read_rotated, read_start, read_turned, read_up_to, read_verb, rotated_of, turned_of, verb_of}
 use Rattle.journal.specs.Records.{record_bytes, start_bytes, verb_byte, IsLater, IsStart}
 use Rattle.journal.proofs.Cuts.{allowed_cuts, both_cuts, bytes_cuts, mark_cuts, numbers_cuts, renamed_cuts, refused, respelled_cuts, then_cuts, where_is, TellsCuts}
-use Rattle.journal.proofs.Spelled.{beginning_is, beginning_parts, binding_is, bound_parts, bound_same, counted_up_to, epoch_of, is_beginning, is_binding, is_turned, is_verb, kind_of, later_parts, length_byte, spelled_beginning, spelled_bound, turned_is, turned_same, verb_again, verb_field, BeginningParts, BoundParts, IsBeginning, IsBinding, IsTurned, IsVerbByte, OfKind}
+use Rattle.journal.proofs.Spelled.{beginning_is, beginning_parts, binding_is, bound_parts, bound_same, counted_up_to, epoch_of, is_beginning, is_binding, is_rotated, is_turned, is_verb, kind_of, later_parts, length_byte, rotated_is, rotated_parts, rotated_same, spelled_beginning, spelled_bound, spelled_rotated, turned_is, turned_same, verb_again, verb_field, BeginningParts, BoundParts, IsBeginning, IsBinding, IsRotated, IsTurned, IsVerbByte, OfKind, RotatedParts}
 
 -- ---- values that are there
 
@@ -210,7 +210,14 @@ turned_cuts : TellsCuts read_turned later_parts (OfKind 0x43)
 turned_cuts =
     allowed_cuts turned_is is_turned
     (respelled_cuts {s = λ kept. big_bytes 8 (epoch_of kept)} {P = IsTurned} turned_same
-    (renamed_cuts Turned epoch_of (read_number 8) (big_bytes 8) (λ n. n < 256 ^ 8) (λ _ _. refl) (numbers_cuts 8)))
+    (renamed_cuts turned_of epoch_of (read_number 8) (big_bytes 8) (λ n. n < 256 ^ 8) (λ _ _. refl) (numbers_cuts 8)))
+
+rotated_cuts : TellsCuts read_rotated later_parts (OfKind 0x4b)
+rotated_cuts =
+    allowed_cuts rotated_is is_rotated
+    (respelled_cuts {s = λ kept. spelled_rotated (rotated_parts kept)} {P = IsRotated} rotated_same
+    (renamed_cuts rotated_of rotated_parts _ spelled_rotated RotatedParts (λ _ _. refl)
+    (both_cuts (numbers_field 8) (numbers_cuts 8) (bytes_cuts 32) (replicate 32 0) zeros_32)))
 
 pub later_cuts : TellsCuts read_later record_bytes IsLater
 unfolding read_later
@@ -222,27 +229,33 @@ later_cuts = record { cut = cut; short = short }
     spelled : (kept : Record) → IsLater kept → record_bytes kept ≡ kind_of kept ∷ later_parts kept
     spelled (Start epoch nonce signing_key vuf_key) h = absurd h
     spelled (Bound verb salt name key) h = refl
-    spelled (Turned epoch) h = refl
+    spelled (Turned epoch None) h = refl
+    spelled (Turned epoch (Some nonce)) h = refl
 
     of_kind : (kind : ℕ) (rest : List ℕ) → (kept : Record) × (more : List ℕ) × (later_parts kept ≡ rest ++ more) × OfKind kind kept → Ends (kind ∷ rest)
     of_kind kind rest c = (c.0, c.1, spelled c.0 c.3.0 ∙ rw (c.3.1, c.2) refl, c.3.0)
 
+    third : (kind : ℕ) (rest : List ℕ) → IsBytes rest → (kind == 0x4f) ≡ false → (kind == 0x43) ≡ false → (b : Bool) → (kind == 0x4b) ≡ b → read_later_of kind rest ≡ Err Short → Ends (kind ∷ rest)
+    third kind rest is one other true b e = of_kind kind rest (subst (λ (k : ℕ). (kept : Record) × (more : List ℕ) × (later_parts kept ≡ rest ++ more) × OfKind k kept) (sym (eqb-true kind 0x4b b)) (rotated_cuts.cut rest is (sym (rw (one, other, b) refl) ∙ e)))
+    third kind rest is one other false b e = absurd (refused (sym (rw (one, other, b) refl) ∙ e))
+
     second : (kind : ℕ) (rest : List ℕ) → IsBytes rest → (kind == 0x4f) ≡ false → (b : Bool) → (kind == 0x43) ≡ b → read_later_of kind rest ≡ Err Short → Ends (kind ∷ rest)
     second kind rest is other true b e = of_kind kind rest (subst (λ (k : ℕ). (kept : Record) × (more : List ℕ) × (later_parts kept ≡ rest ++ more) × OfKind k kept) (sym (eqb-true kind 0x43 b)) (turned_cuts.cut rest is (sym (rw (other, b) refl) ∙ e)))
-    second kind rest is other false b e = absurd (refused (sym (rw (other, b) refl) ∙ e))
+    second kind rest is other false b e = third kind rest is other b (kind == 0x4b) refl e
 
     first : (kind : ℕ) (rest : List ℕ) → IsBytes rest → (b : Bool) → (kind == 0x4f) ≡ b → read_later_of kind rest ≡ Err Short → Ends (kind ∷ rest)
     first kind rest is true b e = of_kind kind rest (subst (λ (k : ℕ). (kept : Record) × (more : List ℕ) × (later_parts kept ≡ rest ++ more) × OfKind k kept) (sym (eqb-true kind 0x4f b)) (bound_cuts.cut rest is (sym (rw b refl) ∙ e)))
     first kind rest is false b e = second kind rest is b (kind == 0x43) refl e
 
     cut : (bytes : List ℕ) → IsBytes bytes → read_later bytes ≡ Err Short → Ends bytes
-    cut [] is e = (Turned 0, record_bytes (Turned 0), refl, lit≤ tt)
+    cut [] is e = (turned_of 0, record_bytes (turned_of 0), refl, lit≤ tt)
     cut (kind ∷ rest) is e = first kind rest (λ k. is (suc k)) (kind == 0x4f) refl e
 
     short_rest : (kept : Record) (rest more : List ℕ) → later_parts kept ≡ rest ++ more → more ≢ [] → IsLater kept → read_later_of (kind_of kept) rest ≡ Err Short
     short_rest (Start epoch nonce signing_key vuf_key) rest more e ne h = absurd h
     short_rest (Bound verb salt name key) rest more e ne h = bound_cuts.short (Bound verb salt name key) rest more e ne (h, refl)
-    short_rest (Turned epoch) rest more e ne h = turned_cuts.short (Turned epoch) rest more e ne (h, refl)
+    short_rest (Turned epoch None) rest more e ne h = turned_cuts.short (turned_of epoch) rest more e ne (h, refl)
+    short_rest (Turned epoch (Some nonce)) rest more e ne h = rotated_cuts.short (Turned epoch (Some nonce)) rest more e ne (h, refl)
 
     short : (kept : Record) (bytes more : List ℕ) → record_bytes kept ≡ bytes ++ more → more ≢ [] → IsLater kept → read_later bytes ≡ Err Short
     short kept [] more e ne h = refl

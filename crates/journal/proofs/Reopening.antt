@@ -41,10 +41,10 @@ later_record : (book : Book) (asked : Operation) (kept : Record) → kept_of boo
 later_record book (Query question) kept e h = absurd cc
 later_record book (Edit (Put verb name key)) (Start epoch nonce signing_key vuf_key) e h = absurd cc
 later_record book (Edit (Put verb name key)) (Bound other salt called put) e h = h
-later_record book (Edit (Put verb name key)) (Turned epoch) e h = absurd cc
-later_record book (Edit (Turn epoch)) (Start first nonce signing_key vuf_key) e h = absurd cc
-later_record book (Edit (Turn epoch)) (Bound verb salt name key) e h = absurd cc
-later_record book (Edit (Turn epoch)) (Turned other) e h = h
+later_record book (Edit (Put verb name key)) (Turned epoch _) e h = absurd cc
+later_record book (Edit (Turn epoch _)) (Start first nonce signing_key vuf_key) e h = absurd cc
+later_record book (Edit (Turn epoch _)) (Bound verb salt name key) e h = absurd cc
+later_record book (Edit (Turn epoch _)) (Turned other _) e h = h
 
 module _ (by : List ℕ → List ℕ) (other : Book) where
   -- a command that the book carries out is carried out once more on the book with other salts to come
@@ -65,11 +65,11 @@ module _ (by : List ℕ → List ℕ) (other : Book) where
       let R : Option Refusal → Option Book = λ why. option_map (with_salts_of old) (after_answer (unless_refused why (with_salt_of (Bound Change book.salt name key) old) (Edit (Put Change name key)))) in
       subst (λ (k : Record). replayed by old k ≡ Some (with_salts_of other middle)) same
       (ap R s.none ∙ ap (λ (b : Book). Some (with_salts_of other b)) (sym s.does.1))
-  again book middle (Edit (Turn epoch)) answer kept e does =
-      let s = stepped by book (Edit (Turn epoch)) answer middle does in
-      let same : Turned epoch ≡ kept = cc in
+  again book middle (Edit (Turn epoch nonce)) answer kept e does =
+      let s = stepped by book (Edit (Turn epoch nonce)) answer middle does in
+      let same : Turned epoch nonce ≡ kept = cc in
       let old = with_salts_of other book in
-      let R : Option Refusal → Option Book = λ why. option_map (with_salts_of old) (after_answer (unless_refused why old (Edit (Turn epoch)))) in
+      let R : Option Refusal → Option Book = λ why. option_map (with_salts_of old) (after_answer (unless_refused why old (Edit (Turn epoch nonce)))) in
       subst (λ (k : Record). replayed by old k ≡ Some (with_salts_of other middle)) same
       (ap R s.none ∙ ap (λ (b : Book). Some (with_salts_of other b)) (sym s.does.1))
 
@@ -121,7 +121,7 @@ module _ (provider : Provider) {W : Type 0} (contents : W → Option (List ℕ))
       → Stays book keeper middle between ⊎ (Writes book keeper asked middle between ⊎ Loses book keeper asked middle between)
   answered book middle keeper between (Query question) answer None e does h = inl ((stepped (index_of provider) book (Query question) answer middle does).does.1, h)
   answered book middle keeper between (Edit (Put verb name key)) answer None e does h = absurd cc
-  answered book middle keeper between (Edit (Turn epoch)) answer None e does h = absurd cc
+  answered book middle keeper between (Edit (Turn epoch _)) answer None e does h = absurd cc
   answered book middle keeper between asked answer (Some kept) e does h = inr (inl (kept, answer, e, h, does))
 
   turned : (book middle : Book) (keeper between : JournalState W) (asked : Operation) (said : Reply) → Turns provider (KeepsRecord contents) (LosesRecord contents) book keeper asked said middle between

@@ -37,7 +37,7 @@ start_none bytes fault small = is_none read_start start_bytes IsStart start_fiel
 
 -- no bytes are a record that was cut short
 pub nothing_cut : (bytes : List ℕ) → length bytes ≤ 0 → IsCut record_bytes IsLater bytes
-nothing_cut [] few = (Turned 0, record_bytes (Turned 0), refl, (λ none. absurd cc), lit≤ tt)
+nothing_cut [] few = (Turned 0 None, record_bytes (Turned 0 None), refl, (λ none. absurd cc), lit≤ tt)
 nothing_cut (byte ∷ bytes) few = absurd (omega (arith, few))
 
 -- the provider of a directory whose keys have not changed is the same

@@ -1,5 +1,5 @@
 -- A record is read exactly where one is spelled.
-use Rattle.std.proofs.Common.{◌≡◌, ℕ, zero, suc, ◌+◌, ◌*◌, ◌<◌, ◌≤◌, ◌^◌, List, [], ◌∷◌, ◌++◌, length, Bool, true, false, leb, Ok, Err, refl, sym, ap, subst, ◌∙◌, arith, lit≤, true≢false}
+use Rattle.std.proofs.Common.{◌≡◌, ℕ, zero, suc, ◌+◌, ◌*◌, ◌<◌, ◌≤◌, ◌^◌, List, [], ◌∷◌, ◌++◌, length, Bool, true, false, leb, Some, None, Ok, Err, refl, sym, ap, subst, ◌∙◌, arith, lit≤, true≢false}
 use Rattle.std.specs.Prelude.{◌==◌}
 use Rattle.std.proofs.lemmas.Bool.{and_parts, eqb-true, eq-eqb, leb-true, le-leb}
 use Rattle.std.specs.Int.{byte_at}
@@ -17,7 +17,7 @@ use Rattle.commands.specs.declared.edit.Verb.TheVariants.{Register, Change}
 use Rattle.book.specs.declared.record.Record.{Record}
 use Rattle.book.specs.declared.record.Record.TheVariants.{Start, Bound, Turned}
 use Rattle.journal.specs.declared.beginning.Beginning.{Beginning}
-use Rattle.journal.specs.Reading.{beginning_of, bound_of, read_bound, read_later, read_later_of, read_mark, read_start, read_turned, read_up_to, read_verb, verb_of}
+use Rattle.journal.specs.Reading.{beginning_of, bound_of, read_bound, read_later, read_later_of, read_mark, read_rotated, read_start, read_turned, read_up_to, read_verb, rotated_of, turned_of, verb_of}
 use Rattle.journal.specs.Records.{record_bytes, start_bytes, verb_byte, IsLater, IsStart}
 
 -- ---- verbs
@@ -116,12 +116,14 @@ start_field =
 abbrev pub later_parts : Record → List ℕ
 later_parts (Start epoch nonce signing_key vuf_key) = []
 later_parts (Bound verb salt name key) = (verb_byte verb ∷ []) ++ (salt ++ (counted_bytes name ++ counted_bytes key))
-later_parts (Turned epoch) = big_bytes 8 epoch
+later_parts (Turned epoch None) = big_bytes 8 epoch
+later_parts (Turned epoch (Some nonce)) = big_bytes 8 epoch ++ nonce
 
 abbrev pub kind_of : Record → ℕ
 kind_of (Start epoch nonce signing_key vuf_key) = 0x4e
 kind_of (Bound verb salt name key) = 0x4f
-kind_of (Turned epoch) = 0x43
+kind_of (Turned epoch None) = 0x43
+kind_of (Turned epoch (Some nonce)) = 0x4b
 
 abbrev pub OfKind : ℕ → Record → Type 0
 OfKind kind kept = IsLater kept × (kind_of kept ≡ kind)
@@ -129,7 +131,7 @@ OfKind kind kept = IsLater kept × (kind_of kept ≡ kind)
 abbrev pub bound_parts : Record → Verb × (List ℕ × (List ℕ × List ℕ))
 bound_parts (Start epoch nonce signing_key vuf_key) = (Register, ([], ([], [])))
 bound_parts (Bound verb salt name key) = (verb, (salt, (name, key)))
-bound_parts (Turned epoch) = (Register, ([], ([], [])))
+bound_parts (Turned epoch _) = (Register, ([], ([], [])))
 
 abbrev pub spelled_bound : Verb × (List ℕ × (List ℕ × List ℕ)) → List ℕ
 spelled_bound parts = (verb_byte parts.0 ∷ []) ++ (parts.1.0 ++ (counted_bytes parts.1.1.0 ++ counted_bytes parts.1.1.1))
@@ -143,17 +145,18 @@ IsBinding kept = BoundParts (bound_parts kept) × (bound_of (bound_parts kept) �
 pub bound_same : (kept : Record) → IsBinding kept → spelled_bound (bound_parts kept) ≡ later_parts kept
 bound_same (Start epoch nonce signing_key vuf_key) h = absurd cc
 bound_same (Bound verb salt name key) h = refl
-bound_same (Turned epoch) h = absurd cc
+bound_same (Turned epoch _) h = absurd cc
 
 pub binding_is : (kept : Record) → IsBinding kept → OfKind 0x4f kept
 binding_is (Start epoch nonce signing_key vuf_key) h = absurd cc
 binding_is (Bound verb salt name key) h = ((h.0.1.0, h.0.1.1.0, h.0.1.1.1), refl)
-binding_is (Turned epoch) h = absurd cc
+binding_is (Turned epoch _) h = absurd cc
 
 pub is_binding : (kept : Record) → OfKind 0x4f kept → IsBinding kept
 is_binding (Start epoch nonce signing_key vuf_key) h = absurd h.0
 is_binding (Bound verb salt name key) h = ((tt, (h.0.0, (h.0.1, h.0.2))), refl)
-is_binding (Turned epoch) h = absurd (omega (arith, h.1))
+is_binding (Turned epoch None) h = absurd (omega (arith, h.1))
+is_binding (Turned epoch (Some nonce)) h = absurd (omega (arith, h.1))
 
 pub bound_field : IsField read_bound later_parts (OfKind 0x4f)
 unfolding read_bound
@@ -163,34 +166,83 @@ bound_field =
     (renamed_field bound_of bound_parts _ spelled_bound BoundParts (λ _ _. refl)
     (both verb_field (both (bytes_field 32) (both (counted_up_to 0 255 (lit≤ tt) (lit≤ tt)) (counted_up_to 8 2048 (lit≤ tt) (lit≤ tt)))))))
 
+-- a record has a nonce or none
+a_nonce : (epoch : ℕ) (nonce : List ℕ) → turned_of epoch ≡ Turned epoch (Some nonce) → ⊥
+a_nonce epoch nonce e = absurd cc
+
+no_nonce : (epoch : ℕ) → rotated_of (0, []) ≡ turned_of epoch → ⊥
+no_nonce epoch e = absurd cc
+
 abbrev pub epoch_of : Record → ℕ
 epoch_of (Start epoch nonce signing_key vuf_key) = 0
 epoch_of (Bound verb salt name key) = 0
-epoch_of (Turned epoch) = epoch
+epoch_of (Turned epoch _) = epoch
 
 abbrev pub IsTurned : Record → Type 0
-IsTurned kept = (epoch_of kept < 256 ^ 8) × (Turned (epoch_of kept) ≡ kept)
+IsTurned kept = (epoch_of kept < 256 ^ 8) × (turned_of (epoch_of kept) ≡ kept)
 
 pub turned_same : (kept : Record) → IsTurned kept → big_bytes 8 (epoch_of kept) ≡ later_parts kept
 turned_same (Start epoch nonce signing_key vuf_key) h = absurd cc
 turned_same (Bound verb salt name key) h = absurd cc
-turned_same (Turned epoch) h = refl
+turned_same (Turned epoch None) h = refl
+turned_same (Turned epoch (Some nonce)) h = absurd (a_nonce epoch nonce h.1)
 
 pub turned_is : (kept : Record) → IsTurned kept → OfKind 0x43 kept
 turned_is (Start epoch nonce signing_key vuf_key) h = absurd cc
 turned_is (Bound verb salt name key) h = absurd cc
-turned_is (Turned epoch) h = (h.0, refl)
+turned_is (Turned epoch None) h = (h.0, refl)
+turned_is (Turned epoch (Some nonce)) h = absurd (a_nonce epoch nonce h.1)
 
 pub is_turned : (kept : Record) → OfKind 0x43 kept → IsTurned kept
 is_turned (Start epoch nonce signing_key vuf_key) h = absurd h.0
 is_turned (Bound verb salt name key) h = absurd (omega (arith, h.1))
-is_turned (Turned epoch) h = (h.0, refl)
+is_turned (Turned epoch None) h = (h.0, refl)
+is_turned (Turned epoch (Some nonce)) h = absurd (omega (arith, h.1))
 
 pub turned_field : IsField read_turned later_parts (OfKind 0x43)
 turned_field =
     allowed_field _ later_parts IsTurned (OfKind 0x43) turned_is is_turned
     (respelled_field _ (λ kept. big_bytes 8 (epoch_of kept)) later_parts IsTurned turned_same
-    (renamed_field Turned epoch_of (read_number 8) (big_bytes 8) (λ n. n < 256 ^ 8) (λ _ _. refl) (numbers_field 8)))
+    (renamed_field turned_of epoch_of (read_number 8) (big_bytes 8) (λ n. n < 256 ^ 8) (λ _ _. refl) (numbers_field 8)))
+
+abbrev pub rotated_parts : Record → ℕ × List ℕ
+rotated_parts (Start epoch nonce signing_key vuf_key) = (0, [])
+rotated_parts (Bound verb salt name key) = (0, [])
+rotated_parts (Turned epoch None) = (0, [])
+rotated_parts (Turned epoch (Some nonce)) = (epoch, nonce)
+
+abbrev pub spelled_rotated : ℕ × List ℕ → List ℕ
+spelled_rotated parts = big_bytes 8 parts.0 ++ parts.1
+
+abbrev pub RotatedParts : ℕ × List ℕ → Type 0
+RotatedParts parts = (parts.0 < 256 ^ 8) × Is32Bytes parts.1
+
+abbrev pub IsRotated : Record → Type 0
+IsRotated kept = RotatedParts (rotated_parts kept) × (rotated_of (rotated_parts kept) ≡ kept)
+
+pub rotated_same : (kept : Record) → IsRotated kept → spelled_rotated (rotated_parts kept) ≡ later_parts kept
+rotated_same (Start epoch nonce signing_key vuf_key) h = absurd cc
+rotated_same (Bound verb salt name key) h = absurd cc
+rotated_same (Turned epoch None) h = absurd (no_nonce epoch h.1)
+rotated_same (Turned epoch (Some nonce)) h = refl
+
+pub rotated_is : (kept : Record) → IsRotated kept → OfKind 0x4b kept
+rotated_is (Start epoch nonce signing_key vuf_key) h = absurd cc
+rotated_is (Bound verb salt name key) h = absurd cc
+rotated_is (Turned epoch None) h = absurd (no_nonce epoch h.1)
+rotated_is (Turned epoch (Some nonce)) h = (h.0, refl)
+
+pub is_rotated : (kept : Record) → OfKind 0x4b kept → IsRotated kept
+is_rotated (Start epoch nonce signing_key vuf_key) h = absurd h.0
+is_rotated (Bound verb salt name key) h = absurd (omega (arith, h.1))
+is_rotated (Turned epoch None) h = absurd (omega (arith, h.1))
+is_rotated (Turned epoch (Some nonce)) h = (h.0, refl)
+
+pub rotated_field : IsField read_rotated later_parts (OfKind 0x4b)
+rotated_field =
+    allowed_field _ later_parts IsRotated (OfKind 0x4b) rotated_is is_rotated
+    (respelled_field _ (λ kept. spelled_rotated (rotated_parts kept)) later_parts IsRotated rotated_same
+    (renamed_field rotated_of rotated_parts _ spelled_rotated RotatedParts (λ _ _. refl) (both (numbers_field 8) (bytes_field 32))))
 
 pub kinds : (kind : ℕ) → IsField (read_later_of kind) later_parts (OfKind kind)
 kinds kind = first (kind == 0x4f) refl
@@ -198,20 +250,25 @@ kinds kind = first (kind == 0x4f) refl
     IsOne : ℕ → Type 0
     IsOne k = IsField (read_later_of k) later_parts (OfKind k)
 
-    neither : (kind == 0x4f) ≡ false → (kind == 0x43) ≡ false → IsOne kind
-    neither e f = record { spelled = λ bytes z bytes-small r. absurd (refused_read OutOfRange z (sym (unknown bytes) ∙ r)); again = none }
+    neither : (kind == 0x4f) ≡ false → (kind == 0x43) ≡ false → (kind == 0x4b) ≡ false → IsOne kind
+    neither e f g = record { spelled = λ bytes z bytes-small r. absurd (refused_read OutOfRange z (sym (unknown bytes) ∙ r)); again = none }
       where
         unknown : (bytes : List ℕ) → read_later_of kind bytes ≡ Err OutOfRange
-        unknown bytes = rw (e, f) refl
+        unknown bytes = rw (e, f, g) refl
 
         none : (kept : Record) (rest : List ℕ) → OfKind kind kept → read_later_of kind (later_parts kept ++ rest) ≡ Ok (kept, rest)
         none (Start epoch nonce signing_key vuf_key) rest h = absurd h.0
         none (Bound verb salt name key) rest h = absurd (true≢false (ap (λ (k : ℕ). k == 0x4f) h.1 ∙ e))
-        none (Turned epoch) rest h = absurd (true≢false (ap (λ (k : ℕ). k == 0x43) h.1 ∙ f))
+        none (Turned epoch None) rest h = absurd (true≢false (ap (λ (k : ℕ). k == 0x43) h.1 ∙ f))
+        none (Turned epoch (Some nonce)) rest h = absurd (true≢false (ap (λ (k : ℕ). k == 0x4b) h.1 ∙ g))
+
+    third : (b : Bool) → (kind == 0x4b) ≡ b → (kind == 0x4f) ≡ false → (kind == 0x43) ≡ false → IsOne kind
+    third true e one other = subst IsOne (sym (eqb-true kind 0x4b e)) rotated_field
+    third false e one other = neither one other e
 
     second : (b : Bool) → (kind == 0x43) ≡ b → (kind == 0x4f) ≡ false → IsOne kind
     second true e other = subst IsOne (sym (eqb-true kind 0x43 e)) turned_field
-    second false e other = neither other e
+    second false e other = third (kind == 0x4b) refl other e
 
     first : (b : Bool) → (kind == 0x4f) ≡ b → IsOne kind
     first true e = subst IsOne (sym (eqb-true kind 0x4f e)) bound_field
@@ -220,7 +277,8 @@ kinds kind = first (kind == 0x4f) refl
 pub later_small : (kept : Record) → kind_of kept < 256
 later_small (Start epoch nonce signing_key vuf_key) = lit≤ tt
 later_small (Bound verb salt name key) = lit≤ tt
-later_small (Turned epoch) = lit≤ tt
+later_small (Turned epoch None) = lit≤ tt
+later_small (Turned epoch (Some nonce)) = lit≤ tt
 
 pub later_field : IsField read_later record_bytes IsLater
 unfolding read_later
@@ -235,4 +293,5 @@ later_field =
     same : (kept : Record) → IsAllowed kept → (kind_of kept ∷ []) ++ later_parts kept ≡ record_bytes kept
     same (Start epoch nonce signing_key vuf_key) h = absurd h.1
     same (Bound verb salt name key) h = refl
-    same (Turned epoch) h = refl
+    same (Turned epoch None) h = refl
+    same (Turned epoch (Some nonce)) h = refl

@@ -1,5 +1,5 @@
 -- Reading records from the front of bytes.
-use Rattle.std.specs.Prelude.{ℕ, ◌==◌, if◌then◌else◌, List, [], ◌∷◌, Err, nat_le}
+use Rattle.std.specs.Prelude.{ℕ, ◌==◌, if◌then◌else◌, List, [], ◌∷◌, Some, None, Err, nat_le}
 use Rattle.encoding.specs.declared.fault.Fault.TheVariants.{OutOfRange}
 use Rattle.encoding.specs.Reading.{Reading, is_within, read_as, read_both, read_byte, read_bytes, read_counted, read_number, read_then, read_where}
 use Rattle.commands.specs.declared.edit.Verb.{Verb}
@@ -36,12 +36,22 @@ read_start = read_mark 0x4e (read_mark 1
 unfoldable pub read_bound : List ℕ → Reading Record
 read_bound = read_as bound_of (read_both read_verb (read_both (read_bytes 32) (read_both (read_up_to 0 (read_counted 1 255)) (read_up_to 8 (read_counted 1 2048)))))
 
+abbrev pub turned_of : ℕ → Record
+turned_of epoch = Turned epoch None
+
 abbrev pub read_turned : List ℕ → Reading Record
-read_turned = read_as Turned (read_number 8)
+read_turned = read_as turned_of (read_number 8)
+
+abbrev pub rotated_of : ℕ × List ℕ → Record
+rotated_of parts = Turned parts.0 (Some parts.1)
+
+abbrev pub read_rotated : List ℕ → Reading Record
+read_rotated = read_as rotated_of (read_both (read_number 8) (read_bytes 32))
 
 -- what follows the kind byte of a later record
 abbrev pub read_later_of : ℕ → List ℕ → Reading Record
-read_later_of kind bytes = if kind == 0x4f then read_bound bytes else (if kind == 0x43 then read_turned bytes else Err OutOfRange)
+read_later_of kind bytes =
+    if kind == 0x4f then read_bound bytes else (if kind == 0x43 then read_turned bytes else (if kind == 0x4b then read_rotated bytes else Err OutOfRange))
 
 unfoldable pub read_later : List ℕ → Reading Record
 read_later = read_then read_byte read_later_of

@@ -6,7 +6,7 @@ ghost use Rattle.encoding.specs.Reading.{Gives, read_counted};
 ghost use Rattle.journal.specs.Reading.{read_bound, read_later, read_start, read_up_to, read_verb};
 
 use crate::beginning::Beginning;
-use crate::text::{BOUND, START, START_VERSION, TURNED};
+use crate::text::{BOUND, ROTATED, START, START_VERSION, TURNED};
 use book::Record;
 use commands::Verb;
 use encoding::{Bounded, Cursor, Fault};
@@ -40,6 +40,11 @@ pub(crate) fn read_later(cursor: &mut Cursor<'_>) -> Result<Record, Fault>
         BOUND => read_bound(cursor),
         TURNED => Ok(Record::Turned {
             epoch: cursor.u64()?,
+            nonce: None,
+        }),
+        ROTATED => Ok(Record::Turned {
+            epoch: cursor.u64()?,
+            nonce: Some(cursor.hash32()?),
         }),
         _ => Err(Fault::OutOfRange),
     }

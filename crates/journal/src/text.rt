@@ -17,6 +17,9 @@ pub(crate) const BOUND: u8 = 0x4f;
 /// The kind byte of a new page, the letter C.
 pub(crate) const TURNED: u8 = 0x43;
 
+/// The kind byte of a new page under a nonce of its own, the letter K.
+pub(crate) const ROTATED: u8 = 0x4b;
+
 /// The byte of a verb.
 fn verb_byte(verb: Verb) -> u8
     ensures { result ≡ verb_byte verb }
@@ -27,7 +30,8 @@ fn verb_byte(verb: Verb) -> u8
     }
 }
 
-/// The bytes of a record: 106 of a start, 9 of a new page, and 38 of a binding beside its name and key.
+/// The bytes of a record: 106 of a start, 9 of a new page, 41 of one under a nonce of its own, and 38 of a
+/// binding beside its name and key.
 pub(crate) fn record_text(what: &Record) -> Text
     ensures text { result ≡ record_bytes what.now }
     ensures record { IsRecord what.now }
@@ -57,9 +61,17 @@ pub(crate) fn record_text(what: &Record) -> Text
             text.push_counted(name.bytes());
             text.push_counted(key.bytes());
         }
-        Record::Turned { epoch } => {
+        Record::Turned { epoch, nonce: None } => {
             text.push_slice(&[TURNED]);
             text.push_u64(*epoch);
+        }
+        Record::Turned {
+            epoch,
+            nonce: Some(nonce),
+        } => {
+            text.push_slice(&[ROTATED]);
+            text.push_u64(*epoch);
+            text.push_slice(nonce.bytes());
         }
     }
     text
@@ -68,10 +80,13 @@ pub(crate) fn record_text(what: &Record) -> Text
 /// How many bytes a start has.
 pub(crate) const START_SIZE: usize = 106;
 
-/// How many bytes a binding has beside its name and its key, and a new page.
+/// How many bytes a binding has beside its name and its key, a new page, and one under a nonce of its
+/// own.
 const BOUND_SIZE: usize = 38;
 
 const TURNED_SIZE: usize = 9;
+
+const ROTATED_SIZE: usize = 41;
 
 /// How many bytes the record of a command has.
 pub(crate) fn later_size(what: &Record) -> usize
@@ -81,6 +96,7 @@ pub(crate) fn later_size(what: &Record) -> usize
     match what {
         Record::Start { .. } => START_SIZE,
         Record::Bound { name, key, .. } => BOUND_SIZE + name.bytes().len() + key.bytes().len(),
-        Record::Turned { .. } => TURNED_SIZE,
+        Record::Turned { nonce: None, .. } => TURNED_SIZE,
+        Record::Turned { nonce: Some(_), .. } => ROTATED_SIZE,
     }
 }

@@ -36,6 +36,9 @@ pub(crate) type Provided = Directory<Sha256Hash, KeyedVuf, KeyedSign, ChaCha20Rn
 /// The epoch whose page is the first with names.
 pub(crate) const FIRST: u64 = 2;
 
+/// The rotations of a directory.
+const ROTATIONS: u8 = 3;
+
 /// The provider's signatures.
 pub(crate) fn signer() -> KeyedSign {
     KeyedSign::new(Hash32::new([1; 32]))
@@ -119,6 +122,13 @@ pub(crate) fn close<K: Keeper>(
     Ok(u64::from(first))
 }
 
+/// Ends the epoch under this nonce, and returns the first byte of the new root.
+fn rotate(directory: &mut Provided, epoch: u64, nonce: u8) -> Result<u64> {
+    let root = directory.rotate(&mut NoKeeper, epoch, Hash32::new([nonce; 32]))?;
+    let first = root.body.root.bytes().first().copied().unwrap_or(0);
+    Ok(u64::from(first))
+}
+
 /// Looks names up in the page of an epoch, and counts the bytes of the replies.
 fn look_up_all(directory: &mut Provided, numbers: &[u64], epoch: u64) -> Result<u64> {
     let mut bytes: u64 = 0;
@@ -165,7 +175,7 @@ fn look_up_rounds(
 
 /// The steps: digests; the names registered; the epoch closed; in each round its numbers made,
 /// some keys changed, and the epoch closed; look-ups at the head; look-ups of the same names at the
-/// first epoch with names; digests again.
+/// first epoch with names; rotations; digests again.
 pub(crate) fn measure(rt: &(impl Print + Input), alloc: Global, wanted: &Epochs) -> Result<()> {
     let mut text = [0; LEAF_BYTES];
     let mut directory = new_directory(alloc)?;
@@ -186,6 +196,11 @@ pub(crate) fn measure(rt: &(impl Print + Input), alloc: Global, wanted: &Epochs)
     }
     look_up_rounds(rt, alloc, &mut directory, wanted, 0)?;
     look_up_rounds(rt, alloc, &mut directory, wanted, FIRST)?;
+    let closed = FIRST.wrapping_add(wanted.rounds as u64);
+    for number in 1..=ROTATIONS {
+        let epoch = closed.wrapping_add(u64::from(number));
+        end_step(rt, alloc, rotate(&mut directory, epoch, number)?)?;
+    }
     end_step(rt, alloc, take_digests(&mut text, wanted.digests))?;
     Ok(())
 }

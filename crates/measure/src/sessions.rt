@@ -126,7 +126,14 @@ pub(crate) fn write_frame(frame: &Frame<'_>, stream: &mut Vec<u8>) -> Result<(),
         }
         Frame::Turn(token, epoch) => {
             let (token, epoch) = (**token, *epoch);
-            write_request(&Request::Turn { token, epoch }, stream)
+            write_request(
+                &Request::Turn {
+                    token,
+                    epoch,
+                    nonce: None,
+                },
+                stream,
+            )
         }
     }
 }

@@ -1,3 +1,6 @@
+//! A monitor keeps the changes that its owner expects, ascending by the epochs of their promises, and the
+//! epoch that it watched last. A step looks the name up at the next epoch of the chain, and compares what
+//! is stated there with the last change that was promised before.
 ghost use Rattle.std.specs.Prelude.{◌≡◌, ◌↔◌, ◌<◌, ◌≤◌, All, AllPairs, IfErr, IsTrue, OnOk, length, option_map};
 ghost use Rattle.std.specs.List.Sorted.{IsPartitionPoint};
 ghost use Rattle.rootchain.specs.declared.signed_promise.SignedPromise.{SignedPromise};

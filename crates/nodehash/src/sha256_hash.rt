@@ -1,3 +1,5 @@
+//! SHA-256, whose digests are counted. Of many texts four are digested at once, in the order of the list,
+//! if each of the four has two blocks; those of another length, and the last ones, one by one.
 ghost use Rattle.std.specs.Prelude.{◌≡◌, ◌↔◌, ℕ, [], ◌∷◌, ◌+◌, ◌≤◌, length, take, map, IsTrue};
 ghost use Rattle.sha2.specs.Sha256.{sha256};
 ghost use Rattle.lanes.specs.TwoBlocks.{HasTwoBlocks};

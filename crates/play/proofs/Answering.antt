@@ -27,7 +27,7 @@ module _ (provider : Provider) {K : Type 0} (kept failed : K → Record → K �
   of-none now asked said unchecked latest name epoch text (inr none) = absurd none
 
   -- an answer that such a reply shows has one text
-  same-text : (index : List ℕ → List ℕ) (book after : Book) (answer : Answer) (said : Reply) → IsUnchecked said → Shows provider after answer said → answer_text after answer ≡ checked_text index after answer
+  pub same-text : (index : List ℕ → List ℕ) (book after : Book) (answer : Answer) (said : Reply) → IsUnchecked said → Shows provider after answer said → answer_text after answer ≡ checked_text index after answer
   same-text index book after (Promised name binding) said unchecked shows = refl
   same-text index book after (Told pages) said unchecked shows = refl
   same-text index book after (Last page) said unchecked shows = refl

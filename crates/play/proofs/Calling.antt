@@ -115,7 +115,7 @@ one-next chain up epoch one other is also =
 
 -- ---- promises
 
-one-promise : (bytes : List ℕ) (one other : SignedPromise) → SpellsPromise bytes one → SpellsPromise bytes other → one ≡ other
+pub one-promise : (bytes : List ℕ) (one other : SignedPromise) → SpellsPromise bytes one → SpellsPromise bytes other → one ≡ other
 one-promise bytes one other is also =
     (one_spelling read_signed_promise signed_promise_bytes IsSignedPromise signed_promise_field one other [] [] is.1 also.1 (ap (λ (t : List ℕ). t ++ []) (sym is.0 ∙ also.0))).0
 
@@ -142,7 +142,7 @@ module _ (provider : Provider) (accepted verified : List ℕ → List ℕ → Li
   ascend : Ascend (roots provider after)
   ascend = ascend-linked provider.hash (roots provider after) h.chain.linked
 
-  one-of : (one other : SignedRoot) → Contains (roots provider after) one → Contains (roots provider after) other → one.body.epoch ≡ other.body.epoch → one ≡ other
+  pub one-of : (one other : SignedRoot) → Contains (roots provider after) one → Contains (roots provider after) other → one.body.epoch ≡ other.body.epoch → one ≡ other
   one-of one other is also same = unique (record { key = key; roots = roots provider after }) ascend other.body.epoch one other (is, same) (also, refl)
 
   is-chain : (chain : KeyedRoots) → IsFollowed provider key after chain → IsChain provider.hash verified chain
@@ -183,7 +183,7 @@ module _ (provider : Provider) (accepted verified : List ℕ → List ℕ → Li
           (subst (λ (r : Spelled). IsFirst (Passes provider.hash accepted d.root.body name r) why) same first) d.refused
 
   -- what was shown for the epoch of a root is of the page of that root
-  shown : (name : List ℕ) (text : List ℕ) (root : SignedRoot) → Contains (roots provider after) root → IsShown before commands replies name root.body.epoch text
+  pub shown : (name : List ℕ) (text : List ℕ) (root : SignedRoot) → Contains (roots provider after) root → IsShown before commands replies name root.body.epoch text
       → (page : Page) × IsOf page root name text
   shown name text root there (latest, epoch, of, said) = elim (h.found latest name epoch text said) [
     | inl a ↦

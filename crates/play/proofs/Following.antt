@@ -25,11 +25,11 @@ use Rattle.client.specs.declared.refusal.Refusal.{Refusal}
 use Rattle.play.specs.Calls.{IsFollowed, UpdatesRight}
 use Rattle.play.proofs.Lists.{all-in}
 
-one-list : (bytes : List ℕ) (one other : List SignedRoot) → SpellsRoots bytes one → SpellsRoots bytes other → one ≡ other
+pub one-list : (bytes : List ℕ) (one other : List SignedRoot) → SpellsRoots bytes one → SpellsRoots bytes other → one ≡ other
 one-list bytes one other is also =
     (one_spelling read_root_list root_list_bytes IsRootList root_list_field one other [] [] is.1 also.1 (ap (λ (t : List ℕ). t ++ []) (sym is.0 ∙ also.0))).0
 
-some-more : (xs ys : List SignedRoot) → 0 < length xs → 0 < length (xs ++ ys)
+pub some-more : (xs ys : List SignedRoot) → 0 < length xs → 0 < length (xs ++ ys)
 some-more [] ys some = absurd (omega (arith, some))
 some-more (x ∷ xs) ys some = omega arith
 
@@ -61,7 +61,7 @@ module _ (provider : Provider) (accepted verified : List ℕ → List ℕ → Li
       )
 
   -- a list of the roots behind those of a chain is taken whole
-  takes-all : (next : List SignedRoot) (chain later : KeyedRoots) → IsFollowed provider key after chain → AreConsecutive (roots provider after) (chain.roots ++ next) → Takes provider.hash verified chain next later
+  pub takes-all : (next : List SignedRoot) (chain later : KeyedRoots) → IsFollowed provider key after chain → AreConsecutive (roots provider after) (chain.roots ++ next) → Takes provider.hash verified chain next later
       → later ≡ with_roots chain next
   takes-all [] chain later f are takes = takes ∙ grows-nothing chain
   takes-all (root ∷ more) chain later f are (middle, (verifies, inl (known, stays)), rest) =

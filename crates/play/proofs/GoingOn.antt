@@ -1,16 +1,12 @@
 -- The pages behind one.
 use Rattle.std.proofs.Common.{◌≡◌, ℕ, ◌+◌, ◌<◌, ◌≤◌, Bool, true, false, cond, List, [], ◌∷◌, ◌++◌, take, refl, ap, subst, ◌∙◌, arith}
 use Rattle.std.specs.Prelude.{filter, nat_le, nat_lt}
-use Rattle.std.proofs.lemmas.Bool.{le-leb, leb-true, lt-ltb, ltb-true}
+use Rattle.std.proofs.lemmas.Bool.{false_from_ne_true, le-leb, leb-true, lt-ltb, ltb-true}
 use Rattle.book.specs.Books.{Page}
 use Rattle.book.proofs.Begun.{climbs}
 use Rattle.book.proofs.Sealing.{Climb}
 use Rattle.play.specs.Laws.{HistoryGoesOn, MonitorsGoOn}
 use Rattle.play.specs.Watchers.{ahead}
-
-is-false : (b : Bool) → (b ≡ true → ⊥) → b ≡ false
-is-false true never = absurd (never refl)
-is-false false never = refl
 
 -- a page is of a later epoch than those before it
 above : (epoch : ℕ) (front : List Page) (page : Page) (more : List Page) → Climb epoch (front ++ page ∷ more) → epoch < page.epoch
@@ -39,7 +35,7 @@ history index_of book front more page count sound parts =
     ap (λ (all : List Page). take count (filter (λ (each : Page). nat_le (page.epoch + 1) each.epoch) all)) parts
     ∙ ap (take count) (behind (λ (each : Page). nat_le (page.epoch + 1) each.epoch) page.epoch
     (λ each later. le-leb (page.epoch + 1) each.epoch (omega (arith, later)))
-    (λ each low. is-false (nat_le (page.epoch + 1) each.epoch) (λ e. let high = leb-true (page.epoch + 1) each.epoch e in absurd (omega (arith, low, high))))
+    (λ each low. false_from_ne_true (nat_le (page.epoch + 1) each.epoch) (λ e. let high = leb-true (page.epoch + 1) each.epoch e in absurd (omega (arith, low, high))))
     0 front page more climb refl)
 
 pub monitors : MonitorsGoOn
@@ -48,5 +44,5 @@ monitors index_of book front more page watcher sound parts is =
     ap (ahead watcher) parts
     ∙ behind (λ (each : Page). nat_lt watcher.behind each.epoch) page.epoch
     (λ each later. lt-ltb watcher.behind each.epoch (omega (arith, later, is)))
-    (λ each low. is-false (nat_lt watcher.behind each.epoch) (λ e. let high = ltb-true watcher.behind each.epoch e in absurd (omega (arith, low, high, is))))
+    (λ each low. false_from_ne_true (nat_lt watcher.behind each.epoch) (λ e. let high = ltb-true watcher.behind each.epoch e in absurd (omega (arith, low, high, is))))
     0 front page more climb refl

@@ -165,7 +165,7 @@ module _ (provider : Provider) where
       let own : book.last ≡ page = cc in
       sym own ∙ ap (λ (b : Book). b.last) (sym same)
   last-of book after (Edit (Put verb name key)) answer page does is = let e = sym does.0 ∙ is in absurd cc
-  last-of book after (Edit (ask.Turn epoch)) answer page does is =
+  last-of book after (Edit (ask.Turn epoch _)) answer page does is =
       let e = sym does.0 ∙ is in
       let own : after.last ≡ page = ap (λ (b : Book). b.last) does.1 ∙ cc in
       sym own
@@ -183,22 +183,22 @@ module _ (provider : Provider) where
   found-of book after (Query (History from count)) answer page name held (found, same) is = let e = sym (finds book (History from count) answer found) ∙ is in absurd cc
   found-of book after (Query Head) answer page name held (found, same) is = let e = sym (finds book Head answer found) ∙ is in absurd cc
   found-of book after (Edit (Put verb own key)) answer page name held does is = let e = sym does.0 ∙ is in absurd cc
-  found-of book after (Edit (ask.Turn epoch)) answer page name held does is = let e = sym does.0 ∙ is in absurd cc
+  found-of book after (Edit (ask.Turn epoch _)) answer page name held does is = let e = sym does.0 ∙ is in absurd cc
 
   -- the last page after a command that was answered so
   latest-now : (book after : Book) (asked : Operation) (answer : Answer) (said : Reply) → Does book asked answer after → Shows provider after answer said → latest_after book.last.epoch asked said ≡ after.last.epoch
   latest-now book after (Query question) answer said does shows = ap (λ (b : Book). b.last.epoch) (sym does.1)
   latest-now book after (Edit (Put verb name key)) answer said does shows = ap (λ (b : Book). b.last.epoch) (sym does.1)
-  latest-now book after (Edit (ask.Turn epoch)) answer (reply_of.Promised promised) does shows = let e = sym does.0 ∙ shows.3 in absurd cc
-  latest-now book after (Edit (ask.Turn epoch)) answer (reply_of.Found text) does shows = let e = sym does.0 ∙ shows.4 in absurd cc
-  latest-now book after (Edit (ask.Turn epoch)) answer (reply_of.Told told_roots) does shows = let e = sym does.0 ∙ shows.1 in absurd cc
-  latest-now book after (Edit (ask.Turn epoch)) answer (reply_of.Last root) does shows = ap (λ (b : Book). b.last.epoch) (sym does.1)
-  latest-now book after (Edit (ask.Turn epoch)) answer (reply_of.Refused why) does shows = absurd shows
+  latest-now book after (Edit (ask.Turn epoch _)) answer (reply_of.Promised promised) does shows = let e = sym does.0 ∙ shows.3 in absurd cc
+  latest-now book after (Edit (ask.Turn epoch _)) answer (reply_of.Found text) does shows = let e = sym does.0 ∙ shows.4 in absurd cc
+  latest-now book after (Edit (ask.Turn epoch _)) answer (reply_of.Told told_roots) does shows = let e = sym does.0 ∙ shows.1 in absurd cc
+  latest-now book after (Edit (ask.Turn epoch _)) answer (reply_of.Last root) does shows = ap (λ (b : Book). b.last.epoch) (sym does.1)
+  latest-now book after (Edit (ask.Turn epoch _)) answer (reply_of.Refused why) does shows = absurd shows
 
   refused-latest : (latest : ℕ) (asked : Operation) (why : Refusal) → latest_after latest asked (reply_of.Refused why) ≡ latest
   refused-latest latest (Query question) why = refl
   refused-latest latest (Edit (Put verb name key)) why = refl
-  refused-latest latest (Edit (ask.Turn epoch)) why = refl
+  refused-latest latest (Edit (ask.Turn epoch _)) why = refl
 
   -- the line of a reply that shows an answer
   shows-text : (book after : Book) (asked : Operation) (answer : Answer) (said : Reply) (responded : ResponseContent) → AllPairs IsBefore (pages after) → Does book asked answer after → Shows provider after answer said

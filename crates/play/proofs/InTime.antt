@@ -53,7 +53,7 @@ module _ (index_of : List ℕ → List ℕ) where
         | inl low ↦ inl low
         | inr waits ↦ inr (waits.0, some-put book.pending name own _ waits.1)
       ]
-      by-done (Edit (ask.Turn epoch)) none =
+      by-done (Edit (ask.Turn epoch _)) none =
           let above = above-last epoch book.last.epoch (passed (nat_le epoch book.last.epoch, EpochNotLater) [] none).0 in
           elim is [
             | inl low ↦ inl (omega (arith, low, above))
@@ -123,9 +123,9 @@ module _ (index_of : List ℕ → List ℕ) where
   line-in-time stand (Ask (request.Query question)) are =
       let now = comes_of index_of stand.book (request_asks (request.Query question)) in
       on-keeps now.1 stand.book now.1 stand.watchers (keep-all stand.book now.1 (comes-keeps stand.book (request_asks (request.Query question))) stand.watchers are)
-  line-in-time stand (Ask (request.Turn given epoch)) are =
-      let now = comes_of index_of stand.book (request_asks (request.Turn given epoch)) in
-      on-keeps now.1 stand.book now.1 stand.watchers (keep-all stand.book now.1 (comes-keeps stand.book (request_asks (request.Turn given epoch))) stand.watchers are)
+  line-in-time stand (Ask (request.Turn given epoch nonce)) are =
+      let now = comes_of index_of stand.book (request_asks (request.Turn given epoch nonce)) in
+      on-keeps now.1 stand.book now.1 stand.watchers (keep-all stand.book now.1 (comes-keeps stand.book (request_asks (request.Turn given epoch nonce))) stand.watchers are)
   line-in-time stand (Ask (request.Put verb name key)) are = by (refusal index_of stand.book (Edit (Put verb name key))) (keep-all stand.book (step index_of stand.book (Edit (Put verb name key))).1 (step-keeps stand.book (Edit (Put verb name key))) stand.watchers are)
     where
       by : (why : Option Refusal) → AreInTime (unless_refused why stand.book (Edit (Put verb name key))).1 stand.watchers

@@ -116,7 +116,7 @@ page-there book epoch page = by (epoch == 0)
 done-keeps : (book : Book) (asked : Operation) (page : Page) → Contains (pages book) page → Contains (pages (done book asked).1) page
 done-keeps book (Query question) page there = there
 done-keeps book (Edit (Put verb name key)) page there = there
-done-keeps book (Edit (Turn epoch)) page there = Contains-append_left (pages book) (next_page book epoch ∷ []) page there
+done-keeps book (Edit (Turn epoch nonce)) page there = Contains-append_left (pages book) (next_page book epoch nonce ∷ []) page there
 
 module _ (index_of : List ℕ → List ℕ) where
   step-keeps : (book : Book) (asked : Operation) (page : Page) → Contains (pages book) page → Contains (pages (step index_of book asked).1) page
@@ -208,7 +208,7 @@ module _ (index_of : List ℕ → List ℕ) (after : Book) (P Q : List ℕ → T
   done-line book (Query (History from count)) within named = plain (roots_text (page_told book from count)) refl
   done-line book (Query Head) within named = plain (root_text book) refl
   done-line book (Edit (Put verb name key)) within named = plain (codes "promise " ++ decimal book.last.epoch) refl
-  done-line book (Edit (Turn epoch)) within named = plain (root_text (with_page book (next_page book epoch))) refl
+  done-line book (Edit (Turn epoch nonce)) within named = plain (root_text (with_page book (next_page book epoch nonce))) refl
 
   step-line : (book : Book) (asked : Operation) → Within book → ((name : List ℕ) → Asks asked name → P name) → Said (step index_of book asked)
   step-line book asked within named = by (refusal index_of book asked)
@@ -226,10 +226,10 @@ module _ (index_of : List ℕ → List ℕ) (after : Book) (P Q : List ℕ → T
   asks-checked : (requested : RequestContent) (asked : Operation) → request_asks requested ≡ Ok asked → (name : List ℕ) → Asks asked name → IsRequested requested name
   asks-checked (request.Query question) asked e name asks_it = let same : Query question ≡ asked = cc in subst (λ (a : Operation). Asks a name) (sym same) asks_it
   asks-checked (request.Put verb own key) asked e name asks_it = let same : Edit (Put verb own key) ≡ asked = cc in subst (λ (a : Operation). Asks a name) (sym same) asks_it
-  asks-checked (request.Turn given epoch) asked e name asks_it = by (bytes_eq given token) e
+  asks-checked (request.Turn given epoch nonce) asked e name asks_it = by (bytes_eq given token) e
     where
-      by : (b : Bool) → or_not_operator (cond b (Some (Edit (Turn epoch))) None) ≡ Ok asked → ⊥
-      by true f = let same : Edit (Turn epoch) ≡ asked = cc in absurd (subst (λ (a : Operation). Asks a name) (sym same) asks_it)
+      by : (b : Bool) → or_not_operator (cond b (Some (Edit (Turn epoch nonce))) None) ≡ Ok asked → ⊥
+      by true f = let same : Edit (Turn epoch nonce) ≡ asked = cc in absurd (subst (λ (a : Operation). Asks a name) (sym same) asks_it)
       by false f = absurd cc
 
   through-lines : (shown : List Page) (watcher : Watcher) → P watcher.name → OnPages shown
@@ -273,7 +273,7 @@ module _ (index_of : List ℕ → List ℕ) (after : Book) (P Q : List ℕ → T
   promised-named (request.Put verb name key) epoch (Ok answer) watchers named = handed-named name epoch key watchers named
   promised-named (request.Put verb name key) epoch (Err code) watchers named = named
   promised-named (request.Query question) epoch said watchers named = named
-  promised-named (request.Turn given epoch_asked) epoch said watchers named = named
+  promised-named (request.Turn given epoch_asked _) epoch said watchers named = named
 
   of-session : (session : ℕ) (texts : List (List ℕ)) → AllByRecursion Q (map (of_session session) texts)
   of-session session [] = tt

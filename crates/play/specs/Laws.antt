@@ -40,7 +40,7 @@ IsQuestioned Head other = ⊥
 abbrev pub IsRequested : RequestContent → List ℕ → Type 0
 IsRequested (Query question) other = IsQuestioned question other
 IsRequested (Put verb name key) other = ⊥
-IsRequested (Turn token epoch) other = ⊥
+IsRequested (Turn token epoch _) other = ⊥
 
 abbrev pub IsChecked : Option Line → List ℕ → Type 0
 IsChecked (Some (Ask requested)) other = IsRequested requested other

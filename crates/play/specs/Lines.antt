@@ -44,10 +44,14 @@ abbrev pub statement_text : ℕ → Option (List ℕ) → List ℕ
 statement_text epoch None = codes "absent " ++ decimal epoch
 statement_text epoch (Some key) = codes "present " ++ decimal epoch ++ codes " " ++ encode_lower key
 
+-- what is found of a name in a page, as the client says it
+abbrev pub found_text : (List ℕ → List ℕ) → Page → List ℕ → List ℕ
+found_text index_of page name = if is_double index_of page name then refused_proof else statement_text page.epoch (key_at page name)
+
 -- an answer to a line that asks: what is found, the client checks
 abbrev pub checked_text : (List ℕ → List ℕ) → Book → Answer → List ℕ
 checked_text index_of book (Promised name binding) = answer_text book (Promised name binding)
-checked_text index_of book (Found page name found) = if is_double index_of page name then refused_proof else statement_text page.epoch (key_at page name)
+checked_text index_of book (Found page name found) = found_text index_of page name
 checked_text index_of book (Told pages) = answer_text book (Told pages)
 checked_text index_of book (Last page) = answer_text book (Last page)
 

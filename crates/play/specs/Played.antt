@@ -28,7 +28,7 @@ abbrev pub after_promise : RequestContent → ℕ → Numbered → List Watcher 
 after_promise (Put verb name key) epoch (Ok answer) watchers = handed name epoch key watchers
 after_promise (Put verb name key) epoch (Err code) watchers = watchers
 after_promise (Query question) epoch said watchers = watchers
-after_promise (Turn token epoch_asked) epoch said watchers = watchers
+after_promise (Turn token epoch_asked _) epoch said watchers = watchers
 
 -- a piece of a session's stream: the session is opened, unless it is open or too many are, and takes it
 abbrev pub piece_events : ℕ → List ℕ → List Happening

@@ -1,12 +1,17 @@
 -- What a line of a script says (the form is this directory's own).
-use Rattle.std.specs.Prelude.{ℕ, ◌^◌, ◌-◌, ◌==◌, ◌&&◌, nat_le, if◌then◌else◌, List, [], ◌∷◌, Option, Some, None, codes, decimal, option_and_then, replicate}
+use Rattle.std.specs.Prelude.{ℕ, ◌≤◌, ◌^◌, ◌-◌, ◌==◌, ◌&&◌, nat_le, if◌then◌else◌, List, [], ◌∷◌, Option, Some, None, codes, decimal, option_and_then, replicate, ⊤}
 use Rattle.std.specs.List.{slice_split}
 use Rattle.std.specs.Str.{bytes_eq}
 use Rattle.std.specs.Result.{result_ok}
 use Rattle.std.specs.Str.Parse.{digits_value}
 use Rattle.hex.specs.Hex.{decode_of}
+use Rattle.textio.specs.Digits.{hex32}
 use Rattle.commands.specs.declared.edit.Verb.TheVariants.{Register, Change}
 use Rattle.commands.specs.Operations.{Promise, Lookup, History, Head}
+use Rattle.encoding.specs.declared.bounded.TheConstants.{MIN_LEN}
+use Rattle.encoding.specs.declared.key_data.TheConstants.{MAX_KEY_DATA_LEN}
+use Rattle.encoding.specs.declared.name.TheConstants.{MAX_NAME_LEN}
+use Rattle.wire.specs.declared.frame.TheConstants.{MAX_FRAME_LEN}
 use Rattle.wire.specs.Frames.{frame_size}
 use Rattle.wire.specs.Requests.{RequestContent, Query, Put, Turn, request_frame}
 use Rattle.book.specs.Answers.{is_within}
@@ -22,6 +27,14 @@ pub data Line : Type 0 where
   Piece : ℕ → List ℕ → Line
   -- this session ends
   End : ℕ → Line
+
+-- a frame can hold what the line asks
+abbrev pub Fits : Line → Type 0
+Fits Pass = ⊤
+Fits (Ask requested) = frame_size (request_frame requested) ≤ 65536
+Fits (Watch name start) = ⊤
+Fits (Piece session piece) = ⊤
+Fits (End session) = ⊤
 
 -- the token of the operator
 abbrev pub token : List ℕ
@@ -71,7 +84,7 @@ with_two word other_word said (_ ∷ _ ∷ _ ∷ _) = None
 
 -- a request that a frame can hold
 abbrev pub asking : RequestContent → Option Line
-asking requested = if nat_le (frame_size (request_frame requested)) 65536 then Some (Ask requested) else None
+asking requested = if nat_le (frame_size (request_frame requested)) MAX_FRAME_LEN then Some (Ask requested) else None
 
 abbrev pub key_or_none : List ℕ → Option (List ℕ)
 key_or_none [] = None
@@ -79,7 +92,7 @@ key_or_none (byte ∷ bytes) = Some (byte ∷ bytes)
 
 -- a name and a key of lengths that are allowed, or no key
 abbrev pub watching : List ℕ → List ℕ → Option Line
-watching name key = if is_within 1 255 name && is_within 0 2048 key then Some (Watch name (key_or_none key)) else None
+watching name key = if is_within MIN_LEN MAX_NAME_LEN name && is_within 0 MAX_KEY_DATA_LEN key then Some (Watch name (key_or_none key)) else None
 
 -- ---- lines
 
@@ -89,7 +102,8 @@ verbs =
     (codes "register", with_two hex_word hex_word (λ name key. asking (Put Register name key)))
     ∷ (codes "change", with_two hex_word hex_word (λ name key. asking (Put Change name key)))
     ∷ (codes "promise", with_one hex_word (λ name. asking (Query (Promise name))))
-    ∷ (codes "close", with_one epoch_word (λ epoch. asking (Turn token epoch)))
+    ∷ (codes "close", with_one epoch_word (λ epoch. asking (Turn token epoch None)))
+    ∷ (codes "rotate", with_two epoch_word hex32 (λ epoch nonce. asking (Turn token epoch (Some nonce))))
     ∷ (codes "head", with_none (asking (Query Head)))
     ∷ (codes "lookup", with_two hex_word epoch_word (λ name epoch. asking (Query (Lookup name epoch))))
     ∷ (codes "history", with_two epoch_word count_word (λ from count. asking (Query (History from count))))

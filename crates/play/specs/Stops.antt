@@ -9,6 +9,7 @@ other_lines =
     ∷ codes "register 616 6b" ∷ codes "register 6g 6b" ∷ codes "register -- 6b"
     ∷ codes "close 02" ∷ codes "close +2" ∷ codes "close -2" ∷ codes "close 0x2" ∷ codes "close -"
     ∷ codes "close 18446744073709551616" ∷ codes "history 18446744073709551616 1" ∷ codes "history 0 65536"
+    ∷ codes "rotate 2" ∷ codes "rotate 2 -" ∷ codes "rotate 2 00" ∷ (codes "rotate 2 " ++ repeated 33 (codes "00")) ∷ (codes "rotate " ++ repeated 32 (codes "00"))
     ∷ codes "bytes 0 0000000106" ∷ codes "bytes 4294967296 0000000106" ∷ codes "end 0"
     ∷ (codes "watch " ++ repeated 256 (codes "61") ++ codes " 6b") ∷ codes "watch - 6b"
     ∷ []

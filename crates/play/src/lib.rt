@@ -2,21 +2,30 @@
 //!
 //! A script has one hub, one client, one auditor, and monitors of names. Each line is a command to the
 //! directory, a piece of another session, or the watching of a name, and prints what comes of it. What it
-//! prints is the definition `printed`, which computes. The call that plays a script is still to come.
+//! prints is the definition `printed`, which computes. `play` plays a script.
 //!
-//! Callers can rely on this: what a directory and a hub answer, unless memory ran out or a record was not
-//! kept, and what clients and monitors make of it, is what the definition prints. It has no line for evidence.
-//! What users see of an honest provider's run decides what their own calls return.
+//! Callers can rely on this: `play` writes exactly what the definition prints for the script that it reads, up
+//! to the first line that is no command, or a beginning of that if a read or a write fails or memory runs
+//! out. The contract speaks of the text alone, and not of who asks and checks. The definition has no line for
+//! evidence. What users see of an honest provider's run decides what their own calls return.
 #![tactic(auto)]
 
+mod ask;
+mod beginning;
+mod engine;
 mod laws;
+mod line;
+mod lines;
+mod playing;
+mod telling;
 mod worked;
 
 pub use laws::{
     answers_are_told, checks_are_told, honest, lines_are_plain, pages_go_on, promises_are_in_time,
     runs_are_heard, sessions_are_heard,
 };
+pub use playing::play;
 pub use worked::{
     lines_that_stop, long_names, monitor_scripts, names_and_epochs, one_index_scripts,
-    session_scripts, worked_scripts,
+    rotation_scripts, session_scripts, worked_scripts,
 };

@@ -3,6 +3,7 @@ ghost use Rattle.play.specs.DoubleScripts.{absence, one_index};
 ghost use Rattle.play.specs.LongNames.{limits_of_names_and_keys};
 ghost use Rattle.play.specs.MonitorScripts.{alarm, change_by_another_session, monitors, promise_of_another_session, several_closings_in_one_piece};
 ghost use Rattle.play.specs.NamesAndEpochs.{old_epochs, words_of_lines};
+ghost use Rattle.play.specs.Rotations.{rotations, rotations_in_frames};
 ghost use Rattle.play.specs.Rows.{AreNoCommands, PrintRows, PrintRowsApart, PrintRowsTogether, PrintsUnder, StopsAt};
 ghost use Rattle.play.specs.SessionScripts.{only_the_operator_closes, refusals_in_frames, two_sessions};
 ghost use Rattle.play.specs.Stops.{long_key_line, long_line, other_lines};
@@ -47,6 +48,12 @@ pub fn session_scripts()
     ensures two_sessions { PrintRowsApart two_sessions }
     ensures refusals_in_frames { PrintRowsApart refusals_in_frames }
     ensures only_the_operator_closes { PrintRows only_the_operator_closes }
+{}
+
+/// Pages under other nonces.
+pub fn rotation_scripts()
+    ensures rotations { PrintRows rotations }
+    ensures rotations_in_frames { PrintRows rotations_in_frames }
 {}
 
 /// Two names that have one index.

@@ -21,7 +21,7 @@ use Rattle.prefixtree.specs.declared.node.Children.{Children}
 use Rattle.prefixtree.specs.declared.node.Node.{Node}
 use Rattle.prefixtree.specs.declared.node.Node.TheVariants.{Interior}
 use Rattle.prefixtree.specs.declared.place.Before.{Before}
-use Rattle.prefixtree.specs.declared.place.Before.TheVariants.{Made, Moved, Nothing}
+use Rattle.prefixtree.specs.declared.place.Before.TheVariants.{Made, Moved, Nothing, Stale}
 use Rattle.prefixtree.specs.declared.place.Outcome.{Outcome}
 use Rattle.prefixtree.specs.declared.place.Outcome.TheVariants.{Parted}
 use Rattle.prefixtree.proofs.Built.{sides}
@@ -118,6 +118,31 @@ module _ (of : List ℕ → List ℕ) (nonce prefix : List ℕ) (level : ℕ) (c
             ∙ (λ i. put_all (sym left_items i) zs ++ put_all (sym right_items i) os);
         counted = made_count-halves level (contents n) changes p several some
             ∙ (λ i. made_count (256 - (level + 1)) (ez i) zs + made_count (256 - (level + 1)) (eo i) os + 1);
+      }
+
+  -- where an interior node of another nonce stands
+  pub stale-parted : {n : Node} {children : Rc Children Global} {kept : List ℕ} (was : List ℕ) (zero_side one_side : Node) → n ≡ Interior kept children → IsBuilt of was prefix level n
+      → ((of : List ℕ → List ℕ) (nonce prefix : List ℕ) (level : ℕ) → IsBuilt of nonce prefix level children.value.zero_side → IsBuilt of nonce prefix level zero_side) → contents zero_side ≡ contents children.value.zero_side
+      → ((of : List ℕ → List ℕ) (nonce prefix : List ℕ) (level : ℕ) → IsBuilt of nonce prefix level children.value.one_side → IsBuilt of nonce prefix level one_side) → contents one_side ≡ contents children.value.one_side
+      → AreSides of nonce prefix level (contents n) changes (node_count (256 - level) (put_all (contents n) changes)) (Stale zero_side) (Stale one_side)
+  stale-parted {n} {children} {kept} was zero_side one_side is built left left_items right right_items =
+      let s = sides of was prefix level under.whole is built in
+      let p : level < 256 = s.below_256 in
+      let a : Node = children.value.zero_side in
+      let b : Node = children.value.one_side in
+      let zs : Items = half 0 level changes in
+      let os : Items = half 1 level changes in
+      let held : contents n ≡ contents a ++ contents b = ap contents is in
+      let two : 1 < length (put_all (contents a ++ contents b) changes) = omega (arith, s.two, length_le-put_all changes (contents a ++ contents b)) in
+      record {
+        below_256 = p;
+        zeros = record { under = under-zeros prefix level changes p under; stands = (was, left of was prefix (level + 1) s.left) };
+        ones = record { under = under-ones prefix level changes p under; stands = (was, right of was (with_one prefix level) (level + 1) s.right) };
+        two = rw held two;
+        both = ap (λ (l : Items). put_all l changes) held ∙ put_all-sides prefix level p changes under (contents a) (contents b) s.zeros s.ones
+            ∙ (λ i. put_all (sym left_items i) zs ++ put_all (sym right_items i) os);
+        counted = ap (λ (l : Items). node_count (256 - level) (put_all l changes)) held ∙ node_count-sides prefix level p changes under (contents a) (contents b) s.zeros s.ones two
+            ∙ (λ i. node_count (256 - (level + 1)) (put_all (sym left_items i) zs) + node_count (256 - (level + 1)) (put_all (sym right_items i) os) + 1);
       }
 
 -- ---- one item and some changes

@@ -8,7 +8,7 @@ use Rattle.prefixtree.specs.Under.{IsUnder}
 use Rattle.prefixtree.specs.Changes.{made_count}
 use Rattle.prefixtree.specs.Built.{contents, IsBuilt}
 use Rattle.prefixtree.specs.declared.place.Before.{Before}
-use Rattle.prefixtree.specs.declared.place.Before.TheVariants.{Made, Moved, Nothing}
+use Rattle.prefixtree.specs.declared.place.Before.TheVariants.{Made, Moved, Nothing, Stale}
 use Rattle.prefixtree.specs.declared.place.Outcome.{Outcome}
 use Rattle.prefixtree.specs.declared.place.Outcome.TheVariants.{Kept, Vacant, Single, Parted}
 
@@ -17,6 +17,7 @@ abbrev pub standing : Before → Items
 standing (Made node) = contents node
 standing (Moved item) = item.value ∷ []
 standing Nothing = []
+standing (Stale node) = contents node
 
 -- the items that stand there after them
 abbrev pub grown : Before → Items → Items
@@ -27,6 +28,7 @@ abbrev pub grown_count : ℕ → Before → Items → ℕ
 grown_count below (Made node) changes = made_count below (contents node) changes
 grown_count below (Moved item) changes = node_count below (put_all (item.value ∷ []) changes)
 grown_count below Nothing changes = node_count below (put_all [] changes)
+grown_count below (Stale node) changes = node_count below (put_all (contents node) changes)
 
 module _ (of : List ℕ → List ℕ) (nonce : List ℕ) where
   -- what stands at a place is its own
@@ -34,6 +36,7 @@ module _ (of : List ℕ → List ℕ) (nonce : List ℕ) where
   IsStanding prefix level (Made node) = IsBuilt of nonce prefix level node
   IsStanding prefix level (Moved item) = Is32Bytes item.value.0 × (cut item.value.0 level ≡ prefix)
   IsStanding prefix level Nothing = Unit {0}
+  IsStanding prefix level (Stale node) = (was : List ℕ) × IsBuilt of was prefix level node
 
   -- what stands at a place, and changes that belong below it
   pub record IsAt (prefix : List ℕ) (level : ℕ) (before : Before) (changes : Items) : Type 0 where

@@ -1,6 +1,7 @@
-//! Putting many items into a node at once. A place with few changes below it is made level by level,
-//! with the digests of a level taken together. Else a place is split into its two sides: with many
-//! changes, so that rows stay short, and with one to three, since rows would only cost time.
+//! Putting many items into a node at once, and making a node anew under another nonce. A place with few
+//! changes below it, or few nodes to make anew, is made level by level, with the digests of a level
+//! taken together. Else a place is split into its two sides: with many, so that rows stay short, and
+//! with the fewest, since rows would only cost time.
 ghost use Rattle.std.specs.Prelude.{◌≡◌, ◌+◌, ◌-◌, ◌<◌, ◌≤◌, ◌++◌, IfOk, OnOk};
 ghost use Rattle.nodehash.specs.Digests.{after_digests};
 ghost use Rattle.prefixtree.specs.Node.{half};
@@ -22,6 +23,21 @@ const FEWEST_TOGETHER: usize = 4;
 
 /// The most changes whose nodes are made level by level.
 const MOST_TOGETHER: usize = 256;
+
+/// The most nodes of another nonce that are made anew level by level.
+const MOST_NODES_TOGETHER: usize = 512;
+
+/// Whether the nodes of a place are made level by level.
+fn is_made_together(before: &Before, changes: &[Item]) -> bool {
+    match before {
+        Before::Stale(node) => {
+            (changes.len() >= FEWEST_TOGETHER || node.room_beside(FEWEST_TOGETHER).is_none())
+                && changes.len() <= MOST_TOGETHER
+                && node.room_beside(MOST_NODES_TOGETHER).is_some()
+        }
+        _ => changes.len() >= FEWEST_TOGETHER && changes.len() <= MOST_TOGETHER,
+    }
+}
 
 /// The items with bit `level` equal to 0, and those with bit `level` equal to 1.
 pub(crate) fn halves<'a>(items: &'a [Item], level: usize) -> (&'a [Item], &'a [Item])
@@ -52,7 +68,7 @@ pub(crate) fn grow<H: NodeHash>(
     ensures work { H.digests hash.new ≤ H.digests hash.old + grown_count (256 - level) before changes.now }
     ensures exact { OnOk result (H.digests hash.new ≡ after_digests (grown_count (256 - level) before changes.now) (H.digests hash.old)) }
 {
-    if changes.len() >= FEWEST_TOGETHER && changes.len() <= MOST_TOGETHER {
+    if is_made_together(&before, changes) {
         return grow_together(alloc, hash, nonce, prefix, level, before, changes);
     }
     match before.into_outcome(alloc, level, changes)? {

@@ -1,7 +1,7 @@
 //! What becomes of a place of a tree when there are changes below it. The place keeps its node if there
 //! is no change. If one item or none is there afterwards, a leaf or an empty node is made. Else the
 //! place is split by the next bit: an interior node's children go to their sides, and the item of a
-//! leaf goes down to the side of its bit.
+//! leaf goes down to the side of its bit. A place keeps no node of another nonce: all are made anew.
 ghost use Rattle.std.specs.Prelude.{◌≡◌, ℕ, List, [], ◌∷◌, ◌-◌, ◌<◌, ◌≤◌, ◌==◌, if◌then◌else◌, IfOk};
 ghost use Rattle.std.specs.declared.rc.Rc.{Rc};
 ghost use Rattle.std.specs.declared.alloc.Global.{Global};
@@ -31,6 +31,8 @@ pub(crate) enum Before {
     Moved(Rc<Item>),
     /// No item and no node.
     Nothing,
+    /// A node that was made there under another nonce.
+    Stale(Node),
 }
 
 /// What comes to stand at a place.
@@ -123,6 +125,29 @@ fn of_node(
     }
 }
 
+/// What becomes of a place that has this node of another nonce: it is made anew.
+fn of_stale(
+    alloc: Global,
+    level: usize,
+    node: &Node,
+    changes: &[Item],
+) -> Result<Outcome, AllocError>
+    requires level { level ≤ 256 }
+    requires under { (of : List ℕ → List ℕ) × (was : List ℕ) × (prefix : List ℕ) × IsUnder prefix level changes.now × IsBuilt of was prefix level node.now }
+    ensures { IfOk result (λ outcome. (of : List ℕ → List ℕ) (nonce was prefix : List ℕ) → IsUnder prefix level changes.now → IsBuilt of was prefix level node.now
+        → Comes of nonce prefix level (contents node.now) changes.now (node_count (256 - level) (put_all (contents node.now) changes.now)) outcome) }
+{
+    match node {
+        Node::Empty { .. } => of_nothing(alloc, level, changes),
+        Node::Leaf { item, .. } => of_item(alloc, level, item, changes),
+        Node::Interior { children, .. } => {
+            let zero_side = Before::Stale(children.zero_side.share()?);
+            let one_side = Before::Stale(children.one_side.share()?);
+            Ok(Outcome::Parted(zero_side, one_side))
+        }
+    }
+}
+
 impl Before {
     /// What becomes of a place where this stands.
     pub(crate) fn becomes(
@@ -140,6 +165,7 @@ impl Before {
             Before::Made(node) => of_node(alloc, level, node, changes),
             Before::Moved(item) => of_item(alloc, level, item, changes),
             Before::Nothing => of_nothing(alloc, level, changes),
+            Before::Stale(node) => of_stale(alloc, level, node, changes),
         }
     }
 

@@ -1,4 +1,7 @@
+//! A reply is checked by one test for each refusal, in their order. The last one climbs from the node at
+//! the reply's end to the root, with one digest for each sibling, and compares.
 ghost use Rattle.std.specs.Prelude.{◌≡◌, ◌≢◌, ◌↔◌, ◌+◌, ◌≤◌, ℕ, List, Option, length, IfErr, IfOk, IsOkAnd, IsTrue};
+ghost use Rattle.prefixtree.specs.declared.path.TheConstants.{MAX_SIBLINGS};
 ghost use Rattle.proofs.specs.Accepts.{stated, Accepts};
 ghost use Rattle.proofs.specs.Comparisons.{IsAcceptedReply, Refuses};
 ghost use Rattle.proofs.specs.PathEnds.{end_of_path, end_text};
@@ -143,7 +146,7 @@ pub fn accept<'a, H: NodeHash, V: VufCheck>(
     ensures refused { IfErr result (Refuses H.digest_of V.accepted body.now name.now bytes.entry.now) }
     ensures kept { IfOk result (λ accepted. accepted ≡ record { name = name.now; reply = accepted.reply }) }
     ensures accepted { IfOk result (λ accepted. IsAcceptedReply H.digest_of V.accepted body.now name.now bytes.entry.now accepted.reply) }
-    ensures counted { H.digests hash.new ≤ H.digests hash.old + 259 }
+    ensures counted { H.digests hash.new ≤ H.digests hash.old + (MAX_SIBLINGS + 3) }
 {
     // The prover does not cover `?` in a function with clauses whose result holds a view.
     match ReplyView::read(bytes) {

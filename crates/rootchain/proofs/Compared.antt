@@ -16,7 +16,7 @@ use Rattle.rootchain.specs.Walks.{AreApartPlaces, AreLastPlaces, IsCleared, IsDi
 use Rattle.rootchain.proofs.BodyTexts.{same_text}
 use Rattle.rootchain.proofs.Chains.{ascend-linked}
 use Rattle.rootchain.proofs.Places.{one-first, Parts}
-use Rattle.rootchain.proofs.Walks.{at-place, up-at, up-to}
+use Rattle.rootchain.proofs.Walks.{at-place, epoch-of, up-at, up-to}
 
 abbrev Roots : Type 0
 Roots = List SignedRoot
@@ -24,9 +24,6 @@ Roots = List SignedRoot
 -- the roots before this place have epochs up to this one, and the others do not
 abbrev PartsAt : Roots → ℕ → ℕ → Type 0
 PartsAt roots epoch place = IsPartitionPoint (λ (root : SignedRoot). root.body.epoch ≤ epoch) (λ (root : SignedRoot). epoch < root.body.epoch) roots place
-
-epochs : (x y : SignedRoot) → x.body ≡ y.body → x.body.epoch ≡ y.body.epoch
-epochs x y e = ap (λ b. b.epoch) e
 
 -- the roots at places, and those that a list contains
 pub contains : (roots : Roots) (k : ℕ) (x : SignedRoot) → slice_get roots k ≡ Some x → Contains roots x
@@ -87,7 +84,7 @@ module _ (one other : KeyedRoots) (up : Ascend one.roots) (up' : Ascend other.ro
       let also : SignedRoot = get_or other.roots l root in
       let is : slice_get other.roots l ≡ Some also = slice_get-get_or other.roots l root there in
       let same : root.body ≡ also.body = run.same k l root also least most step here is in
-      (also, (contains other.roots l also is, sym (epochs root also same) ∙ held.1), same)
+      (also, (contains other.roots l also is, sym (epoch-of root also same) ∙ held.1), same)
 
 -- a run is one of the two lists in the other order too
 turned : (ones others : Roots) (i j to to' : ℕ) → IsRun ones others i j to to' → IsRun others ones j i to' to
@@ -194,7 +191,7 @@ compared_unshared one other up up' first also from i j at-first at-also low low'
 -- the last two places are those of the last epoch at which both have one body
 last-one : (one other : KeyedRoots) → Ascend one.roots → (i j : ℕ) (last : AreLastPlaces one.roots other.roots i j) → IsLastOne one other last.one.body.epoch
 last-one one other up i j last = record {
-  here = (last.one, last.other, (contains one.roots i last.one last.at-one, refl), (contains other.roots j last.other last.at-other, sym (epochs last.one last.other last.same)), last.same);
+  here = (last.one, last.other, (contains one.roots i last.one last.at-one, refl), (contains other.roots j last.other last.at-other, sym (epoch-of last.one last.other last.same)), last.same);
   none-later = λ later less shared.
       let held = shared.2 in
       let at = placed one.roots shared.0 held.0 in
@@ -239,7 +236,7 @@ module _ (one other : KeyedRoots) (up : Ascend one.roots) (up' : Ascend other.ro
                 let inside' = slice_get_within other.roots to' t' at' in
                 let v : SignedRoot = get_or other.roots j x in
                 let at-v : slice_get other.roots j ≡ Some v = slice_get-get_or other.roots j x (omega (arith, none, inside')) in
-                let same = epochs u v (run.same i j u v (omega arith) low run.step at-u at-v) in
+                let same = epoch-of u v (run.same i j u v (omega arith) low run.step at-u at-v) in
                 let order = up-at one.roots up k i x u a at-u less in
                 let order' = up-to other.roots up' j spans.has-low.0 v spans.low at-v (placed other.roots spans.low spans.has-low) (omega (arith, none)) in
                 let bound = spans.not-later in
@@ -265,7 +262,7 @@ pub compared_shared : (one other : KeyedRoots) → Ascend one.roots → Ascend o
     IsRun one.roots other.roots low low' i j → (low ≡ 0) ⊎ (low' ≡ 0) → (result : Compare) → IsDivergence one.roots other.roots (i + 1) (j + 1) result → IsComparedWithin one other result
 compared_shared one other up up' i j low low' last run ends result h =
     let t : ℕ = last.one.body.epoch in
-    let same : t ≡ last.other.body.epoch = epochs last.one last.other last.same in
+    let same : t ≡ last.other.body.epoch = epoch-of last.one last.other last.same in
     let has = contains one.roots i last.one last.at-one in
     let has' = contains other.roots j last.other last.at-other in
     let alike : (epoch : ℕ) → epoch < t → IsCommon one other epoch → AreAlikeAt one other epoch = λ epoch most common. (
@@ -310,7 +307,7 @@ compared_apart hash verified one other is is' i j k l last apart x y ex ey diffe
     let named = link-at hash verified one is k apart.one u apart.at-one at-u in
     let named' = link-at hash verified other is' l apart.other v apart.at-other at-v in
     let epoch : apart.one.body.epoch ≡ apart.other.body.epoch = sym named.0 ∙ ap (λ b. b.previous_epoch) same ∙ named'.0 in
-    let shared : last.one.body.epoch ≡ last.other.body.epoch = epochs last.one last.other last.same in
+    let shared : last.one.body.epoch ≡ last.other.body.epoch = epoch-of last.one last.other last.same in
     let has = contains one.roots k apart.one apart.at-one in
     let has' = contains other.roots l apart.other apart.at-other in (
       (
@@ -395,7 +392,7 @@ cleared_ends one other up up' ones others eo eo' head last top i j at-head at-la
       clear = λ k l x y a b either same.
           let p = slice_get_within one.roots k x a in
           let q = slice_get_within other.roots l y b in
-          let e = epochs x y same in
+          let e = epoch-of x y same in
           let high = up-to one.roots up k (length one.roots - 1) x head a at-head (omega (arith, p)) in
           let high' = up-to other.roots up' l (length other.roots - 1) y last b at-last (omega (arith, q)) in
           let low : top < x.body.epoch = elim either [

@@ -16,10 +16,12 @@ use Rattle.rootchain.specs.declared.signed_root.SignedRoot.{SignedRoot}
 use Rattle.rootchain.specs.declared.root_feed.Next.{Next}
 use Rattle.rootchain.specs.declared.root_feed.Next.TheVariants as next
 use Rattle.rootchain.specs.Bodies.{body_bytes, IsBody}
-use Rattle.rootchain.specs.FeedViews.{TellsNext}
+use Rattle.rootchain.specs.declared.root_feed.Stage.{Stage}
+use Rattle.rootchain.specs.declared.root_feed.Stage.TheVariants as stage
+use Rattle.rootchain.specs.FeedViews.{held_of, TellsNext}
 use Rattle.rootchain.specs.RootLists.{read_root_count, SpellsRoots}
 use Rattle.rootchain.specs.SignedRoots.{read_signed_root, signed_root_bytes, IsSignedRoot}
-use Rattle.rootchain.specs.RootFeeds.{front, front_read, front_sized, read_signature_len, told, told_by, told_counted, told_from, Front, Held, Bad, Counts, Done, Failed, Owes, Part, Whole}
+use Rattle.rootchain.specs.RootFeeds.{front, front_read, front_sized, least_len, least_root_len, read_signature_len, told, told_by, told_counted, told_from, Front, Held, Bad, Counts, Done, Failed, IsHeld, Owes, Part, Whole}
 use Rattle.rootchain.specs.Readable.{signed_root_field}
 use Rattle.rootchain.proofs.RootLists.{count_field}
 
@@ -409,3 +411,57 @@ list-spelled bytes roots is =
   where
     few_is : (count : ℕ) → count ≤ 64 → is_within 0 64 count ≡ true
     few_is count few = rw (le-leb 0 count (omega arith), le-leb count 64 few) refl
+
+-- ---- less than a root, or than the number of roots
+
+len_some : (bytes : List ℕ) (size : ℕ) (rest : List ℕ) → read_signature_len bytes ≡ Ok (size, rest) → 148 ≤ length bytes
+unfolding read_signature_len
+len_some bytes size rest e =
+    let u = bind_ok (read_bytes 146 bytes) (λ k. read_number 2 k.1) (size, rest) e in
+    let v = bind_ok (read_bytes 2 u.0.1) (λ x. Ok (big_number 2 x.0, x.1)) (size, rest) u.2 in
+    let body = bytes_long 146 bytes u.0 u.1 in
+    let two = (bytes_long 2 u.0.1 v.0 v.1).0 in
+    omega (arith, body.0, two, ap (λ (z : List ℕ × List ℕ). length z.1) body.1, length-drop 146 bytes)
+
+-- fewer bytes than these are less than a root
+few-part : (bytes : List ℕ) → length bytes < 148 → front bytes ≡ Part
+few-part bytes short = is (read_signature_len bytes) refl
+  where
+    is : (r : Reading ℕ) → read_signature_len bytes ≡ r → front bytes ≡ Part
+    is (Err fault) e = front-short bytes fault e
+    is (Ok (size, rest)) e = absurd (omega (arith, short, len_some bytes size rest e))
+
+-- a root has a signature of at most 256 bytes
+pub len-few : (bytes : List ℕ) (size : ℕ) (rest : List ℕ) → read_signature_len bytes ≡ Ok (size, rest) → front bytes ≡ Part → size ≤ 256
+len-few bytes size rest e part = elim (cases_lt 256 size) [
+  | inl large ↦ absurd (never (sym (front-bad bytes size rest e large) ∙ part))
+  | inr few ↦ few
+]
+  where
+    never : Bad ≡ Part → ⊥
+    never e = cc
+
+least-part : (held piece : List ℕ) → front held ≡ Part → length held + length piece < least_root_len (read_signature_len held)
+    → (front (held ++ piece) ≡ Part) × (length held + length piece ≤ 404)
+least-part held piece part short = is (read_signature_len held) refl
+  where
+    is : (r : Reading ℕ) → read_signature_len held ≡ r → (front (held ++ piece) ≡ Part) × (length held + length piece ≤ 404)
+    is (Err fault) e =
+        let few = subst (λ (r : Reading ℕ). length held + length piece < least_root_len r) e short in
+        (few-part (held ++ piece) (omega (arith, few, length-append held piece)), omega (arith, few))
+    is (Ok (size, rest)) e =
+        let few = subst (λ (r : Reading ℕ). length held + length piece < least_root_len r) e short in
+        let most = len-few held size rest e part in
+        (front-part (held ++ piece) size (rest ++ piece) (len_more held size rest piece e) most (omega (arith, few, length-append held piece)), omega (arith, few, most))
+
+-- a piece that leaves less than is needed is held
+pub part-is-held : (stage : Stage) (held piece : List ℕ) → IsHeld (held_of stage held) → length held + length piece < least_len (held_of stage held)
+    → (told_from (held_of stage held) piece ≡ ([], held_of stage (held ++ piece))) × (held_of stage (held ++ piece) ≢ Failed) × IsHeld (held_of stage (held ++ piece)) × (length held + length piece ≤ 404)
+part-is-held stage.Count held piece is short =
+    let few : length (held ++ piece) < 2 = omega (arith, short, length-append held piece) in
+    (ap (λ (r : Reading ℕ). told_counted r (held ++ piece)) (count_short (held ++ piece) few), (λ e. cc), few, omega (arith, short))
+part-is-held (stage.Roots zero) held piece is short = absurd (omega (arith, short))
+part-is-held (stage.Roots (suc left)) held piece is short =
+    let part = least-part held piece is.1 short in
+    (ap (λ (f : Front). told_by f (suc left) (held ++ piece) (told left)) part.0, (λ e. cc), (is.0, part.0, λ none. absurd cc), part.1)
+part-is-held stage.Failed held piece is short = absurd (omega (arith, short))

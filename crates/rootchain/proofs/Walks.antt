@@ -12,7 +12,7 @@ use Rattle.rootchain.proofs.Places.{one-first, rising}
 abbrev Roots : Type 0
 Roots = List SignedRoot
 
-epoch-of : (x y : SignedRoot) → x.body ≡ y.body → x.body.epoch ≡ y.body.epoch
+pub epoch-of : (x y : SignedRoot) → x.body ≡ y.body → x.body.epoch ≡ y.body.epoch
 epoch-of x y e = ap (λ b. b.epoch) e
 
 -- the root at a place

@@ -1,5 +1,5 @@
 -- What is held, by a feed's stage and its bytes; and what its answers say.
-use Rattle.std.specs.Prelude.{◌≡◌, ◌≢◌, ℕ, List, [], ◌∷◌}
+use Rattle.std.specs.Prelude.{◌≡◌, ◌≢◌, ℕ, Bool, true, false, List, [], ◌∷◌}
 use Rattle.rootchain.specs.declared.root_feed.Next.{Next}
 use Rattle.rootchain.specs.declared.root_feed.Next.TheVariants as next
 use Rattle.rootchain.specs.declared.root_feed.Stage.{Stage}
@@ -23,6 +23,11 @@ abbrev pub TellsNext : Held → List ℕ → Next → Held → Type 0
 TellsNext held piece (next.Root root rest) after = told_from held piece ≡ (let more = told_from after rest.now in (root ∷ more.0, more.1))
 TellsNext held piece next.Wait after = (told_from held piece ≡ ([], after)) × (after ≢ Failed)
 TellsNext held piece next.Failed after = (told_from held piece ≡ ([], Failed)) × (after ≡ Failed)
+
+-- a piece that makes no root whole is held, or nothing of it
+abbrev pub TakesPart : Held → List ℕ → Bool → Held → Type 0
+TakesPart held piece true after = (told_from held piece ≡ ([], after)) × (after ≢ Failed)
+TakesPart held piece false after = after ≡ held
 
 -- a root that is told has a spelling
 abbrev pub IsRootOf : Next → Type 0

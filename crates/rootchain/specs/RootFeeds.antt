@@ -73,6 +73,18 @@ told_from (Counts bytes) piece = told_counted (read_root_count (bytes ++ piece))
 told_from (Owes left bytes) piece = told left (bytes ++ piece)
 told_from Failed piece = ([], Failed)
 
+-- how many bytes the first root has at least, by those of it that are there
+abbrev pub least_root_len : Reading ℕ → ℕ
+least_root_len (Ok (size, _)) = 148 + size
+least_root_len (Err fault) = 148
+
+-- how many bytes there are at least once the number of roots, or the first root, is whole; none where no root is to come
+abbrev pub least_len : Held → ℕ
+least_len (Counts bytes) = 2
+least_len (Owes zero bytes) = 0
+least_len (Owes (suc left) bytes) = least_root_len (read_signature_len bytes)
+least_len Failed = 0
+
 -- what may be held: less than the number, or less than a root
 abbrev pub IsHeld : Held → Type 0
 IsHeld (Counts bytes) = length bytes < 2

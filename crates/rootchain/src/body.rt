@@ -1,5 +1,6 @@
 ghost use Rattle.std.specs.Prelude.{◌≡◌, length, IsOkUnless};
 ghost use Rattle.encoding.specs.Fields.{ReadsWhole};
+ghost use Rattle.rootchain.specs.declared.body.TheConstants.{BODY_LEN};
 ghost use Rattle.rootchain.specs.declared.refusal.Refusal.TheVariants.{Malformed};
 ghost use Rattle.rootchain.specs.Bodies.{body_bytes, is_well_formed, read_body, IsBody, IsSized, IsWellFormed};
 
@@ -11,7 +12,7 @@ use encoding::{Cursor, Fault, FixedText, Form, Hash32};
 const HEAD: [u8; 2] = [0x52, 1];
 
 /// How many bytes a body has.
-pub(crate) const BODY_LEN: usize = 146;
+pub const BODY_LEN: usize = 146;
 
 /// The bytes of a body.
 pub type BodyText = FixedText<BODY_LEN>;
@@ -45,7 +46,7 @@ impl Body {
     /// The 146 bytes of the body, which `read` accepts where the body is well formed.
     pub fn write(&self) -> BodyText
         ensures value { result ≡ body_bytes self.now }
-        ensures len { length result ≡ 146 }
+        ensures len { length result ≡ BODY_LEN }
         ensures sized { IsSized self.now }
         ensures form { IsWellFormed self.now → IsBody self.now }
     {

@@ -34,7 +34,7 @@ mod signed_promise;
 mod signed_root;
 mod whole;
 
-pub use body::{Body, BodyText};
+pub use body::{BODY_LEN, Body, BodyText};
 pub use chain::{Chain, Place};
 pub use compare::Compare;
 pub use evidence::RootEvidence;
@@ -48,6 +48,6 @@ pub use piece_refusal::PieceRefusal;
 pub use promise::Promise;
 pub use refusal::Refusal;
 pub use root_feed::RootFeed;
-pub use root_list::{MAX_ROOTS, RootList, list_len, write_list};
+pub use root_list::{MAX_LIST_LEN, MAX_ROOTS, RootList, list_len, write_list};
 pub use signed_promise::SignedPromise;
-pub use signed_root::{SignedRoot, SignedRootText};
+pub use signed_root::{MAX_SIGNED_ROOT_LEN, SignedRoot, SignedRootText};

@@ -1,7 +1,12 @@
+//! A list of roots in pieces. The bytes of the next root are held: first up to the length of its
+//! signature, and then up to its end. A root that is whole is returned, and its bytes fall. Bytes that no
+//! list has there, and bytes after the last root, end the feed. A piece that is too short for any of this
+//! is only held: that is quick, since it makes no room for a root.
 ghost use Rattle.std.specs.Prelude.{◌≡◌, ◌⊎◌, ◌↔◌, ◌+◌, ◌≤◌, ◌++◌, [], length, IsTrue};
 ghost use Rattle.encoding.specs.Reading.{Gives};
-ghost use Rattle.rootchain.specs.FeedViews.{held_of, IsFront, IsRootOf, TellsNext};
-ghost use Rattle.rootchain.specs.RootFeeds.{front, read_signature_len, Counts, Done, Failed, IsHeld, Owes, Part};
+ghost use Rattle.rootchain.specs.FeedViews.{held_of, IsFront, IsRootOf, TakesPart, TellsNext};
+ghost use Rattle.rootchain.specs.RootFeeds.{front, least_len, read_signature_len, Counts, Done, Failed, IsHeld, Owes, Part};
+ghost use Rattle.rootchain.specs.declared.signed_root.TheConstants.{MAX_SIGNED_ROOT_LEN};
 
 use crate::SignedRoot;
 use crate::body::BODY_LEN;
@@ -112,12 +117,51 @@ impl RootFeed {
         }
     }
 
+    /// Takes the piece where it is too short to make a root whole, and returns whether it took it. A piece
+    /// with the end of the number of roots, or of the length of a signature, is left to `next`.
+    pub(crate) fn take_part(&mut self, piece: &[u8]) -> bool
+        ensures { TakesPart self.old piece.now result self.new }
+    {
+        add_part(self.stage, &mut self.held, piece)
+    }
+
     /// Takes the first root that the piece makes whole. If there is none, the feed takes the piece.
     pub(crate) fn next<'a>(&mut self, piece: &'a [u8]) -> Next<'a>
         ensures tells { TellsNext self.old piece.entry.now result self.new }
         ensures form { IsRootOf result }
     {
         advance(&mut self.stage, &mut self.held, piece)
+    }
+}
+
+/// `RootFeed::take_part` on the fields of a feed.
+fn add_part(stage: Stage, held: &mut SignedRootText, piece: &[u8]) -> bool
+    requires { IsHeld (held_of stage held.old) }
+    ensures part { TakesPart (held_of stage held.old) piece.now result (held_of stage held.new) }
+    ensures held { IsHeld (held_of stage held.new) }
+{
+    let missing = least_len(stage, held.bytes()).saturating_sub(held.bytes().len());
+    if missing <= piece.len() {
+        return false;
+    }
+    held.push_slice(piece);
+    true
+}
+
+/// How many bytes there are at least once the number of roots, or the first root, is whole. Where no root
+/// is to come, 0.
+fn least_len(stage: Stage, held: &[u8]) -> usize
+    requires { IsHeld (held_of stage held.now) }
+    ensures { result ≡ least_len (held_of stage held.now) }
+{
+    match stage {
+        Stage::Count => COUNT_LEN,
+        Stage::Roots(0) => 0,
+        Stage::Roots(_) => match read_signature_len(&mut Cursor::new(held)) {
+            Ok(signature_len) => FIXED_LEN + signature_len,
+            Err(_) => FIXED_LEN,
+        },
+        Stage::Failed => 0,
     }
 }
 
@@ -217,7 +261,7 @@ fn read_signature_len(cursor: &mut Cursor<'_>) -> Result<usize, Fault>
 
 /// Moves bytes of the piece to those that are held until these are so many, and returns what is left.
 fn fill<'a>(held: &mut SignedRootText, len: usize, piece: &'a [u8]) -> &'a [u8]
-    requires { len ≤ 404 }
+    requires { len ≤ MAX_SIGNED_ROOT_LEN }
     ensures joined { held.new ++ result.now ≡ held.old ++ piece.entry.now }
     ensures full { (len ≤ length held.new) ⊎ (result.now ≡ []) }
     ensures most { length held.old ≤ len → length held.new ≤ len }

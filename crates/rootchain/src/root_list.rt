@@ -2,6 +2,7 @@ ghost use Rattle.std.specs.Prelude.{◌≡◌, ◌↔◌, ◌+◌, ◌≤◌, �
 ghost use Rattle.encoding.specs.Fields.{ReadsWhole};
 ghost use Rattle.encoding.specs.Reading.{Gives};
 ghost use Rattle.rootchain.specs.declared.refusal.Refusal.TheVariants.{Malformed};
+ghost use Rattle.rootchain.specs.declared.root_list.TheConstants.{MAX_LIST_LEN, MAX_ROOTS};
 ghost use Rattle.rootchain.specs.RootLists.{root_list_bytes, IsRootList, HasRoots, PassesRoots, read_root_count};
 
 use crate::{Refusal, SignedRoot};
@@ -12,6 +13,9 @@ use std::marker::Model;
 
 /// The most roots that a list has.
 pub const MAX_ROOTS: usize = 64;
+
+/// How many bytes the longest list has: the number of its roots in two bytes, and 64 roots of 404.
+pub const MAX_LIST_LEN: usize = 25858;
 
 /// A list of signed roots in place in bytes. Each root is read when it is taken.
 #[derive(Debug, Drop)]
@@ -106,9 +110,9 @@ fn pass_roots(count: usize, cursor: &mut Cursor<'_>) -> Result<(), Fault>
 
 /// How many bytes the list of these roots has. At most 25,858.
 pub fn list_len(roots: &[SignedRoot]) -> usize
-    requires few { length roots.now ≤ 64 }
+    requires few { length roots.now ≤ MAX_ROOTS }
     ensures value { result ≡ length (root_list_bytes roots.now) }
-    ensures most { result ≤ 25858 }
+    ensures most { result ≤ MAX_LIST_LEN }
 {
     let mut len = 2;
     for root in roots {
@@ -120,7 +124,7 @@ pub fn list_len(roots: &[SignedRoot]) -> usize
 /// Appends the list of these roots, which `RootList::read` accepts if each root has its form. An
 /// `Err` appends nothing, and is not returned if there is room.
 pub fn write_list(roots: &[SignedRoot], output: &mut Vec<u8>) -> Result<(), AllocError>
-    requires few { length roots.now ≤ 64 }
+    requires few { length roots.now ≤ MAX_ROOTS }
     ensures ok { OnOk result (output.new.items ≡ output.old.items ++ root_list_bytes roots.now) }
     ensures err { OnErr result (output.new.items ≡ output.old.items) }
     ensures room { vec_len output.old + length (root_list_bytes roots.now) ≤ vec_capacity output.old → IsOk result }

@@ -1,6 +1,8 @@
 ghost use Rattle.std.specs.Prelude.{◌≡◌, ◌≢◌, ◌≤◌, ◌↔◌, ◌+◌, length, IsOkUnless, IsTrue};
 ghost use Rattle.encoding.specs.Fields.{ReadsWhole};
+ghost use Rattle.rootchain.specs.declared.body.TheConstants.{BODY_LEN};
 ghost use Rattle.rootchain.specs.declared.refusal.Refusal.TheVariants.{Malformed};
+ghost use Rattle.rootchain.specs.declared.signed_root.TheConstants.{MAX_SIGNED_ROOT_LEN};
 ghost use Rattle.rootchain.specs.Bodies.{IsWellFormed};
 ghost use Rattle.rootchain.specs.Chains.{Names, Verifies};
 ghost use Rattle.rootchain.specs.SignedRoots.{read_signed_root, signed_root_bytes, IsSignedRoot};
@@ -14,7 +16,7 @@ use sigiface::Verifier;
 
 /// How many bytes the longest signed root has: 146 of the body, and 258 of a signature of 256 bytes
 /// behind its length.
-const MAX_SIGNED_ROOT_LEN: usize = 404;
+pub const MAX_SIGNED_ROOT_LEN: usize = 404;
 
 /// The bytes of a signed root.
 pub type SignedRootText = FixedText<MAX_SIGNED_ROOT_LEN>;
@@ -39,8 +41,8 @@ impl SignedRoot {
     /// The bytes: the 146 of the body, then the signature behind its length. At most 404.
     pub fn write(&self) -> SignedRootText
         ensures value { result ≡ signed_root_bytes self.now }
-        ensures len { length result ≡ 148 + length self.now.signature }
-        ensures most { length result ≤ 404 }
+        ensures len { length result ≡ BODY_LEN + 2 + length self.now.signature }
+        ensures most { length result ≤ MAX_SIGNED_ROOT_LEN }
         ensures form { IsWellFormed self.now.body → IsSignedRoot self.now }
     {
         let mut text: SignedRootText = self.body.write().copied();
@@ -51,7 +53,7 @@ impl SignedRoot {
     /// How many bytes it is written in. At most 404.
     pub(crate) fn written_len(&self) -> usize
         ensures value { result ≡ length (signed_root_bytes self.now) }
-        ensures most { result ≤ 404 }
+        ensures most { result ≤ MAX_SIGNED_ROOT_LEN }
     {
         // What these ensure: a hash has 32 bytes.
         self.body.root.bytes();

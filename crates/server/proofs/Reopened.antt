@@ -13,8 +13,9 @@ use Rattle.journal.specs.Opened.{IsUnopened as IsRefusal, Opens}
 use Rattle.journal.specs.Openings.{HasOtherKeys, IsCut, OpensTo}
 use Rattle.journal.specs.Records.{start_bytes, IsStart}
 use Rattle.textio.specs.declared.program_fault.ProgramFault.{ProgramFault}
+use Rattle.textio.specs.declared.program_fault.ProgramFault.TheVariants.{BadHex, BadItem, IndexRepeated, NotACommand, NotEvidence, BadRecord, OtherKeys, CannotRead, CannotWrite, CannotListen, OutOfMemory}
 use Rattle.server.specs.Directories.{salts, DirectoryKeys}
-use Rattle.server.specs.Reopening.{at_stream, beginning_of, index_by, of_refusal, Cuts, HasRead, HasReopened, HasStarted, Holds, IsUnopened, Turns}
+use Rattle.server.specs.Reopening.{at_stream, beginning_of, index_by, of_refusal, Cuts, HasRead, HasReopened, HasStarted, Holds, IsUnopened, StartsLess, StaysAt, Turns}
 
 pub unopened : (keys : DirectoryKeys) (known : Option (List ℕ)) (bytes counted opened : List ℕ) (count : ℕ) (why : Refusal) (fault : ProgramFault) → fault ≡ of_refusal why → Holds known bytes → counted ≡ bytes → Counts counted count
     → opened ≡ bytes → IsRefusal (index_by keys) keys.signing_key keys.vuf_key (salts (at_stream keys.salt_key count)) opened why → IsUnopened keys known fault
@@ -72,3 +73,33 @@ pub goes_on : {H V S : Type 0} (keys : DirectoryKeys) (known between after : Opt
 goes_on keys known between after what directory records taken size cut (bytes, holds, is, counts, opens) same keeps cuts off =
     reopens keys known between after bytes directory records taken size cut holds is counts keeps cuts off
     (subst (λ o. Opens (index_by keys) keys.signing_key keys.vuf_key (salts (at_stream keys.salt_key records)) salts bytes o) same opens)
+
+-- ---- what a file holds after a fault
+
+kept_still : (known between after : Option (List ℕ)) → Keeps known between → Keeps between after → Keeps known after
+kept_still None between after first then = tt
+kept_still (Some xs) None after first then = absurd first
+kept_still (Some xs) (Some ys) None first then = absurd then
+kept_still (Some xs) (Some ys) (Some zs) first then = then ∙ first
+
+-- the bytes had nothing to take, and a new directory's start was not written
+pub unstarted : {H V S : Type 0} (keys : DirectoryKeys) (fault : ProgramFault) (known between after : Option (List ℕ)) (what : Opened H V S ChaCha) (records size : ℕ) → HasRead keys known what records size → what ≡ Nothing → Keeps known between
+    → StartsLess keys fault between after → StaysAt keys fault known after
+unstarted keys CannotWrite None between after what records size read nothing keeps less = inl tt
+unstarted keys CannotWrite (Some xs) None after what records size read nothing keeps less = absurd keeps
+unstarted keys CannotWrite (Some xs) (Some ys) after what records size (bytes, holds, is, counts, opens) nothing keeps less = elim less [
+  | inl still ↦ inl (kept_still (Some xs) (Some ys) after keeps still)
+  | inr left ↦ (
+      let short : IsCut start_bytes IsStart bytes = subst (λ o. Opens (index_by keys) keys.signing_key keys.vuf_key (salts (at_stream keys.salt_key records)) salts bytes o) nothing opens in
+      inr (subst (λ (b : List ℕ). IsCut start_bytes IsStart b) holds short, left))
+]
+unstarted keys BadHex known between after what records size read nothing keeps less = kept_still known between after keeps less
+unstarted keys (BadItem line) known between after what records size read nothing keeps less = kept_still known between after keeps less
+unstarted keys (IndexRepeated line) known between after what records size read nothing keeps less = kept_still known between after keeps less
+unstarted keys (NotACommand line) known between after what records size read nothing keeps less = kept_still known between after keeps less
+unstarted keys NotEvidence known between after what records size read nothing keeps less = kept_still known between after keeps less
+unstarted keys BadRecord known between after what records size read nothing keeps less = kept_still known between after keeps less
+unstarted keys OtherKeys known between after what records size read nothing keeps less = kept_still known between after keeps less
+unstarted keys CannotRead known between after what records size read nothing keeps less = kept_still known between after keeps less
+unstarted keys CannotListen known between after what records size read nothing keeps less = kept_still known between after keeps less
+unstarted keys OutOfMemory known between after what records size read nothing keeps less = kept_still known between after keeps less

@@ -11,7 +11,7 @@ use Rattle.hub.specs.DeskRuns.{ShowHonestRun}
 use Rattle.hub.specs.Desks.{DeskState, DeskAnswers}
 use Rattle.hub.specs.Exchanges.{Exchange}
 use Rattle.textio.specs.declared.program_fault.ProgramFault.{ProgramFault}
-use Rattle.textio.specs.declared.program_fault.ProgramFault.TheVariants.{BadHex, BadItem, IndexRepeated, NotEvidence, BadRecord, OtherKeys, CannotRead, CannotWrite, CannotListen, OutOfMemory}
+use Rattle.textio.specs.declared.program_fault.ProgramFault.TheVariants.{BadHex, BadItem, IndexRepeated, NotACommand, NotEvidence, BadRecord, OtherKeys, CannotRead, CannotWrite, CannotListen, OutOfMemory}
 use Rattle.server.specs.declared.fault.ServeFault.{ServeFault}
 use Rattle.server.specs.declared.fault.ServeFault.TheVariants as fault
 use Rattle.journal.specs.Journals.{KeepsRecord, LosesRecord, JournalState}
@@ -58,6 +58,7 @@ ServesUnkept asked input written (Err OutOfMemory) left told =
     ((keys : DirectoryKeys) × (keys_of asked ≡ Some keys) × Keeps input left × Keeps written told) ⊎ ServesFrom asked input written (Err fault.OutOfMemory) left told
 ServesUnkept asked input written (Err (BadItem line)) left told = ⊥
 ServesUnkept asked input written (Err (IndexRepeated line)) left told = ⊥
+ServesUnkept asked input written (Err (NotACommand line)) left told = ⊥
 ServesUnkept asked input written (Err NotEvidence) left told = ⊥
 ServesUnkept asked input written (Err BadRecord) left told = ⊥
 ServesUnkept asked input written (Err OtherKeys) left told = ⊥

@@ -17,7 +17,8 @@ use Rattle.journal.specs.Opened.{Opens}
 use Rattle.journal.specs.Openings.{HasOtherKeys, IsBad, IsCut, OpensTo}
 use Rattle.journal.specs.Records.{start_bytes, IsStart}
 use Rattle.textio.specs.declared.program_fault.ProgramFault.{ProgramFault}
-use Rattle.textio.specs.declared.program_fault.ProgramFault.TheVariants.{BadHex, BadItem, IndexRepeated, NotEvidence, BadRecord, OtherKeys, CannotRead, CannotWrite, CannotListen, OutOfMemory}
+use Rattle.textio.specs.declared.program_fault.ProgramFault.TheVariants.{BadHex, BadItem, IndexRepeated, NotACommand, NotEvidence, BadRecord, OtherKeys, CannotRead, CannotWrite, CannotListen, OutOfMemory}
+use Rattle.textio.specs.Output.{WritesBeginning}
 use Rattle.server.specs.Directories.{salts, Begins, DirectoryKeys}
 
 -- known bytes are cut to their first ones
@@ -80,10 +81,20 @@ abbrev pub HasReopened : DirectoryKeys → Option (List ℕ) → DirectoryState 
 HasReopened keys known directory after records cut =
     (bytes held : List ℕ) × Turns known bytes after held × Reopens keys bytes directory held records cut
 
--- a file stays as it was, unless a write to it failed
-abbrev pub StaysAt : ProgramFault → Option (List ℕ) → Option (List ℕ) → Type 0
-StaysAt CannotWrite known after = ⊤
-StaysAt _ known after = Keeps known after
+-- a file holds less than the start of a new directory, of which a write failed
+abbrev pub HoldsLess : DirectoryKeys → Option (List ℕ) → Type 0
+HoldsLess keys after = WritesBeginning (Some []) after (start_bytes (beginning_of keys))
+
+-- a file stays as it was, unless it was cut to none and the write of a new directory's start failed
+abbrev pub StartsLess : DirectoryKeys → ProgramFault → Option (List ℕ) → Option (List ℕ) → Type 0
+StartsLess keys CannotWrite known after = Keeps known after ⊎ IfSome known (λ _. HoldsLess keys after)
+StartsLess keys _ known after = Keeps known after
+
+-- A file stays as it was. Only where its bytes had nothing to take, and the write of a new directory's start failed, it
+-- holds a beginning of this start.
+abbrev pub StaysAt : DirectoryKeys → ProgramFault → Option (List ℕ) → Option (List ℕ) → Type 0
+StaysAt keys CannotWrite known after = Keeps known after ⊎ IfSome known (λ bytes. IsCut start_bytes IsStart bytes × HoldsLess keys after)
+StaysAt keys _ known after = Keeps known after
 
 abbrev pub of_refusal : Refusal → ProgramFault
 of_refusal refusal.BadRecord = BadRecord
@@ -95,6 +106,7 @@ abbrev pub IsSystemFault : ProgramFault → Type 0
 IsSystemFault BadHex = ⊥
 IsSystemFault (BadItem line) = ⊥
 IsSystemFault (IndexRepeated line) = ⊥
+IsSystemFault (NotACommand line) = ⊥
 IsSystemFault NotEvidence = ⊥
 IsSystemFault BadRecord = ⊥
 IsSystemFault OtherKeys = ⊥
@@ -113,6 +125,7 @@ IsUnopened keys known OutOfMemory = ⊤
 IsUnopened keys known BadHex = ⊥
 IsUnopened keys known (BadItem line) = ⊥
 IsUnopened keys known (IndexRepeated line) = ⊥
+IsUnopened keys known (NotACommand line) = ⊥
 IsUnopened keys known NotEvidence = ⊥
 IsUnopened keys known CannotListen = ⊥
 

@@ -25,9 +25,9 @@ pub trait JournalFile: Write {
     ///
     /// # Errors
     ///
-    /// `CannotWrite`.
+    /// `CannotWrite`: the file stays as it was.
     fn cut(&mut self, size: usize) -> Result<(), ProgramFault>
-        ensures { MatchResult result (λ _. Cuts (Self.contents self.old) size (Self.contents self.new)) (λ fault. fault ≡ CannotWrite) };
+        ensures { MatchResult result (λ _. Cuts (Self.contents self.old) size (Self.contents self.new)) (λ fault. (fault ≡ CannotWrite) × Keeps (Self.contents self.old) (Self.contents self.new)) };
 }
 
 /// The file of a journal on a disk. Contracts do not know what it holds.

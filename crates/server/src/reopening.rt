@@ -4,7 +4,7 @@ ghost use Rattle.std.specs.Prelude.{◌≡◌, IfErr, MatchResult};
 ghost use Rattle.std.specs.Io.KnownBytes.{Keeps};
 ghost use Rattle.journal.specs.Opened.{IsUnopened as IsRefusal, Opens};
 ghost use Rattle.server.specs.Directories.{salts};
-ghost use Rattle.server.specs.Reopening.{at_stream, index_by, of_refusal, HasRead, HasReopened, HasStarted, IsSystemFault, IsUnopened, StaysAt};
+ghost use Rattle.server.specs.Reopening.{at_stream, index_by, of_refusal, HasRead, HasReopened, HasStarted, IsSystemFault, IsUnopened, StartsLess, StaysAt};
 
 use crate::JournalFile;
 use crate::keys::{Keys, ServedDirectory};
@@ -97,7 +97,7 @@ fn start_anew<F: JournalFile>(
     file: &mut F,
 ) -> Result<ServedDirectory, ProgramFault>
     ensures starts { MatchResult result (λ directory. HasStarted keys.now (F.contents file.old) directory (F.contents file.new)) IsSystemFault }
-    ensures stays { IfErr result (λ fault. StaysAt fault (F.contents file.old) (F.contents file.new)) }
+    ensures stays { IfErr result (λ fault. StartsLess keys.now fault (F.contents file.old) (F.contents file.new)) }
 {
     let directory = keys.begin(alloc)?;
     file.cut(0)?;
@@ -109,8 +109,8 @@ fn start_anew<F: JournalFile>(
 ///
 /// # Errors
 ///
-/// `BadRecord` and `OtherKeys`; `CannotRead`, `OutOfMemory`, `CannotWrite`. The file is as it was, unless it
-/// is `CannotWrite`.
+/// `BadRecord` and `OtherKeys`; `CannotRead`, `OutOfMemory`, `CannotWrite`. The file is as it was. Only if its
+/// bytes had nothing to take, and the write of a new start failed, it holds a beginning of this start.
 pub(crate) fn reopen<F: JournalFile>(
     alloc: Global,
     keys: &Keys,
@@ -119,7 +119,7 @@ pub(crate) fn reopen<F: JournalFile>(
     ensures opens { MatchResult result
         (λ now. HasReopened keys.now (F.contents file.old) now.directory (F.contents file.new) now.records now.cut)
         (IsUnopened keys.now (F.contents file.old)) }
-    ensures stays { IfErr result (λ fault. StaysAt fault (F.contents file.old) (F.contents file.new)) }
+    ensures stays { IfErr result (λ fault. StaysAt keys.now fault (F.contents file.old) (F.contents file.new)) }
 {
     let Reading {
         opened,

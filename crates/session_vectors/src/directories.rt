@@ -134,6 +134,7 @@ where
             tell_promise(case, promised);
         }
         b"close" => close(case, directory),
+        b"rotate" => rotate(case, directory),
         b"head" => case.say_bytes(directory.head().write().bytes()),
         b"lookup" => look_up(case, directory),
         b"history" => history(case, directory),
@@ -142,7 +143,8 @@ where
     }
 }
 
-/// `replay register SALT NAME KEY`, `replay change` the same, or `replay turn EPOCH`
+/// `replay register SALT NAME KEY`, `replay change` the same, `replay turn EPOCH`, or
+/// `replay rotate EPOCH NONCE`
 fn replay<H, V>(case: &mut Case<'_>, directory: &mut Made<H, V>)
 where
     H: NodeHash + Drop,
@@ -153,11 +155,29 @@ where
         b"change" => replay_put(case, directory, Verb::Change),
         b"turn" => {
             let epoch = case.number();
-            let replayed = directory.replay(&Record::Turned { epoch });
-            tell_replayed(case, replayed);
+            replay_turn(case, directory, epoch, None);
+        }
+        b"rotate" => {
+            let epoch = case.number();
+            let nonce = case.hash();
+            replay_turn(case, directory, epoch, Some(nonce));
         }
         _ => case.spoil(),
     }
+}
+
+fn replay_turn<H, V>(
+    case: &mut Case<'_>,
+    directory: &mut Made<H, V>,
+    epoch: u64,
+    nonce: Option<Hash32>,
+)
+where
+    H: NodeHash + Drop,
+    V: Vuf + Drop,
+{
+    let replayed = directory.replay(&Record::Turned { epoch, nonce });
+    tell_replayed(case, replayed);
 }
 
 fn replay_put<H, V>(case: &mut Case<'_>, directory: &mut Made<H, V>, verb: Verb)
@@ -279,6 +299,19 @@ where
     }
 }
 
+/// `rotate EPOCH NONCE`
+fn rotate<H, V>(case: &mut Case<'_>, directory: &mut Made<H, V>)
+where
+    H: NodeHash + Drop,
+    V: Vuf + Drop,
+{
+    let epoch = case.number();
+    let nonce = case.hash();
+    if !case.is_spoiled() {
+        tell_root(case, directory.rotate(&mut NoKeeper, epoch, nonce));
+    }
+}
+
 /// `lookup NAME EPOCH`
 fn look_up<H, V>(case: &mut Case<'_>, directory: &mut Made<H, V>)
 where
@@ -364,7 +397,7 @@ fn command(message: &[u8]) -> Option<Command<'_>> {
     match Request::read(*kind, body) {
         Ok(Request::Query(query)) => Some(Command::Query(query)),
         Ok(Request::Put(put)) => Some(Command::Edit(Edit::Put(put))),
-        Ok(Request::Turn { epoch, .. }) => Some(Command::Edit(Edit::Turn { epoch })),
+        Ok(Request::Turn { epoch, nonce, .. }) => Some(Command::Edit(Edit::Turn { epoch, nonce })),
         Err(_) => None,
     }
 }

@@ -10,7 +10,7 @@
 //! | Subject | Calls | Verbs |
 //! |---|---|---|
 //! | `directory` | `Directory::new`, `head` | `new`, `head` |
-//! | | `register`, `change`, `promise`, `close` | `register`, `change`, `promise`, `close` |
+//! | | `register`, `change`, `promise`, `close`, `rotate` | the same words |
 //! | | `lookup`, `history`; `run`; `replay` | `lookup`, `history`; `run`; `replay` |
 //! | | `journal::open`, under the stream of salts that `records` numbers | `open` |
 //! | `hub` | `Hub::new`, which calls `Hub::over` and `Desk::new` | `new` |
@@ -35,11 +35,12 @@
 //! | `evidence` | `evidence_json`, `read_evidence` | `json`, `read` |
 //! | | `judge_file`, `audit` | `judge`, `audit` |
 //! | `text` | refusals of memory, of a keeper and of streams | `refusal` |
-//! | `script` | all of them together, through frames | |
+//! | `script` | `play`, in which all of them come together | |
 //!
 //! Of the public calls of the upper crates that no verb asks, `scripts/statuses.sh` asks `judge_at`, and `order`,
-//! `end`, `refuse` and `refuse_bytes` of `directoryd`; `scripts/listen.sh` asks `listen`. The crate `faults` has
-//! keepers, readers and writers that fail.
+//! `end`, `refuse` and `refuse_bytes` of `directoryd`; `scripts/listen.sh` asks `listen`, and
+//! `scripts/journal.sh` asks `listen` and `serve_directory` with a journal. The crate `faults` has keepers,
+//! readers and writers that fail, and asks `Journal` as the keeper of a directory.
 #![tactic(auto)]
 
 mod auditors;

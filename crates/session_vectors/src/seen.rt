@@ -3,8 +3,6 @@
 use crate::clients;
 use crate::directories::{Made, common_secrets, make_keyed, make_summed, read_first};
 use crate::hubs::{TOKEN, events, refuse};
-use crate::script::reply::{body_of, proof_epoch};
-use crate::script::telling::{Printed, tell_client, tell_response, tell_statement};
 use crate::stand_ins::{Functions, summed};
 use crate::telling::tells_of_memory;
 use book::{NoKeeper, Refusal};
@@ -19,6 +17,12 @@ use sigiface::KeyedSign;
 use std::alloc::Global;
 use vrfiface::{KeyedVuf, Vuf, index_of};
 use wire::{Feed, FeedRefusal, Next, ReadRefusal, Request};
+
+mod reply;
+mod telling;
+
+use reply::{body_of, proof_epoch};
+use telling::{Printed, tell_client, tell_response, tell_statement};
 
 type SeenHub<H, V> = Hub<Desk<H, V, KeyedSign, ChaCha20Rng, NoKeeper>>;
 

@@ -5,7 +5,7 @@ use Rattle.std.specs.declared.io.ErrorKind.TheVariants as io
 use Rattle.textio.specs.declared.stream_fault.StreamFault.{StreamFault}
 use Rattle.textio.specs.declared.stream_fault.StreamFault.TheVariants as stream
 use Rattle.textio.specs.declared.program_fault.ProgramFault.{ProgramFault}
-use Rattle.textio.specs.declared.program_fault.ProgramFault.TheVariants.{BadHex, BadItem, IndexRepeated, NotEvidence, BadRecord, OtherKeys, CannotRead, CannotWrite, CannotListen, OutOfMemory}
+use Rattle.textio.specs.declared.program_fault.ProgramFault.TheVariants.{BadHex, BadItem, IndexRepeated, NotACommand, NotEvidence, BadRecord, OtherKeys, CannotRead, CannotWrite, CannotListen, OutOfMemory}
 
 -- what a program says of a read or a write that failed
 abbrev pub of_stream : StreamFault → ProgramFault
@@ -22,6 +22,7 @@ abbrev pub fault_text : ProgramFault → List ℕ
 fault_text BadHex = codes "bad hex\n"
 fault_text (BadItem line) = codes "line " ++ decimal line ++ codes ": bad item\n"
 fault_text (IndexRepeated line) = codes "line " ++ decimal line ++ codes ": index repeated\n"
+fault_text (NotACommand line) = codes "line " ++ decimal line ++ codes ": not a command\n"
 fault_text NotEvidence = codes "not an evidence file\n"
 fault_text BadRecord = codes "journal: bad record\n"
 fault_text OtherKeys = codes "journal: other keys\n"
@@ -36,6 +37,7 @@ abbrev pub IsTold : {T : Type 0} → ProgramFault → (Result T ProgramFault →
 IsTold BadHex Says = Says (Err BadHex)
 IsTold (BadItem line) Says = Says (Err (BadItem line))
 IsTold (IndexRepeated line) Says = Says (Err (IndexRepeated line))
+IsTold (NotACommand line) Says = Says (Err (NotACommand line))
 IsTold NotEvidence Says = Says (Err NotEvidence)
 IsTold BadRecord Says = Says (Err BadRecord)
 IsTold OtherKeys Says = Says (Err OtherKeys)
@@ -49,6 +51,7 @@ abbrev pub IsDeviceFault : ProgramFault → Type 0
 IsDeviceFault BadHex = ⊥
 IsDeviceFault (BadItem line) = ⊥
 IsDeviceFault (IndexRepeated line) = ⊥
+IsDeviceFault (NotACommand line) = ⊥
 IsDeviceFault NotEvidence = ⊥
 IsDeviceFault BadRecord = ⊥
 IsDeviceFault OtherKeys = ⊥
@@ -62,6 +65,7 @@ abbrev pub IsInputFault : ProgramFault → Type 0
 IsInputFault BadHex = ⊥
 IsInputFault (BadItem line) = ⊤
 IsInputFault (IndexRepeated line) = ⊤
+IsInputFault (NotACommand line) = ⊥
 IsInputFault NotEvidence = ⊥
 IsInputFault BadRecord = ⊥
 IsInputFault OtherKeys = ⊥

@@ -22,6 +22,9 @@ pub enum ProgramFault {
     BadItem(u64),
     #[error("line {0}: index repeated")]
     IndexRepeated(u64),
+    /// A line of a script says nothing that a script can do.
+    #[error("line {0}: not a command")]
+    NotACommand(u64),
     #[error("not an evidence file")]
     NotEvidence,
     /// A journal has a record that cannot be carried out, or bytes that are none.
@@ -117,6 +120,7 @@ impl ProgramFault {
             ProgramFault::BadHex => plain(b"bad hex\n"),
             ProgramFault::BadItem(line) => numbered(line, b": bad item\n"),
             ProgramFault::IndexRepeated(line) => numbered(line, b": index repeated\n"),
+            ProgramFault::NotACommand(line) => numbered(line, b": not a command\n"),
             ProgramFault::NotEvidence => plain(b"not an evidence file\n"),
             ProgramFault::BadRecord => plain(b"journal: bad record\n"),
             ProgramFault::OtherKeys => plain(b"journal: other keys\n"),

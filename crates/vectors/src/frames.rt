@@ -35,10 +35,17 @@ fn say_request(case: &mut Case<'_>, request: &Request<'_>) {
     match request {
         Request::Query(query) => say_query(case, query),
         Request::Put(put) => say_put(case, put),
-        Request::Turn { token, epoch } => {
-            case.say("close");
+        Request::Turn {
+            token,
+            epoch,
+            nonce,
+        } => {
+            case.say(if nonce.is_none() { "close" } else { "rotate" });
             case.say_bytes(token.bytes());
             case.say_shown(*epoch);
+            if let Some(nonce) = nonce {
+                case.say_bytes(nonce.bytes());
+            }
         }
     }
 }

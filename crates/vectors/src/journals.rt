@@ -14,6 +14,7 @@ pub(crate) fn answer(case: &mut Case<'_>) {
         b"register" => bound(case, Verb::Register),
         b"change" => bound(case, Verb::Change),
         b"turn" => turned(case),
+        b"rotate" => rotated(case),
         b"records" => count(case),
         _ => case.spoil(),
     }
@@ -48,6 +49,17 @@ fn turned(case: &mut Case<'_>) {
     let room = case.number_to(ROOM);
     let what = Record::Turned {
         epoch: case.number(),
+        nonce: None,
+    };
+    keep_twice(case, room, &what);
+}
+
+/// `rotate ROOM EPOCH NONCE`
+fn rotated(case: &mut Case<'_>) {
+    let room = case.number_to(ROOM);
+    let what = Record::Turned {
+        epoch: case.number(),
+        nonce: Some(case.hash()),
     };
     keep_twice(case, room, &what);
 }

@@ -29,6 +29,7 @@
 //! | | `take`, `extend` under a verifier that accepts all | `any`, `any-extended` |
 //! | `trees` | `Tree::new`, `with`, `copy` | `new`, `with`, `copy` |
 //! | | `placed`, `from_items`, `with_all` | `from`, `more` |
+//! | | `renew` | `renew` |
 //! | | `root`, `get`, `path`, `Path::level` | `root`, `get`, `path` |
 //! | | `end_text`, `joined_text`, `climb`, `leads`, `Path::leads` | `end-text`, `joined`, `climb`, `leads` |
 //! | `replies` | `ReplyView::read`, `statement`, `siblings` | `read` |
@@ -38,8 +39,8 @@
 //! | | `make` | `make` |
 //! | `frames` | `Request::read`, `fits`, `write` | `request` |
 //! | | `Response::read`, `Answer::write` | `response`, `answer` |
-//! | | `Feed::new`, `feed`, `ready`, `next` | `new`, `feed` |
-//! | `journal` | `Journal::new`, `keep` | `start`, `register`, `change`, `turn` |
+//! | | `Feed::new`, `feed`; `ready` and `next`, which call `front_of` | `new`; `feed` |
+//! | `journal` | `Journal::new`; `keep`, which calls `write_record` | `start`, `register`, `change`, `turn`, `rotate` |
 //! | | `records` | `records` |
 //! | `text` | `hex_digits`, `hex32`, `option_hex32`, `option_nonce` | `digits`, `hex32`, `option-hex`, `option-nonce` |
 //! | | `ProgramFault::status`, `tell` | `fault` |
@@ -48,7 +49,9 @@
 //!
 //! `number` of each refusal is told with the refusal. `next_line` and `write_text` read and write each line.
 //! `trees count` tells how many digests a change of the tree took. No verb asks the laws, which have no
-//! code, `BrokenPromise`, which is evidence, and `read_some`, which shows more where a reader fails.
+//! code, `BrokenPromise`, which is evidence, and `read_some`, which shows more where a reader fails. Files
+//! are read by the built program: `scripts/statuses.sh` and `scripts/journal.sh` ask `read_whole` and
+//! `file_fault`.
 #![tactic(auto)]
 
 mod accepted;

@@ -66,6 +66,7 @@ fn named_fault(case: &mut Case<'_>) -> Option<ProgramFault> {
         b"bad-hex" => ProgramFault::BadHex,
         b"bad-item" => ProgramFault::BadItem(case.number()),
         b"index-repeated" => ProgramFault::IndexRepeated(case.number()),
+        b"not-a-command" => ProgramFault::NotACommand(case.number()),
         b"not-evidence" => ProgramFault::NotEvidence,
         b"bad-record" => ProgramFault::BadRecord,
         b"other-keys" => ProgramFault::OtherKeys,

@@ -31,6 +31,7 @@ pub(crate) fn answer(case: &mut Case<'_>, grown: &mut Grown) {
         b"with" => with(case, grown),
         b"from" => from(case, grown),
         b"more" => more(case, grown),
+        b"renew" => renew(case, grown),
         b"copy" => copy(case, grown),
         b"count" => case.say_shown(grown.digests),
         b"root" => case.say_bytes(grown.tree.root().bytes()),
@@ -116,6 +117,13 @@ fn more(case: &mut Case<'_>, grown: &mut Grown) {
         Ok(None) => case.say("repeated"),
         Err(_) => case.lack_memory(),
     }
+}
+
+/// `renew NONCE`
+fn renew(case: &mut Case<'_>, grown: &mut Grown) {
+    let mut hash = Sha256Hash::new();
+    let made = grown.tree.renew(case.alloc(), &mut hash, case.hash());
+    keep(case, grown, made, hash.count());
 }
 
 /// `copy`: goes on with a copy of the tree.

@@ -1,12 +1,12 @@
 -- What is asked of a directory, and how it is spelled in a frame (the bytes are this directory's own).
-use Rattle.std.specs.Prelude.{◌≡◌, ℕ, List, [], ◌∷◌, Result, Ok, Err}
+use Rattle.std.specs.Prelude.{◌≡◌, ℕ, List, [], ◌∷◌, Option, None, Some, Result, Ok, Err}
 use Rattle.encoding.specs.Fields.{Spells}
 use Rattle.commands.specs.declared.edit.Verb.{Verb}
 use Rattle.commands.specs.declared.edit.Verb.TheVariants.{Register, Change}
 use Rattle.commands.specs.Operations.{Question, Promise, Lookup, History, Head, question}
 use Rattle.wire.specs.Tables.{KindRow, MessageParts, Of, Nothing, Number, Bytes, Text, Both, kind_among, parts_frame, read_by, IsCounted, MayHave}
 use Rattle.wire.specs.Frames.{Frame}
-use Rattle.wire.specs.declared.kind_bytes.TheConstants.{REGISTER, CHANGE, PROMISE, LOOKUP, HISTORY, HEAD, CLOSE}
+use Rattle.wire.specs.declared.kind_bytes.TheConstants.{REGISTER, CHANGE, PROMISE, LOOKUP, HISTORY, HEAD, CLOSE, ROTATE}
 use Rattle.wire.specs.declared.request.Request.{Request}
 use Rattle.wire.specs.declared.request.Request.TheVariants as request
 use Rattle.wire.specs.declared.refusals.ReadRefusal.{ReadRefusal}
@@ -16,12 +16,12 @@ use Rattle.wire.specs.declared.refusals.ReadRefusal.TheVariants.{BadKind, BadBod
 pub data RequestContent : Type 0 where
   Query : Question → RequestContent
   Put : Verb → List ℕ → List ℕ → RequestContent
-  Turn : List ℕ → ℕ → RequestContent
+  Turn : List ℕ → ℕ → Option (List ℕ) → RequestContent
 
 abbrev pub request_seen : Request → RequestContent
 request_seen (request.Query query) = Query (question query)
 request_seen (request.Put put) = Put put.verb put.name.now put.key.now
-request_seen (request.Turn token epoch) = Turn token epoch
+request_seen (request.Turn token epoch nonce) = Turn token epoch nonce
 
 -- ---- kinds
 
@@ -32,6 +32,7 @@ pub data RequestKind : Type 0 where
   HistoryKind : RequestKind
   HeadKind : RequestKind
   TurnKind : RequestKind
+  RotateKind : RequestKind
 
 -- the kind byte of a registration, or of a change
 abbrev pub put_kind : Verb → ℕ
@@ -45,10 +46,11 @@ request_row PromiseKind = record { byte = PROMISE; form = Text; message = λ nam
 request_row LookupKind = record { byte = LOOKUP; form = Both (Number 8) Text; message = λ held. Query (Lookup held.1 held.0) }
 request_row HistoryKind = record { byte = HISTORY; form = Both (Number 8) (Number 2); message = λ held. Query (History held.0 held.1) }
 request_row HeadKind = record { byte = HEAD; form = Nothing; message = λ _. Query Head }
-request_row TurnKind = record { byte = CLOSE; form = Both (Bytes 32) (Number 8); message = λ held. Turn held.0 held.1 }
+request_row TurnKind = record { byte = CLOSE; form = Both (Bytes 32) (Number 8); message = λ held. Turn held.0 held.1 None }
+request_row RotateKind = record { byte = ROTATE; form = Both (Bytes 32) (Both (Number 8) (Bytes 32)); message = λ held. Turn held.0 held.1.0 (Some held.1.1) }
 
 abbrev pub request_kinds : List RequestKind
-request_kinds = PutKind Register ∷ PutKind Change ∷ PromiseKind ∷ LookupKind ∷ HistoryKind ∷ HeadKind ∷ TurnKind ∷ []
+request_kinds = PutKind Register ∷ PutKind Change ∷ PromiseKind ∷ LookupKind ∷ HistoryKind ∷ HeadKind ∷ TurnKind ∷ RotateKind ∷ []
 
 -- the kind of a request, with what its body holds
 abbrev pub request_parts : RequestContent → MessageParts request_row
@@ -57,7 +59,8 @@ request_parts (Query (Promise name)) = Of PromiseKind name
 request_parts (Query (Lookup name epoch)) = Of LookupKind (epoch, name)
 request_parts (Query (History from count)) = Of HistoryKind (from, count)
 request_parts (Query Head) = Of HeadKind tt
-request_parts (Turn token epoch) = Of TurnKind (token, epoch)
+request_parts (Turn token epoch None) = Of TurnKind (token, epoch)
+request_parts (Turn token epoch (Some nonce)) = Of RotateKind (token, (epoch, nonce))
 
 -- a request as a frame
 abbrev pub request_frame : RequestContent → Frame
@@ -69,7 +72,7 @@ request_kind requested = (request_frame requested).kind
 abbrev pub request_body : RequestContent → List ℕ
 request_body requested = (request_frame requested).body
 
--- a request with such names and keys, whose numbers fit in their bytes, and whose token has 32
+-- a request with such names and keys, whose numbers fit in their bytes, and whose token and nonce have 32
 abbrev pub MayRequest : (List ℕ → Type 0) → RequestContent → Type 0
 MayRequest OfText requested = MayHave request_row OfText (request_parts requested)
 

@@ -15,6 +15,7 @@ use Rattle.rootchain.specs.Promises.{read_signed_promise, signed_promise_bytes, 
 use Rattle.rootchain.specs.RootLists.{read_root_list, root_list_bytes, IsRootList}
 use Rattle.rootchain.specs.SignedRoots.{read_signed_root, signed_root_bytes, IsSignedRoot}
 use Rattle.wire.specs.Frames.{Frame}
+use Rattle.wire.specs.declared.request.TheConstants.{MAX_COUNTED_LEN}
 use Rattle.wire.specs.declared.refusals.ReadRefusal.{ReadRefusal}
 use Rattle.wire.specs.declared.refusals.ReadRefusal.TheVariants.{BadKind, BadBody}
 
@@ -72,7 +73,7 @@ MayHold OfText Root content = IsSignedRoot content
 
 -- bytes of any length that fits in two bytes
 abbrev pub IsCounted : List ℕ → Type 0
-IsCounted = IsWithin 0 65535
+IsCounted = IsWithin 0 MAX_COUNTED_LEN
 
 -- what may be held where names and keys are such texts
 abbrev pub Allowed : (form : BodyForm) → Content form → Type 0
@@ -83,7 +84,7 @@ reader Nothing = read_nothing tt
 reader Byte = read_byte
 reader (Number count) = read_number count
 reader (Bytes count) = read_bytes count
-reader Text = read_counted 0 65535
+reader Text = read_counted 0 MAX_COUNTED_LEN
 reader (Both first second) = read_both (reader first) (reader second)
 reader Promise = read_signed_promise
 reader Reply = read_reply

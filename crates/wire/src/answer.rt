@@ -1,5 +1,6 @@
 ghost use Rattle.std.specs.Prelude.{◌≡◌, ◌+◌, ◌≤◌, ◌++◌, length, OnOk, OnErr, IsOk, vec_len, vec_capacity};
 ghost use Rattle.rootchain.specs.Promises.{signed_promise_bytes};
+ghost use Rattle.rootchain.specs.declared.root_list.TheConstants.{MAX_LIST_LEN, MAX_ROOTS};
 ghost use Rattle.rootchain.specs.RootLists.{root_list_bytes};
 ghost use Rattle.rootchain.specs.SignedRoots.{signed_root_bytes};
 ghost use Rattle.wire.specs.Frames.{frame_bytes, frame_size};
@@ -69,7 +70,7 @@ fn append_promise(output: &mut Vec<u8>, promise: &SignedPromise) -> Result<(), A
     ensures ok { OnOk result (output.new.items ≡ output.old.items ++ frame_bytes (response_frame (response.Promise promise.now))) }
     ensures err { OnErr result (output.new.items ≡ output.old.items) }
     ensures room { vec_len output.old + 5 + length (signed_promise_bytes promise.now) ≤ vec_capacity output.old → IsOk result }
-    ensures most { length (signed_promise_bytes promise.now) ≤ 25858 }
+    ensures most { length (signed_promise_bytes promise.now) ≤ MAX_LIST_LEN }
 {
     // `SignedPromise::write` would make a text with the room of the longest reply.
     let text = promise.promise.write();
@@ -89,18 +90,18 @@ fn append_root(output: &mut Vec<u8>, root: &SignedRoot) -> Result<(), AllocError
     ensures ok { OnOk result (output.new.items ≡ output.old.items ++ frame_bytes (response_frame (response.Root root.now))) }
     ensures err { OnErr result (output.new.items ≡ output.old.items) }
     ensures room { vec_len output.old + 5 + length (signed_root_bytes root.now) ≤ vec_capacity output.old → IsOk result }
-    ensures most { length (signed_root_bytes root.now) ≤ 25858 }
+    ensures most { length (signed_root_bytes root.now) ≤ MAX_LIST_LEN }
 {
     append_text(output, ROOT, root.write().bytes())
 }
 
 /// Appends the frame of a list of roots.
 fn append_roots(output: &mut Vec<u8>, roots: &[SignedRoot]) -> Result<(), AllocError>
-    requires { length roots.now ≤ 64 }
+    requires { length roots.now ≤ MAX_ROOTS }
     ensures ok { OnOk result (output.new.items ≡ output.old.items ++ frame_bytes (response_frame (response.Roots roots.now))) }
     ensures err { OnErr result (output.new.items ≡ output.old.items) }
     ensures room { vec_len output.old + 5 + length (root_list_bytes roots.now) ≤ vec_capacity output.old → IsOk result }
-    ensures most { length (root_list_bytes roots.now) ≤ 25858 }
+    ensures most { length (root_list_bytes roots.now) ≤ MAX_LIST_LEN }
 {
     begin_frame(output, ROOTS, list_len(roots))?;
     write_list(roots, output)

@@ -1,3 +1,5 @@
+//! A stream in pieces. The buffer keeps the bytes behind the last frame that was taken: taking a frame
+//! moves only the place where the next one begins, and the bytes before it fall when the next piece comes.
 ghost use Rattle.std.specs.Prelude.{◌≡◌, ◌≢◌, ◌↔◌, ◌++◌, ◌<◌, ◌≤◌, length, drop, IsTrue, IsOk, OnErr, OnOk, IsErrOf};
 ghost use Rattle.wire.specs.Streams.{Remainder, Rest, Failed, with_more, Waits};
 

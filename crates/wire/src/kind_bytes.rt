@@ -13,6 +13,8 @@ pub(crate) const HEAD: u8 = 6;
 
 pub(crate) const CLOSE: u8 = 7;
 
+pub(crate) const ROTATE: u8 = 8;
+
 /// The kind bytes of responses.
 pub(crate) const PROMISED: u8 = 129;
 

@@ -7,7 +7,7 @@ ghost use Rattle.wire.specs.declared.frame.TheConstants.{MAX_FRAME_LEN};
 
 use crate::ReadRefusal;
 use crate::frame::MAX_FRAME_LEN;
-use crate::kind_bytes::{CHANGE, CLOSE, HEAD, HISTORY, LOOKUP, PROMISE, REGISTER};
+use crate::kind_bytes::{CHANGE, CLOSE, HEAD, HISTORY, LOOKUP, PROMISE, REGISTER, ROTATE};
 use crate::writing::{append_frame, length_bytes};
 use commands::{Put, Query, Verb};
 use encoding::{Cursor, FixedText, Hash32};
@@ -23,8 +23,13 @@ pub enum Request<'a> {
     Query(Query<'a>),
     /// To put a key to a name.
     Put(Put<'a>),
-    /// To end the epoch; the next has this number. Only the operator has the token.
-    Turn { token: Hash32, epoch: u64 },
+    /// To end the epoch; the next has this number, and this nonce, or that of the last. Only the operator
+    /// has the token.
+    Turn {
+        token: Hash32,
+        epoch: u64,
+        nonce: Option<Hash32>,
+    },
 }
 
 impl<'a> Request<'a> {
@@ -58,8 +63,17 @@ impl<'a> Request<'a> {
             Request::Put(put) => {
                 put.name.len().saturating_add(put.key.len()) < MAX_FRAME_LEN - 4
             }
-            // Always so: a token has 32 bytes, which its `bytes` ensures.
-            Request::Turn { token, .. } => token.bytes().len() < MAX_FRAME_LEN - 8,
+            // Always so: a token and a nonce have 32 bytes, which their `bytes` ensures.
+            Request::Turn {
+                token,
+                nonce: None,
+                ..
+            } => token.bytes().len() < MAX_FRAME_LEN - 8,
+            Request::Turn {
+                token,
+                nonce: Some(nonce),
+                ..
+            } => token.bytes().len() + nonce.bytes().len() < MAX_FRAME_LEN - 8,
         }
     }
 
@@ -82,13 +96,34 @@ impl<'a> Request<'a> {
                 &length_bytes(put.key),
                 put.key,
             ),
-            Request::Turn { token, epoch } => {
-                let mut front = FixedText::<40>::new();
-                front.push_slice(token.bytes());
-                front.push_u64(*epoch);
-                append_frame(output, CLOSE, front.bytes(), &[], &[], &[])
-            }
+            Request::Turn {
+                token,
+                epoch,
+                nonce,
+            } => write_turn(token, *epoch, nonce, output),
         }
+    }
+}
+
+/// Appends the frame of the end of an epoch.
+fn write_turn(
+    token: &Hash32,
+    epoch: u64,
+    nonce: &Option<Hash32>,
+    output: &mut Vec<u8>,
+) -> Result<(), AllocError>
+    requires { frame_size (request_frame (asks.Turn token.now epoch nonce.now)) ≤ MAX_FRAME_LEN }
+    ensures ok { OnOk result (output.new.items ≡ output.old.items ++ frame_bytes (request_frame (asks.Turn token.now epoch nonce.now))) }
+    ensures err { OnErr result (output.new.items ≡ output.old.items) }
+    ensures room { vec_len output.old + 4 + frame_size (request_frame (asks.Turn token.now epoch nonce.now)) ≤ vec_capacity output.old → IsOk result }
+    ensures form { IsAsked (asks.Turn token.now epoch nonce.now) × IsFrame (request_frame (asks.Turn token.now epoch nonce.now)) }
+{
+    let token = token.bytes();
+    let mut number = FixedText::<8>::new();
+    number.push_u64(epoch);
+    match nonce {
+        None => append_frame(output, CLOSE, token, number.bytes(), &[], &[]),
+        Some(nonce) => append_frame(output, ROTATE, token, number.bytes(), nonce.bytes(), &[]),
     }
 }
 
@@ -167,6 +202,12 @@ fn read_parts<'a>(kind: u8, cursor: &mut Cursor<'a>) -> Result<Request<'a>, Read
         CLOSE => Request::Turn {
             token: cursor.hash32()?,
             epoch: cursor.u64()?,
+            nonce: None,
+        },
+        ROTATE => Request::Turn {
+            token: cursor.hash32()?,
+            epoch: cursor.u64()?,
+            nonce: Some(cursor.hash32()?),
         },
         _ => return Err(ReadRefusal::BadKind),
     })

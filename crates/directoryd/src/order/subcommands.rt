@@ -9,6 +9,8 @@ pub enum Order<'a> {
     Prove(ProveOrder<'a>),
     Audit(AuditOrder<'a>),
     Judge(JudgeOrder<'a>),
+    /// The script on standard input.
+    Play,
     Serve(DirectoryOrder<'a>),
     Listen(ListenOrder<'a>),
 }

@@ -1,11 +1,16 @@
-ghost use Rattle.std.specs.Prelude.{◌≡◌, ◌||◌, ℕ, ◌+◌, ◌<◌, ◌≤◌, ◌++◌, ◌∷◌, [], false, List, None, IfOk, IfSome, MatchResult, Ok, Some, is_some};
+//! Registrations, changes, closings and rotations. Each is tested, then takes all its memory, then its record is kept,
+//! and only then is the change made, which needs no memory and cannot fail. So a refused call leaves the
+//! directory as it was.
+ghost use Rattle.std.specs.Prelude.{◌≡◌, ◌||◌, ℕ, ◌+◌, ◌<◌, ◌≤◌, ◌++◌, ◌∷◌, [], false, List, None, IfOk, IfSome, MatchResult, Ok, Some, is_some, unwrap_or};
+ghost use Rattle.encoding.specs.Bytes.{Is32Bytes};
 ghost use Rattle.encoding.specs.Limits.{IsKeyData, IsName};
 ghost use Rattle.commands.specs.Operations as asks;
 ghost use Rattle.commands.specs.Operations.{Edit, Put};
 ghost use Rattle.commands.specs.declared.edit.Verb.TheVariants.{Change, Register};
 ghost use Rattle.nodehash.specs.Digests.{one_more};
 ghost use Rattle.prefixtree.specs.Changes.{made_count};
-ghost use Rattle.prefixtree.specs.Placement.{commitment_of, put as put_item};
+ghost use Rattle.prefixtree.specs.Node.{node_count};
+ghost use Rattle.prefixtree.specs.Placement.{commitment_of, put as put_item, put_all, IsPlacement};
 ghost use Rattle.book.specs.declared.record.Record.TheVariants as kept_as;
 ghost use Rattle.book.specs.Answers.{has_its_index, next_page, with_page, with_pending, Last, Promised};
 ghost use Rattle.book.specs.Maps.{at, overwritten};
@@ -15,6 +20,7 @@ ghost use Rattle.book.specs.Sound.{IsHeld};
 ghost use Rattle.book.specs.Turns.{Shows, Turn};
 ghost use Rattle.epochs.specs.Addresses.{address_of, with_name};
 ghost use Rattle.epochs.specs.DirectoryStates.{book, provider, HasKeysOf};
+ghost use Rattle.epochs.specs.Replayed.{changed_digests, tree_digests};
 ghost use Rattle.epochs.specs.Replied.{last, promised};
 ghost use Rattle.epochs.specs.Versions.{AllBefore, IsUnkept, versions_of};
 
@@ -110,22 +116,63 @@ impl<H: NodeHash, V: Vuf, S: Signer, R: Rng> Directory<H, V, S, R> {
         self.accept(keeper, &what, &address, name, key)
     }
 
-    /// Ends the epoch: what waits goes into the page of a new one, whose root is signed.
+    /// Ends the epoch: what waits goes into the page of a new one, whose root is signed. The page has
+    /// the nonce of the last one.
     ///
     /// # Errors
     ///
     /// `EpochNotLater`, `Memory`, `KeepFailed`: the first that applies.
     pub fn close<K: Keeper>(&mut self, keeper: &mut K, epoch: u64) -> Result<SignedRoot, Refusal>
         ensures turn { Turn (provider H.digest_of V.value_of S.signature_of self.old) K.kept K.failed (book R.stream self.old) keeper.old
-            (Edit (asks.Turn epoch)) (last result) (book R.stream self.new) keeper.new }
+            (Edit (asks.Turn epoch None)) (last result) (book R.stream self.new) keeper.new }
         ensures keys { HasKeysOf self.old self.new }
         ensures work { let by = provider H.digest_of V.value_of S.signature_of self.old in
             self.new.digests ≤ self.old.digests + made_count 256 (placement by self.old.last.bindings) (placement by self.old.pending) + 1 }
     {
+        self.turn(keeper, epoch, None)
+    }
+
+    /// Ends the epoch as `close` does, but the page of the new one has this nonce, so that each node of
+    /// its tree is hashed anew.
+    ///
+    /// # Errors
+    ///
+    /// `EpochNotLater`, `Memory`, `KeepFailed`: the first that applies.
+    pub fn rotate<K: Keeper>(
+        &mut self,
+        keeper: &mut K,
+        epoch: u64,
+        nonce: Hash32,
+    ) -> Result<SignedRoot, Refusal>
+        ensures turn { Turn (provider H.digest_of V.value_of S.signature_of self.old) K.kept K.failed (book R.stream self.old) keeper.old
+            (Edit (asks.Turn epoch (Some nonce))) (last result) (book R.stream self.new) keeper.new }
+        ensures keys { HasKeysOf self.old self.new }
+        ensures work { let by = provider H.digest_of V.value_of S.signature_of self.old in
+            self.new.digests ≤ self.old.digests + node_count 256 (put_all (placement by self.old.last.bindings) (placement by self.old.pending)) + 1 }
+    {
+        self.turn(keeper, epoch, Some(nonce))
+    }
+
+    /// Ends the epoch: rotates to the nonce, if there is one, else closes.
+    ///
+    /// # Errors
+    ///
+    /// `EpochNotLater`, `Memory`, `KeepFailed`: the first that applies.
+    pub fn turn<K: Keeper>(
+        &mut self,
+        keeper: &mut K,
+        epoch: u64,
+        nonce: Option<Hash32>,
+    ) -> Result<SignedRoot, Refusal>
+        ensures turn { Turn (provider H.digest_of V.value_of S.signature_of self.old) K.kept K.failed (book R.stream self.old) keeper.old
+            (Edit (asks.Turn epoch nonce)) (last result) (book R.stream self.new) keeper.new }
+        ensures keys { HasKeysOf self.old self.new }
+        ensures work { self.new.digests ≤ self.old.digests + tree_digests (provider H.digest_of V.value_of S.signature_of self.old) self.old nonce + 1 }
+    {
         if epoch <= self.last_epoch() {
             return Err(Refusal::EpochNotLater);
         }
-        self.turn_page(keeper, epoch)
+        self.turn_page(keeper, epoch, &nonce)
     }
 
     /// The epoch of the last page.
@@ -135,26 +182,30 @@ impl<H: NodeHash, V: Vuf, S: Signer, R: Rng> Directory<H, V, S, R> {
         self.roots[self.roots.len() - 1].body.epoch
     }
 
-    /// Adds the page of a later epoch, once its record is kept.
-    fn turn_page<K: Keeper>(&mut self, keeper: &mut K, epoch: u64) -> Result<SignedRoot, Refusal>
+    /// Adds the page of a later epoch, under this nonce or the last page's, once its record is kept.
+    fn turn_page<K: Keeper>(
+        &mut self,
+        keeper: &mut K,
+        epoch: u64,
+        nonce: &Option<Hash32>,
+    ) -> Result<SignedRoot, Refusal>
         requires { self.old.last.epoch < epoch }
         ensures made { MatchResult result
-            (λ root. K.kept keeper.old (kept_as.Turned epoch) keeper.new
-            × (book R.stream self.new ≡ with_page (book R.stream self.old) (next_page (book R.stream self.old) epoch))
-            × Shows (provider H.digest_of V.value_of S.signature_of self.old) (book R.stream self.new) (Last (next_page (book R.stream self.old) epoch)) (last (Ok root)))
-            (λ why. (book R.stream self.new ≡ book R.stream self.old) × IsUnkept K.failed keeper.old (kept_as.Turned epoch) why keeper.new) }
+            (λ root. K.kept keeper.old (kept_as.Turned epoch nonce.now) keeper.new
+            × (book R.stream self.new ≡ with_page (book R.stream self.old) (next_page (book R.stream self.old) epoch nonce.now))
+            × Shows (provider H.digest_of V.value_of S.signature_of self.old) (book R.stream self.new) (Last (next_page (book R.stream self.old) epoch nonce.now)) (last (Ok root)))
+            (λ why. (book R.stream self.new ≡ book R.stream self.old) × IsUnkept K.failed keeper.old (kept_as.Turned epoch nonce.now) why keeper.new) }
         ensures keys { HasKeysOf self.old self.new }
-        ensures work { let by = provider H.digest_of V.value_of S.signature_of self.old in
-            self.new.digests ≤ self.old.digests + made_count 256 (placement by self.old.last.bindings) (placement by self.old.pending) + 1 }
+        ensures work { self.new.digests ≤ self.old.digests + tree_digests (provider H.digest_of V.value_of S.signature_of self.old) self.old nonce.now + 1 }
     {
-        let tree = self.next_tree()?;
+        let tree = self.next_tree(nonce)?;
         let last = self.roots[self.roots.len() - 1].body;
         let body = Body {
             epoch,
             previous_epoch: last.epoch,
             root: tree.root(),
             previous_hash: self.body_hash,
-            nonce: last.nonce,
+            nonce: nonce_or(nonce, &last.nonce),
             vuf_key: self.vuf.public(),
         };
         let text = body.write();
@@ -165,6 +216,7 @@ impl<H: NodeHash, V: Vuf, S: Signer, R: Rng> Directory<H, V, S, R> {
             &mut self.trees,
             keeper,
             root.copied(),
+            nonce,
             tree,
         ) {
             Ok(()) => {
@@ -176,18 +228,18 @@ impl<H: NodeHash, V: Vuf, S: Signer, R: Rng> Directory<H, V, S, R> {
         }
     }
 
-    /// The tree of the page to come: the last one with what waits.
-    fn next_tree(&mut self) -> Result<Tree<H>, AllocError>
+    /// The tree of the page to come: the last one with what waits, under this nonce or its own.
+    fn next_tree(&mut self, nonce: &Option<Hash32>) -> Result<Tree<H>, AllocError>
         ensures tree { IfOk result (λ tree. tree ≡ record {
-          nonce = self.old.last.nonce;
+          nonce = unwrap_or nonce.now self.old.last.nonce;
           items = placement (provider H.digest_of V.value_of S.signature_of self.old) (overwritten self.old.last.bindings self.old.pending);
         }) }
         ensures stays { self.new ≡ record self.old { digests = self.new.digests } }
-        ensures work { let by = provider H.digest_of V.value_of S.signature_of self.old in
-            self.new.digests ≤ self.old.digests + made_count 256 (placement by self.old.last.bindings) (placement by self.old.pending) }
+        ensures work { self.new.digests ≤ self.old.digests + tree_digests (provider H.digest_of V.value_of S.signature_of self.old) self.old nonce.now }
     {
         let changes = listed(self.alloc, &self.waiting)?;
-        self.trees[self.trees.len() - 1].with_all(self.alloc, &mut self.hash, &changes)
+        let last = &self.trees[self.trees.len() - 1];
+        changed_tree(self.alloc, &mut self.hash, last, nonce, &changes)
     }
 
     /// Whether the last page has the name, and whether an operation on it waits.
@@ -381,22 +433,59 @@ fn add_page<H: NodeHash, K: Keeper>(
     trees: &mut Vec<Tree<H>>,
     keeper: &mut K,
     root: SignedRoot,
+    nonce: &Option<Hash32>,
     tree: Tree<H>,
 ) -> Result<(), Refusal>
     ensures { MatchResult result
-        (λ _. K.kept keeper.old (kept_as.Turned root.body.epoch) keeper.new
+        (λ _. K.kept keeper.old (kept_as.Turned root.body.epoch nonce.now) keeper.new
         × (roots.new.items ≡ roots.old.items ++ root ∷ []) × (trees.new.items ≡ trees.old.items ++ tree ∷ []))
-        (λ why. (roots.new.items ≡ roots.old.items) × (trees.new.items ≡ trees.old.items) × IsUnkept K.failed keeper.old (kept_as.Turned root.body.epoch) why keeper.new) }
+        (λ why. (roots.new.items ≡ roots.old.items) × (trees.new.items ≡ trees.old.items) × IsUnkept K.failed keeper.old (kept_as.Turned root.body.epoch nonce.now) why keeper.new) }
 {
     roots.reserve(1)?;
     trees.reserve(1)?;
     let epoch = root.body.epoch;
-    if keeper.keep(&Record::Turned { epoch }).is_err() {
+    let what = Record::Turned {
+        epoch,
+        nonce: *nonce,
+    };
+    if keeper.keep(&what).is_err() {
         return Err(Refusal::KeepFailed);
     }
     roots.push_reserved(root);
     trees.push_reserved(tree);
     Ok(())
+}
+
+/// The nonce, if there is one, else the last page's.
+fn nonce_or(nonce: &Option<Hash32>, last: &Hash32) -> Hash32
+    ensures value { result ≡ unwrap_or nonce.now last.now }
+    ensures size { IfSome nonce.now Is32Bytes }
+{
+    match nonce {
+        None => *last,
+        Some(nonce) => {
+            nonce.bytes();
+            *nonce
+        }
+    }
+}
+
+/// The tree with these changes, under this nonce or its own.
+fn changed_tree<H: NodeHash>(
+    alloc: Global,
+    hash: &mut H,
+    tree: &Tree<H>,
+    nonce: &Option<Hash32>,
+    changes: &[Item],
+) -> Result<Tree<H>, AllocError>
+    requires { IsPlacement changes.now }
+    ensures tree { IfOk result (λ made. made ≡ record { nonce = unwrap_or nonce.now tree.now.nonce; items = put_all tree.now.items changes.now }) }
+    ensures work { H.digests hash.new ≤ H.digests hash.old + changed_digests nonce.now tree.now.items changes.now }
+{
+    match nonce {
+        None => tree.with_all(alloc, hash, changes),
+        Some(nonce) => tree.renew_with_all(alloc, hash, *nonce, changes),
+    }
 }
 
 /// The entries of a map, as a list.

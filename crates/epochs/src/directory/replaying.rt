@@ -41,7 +41,7 @@ impl<H: NodeHash, V: Vuf, S: Signer, R: Rng> Directory<H, V, S, R> {
                 name,
                 key,
             } => self.put_again(what, *verb, *salt, name, key),
-            Record::Turned { epoch } => self.turn_again(*epoch),
+            Record::Turned { epoch, nonce } => self.turn_again(*epoch, *nonce),
         }
     }
 
@@ -68,12 +68,12 @@ impl<H: NodeHash, V: Vuf, S: Signer, R: Rng> Directory<H, V, S, R> {
     }
 
     /// Ends the epoch once more.
-    fn turn_again(&mut self, epoch: u64) -> Result<(), Refusal>
-        ensures replays { Replays R.stream (index_by (provider H.digest_of V.value_of S.signature_of self.old)) self.old (Turned epoch) result self.new }
+    fn turn_again(&mut self, epoch: u64, nonce: Option<Hash32>) -> Result<(), Refusal>
+        ensures replays { Replays R.stream (index_by (provider H.digest_of V.value_of S.signature_of self.old)) self.old (Turned epoch nonce) result self.new }
         ensures keys { HasKeysOf self.old self.new }
-        ensures work { self.new.digests ≤ self.old.digests + replay_digests (provider H.digest_of V.value_of S.signature_of self.old) self.old (Turned epoch) }
+        ensures work { self.new.digests ≤ self.old.digests + replay_digests (provider H.digest_of V.value_of S.signature_of self.old) self.old (Turned epoch nonce) }
     {
-        match self.close(&mut NoKeeper, epoch) {
+        match self.turn(&mut NoKeeper, epoch, nonce) {
             Ok(_) => Ok(()),
             Err(why) => Err(why),
         }

@@ -1,5 +1,5 @@
-ghost use Rattle.std.specs.Prelude.{◌≡◌, ◌<◌, ◌^◌, ℕ, List, IfOk, OnErr, OnOk, map, take};
-ghost use Rattle.encoding.specs.Bytes.{IsBytes};
+ghost use Rattle.std.specs.Prelude.{◌≡◌, ◌<◌, ◌^◌, ℕ, List, IfOk, IfSome, OnErr, OnOk, map, take};
+ghost use Rattle.encoding.specs.Bytes.{Is32Bytes, IsBytes};
 ghost use Rattle.commands.specs.Operations.{asked, question, revision, IsAny, IsCommand, MayChange, MayRead, Edit as EditOf, Put as PutOf, Query as QueryOf};
 ghost use Rattle.book.specs.declared.reply.Reply.{Reply};
 ghost use Rattle.book.specs.Honest.{IsHonest};
@@ -11,7 +11,7 @@ ghost use Rattle.epochs.specs.Replied as replied;
 use super::Directory;
 use book::{Keeper, Refusal, Reply};
 use commands::{Command, Edit, Put, Query, Verb};
-use encoding::ProofText;
+use encoding::{Hash32, ProofText};
 use nodehash::NodeHash;
 use rand_core::Rng;
 use rootchain::{SignedPromise, SignedRoot};
@@ -91,7 +91,7 @@ impl<H: NodeHash, V: Vuf, S: Signer, R: Rng> Directory<H, V, S, R> {
     {
         match *edit {
             Edit::Put(put) => promised(self.put(keeper, put)),
-            Edit::Turn { epoch } => last(self.close(keeper, epoch)),
+            Edit::Turn { epoch, nonce } => last(self.turn(keeper, epoch, nonce)),
         }
     }
 
@@ -132,13 +132,21 @@ fn is_query(query: &Query<'_>)
 fn is_edit(edit: &Edit<'_>)
     ensures { MayChange IsBytes IsAny (revision edit.now) }
 {
-    match *edit {
-        Edit::Put(Put { name, key, .. }) => {
-            are_bytes(name);
-            are_bytes(key);
+    match edit {
+        Edit::Put(put) => is_put(put),
+        Edit::Turn { epoch, nonce } => {
+            is_epoch(*epoch);
+            is_nonce(nonce);
         }
-        Edit::Turn { epoch } => is_epoch(epoch),
     }
+}
+
+/// What the type of a key that is put to a name says of it.
+fn is_put(put: &Put<'_>)
+    ensures { IsBytes put.now.name.now × IsBytes put.now.key.now }
+{
+    are_bytes(put.name);
+    are_bytes(put.key);
 }
 
 /// What the type of a slice of bytes says of it.
@@ -150,6 +158,15 @@ fn are_bytes(bytes: &[u8])
 fn is_epoch(epoch: u64)
     ensures { epoch < 2 ^ 64 }
 {}
+
+/// What the type of a nonce says of it.
+fn is_nonce(nonce: &Option<Hash32>)
+    ensures { IfSome nonce.now Is32Bytes }
+{
+    if let Some(nonce) = nonce {
+        nonce.bytes();
+    }
+}
 
 fn promised(answer: Result<SignedPromise, Refusal>) -> Reply
     ensures { result ≡ replied.promised answer }

@@ -1,3 +1,6 @@
+//! Where a root stands to a chain, by its epoch. Above the head and below the first root, the epoch that
+//! the later of the two names decides, and its hash only if that epoch is the other's. Between them, the
+//! chain's root of the same epoch decides, or the first one after it, which passes over the epoch.
 ghost use Rattle.std.specs.Prelude.{◌≡◌, ◌≢◌, ◌↔◌, ◌+◌, ◌<◌, ◌≤◌, length, IfOk, IsOk, IsOkUnless, OnErr};
 ghost use Rattle.std.specs.List.Sorted.{IsPartitionPoint};
 ghost use Rattle.rootchain.specs.declared.refusal.Refusal.TheVariants.{BadSignature};

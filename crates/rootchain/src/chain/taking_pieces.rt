@@ -1,8 +1,11 @@
-ghost use Rattle.std.specs.Prelude.{◌≡◌, ◌+◌, ◌≤◌, List, length, IfErr};
+//! The roots that a piece of a list makes whole are taken one by one, each before the next one is looked
+//! at. Memory for all that are still to come is reserved first. The first root that is refused ends the
+//! feed, and the roots before it stay. A piece that makes no root whole is only held.
+ghost use Rattle.std.specs.Prelude.{◌≡◌, ◌≢◌, ◌+◌, ◌≤◌, List, length, IfErr};
 ghost use Rattle.std.specs.List.{AllByRecursion};
 ghost use Rattle.rootchain.specs.declared.signed_root.SignedRoot.{SignedRoot};
 ghost use Rattle.rootchain.specs.Chains.{IsChain};
-ghost use Rattle.rootchain.specs.RootFeeds.{told_from};
+ghost use Rattle.rootchain.specs.RootFeeds.{told_from, Failed};
 ghost use Rattle.rootchain.specs.SignedRoots.{IsSignedRoot};
 ghost use Rattle.rootchain.specs.TakingLists.{with_roots};
 ghost use Rattle.rootchain.specs.TakingPieces.{of_piece, TakesPiece, TakesTold, PieceRefusalHolds, PieceRefusalIsSpelled};
@@ -38,13 +41,36 @@ impl<H: NodeHash, S: Verifier> Chain<H, S> {
         ensures chain { IsChain H.digest_of S.verified self.old }
         ensures counted { H.digests hash.new ≤ H.digests hash.old + length (told_from feed.old piece.now).0 }
     {
-        let before = self.roots.len();
+        let roots = &mut self.roots;
         if feed.has_failed() {
             return Err(PieceRefusal::Malformed);
         }
-        if self.roots.reserve(feed.owed()).is_err() {
+        if roots.reserve(feed.owed()).is_err() {
             return Err(PieceRefusal::Memory);
         }
+        if feed.take_part(piece) {
+            return Ok(());
+        }
+        self.take_whole(hash, verifier, feed, piece)
+    }
+
+    /// Takes the roots that a piece makes whole, where there is memory for them.
+    fn take_whole(
+        &mut self,
+        hash: &mut H,
+        verifier: &S,
+        feed: &mut RootFeed,
+        piece: &[u8],
+    ) -> Result<(), PieceRefusal>
+        requires { feed.old ≢ Failed }
+        ensures takes { TakesPiece H.digest_of S.verified self.old feed.old piece.now result self.new feed.new }
+        ensures grows { (more : List SignedRoot) × (self.new ≡ with_roots self.old more) }
+        ensures evidence { IfErr result (PieceRefusalHolds H.digest_of S.verified self.old.key) }
+        ensures spelled { AllByRecursion IsSignedRoot self.old.roots → IfErr result PieceRefusalIsSpelled }
+        ensures form { AllByRecursion IsSignedRoot self.old.roots → AllByRecursion IsSignedRoot self.new.roots }
+        ensures counted { H.digests hash.new ≤ H.digests hash.old + length (told_from feed.old piece.now).0 }
+    {
+        let before = self.roots.len();
         let held = feed.copied();
         match self.take_told(hash, verifier, feed, piece) {
             Ok(()) => Ok(()),

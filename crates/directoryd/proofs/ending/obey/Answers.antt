@@ -23,6 +23,11 @@ returns-in-Judge g c =
     let told = c.judge.ensures in
     rw c.in-Judge.is (Keeps-refl _, told.0, told.1, told.2)
 
+pub returns-in_err-play-in-Play : goal.returns-in_err-play-in-Play
+returns-in_err-play-in-Play g c =
+    let passed : c.from_residual-in_err-play-in-Play.result ≡ Err c.in_err-play-in-Play.field-0.0 = search rules in
+    rw (passed, c.in-Play.is) (tt, Keeps-refl _, c.in_err-play-in-Play.ensures)
+
 pub returns-in_err-serve_directory-in-Serve : goal.returns-in_err-serve_directory-in-Serve
 returns-in_err-serve_directory-in-Serve g c =
     let passed : c.from_residual-in_err-serve_directory-in-Serve.result ≡ Err c.in_err-serve_directory-in-Serve.field-0.0 = search rules in
@@ -42,6 +47,9 @@ returns-in_ok-prove-in-Prove g c = rw c.in-Prove.is ((refl, c.in_ok-prove-in-Pro
 
 pub returns-in_ok-audit-in-Audit : goal.returns-in_ok-audit-in-Audit
 returns-in_ok-audit-in-Audit g c = rw c.in-Audit.is (refl, Keeps-refl _, c.in_ok-audit-in-Audit.ensures.audits)
+
+pub returns-in_ok-play-in-Play : goal.returns-in_ok-play-in-Play
+returns-in_ok-play-in-Play g c = rw c.in-Play.is (refl, Keeps-refl _, c.in_ok-play-in-Play.ensures)
 
 pub returns-in_ok-serve_directory-in-Serve : goal.returns-in_ok-serve_directory-in-Serve
 returns-in_ok-serve_directory-in-Serve g c = rw c.in-Serve.is (refl, _, c.in_ok-serve_directory-in-Serve.ensures.serves)

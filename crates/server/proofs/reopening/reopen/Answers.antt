@@ -1,5 +1,5 @@
-use Rattle.std.proofs.Common.{refl}
-use Rattle.server.proofs.Reopened.{goes_on, starts_anew}
+use Rattle.std.proofs.Common.{rules, ◌≡◌, Err, refl}
+use Rattle.server.proofs.Reopened.{goes_on, starts_anew, unstarted}
 use Rattle.server.proofs.reopening.reopen.Goals as goal
 
 pub returns-in_ok-start_anew-in-Nothing-clause-opens : goal.returns-in_ok-start_anew-in-Nothing-clause-opens
@@ -11,3 +11,9 @@ pub returns-in_ok-cut-in-Directory-clause-opens : goal.returns-in_ok-cut-in-Dire
 returns-in_ok-cut-in-Directory-clause-opens g c =
     goes_on c.args.keys.now (g.F.Write.contents c.args.file.now) _ _ c.in_ok-opened.field-0.opened c.in-Directory.directory c.in_ok-opened.field-0.records c.in-Directory.taken _ _
     c.in_ok-opened.ensures.opens c.in-Directory.is c.in_ok-opened.ensures.stays c.in_ok-cut-in-Directory.ensures refl
+
+pub returns-in_err-start_anew-in-Nothing-clause-stays : goal.returns-in_err-start_anew-in-Nothing-clause-stays
+returns-in_err-start_anew-in-Nothing-clause-stays g c =
+    let passed : c.from_residual-in_err-start_anew-in-Nothing.result ≡ Err c.in_err-start_anew-in-Nothing.field-0.0 = search rules in
+    rw passed (unstarted c.args.keys.now c.in_err-start_anew-in-Nothing.field-0.0 (g.F.Write.contents c.args.file.now) _ _ c.in_ok-opened.field-0.opened _ _ c.in_ok-opened.ensures.opens c.in-Nothing.is c.in_ok-opened.ensures.stays
+    c.in_err-start_anew-in-Nothing.ensures.stays)

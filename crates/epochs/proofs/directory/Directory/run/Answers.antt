@@ -2,6 +2,7 @@ use Rattle.std.proofs.Common.{◌≡◌, ◌∙◌, map, take, refl, subst, subs
 use Rattle.std.proofs.lemmas.List.{take_all}
 use Rattle.std.proofs.lemmas.List.Elements.{All-map, All-more, All-nil}
 use Rattle.commands.specs.Operations.{asked, IsCommand}
+use Rattle.commands.specs.declared.command.Command.{Command}
 use Rattle.book.specs.Fresh.{KeepsLaws}
 use Rattle.book.specs.Shows.{Provider, index_of}
 use Rattle.book.specs.Sound.{IsSound}
@@ -38,9 +39,10 @@ pub loop-command-preserved : goal.loop-command-preserved
 loop-command-preserved g c = (
   run_next g.H.NodeHash.digest_of g.V.Vuf.value_of g.S.Signer.signature_of g.R.Rng.stream g.K.Keeper.kept g.K.Keeper.failed
       c.args.self.now c.loop-command.self c.answer.new.self c.args.keeper.now c.loop-command.keeper c.answer.new.keeper
-      c.args.commands.now c.loop-command.command-index _ c.loop-command.replies.items c.push_reserved.new.self.items _
-      c.loop-command-test.true (cc (c.push_reserved.ensures.items, c.in_ok-reserve.ensures.items)) c.loop-command.invariant.0 c.in_ok-reply.ensures.ok c.answer.ensures.keys,
-  All-more (λ command. IsCommand (asked command)) c.args.commands.now c.loop-command.command-index _ c.loop-command-test.true c.loop-command.invariant.1 c.is_command.ensures,
+      c.args.commands.now c.loop-command.command-index c.command-item.result c.loop-command.replies.items c.push_reserved.new.self.items _
+      c.loop-command-test.true c.command-item.is (cc (c.push_reserved.ensures.items, c.in_ok-reserve.ensures.items)) c.loop-command.invariant.0 c.in_ok-reply.ensures.ok c.answer.ensures.keys,
+  All-more (λ command. IsCommand (asked command)) c.args.commands.now c.loop-command.command-index c.command-item.result c.loop-command-test.true c.loop-command.invariant.1
+      (subst (λ (command : Command). IsCommand (asked command)) c.command-item.is c.is_command.ensures),
 )
 
 pub returns-clause-ok : goal.returns-clause-ok

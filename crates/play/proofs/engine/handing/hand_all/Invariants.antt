@@ -1,0 +1,9 @@
+use Rattle.rootchain.specs.Promises.{SpellsPromise}
+use Rattle.rootchain.specs.declared.signed_promise.SignedPromise.{SignedPromise}
+use Rattle.play.specs.Handed.{IsHanded}
+use Rattle.play.proofs.Taken.{AreMoved}
+use Rattle.play.proofs.engine.handing.hand_all.Given as goal
+
+-- the monitors before this place have the promise, and the others are as they were
+abbrev pub invariant-loop-monitor : goal.invariant-loop-monitor
+invariant-loop-monitor g l = (promised : SignedPromise) → SpellsPromise l.promise promised → AreMoved (IsHanded l.name promised) l.fn.monitors l.monitor-index l.monitors

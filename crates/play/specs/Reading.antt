@@ -1,0 +1,14 @@
+-- The lines of a script, as they are read.
+use Rattle.std.specs.Prelude.{◌≡◌, ℕ, List, [], ◌∷◌, ◌++◌, Bool, true, false, Option, Some, None, ⊤, ◌⊎◌, IsSomeAnd}
+use Rattle.textio.specs.Lines.{lines_of}
+
+-- known bytes lose their first line, which is this one without its LF, if there is one; at their end there is
+-- none
+abbrev pub TakesLine : Option (List ℕ) → Option (List ℕ) → Bool → List ℕ → Type 0
+TakesLine None left more line = ⊤
+TakesLine (Some input) left false line = input ≡ []
+TakesLine (Some input) left true line = IsSomeAnd left (λ rest. lines_of input ≡ line ∷ lines_of rest)
+
+-- without the LF at the end, if one is there
+abbrev pub IsTrimmed : List ℕ → List ℕ → Type 0
+IsTrimmed old new = (old ≡ new ++ 10 ∷ []) ⊎ ((new ≡ old) × ((front : List ℕ) → ¬ (old ≡ front ++ 10 ∷ [])))

@@ -1,0 +1,216 @@
+ghost use Rattle.std.specs.Prelude.{◌≡◌, ◌≢◌, ◌≤◌, ◌++◌, ◌∷◌, [], IfOk, List, OnOk};
+ghost use Rattle.commands.specs.declared.edit.Verb.{Verb};
+ghost use Rattle.wire.specs.Frames.{frame_bytes, frame_size, Frame, IsFrame};
+ghost use Rattle.wire.specs.FrameViews.{frame_seen};
+ghost use Rattle.wire.specs.Laws.{IsReadAs};
+ghost use Rattle.wire.specs.Requests.{request_frame, Put};
+ghost use Rattle.wire.specs.Responses.{response_seen, Refused, ResponseContent};
+ghost use Rattle.book.specs.Books.{Page};
+ghost use Rattle.book.specs.Shows.{index_of};
+ghost use Rattle.epochs.specs.DirectoryStates.{provider, HasKeysOf};
+ghost use Rattle.play.specs.Checked.{line_of_reply, HasAskedKnowing, HasLooked, IsFound};
+ghost use Rattle.play.specs.Handed.{HasHanded, MayHand};
+ghost use Rattle.play.specs.Lines.{found_text};
+ghost use Rattle.play.specs.Parties.{AreAt, HasAsked, HaveDone, IsReady, Parties};
+ghost use Rattle.play.specs.Played as played;
+ghost use Rattle.play.specs.Played.{Stand};
+ghost use Rattle.play.specs.Spoken.{ask_seen};
+ghost use Rattle.play.specs.Watchers.{Watcher};
+
+use super::handing::hand_all;
+use super::{ASKING, Engine};
+use crate::ask::Ask;
+use crate::laws::honest;
+use crate::telling::{tell_refused, tell_response, tell_statement};
+use book::{NoKeeper, Refusal};
+use encoding::{KeyData, Name};
+use hub::{Event, replies_are_honest};
+use nodehash::NodeHash;
+use rand_core::Rng;
+use sigiface::Signer;
+use std::alloc::AllocError;
+use vrfiface::Vuf;
+use wire::{
+    FrameView, Front, Response, body_spells_one_request, frames_are_read, front_of,
+    messages_are_computed,
+};
+
+/// The frame that the bytes are.
+fn frame_of<'a>(bytes: &'a [u8]) -> FrameView<'a>
+    requires { (frame : Frame) × IsFrame frame × (bytes.now ≡ frame_bytes frame) }
+    ensures { (frame : Frame) → IsFrame frame → bytes.entry.now ≡ frame_bytes frame → frame_seen result ≡ frame }
+{
+    frames_are_read();
+    match front_of(bytes) {
+        Front::Whole(frame) => frame,
+        Front::Short | Front::Bad => unreachable!(),
+    }
+}
+
+/// The body of the frame that the bytes are.
+pub(super) fn body_of<'a>(bytes: &'a [u8]) -> &'a [u8]
+    requires { (frame : Frame) × IsFrame frame × (bytes.now ≡ frame_bytes frame) }
+    ensures { (frame : Frame) → IsFrame frame → bytes.entry.now ≡ frame_bytes frame → result.now ≡ frame.body }
+{
+    frame_of(bytes).body
+}
+
+/// The response that a frame of the directory is.
+///
+/// # Errors
+///
+/// `AllocError` if it says that memory ran out.
+pub(super) fn response_of<'a>(frame: &FrameView<'a>) -> Result<Response<'a>, AllocError>
+    requires { (responded : ResponseContent) × IsReadAs (frame_seen frame.now) responded }
+    ensures { (responded : ResponseContent) → IsReadAs (frame_seen frame.now) responded → IfOk result (λ response. (response_seen response ≡ responded) × (responded ≢ Refused 14)) }
+{
+    match Response::read(frame.kind, frame.body) {
+        Ok(Response::Refused(code)) if code == Refusal::Memory.number() => Err(AllocError),
+        Ok(response) => Ok(response),
+        Err(_) => unreachable!(),
+    }
+}
+
+impl<H, V, S, R> Engine<H, V, S, R>
+where
+    H: NodeHash + Drop,
+    V: Vuf + Drop,
+    S: Signer + Drop,
+    R: Rng + Drop,
+{
+    /// Asks through session 0, and returns the frame of the reply.
+    ///
+    /// # Errors
+    ///
+    /// `AllocError` if memory runs out, here or in the directory.
+    pub(super) fn ask(&mut self, ask: &Ask) -> Result<Vec<u8>, AllocError>
+        requires fits { frame_size (request_frame (ask_seen ask.now)) ≤ 65536 }
+        requires ready { IsReady H.digest_of V.value_of S.signature_of R.stream V.accepted S.verified self.old }
+        ensures { IfOk result (λ reply. HasAsked H.digest_of V.value_of S.signature_of R.stream V.accepted S.verified self.old (ask_seen ask.now) reply.items self.new) }
+    {
+        let mut frame = Vec::new(self.alloc);
+        ask.write(&mut frame)?;
+        let mut reply = Vec::new(self.alloc);
+        // What the two calls of `head` ensure: the book is sound before and after, and the provider's
+        // functions keep their laws.
+        self.hub.head();
+        if self
+            .hub
+            .event(&Event::Bytes(ASKING, &frame), &mut reply)
+            .is_err()
+        {
+            return Err(AllocError);
+        }
+        self.hub.head();
+        // The request is one message, which is read as this request; its reply is honest.
+        messages_are_computed();
+        body_spells_one_request();
+        replies_are_honest::<H, V, S, R, NoKeeper>();
+        response_of(&frame_of(&reply))?;
+        Ok(reply)
+    }
+
+    /// Asks what a line asks, and appends the line of what comes of it, which the client checks. What follows
+    /// from it is then done.
+    pub(super) fn answer(&mut self, ask: &Ask, text: &mut Vec<u8>) -> Result<(), AllocError>
+        requires fits { frame_size (request_frame (ask_seen ask.now)) ≤ 65536 }
+        requires at { (stand : Stand) × AreAt H.digest_of V.value_of S.signature_of R.stream V.accepted S.verified self.old stand }
+        ensures done { (stand : Stand) → AreAt H.digest_of V.value_of S.signature_of R.stream V.accepted S.verified self.old stand → OnOk result (let now = played.ask (index_of (provider H.digest_of V.value_of S.signature_of (self.old).hub.service.directory)) stand (ask_seen ask.now) in HaveDone H.digest_of V.value_of S.signature_of R.stream V.accepted S.verified text.old.items now.0 now.1 text.new.items self.new) }
+        ensures keys { OnOk result (HasKeysOf (self.old).hub.service.directory (self.new).hub.service.directory) }
+    {
+        let latest = self.latest();
+        let reply = self.ask(ask)?;
+        self.tell_checked(ask, &reply, text)?;
+        self.hand_on(ask, &reply)?;
+        if latest < self.latest() {
+            self.follow(text)?;
+        }
+        Ok(())
+    }
+
+    /// Appends the line of a reply through session 0. The client looks at the reply to a look-up.
+    fn tell_checked(
+        &mut self,
+        ask: &Ask,
+        reply: &[u8],
+        text: &mut Vec<u8>,
+    ) -> Result<(), AllocError>
+        requires asked { (before : Parties R) × HasAskedKnowing H.digest_of V.value_of S.signature_of R.stream V.accepted S.verified before (ask_seen ask.now) reply.now self.old }
+        ensures told { (before : Parties R) → HasAskedKnowing H.digest_of V.value_of S.signature_of R.stream V.accepted S.verified before (ask_seen ask.now) reply.now self.old → OnOk result ((text.new.items ≡ text.old.items ++ line_of_reply H.digest_of V.value_of S.signature_of R.stream V.accepted S.verified before (ask_seen ask.now) ++ 10 ∷ []) × HasLooked self.old self.new) }
+    {
+        let found = match response_of(&frame_of(reply))? {
+            Response::Proof(found) => found,
+            response => return tell_response(text, response),
+        };
+        // A proof is the answer to a look-up alone.
+        let Ask::Lookup { name, epoch } = ask else {
+            unreachable!()
+        };
+        self.tell_look(name, *epoch, found.body().epoch, body_of(reply), text)
+    }
+
+    /// Appends the line of what the client says of a reply to a look-up, which is of the root of this epoch.
+    fn tell_look(
+        &mut self,
+        name: &[u8],
+        epoch: u64,
+        found_at: u64,
+        reply: &[u8],
+        text: &mut Vec<u8>,
+    ) -> Result<(), AllocError>
+        requires found { (page : Page) × IsFound H.digest_of V.value_of S.signature_of R.stream V.accepted S.verified self.old name.now epoch reply.now page × (found_at ≡ page.epoch) }
+        ensures { (page : Page) → IsFound H.digest_of V.value_of S.signature_of R.stream V.accepted S.verified self.old name.now epoch reply.now page → found_at ≡ page.epoch
+            → OnOk result ((text.new.items ≡ text.old.items ++ found_text (index_of (provider H.digest_of V.value_of S.signature_of (self.old).hub.service.directory)) page name.now ++ 10 ∷ []) × HasLooked self.old self.new) }
+    {
+        let Ok(name) = Name::new(name) else {
+            unreachable!()
+        };
+        honest::<V, S>();
+        let checks = &mut self.checks;
+        match self
+            .client
+            .look(&mut checks.hash, &checks.vuf, &name, epoch, reply)
+        {
+            Ok(statement) => tell_statement(text, found_at, statement),
+            Err(client::Refusal::Proof(why)) => tell_refused(text, why),
+            Err(_) => Err(AllocError),
+        }
+    }
+
+    /// Hands the promise that was asked for to the monitors of its name, if it is the promise of a new key.
+    fn hand_on(&mut self, ask: &Ask, reply: &[u8]) -> Result<(), AllocError>
+        requires asked { (before : Parties R) × (asked : Parties R) × (watchers : List Watcher)
+            × MayHand H.digest_of V.value_of S.signature_of R.stream V.accepted S.verified before asked self.old (ask_seen ask.now) reply.now watchers }
+        ensures { (before asked : Parties R) (watchers : List Watcher)
+            → MayHand H.digest_of V.value_of S.signature_of R.stream V.accepted S.verified before asked self.old (ask_seen ask.now) reply.now watchers
+            → OnOk result (HasHanded H.digest_of V.value_of S.signature_of R.stream V.accepted S.verified before asked self.old (ask_seen ask.now) watchers self.new) }
+    {
+        let Ask::Put { name, key, .. } = ask else {
+            return Ok(());
+        };
+        self.hand_out(name, key, reply)
+    }
+
+    /// Hands the promise of a key for a name to each monitor of the name, if the reply is one.
+    fn hand_out(&mut self, name: &[u8], key: &[u8], reply: &[u8]) -> Result<(), AllocError>
+        requires asked { (before : Parties R) × (asked : Parties R) × (verb : Verb) × (watchers : List Watcher)
+            × MayHand H.digest_of V.value_of S.signature_of R.stream V.accepted S.verified before asked self.old (Put verb name.now key.now) reply.now watchers }
+        ensures { (before asked : Parties R) (verb : Verb) (watchers : List Watcher)
+            → MayHand H.digest_of V.value_of S.signature_of R.stream V.accepted S.verified before asked self.old (Put verb name.now key.now) reply.now watchers
+            → OnOk result (HasHanded H.digest_of V.value_of S.signature_of R.stream V.accepted S.verified before asked self.old (Put verb name.now key.now) watchers self.new) }
+    {
+        let Response::Promise(_) = response_of(&frame_of(reply))? else {
+            return Ok(());
+        };
+        let Ok(key) = KeyData::new(key) else {
+            unreachable!()
+        };
+        hand_all(
+            &mut self.monitors,
+            &mut self.checks,
+            name,
+            &key,
+            body_of(reply),
+        )
+    }
+}

@@ -1,0 +1,50 @@
+// A promise of a key goes to the monitors of its name.
+
+ghost use Rattle.std.specs.Prelude.{OnOk};
+ghost use Rattle.std.specs.List.{AllZip};
+ghost use Rattle.rootchain.specs.Promises.{SpellsPromise};
+ghost use Rattle.rootchain.specs.declared.signed_promise.SignedPromise.{SignedPromise};
+ghost use Rattle.play.specs.Handed.{IsHanded};
+
+use super::Checks;
+use encoding::KeyData;
+use monitor::Monitor;
+use nodehash::NodeHash;
+use sigiface::Signer;
+use std::alloc::AllocError;
+use vrfiface::Vuf;
+
+/// Gives a promise to each monitor of the name.
+pub(super) fn hand_all<H: NodeHash + Drop, V: Vuf + Drop, S: Signer + Drop>(
+    monitors: &mut [Monitor<H, V, S>],
+    checks: &mut Checks<H, V, S>,
+    name: &[u8],
+    key: &KeyData,
+    promise: &[u8],
+) -> Result<(), AllocError>
+    ensures { (promised : SignedPromise) → SpellsPromise promise.now promised → OnOk result (AllZip (IsHanded name.now promised) monitors.old monitors.new) }
+{
+    for monitor in monitors.iter_mut() {
+        hand_to(monitor, checks, name, key, promise)?;
+    }
+    Ok(())
+}
+
+/// Gives a promise to a monitor, if it is one of the name.
+fn hand_to<H: NodeHash + Drop, V: Vuf + Drop, S: Signer + Drop>(
+    monitor: &mut Monitor<H, V, S>,
+    checks: &mut Checks<H, V, S>,
+    name: &[u8],
+    key: &KeyData,
+    promise: &[u8],
+) -> Result<(), AllocError>
+    ensures { (promised : SignedPromise) → SpellsPromise promise.now promised → OnOk result (IsHanded name.now promised monitor.old monitor.new) }
+{
+    if monitor.name().bytes() != name {
+        return Ok(());
+    }
+    match monitor.expect_change(&mut checks.hash, &checks.verifier, key, promise) {
+        Ok(()) => Ok(()),
+        Err(_) => Err(AllocError),
+    }
+}

@@ -1,0 +1,162 @@
+// The words of the lines that a script prints. Each function appends to the text; an `Err` says that memory
+// ran out, and the text then ends anywhere.
+
+ghost use Rattle.std.specs.Prelude.{◌≡◌, ◌++◌, ◌∷◌, [], OnOk, codes, decimal};
+ghost use Rattle.hex.specs.Hex.{encode_lower};
+ghost use Rattle.proofs.specs.Refusals.{refusal_number};
+ghost use Rattle.proofs.specs.Views.{key_stated};
+ghost use Rattle.wire.specs.Responses.{response_seen, Roots};
+ghost use Rattle.play.specs.Lines.{statement_text};
+ghost use Rattle.play.specs.Watchers.{alarm_key};
+ghost use Rattle.play.specs.Hearing.{response_text};
+ghost use Rattle.play.specs.Telling.{place_text, step_text};
+
+use itoa::Buffer;
+use monitor::Step;
+use proofs::Statement;
+use rootchain::RootList;
+use std::alloc::AllocError;
+use wire::Response;
+
+/// Appends a number in decimal digits.
+pub(crate) fn push_number(text: &mut Vec<u8>, number: u64) -> Result<(), AllocError>
+    ensures { OnOk result (text.new.items ≡ text.old.items ++ decimal number) }
+{
+    let mut digits = Buffer::new();
+    text.extend_from_slice(digits.format(number).as_bytes())
+}
+
+/// Appends bytes in hexadecimal digits.
+#[tactic(auto, unfolding(hex::specs::Hex::encode_with))]
+pub(crate) fn push_hex(text: &mut Vec<u8>, bytes: &[u8]) -> Result<(), AllocError>
+    ensures { OnOk result (text.new.items ≡ text.old.items ++ encode_lower bytes.now) }
+{
+    for byte in bytes {
+        let mut digits = [0; 2];
+        let fits = hex::encode_to_slice(&[*byte], &mut digits).is_ok();
+        prove!(fits);
+        text.extend_from_slice(&digits)?;
+    }
+    Ok(())
+}
+
+/// Appends the line of a response.
+pub(crate) fn tell_response(text: &mut Vec<u8>, response: Response<'_>) -> Result<(), AllocError>
+    ensures { OnOk result (text.new.items ≡ text.old.items ++ response_text (response_seen response.entry) ++ 10 ∷ []) }
+{
+    match response {
+        Response::Promise(signed) => {
+            text.extend_from_slice(b"promise ")?;
+            push_number(text, signed.promise.epoch)?;
+        }
+        Response::Proof(reply) => {
+            text.extend_from_slice(b"proof ")?;
+            push_number(text, reply.body().epoch)?;
+        }
+        Response::Roots(roots) => tell_roots(text, roots)?,
+        Response::Root(root) => {
+            text.extend_from_slice(b"root ")?;
+            push_number(text, root.body.epoch)?;
+            text.extend_from_slice(b" after ")?;
+            push_number(text, root.body.previous_epoch)?;
+        }
+        Response::Refused(code) => {
+            text.extend_from_slice(b"refused ")?;
+            push_number(text, u64::from(code))?;
+        }
+    }
+    text.push(b'\n')?;
+    Ok(())
+}
+
+fn tell_roots(text: &mut Vec<u8>, roots: RootList<'_>) -> Result<(), AllocError>
+    ensures { OnOk result (text.new.items ≡ text.old.items ++ response_text (Roots roots.entry)) }
+{
+    let mut roots = roots;
+    text.extend_from_slice(b"roots")?;
+    for _ in 0..roots.len() {
+        if let Some(root) = roots.next() {
+            text.push(b' ')?;
+            push_number(text, root.body.epoch)?;
+        }
+    }
+    Ok(())
+}
+
+/// Appends the line of what the client accepted at an epoch.
+pub(crate) fn tell_statement(
+    text: &mut Vec<u8>,
+    epoch: u64,
+    statement: Statement<'_>,
+) -> Result<(), AllocError>
+    ensures { OnOk result (text.new.items ≡ text.old.items ++ statement_text epoch (key_stated statement.entry) ++ 10 ∷ []) }
+{
+    match statement {
+        Statement::Present(key) => {
+            text.extend_from_slice(b"present ")?;
+            push_number(text, epoch)?;
+            text.push(b' ')?;
+            push_hex(text, key)?;
+        }
+        Statement::Absent => {
+            text.extend_from_slice(b"absent ")?;
+            push_number(text, epoch)?;
+        }
+    }
+    text.push(b'\n')?;
+    Ok(())
+}
+
+/// Appends the line of what a monitor of a name found at an epoch.
+pub(crate) fn tell_step(
+    text: &mut Vec<u8>,
+    name: &[u8],
+    epoch: u64,
+    step: Step<'_>,
+) -> Result<(), AllocError>
+    ensures { OnOk result (text.new.items ≡ text.old.items ++ step_text name.now epoch step.entry ++ 10 ∷ []) }
+{
+    match step {
+        Step::Kept => {
+            tell_place(text, b"kept ", name, epoch)?;
+            text.push(b'\n')?;
+            Ok(())
+        }
+        Step::Alarm { epoch, found } => {
+            tell_place(text, b"alarm ", name, epoch)?;
+            text.push(b' ')?;
+            tell_found(text, found)
+        }
+    }
+}
+
+/// Appends the end of an alarm's line: what was found.
+fn tell_found(text: &mut Vec<u8>, found: Statement<'_>) -> Result<(), AllocError>
+    ensures { OnOk result (text.new.items ≡ text.old.items ++ alarm_key (key_stated found.entry) ++ 10 ∷ []) }
+{
+    match found {
+        Statement::Present(key) => push_hex(text, key)?,
+        Statement::Absent => text.extend_from_slice(b"absent")?,
+    }
+    text.push(b'\n')?;
+    Ok(())
+}
+
+fn tell_place(text: &mut Vec<u8>, word: &[u8], name: &[u8], epoch: u64) -> Result<(), AllocError>
+    ensures { OnOk result (text.new.items ≡ text.old.items ++ place_text word.now name.now epoch) }
+{
+    text.extend_from_slice(word)?;
+    push_hex(text, name)?;
+    text.push(b' ')?;
+    push_number(text, epoch)
+}
+
+/// Appends the line of a proof that the client refuses.
+pub(crate) fn tell_refused(text: &mut Vec<u8>, why: proofs::Refusal) -> Result<(), AllocError>
+    ensures { OnOk result (text.new.items ≡ text.old.items ++ codes "client refuses proof " ++ decimal (refusal_number why) ++ 10 ∷ []) }
+{
+    text.extend_from_slice(b"client refuses proof ")?;
+    push_number(text, u64::from(why.number()))?;
+    text.push(b'\n')?;
+    Ok(())
+}
