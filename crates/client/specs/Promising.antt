@@ -1,11 +1,10 @@
 -- Which signed promises a client keeps (CONIKS, section 4, temporary bindings).
 use Rattle.std.specs.Prelude.{◌≡◌, ℕ, List, Result, Ok, Err}
 use Rattle.rootchain.specs.Promises.{PromiseVerifies, SpellsPromise}
-use Rattle.rootchain.specs.declared.refusal.Refusal.TheVariants.{Malformed, BadSignature, NotLater, BadLink}
-use Rattle.rootchain.specs.declared.refusal.Refusal.TheVariants as root
 use Rattle.rootchain.specs.declared.signed_promise.SignedPromise.{SignedPromise}
 use Rattle.client.specs.Clients.{Client, HasRootOf, with_promise}
 use Rattle.client.specs.declared.refusal.Refusal.{Refusal}
+use Rattle.client.specs.declared.refusal.RootRefusal.TheVariants.{Malformed, BadSignature, NotLater, BadLink}
 use Rattle.client.specs.declared.refusal.Refusal.TheVariants.{Root, Proof, UnknownRoot, RootDiffers, Memory, NoPromise}
 
 module _ (hash : List ℕ → List ℕ) (verified : List ℕ → List ℕ → List ℕ → Type 0) (before : Client) (bytes : List ℕ) where
@@ -24,7 +23,6 @@ module _ (hash : List ℕ → List ℕ) (verified : List ℕ → List ℕ → Li
   ReadsPromise (Err (Root BadSignature)) = (signed : SignedPromise) × SpellsPromise bytes signed × ¬ PromiseVerifies verified before.chain.key signed
   ReadsPromise (Err (Root NotLater)) = ⊥
   ReadsPromise (Err (Root BadLink)) = ⊥
-  ReadsPromise (Err (Root root.Memory)) = ⊥
   ReadsPromise (Err UnknownRoot) = (signed : SignedPromise) × IsSpelledPromise signed × ¬ HasRootOf hash before.chain signed.promise
   ReadsPromise (Err (Proof why)) = ⊥
   ReadsPromise (Err (RootDiffers evidence)) = ⊥

@@ -1,25 +1,33 @@
 -- The numbers of the refusals.
 use Rattle.std.specs.Prelude.{ℕ}
-use Rattle.rootchain.specs.Refusals as roots
-use Rattle.rootchain.specs.declared.refusal.Refusal.{Refusal as RootRefusal}
-use Rattle.rootchain.specs.declared.refusal.Refusal.TheVariants as root
+use Rattle.rootchain.specs.declared.refusal.Refusal as chains
+use Rattle.rootchain.specs.declared.refusal.Refusal.TheVariants as chain
 use Rattle.proofs.specs.Refusals as replies
 use Rattle.client.specs.declared.refusal.Refusal.{Refusal}
 use Rattle.client.specs.declared.refusal.Refusal.TheVariants.{Root, Proof, UnknownRoot, RootDiffers, Memory, NoPromise}
+use Rattle.client.specs.declared.refusal.RootRefusal.{RootRefusal}
+use Rattle.client.specs.declared.refusal.RootRefusal.TheVariants.{Malformed, BadSignature, NotLater, BadLink}
+
+-- the numbers of the like refusals of a chain
+abbrev pub root_number : RootRefusal → ℕ
+root_number Malformed = 1
+root_number BadSignature = 2
+root_number NotLater = 3
+root_number BadLink = 4
 
 -- a refusal of a root or of a reply keeps its own number
 abbrev pub refusal_number : Refusal → ℕ
-refusal_number (Root why) = roots.refusal_number why
+refusal_number (Root why) = root_number why
 refusal_number (Proof why) = replies.refusal_number why
 refusal_number UnknownRoot = 20
 refusal_number (RootDiffers evidence) = 21
 refusal_number Memory = 22
 refusal_number NoPromise = 23
 
--- a refusal of a root as one of the client; want of memory is the client's own
-abbrev pub of_root : RootRefusal → Refusal
-of_root root.Malformed = Root root.Malformed
-of_root root.BadSignature = Root root.BadSignature
-of_root root.NotLater = Root root.NotLater
-of_root root.BadLink = Root root.BadLink
-of_root root.Memory = Memory
+-- a refusal of a chain as one of the client
+abbrev pub of_root : chains.Refusal → Refusal
+of_root chain.Malformed = Root Malformed
+of_root chain.BadSignature = Root BadSignature
+of_root chain.NotLater = Root NotLater
+of_root chain.BadLink = Root BadLink
+of_root chain.Memory = Memory

@@ -2,11 +2,10 @@
 use Rattle.std.specs.Prelude.{◌≡◌, ℕ, List, Result, Ok, Err}
 use Rattle.rootchain.specs.Chains.{Verifies}
 use Rattle.rootchain.specs.SignedRoots.{SpellsRoot}
-use Rattle.rootchain.specs.declared.refusal.Refusal.TheVariants.{Malformed, BadSignature, NotLater, BadLink}
-use Rattle.rootchain.specs.declared.refusal.Refusal.TheVariants as root
 use Rattle.rootchain.specs.declared.signed_root.SignedRoot.{SignedRoot}
 use Rattle.client.specs.Clients.{Client, started}
 use Rattle.client.specs.declared.refusal.Refusal.{Refusal}
+use Rattle.client.specs.declared.refusal.RootRefusal.TheVariants.{Malformed, BadSignature, NotLater, BadLink}
 use Rattle.client.specs.declared.refusal.Refusal.TheVariants.{Root, Proof, UnknownRoot, RootDiffers, Memory, NoPromise}
 
 module _ (verified : List ℕ → List ℕ → List ℕ → Type 0) (key : List ℕ) (bytes : List ℕ) where
@@ -21,7 +20,6 @@ module _ (verified : List ℕ → List ℕ → List ℕ → Type 0) (key : List 
   Starts (Err (Root BadSignature)) = (root : SignedRoot) × SpellsRoot bytes root × ¬ Verifies verified key root
   Starts (Err (Root NotLater)) = ⊥
   Starts (Err (Root BadLink)) = ⊥
-  Starts (Err (Root root.Memory)) = ⊥
   Starts (Err (Proof why)) = ⊥
   Starts (Err UnknownRoot) = ⊥
   Starts (Err (RootDiffers evidence)) = ⊥

@@ -5,12 +5,12 @@ use Rattle.rootchain.specs.Evidence.{BothAre, IsRootEvidence}
 use Rattle.rootchain.specs.RootLists.{SpellsRoots}
 use Rattle.rootchain.specs.SignedRoots.{IsSignedRoot}
 use Rattle.rootchain.specs.TakingLists.{IsListRefusal, Takes}
-use Rattle.rootchain.specs.declared.refusal.Refusal.TheVariants as root
 use Rattle.rootchain.specs.declared.signed_root.SignedRoot.{SignedRoot}
 use Rattle.rootchain.specs.declared.list_refusal.ListRefusal.{ListRefusal}
 use Rattle.rootchain.specs.declared.list_refusal.ListRefusal.TheVariants as list
 use Rattle.client.specs.Clients.{Client}
 use Rattle.client.specs.declared.refusal.Refusal.{Refusal}
+use Rattle.client.specs.declared.refusal.RootRefusal.TheVariants as root
 use Rattle.client.specs.declared.refusal.Refusal.TheVariants.{Root, Proof, UnknownRoot, RootDiffers, Memory, NoPromise}
 
 -- the client's refusal for its chain's refusal of a list

@@ -4,13 +4,13 @@ use Rattle.rootchain.specs.Chains.{KeyedRoots}
 use Rattle.rootchain.specs.RootFeeds.{Held, Counts}
 use Rattle.rootchain.specs.RootLists.{SpellsRoots}
 use Rattle.rootchain.specs.TakingPieces.{joined, TakesPiece, TakesUpTo}
-use Rattle.rootchain.specs.declared.refusal.Refusal.TheVariants as root
 use Rattle.rootchain.specs.declared.signed_root.SignedRoot.{SignedRoot}
 use Rattle.rootchain.specs.declared.piece_refusal.PieceRefusal.{PieceRefusal}
 use Rattle.rootchain.specs.declared.piece_refusal.PieceRefusal.TheVariants as piece
 use Rattle.client.specs.Clients.{Client}
 use Rattle.client.specs.Updating.{told_as}
 use Rattle.client.specs.declared.refusal.Refusal.{Refusal}
+use Rattle.client.specs.declared.refusal.RootRefusal.TheVariants as root
 use Rattle.client.specs.declared.refusal.Refusal.TheVariants.{Root, Memory}
 
 -- the client's refusal for its chain's refusal of a piece

@@ -5,7 +5,7 @@ ghost use Rattle.client.specs.Promising.{Keeps, ReadsPromise};
 ghost use Rattle.client.specs.Starting.{Starts};
 ghost use Rattle.client.specs.declared.refusal.Refusal.TheVariants.{Memory};
 
-use crate::Refusal;
+use crate::{Refusal, RootRefusal};
 use crate::looks::Looks;
 use crate::roots::{asked, has_root_of};
 use encoding::{Hash32, Name};
@@ -52,7 +52,7 @@ impl<H: NodeHash, V: VufCheck, S: Verifier> Client<H, V, S> {
     pub fn start(alloc: Global, verifier: &S, key: Hash32, bytes: &[u8]) -> Result<Self, Refusal>
         ensures { Starts S.verified key bytes.now result }
     {
-        let root = SignedRoot::read(bytes).map_err(Refusal::Root)?;
+        let root = SignedRoot::read(bytes)?;
         match Chain::start(alloc, verifier, key, root) {
             Ok(chain) => Ok(Client {
                 chain,
@@ -145,9 +145,9 @@ impl<H: NodeHash, V: VufCheck, S: Verifier> Client<H, V, S> {
     ) -> Result<SignedPromise, Refusal>
         ensures { ReadsPromise H.digest_of S.verified self.now bytes.now result }
     {
-        let signed = SignedPromise::read(bytes).map_err(Refusal::Root)?;
+        let signed = SignedPromise::read(bytes)?;
         if !signed.verifies(verifier, self.chain.key()) {
-            return Err(Refusal::Root(rootchain::Refusal::BadSignature));
+            return Err(Refusal::Root(RootRefusal::BadSignature));
         }
         if !has_root_of(&self.chain, hash, &signed.promise) {
             return Err(Refusal::UnknownRoot);

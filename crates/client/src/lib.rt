@@ -30,4 +30,4 @@ pub use due::Due;
 pub use laws::{cuts_of_a_list_do_not_matter, two_values_are_never_told};
 pub use outcome::Outcome;
 pub use reconciling::reconcile;
-pub use refusal::Refusal;
+pub use refusal::{Refusal, RootRefusal};

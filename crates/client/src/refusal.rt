@@ -6,9 +6,9 @@ use thiserror::Error;
 /// Why a call of a client is refused: the first reason that applies.
 #[derive(Debug, Drop, PartialEq, Eq, Error)]
 pub enum Refusal {
-    /// The bytes are not of the form, or the root is refused.
+    /// The bytes are not of the form, or a root or a promise is refused.
     #[error(transparent)]
-    Root(rootchain::Refusal),
+    Root(RootRefusal),
     /// The reply is refused.
     #[error(transparent)]
     Proof(#[from] proofs::Refusal),
@@ -21,6 +21,36 @@ pub enum Refusal {
     Memory,
     #[error("no promise for the name is kept")]
     NoPromise,
+}
+
+/// Why a root, a list of roots or a promise is refused: what `rootchain::Refusal` says, but for want of
+/// memory.
+#[derive(Clone, Copy, Debug, PartialEq, Eq, Error)]
+pub enum RootRefusal {
+    #[error("the bytes are not of the form")]
+    Malformed,
+    #[error("the signature does not verify")]
+    BadSignature,
+    #[error("the epoch is not above that of the head of the chain")]
+    NotLater,
+    #[error("the root does not name the head of the chain as the root before it")]
+    BadLink,
+}
+
+impl RootRefusal {
+    ghost use Rattle.client.specs.Refusals.{root_number};
+
+    /// The number of this refusal.
+    pub fn number(self) -> u8
+        ensures { result ≡ root_number self }
+    {
+        match self {
+            RootRefusal::Malformed => 1,
+            RootRefusal::BadSignature => 2,
+            RootRefusal::NotLater => 3,
+            RootRefusal::BadLink => 4,
+        }
+    }
 }
 
 impl Refusal {
@@ -46,11 +76,14 @@ impl From<rootchain::Refusal> for Refusal {
 
     ghost from_gives = { λ given refusal. refusal ≡ of_root given };
 
-    /// Want of memory is `Memory`, whatever ran out of it.
+    /// The refusal of the same name.
     fn from(given: rootchain::Refusal) -> Self {
         match given {
+            rootchain::Refusal::Malformed => Refusal::Root(RootRefusal::Malformed),
+            rootchain::Refusal::BadSignature => Refusal::Root(RootRefusal::BadSignature),
+            rootchain::Refusal::NotLater => Refusal::Root(RootRefusal::NotLater),
+            rootchain::Refusal::BadLink => Refusal::Root(RootRefusal::BadLink),
             rootchain::Refusal::Memory => Refusal::Memory,
-            why => Refusal::Root(why),
         }
     }
 }

@@ -10,7 +10,7 @@ use Rattle.rootchain.specs.Promises.{promise_bytes, read_signed_promise, signed_
 use Rattle.rootchain.specs.Readable.{signed_promise_field}
 use Rattle.rootchain.specs.declared.body.Body.{Body}
 use Rattle.rootchain.specs.declared.evidence.RootEvidence.TheVariants.{Fork, Link, Skip}
-use Rattle.rootchain.specs.declared.refusal.Refusal.TheVariants as root_refusal
+use Rattle.client.specs.declared.refusal.RootRefusal.TheVariants as root_refusal
 use Rattle.rootchain.specs.declared.signed_promise.SignedPromise.{SignedPromise}
 use Rattle.rootchain.specs.declared.signed_root.SignedRoot.{SignedRoot}
 use Rattle.rootchain.proofs.Agreement.{unique}
@@ -292,7 +292,6 @@ module _ (provider : Provider) (accepted verified : List ℕ → List ℕ → Li
         by (client.Root root_refusal.BadSignature) (signed, it, not_verified) = not_verified (subst (PromiseVerifies verified chain.key) (same-promise signed it) verifies)
         by (client.Root root_refusal.NotLater) reads = reads
         by (client.Root root_refusal.BadLink) reads = reads
-        by (client.Root root_refusal.Memory) reads = reads
         by client.UnknownRoot (signed, it, not_rooted) = not_rooted (subst (λ (p : SignedPromise). HasRootOf provider.hash chain p.promise) (same-promise signed it.0) rooted-in)
         by (client.Proof why) reads = reads
         by (client.RootDiffers evidence) reads = reads

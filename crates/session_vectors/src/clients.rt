@@ -93,7 +93,7 @@ where
 /// The evidence of a refusal, if it has some.
 pub(crate) fn say_cause(case: &mut Case<'_>, why: &Refusal) {
     match why {
-        Refusal::Memory | Refusal::Root(rootchain::Refusal::Memory) => case.lack_memory(),
+        Refusal::Memory => case.lack_memory(),
         Refusal::RootDiffers(evidence) => say_evidence(case, evidence),
         _ => {}
     }

@@ -3,7 +3,7 @@ ghost use Rattle.rootchain.specs.Chains.{IsChain};
 ghost use Rattle.client.specs.Updating.{told_as, RefusalHolds, Updates};
 
 use super::Client;
-use crate::Refusal;
+use crate::{Refusal, RootRefusal};
 use nodehash::NodeHash;
 use rootchain::{ListRefusal, RootList};
 use sigiface::Verifier;
@@ -26,7 +26,7 @@ impl<H: NodeHash, V: VufCheck, S: Verifier> Client<H, V, S> {
     {
         let list = match RootList::read(bytes) {
             Ok(list) => list,
-            Err(why) => return Err(Refusal::Root(why)),
+            Err(why) => return Err(why.into()),
         };
         match self.chain.take_list(hash, verifier, list) {
             Ok(()) => Ok(()),
@@ -40,9 +40,9 @@ pub(super) fn tell(why: ListRefusal) -> Refusal
     ensures { result ≡ told_as why }
 {
     match why {
-        ListRefusal::BadSignature => Refusal::Root(rootchain::Refusal::BadSignature),
-        ListRefusal::BeforeStart => Refusal::Root(rootchain::Refusal::NotLater),
-        ListRefusal::Ahead => Refusal::Root(rootchain::Refusal::BadLink),
+        ListRefusal::BadSignature => Refusal::Root(RootRefusal::BadSignature),
+        ListRefusal::BeforeStart => Refusal::Root(RootRefusal::NotLater),
+        ListRefusal::Ahead => Refusal::Root(RootRefusal::BadLink),
         ListRefusal::Evidence(evidence) => Refusal::RootDiffers(evidence),
         ListRefusal::Memory => Refusal::Memory,
     }

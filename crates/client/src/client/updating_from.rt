@@ -5,7 +5,7 @@ ghost use Rattle.client.specs.UpdatingFrom.{piece_told_as, UpdatesFrom};
 
 use super::Client;
 use super::updating::tell;
-use crate::Refusal;
+use crate::{Refusal, RootRefusal};
 use nodehash::NodeHash;
 use rootchain::{PieceRefusal, RootFeed};
 use sigiface::Verifier;
@@ -44,7 +44,7 @@ fn tell_piece(why: PieceRefusal) -> Refusal
     ensures { result ≡ piece_told_as why }
 {
     match why {
-        PieceRefusal::Malformed => Refusal::Root(rootchain::Refusal::Malformed),
+        PieceRefusal::Malformed => Refusal::Root(RootRefusal::Malformed),
         PieceRefusal::Root(why) => tell(why),
         PieceRefusal::Memory => Refusal::Memory,
     }

@@ -138,7 +138,7 @@ pub(crate) fn tell_statement(printed: &mut Printed, epoch: u64, statement: State
 /// Tells that the client refuses.
 pub(crate) fn tell_client(alloc: Global, printed: &mut Printed, why: Refusal) {
     match why {
-        Refusal::Memory | Refusal::Root(rootchain::Refusal::Memory) => printed.lack_memory(),
+        Refusal::Memory => printed.lack_memory(),
         Refusal::Root(why) => say_refused(printed, "client refuses root", why.number()),
         Refusal::Proof(why) => say_refused(printed, "client refuses proof", why.number()),
         Refusal::RootDiffers(evidence) => tell_evidence(alloc, printed, evidence),
