@@ -39,7 +39,8 @@ impl<H: NodeHash, V: VufCheck, S: Verifier> Client<H, V, S> {
         self.update_whole(hash, verifier, feed, piece)
     }
 
-    /// `update_from`, which leaves here what takes room for a refusal.
+    /// `update_from` of a piece that `take_part` left. It is a function of its own, since a function clears the
+    /// room for all its refusals when it is called.
     #[inline(always)]
     fn update_whole(
         &mut self,
