@@ -2,7 +2,7 @@ use crate::auditing::take_all;
 use crate::pages::Following;
 use crate::roots::{BODY_BYTES, SIGNED_BYTES, bodies, first_body, lists, provider, signed};
 use crate::steps::end_step;
-use anyhow::Result;
+use anyhow::{Result, bail};
 use client::Client;
 use nodehash::Sha256Hash;
 use rootchain::{MAX_ROOTS, RootFeed};
@@ -45,7 +45,13 @@ fn update_in_pieces(
     let verifier = provider();
     let mut feed = RootFeed::new();
     for bytes in list.chunks(piece.max(1)) {
-        client.update_from(hash, &verifier, &mut feed, bytes)?;
+        // A `?` would clear the room of a refusal at each call.
+        if client
+            .update_from(hash, &verifier, &mut feed, bytes)
+            .is_err()
+        {
+            bail!("a piece was refused");
+        }
     }
     Ok(())
 }

@@ -136,6 +136,7 @@ impl<H: NodeHash, V: VufCheck, S: Verifier> Monitor<H, V, S> {
     /// # Errors
     ///
     /// Those of `Client::update_from`.
+    #[inline(always)]
     pub fn update_from(
         &mut self,
         hash: &mut H,

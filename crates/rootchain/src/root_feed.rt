@@ -119,6 +119,7 @@ impl RootFeed {
 
     /// Takes the piece where it is too short to make a root whole, and returns whether it took it. A piece
     /// with the end of the number of roots, or of the length of a signature, is left to `next`.
+    #[inline(always)]
     pub(crate) fn take_part(&mut self, piece: &[u8]) -> bool
         ensures { TakesPart self.old piece.now result self.new }
     {
@@ -135,6 +136,7 @@ impl RootFeed {
 }
 
 /// `RootFeed::take_part` on the fields of a feed.
+#[inline(always)]
 fn add_part(stage: Stage, held: &mut SignedRootText, piece: &[u8]) -> bool
     requires { IsHeld (held_of stage held.old) }
     ensures part { TakesPart (held_of stage held.old) piece.now result (held_of stage held.new) }
@@ -144,7 +146,11 @@ fn add_part(stage: Stage, held: &mut SignedRootText, piece: &[u8]) -> bool
     if missing <= piece.len() {
         return false;
     }
-    held.push_slice(piece);
+    // One byte is stored sooner than a slice is copied.
+    match piece {
+        [byte] => held.push(*byte),
+        _ => held.push_slice(piece),
+    }
     true
 }
 

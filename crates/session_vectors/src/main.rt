@@ -19,7 +19,7 @@
 //! | | `run` | `run`, `run-on`, `seen`, `seen-sum` |
 //! | `serve` | `serve_unkept`, which calls `serve` | `run`, `keys` |
 //! | `client` | `Client::start`, `update`, `look` | `start`, `update`, `look` |
-//! | | `update_from`, which calls `Chain::take_piece`; `RootFeed::new`, `done` | `from`; `feed`, `done` |
+//! | | `update_from`, which calls `Chain::take_part` and `take_piece`; `RootFeed::new`, `done` | `from`; `feed`, `done` |
 //! | | `keep_promise`, `due`, `due_epoch` | `keep`, `due`, `due-epoch` |
 //! | | `key`, `chain` | `key`, `head` |
 //! | | `reconcile` | `reconcile`, `reconcile-self`; `put-aside` makes the client the other one |

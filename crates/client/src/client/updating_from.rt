@@ -21,7 +21,28 @@ impl<H: NodeHash, V: VufCheck, S: Verifier> Client<H, V, S> {
     /// that are still to come: neither the client nor the feed changes. Else the refusal of the first root
     /// that `update` would refuse, or `Root` with `Malformed` if the bytes after the roots before are none
     /// of a list: the client keeps these roots, and the feed has failed.
+    #[inline(always)]
     pub fn update_from(
+        &mut self,
+        hash: &mut H,
+        verifier: &S,
+        feed: &mut RootFeed,
+        piece: &[u8],
+    ) -> Result<(), Refusal>
+        ensures updates { UpdatesFrom H.digest_of S.verified self.old feed.old piece.now result self.new feed.new }
+        ensures chain { IsChain H.digest_of S.verified self.new.chain }
+        ensures evidence { IfErr result (RefusalHolds H.digest_of S.verified self.old.chain.key) }
+    {
+        if self.chain.take_part(feed, piece) {
+            return Ok(());
+        }
+        self.update_whole(hash, verifier, feed, piece)
+    }
+
+    /// `update_from` of a piece that `take_part` left. It is a function of its own, since a function clears the
+    /// room for all its refusals when it is called.
+    #[inline(always)]
+    fn update_whole(
         &mut self,
         hash: &mut H,
         verifier: &S,

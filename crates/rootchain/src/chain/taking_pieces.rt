@@ -1,10 +1,15 @@
 //! The roots that a piece of a list makes whole are taken one by one, each before the next one is looked
 //! at. Memory for all that are still to come is reserved first. The first root that is refused ends the
 //! feed, and the roots before it stay. A piece that makes no root whole is only held.
+//!
+//! A refusal may have two roots in it. A function that returns one clears the room for it when it is called,
+//! which takes longer than to hold a few bytes. So `take_part` returns none and becomes part of its caller, and
+//! `take_piece` does not.
 ghost use Rattle.std.specs.Prelude.{◌≡◌, ◌≢◌, ◌+◌, ◌≤◌, List, length, IfErr};
 ghost use Rattle.std.specs.List.{AllByRecursion};
 ghost use Rattle.rootchain.specs.declared.signed_root.SignedRoot.{SignedRoot};
 ghost use Rattle.rootchain.specs.Chains.{IsChain};
+ghost use Rattle.rootchain.specs.FeedViews.{TakesPart};
 ghost use Rattle.rootchain.specs.RootFeeds.{told_from, Failed};
 ghost use Rattle.rootchain.specs.SignedRoots.{IsSignedRoot};
 ghost use Rattle.rootchain.specs.TakingLists.{with_roots};
@@ -17,6 +22,18 @@ use nodehash::NodeHash;
 use sigiface::Verifier;
 
 impl<H: NodeHash, S: Verifier> Chain<H, S> {
+    /// Takes the next piece of a list where it is too short to make a root whole and there is memory for all
+    /// roots that are still to come, and returns whether it took it. Else neither the chain nor the feed
+    /// changes. `take_piece` does the same with such a piece.
+    #[inline(always)]
+    pub fn take_part(&mut self, feed: &mut RootFeed, piece: &[u8]) -> bool
+        ensures part { TakesPart feed.old piece.now result feed.new }
+        ensures stays { self.new ≡ self.old }
+        ensures chain { IsChain H.digest_of S.verified self.old }
+    {
+        self.roots.reserve(feed.owed()).is_ok() && feed.take_part(piece)
+    }
+
     /// Takes each root that the next piece of a list makes whole, as `take_list` does, before the next one
     /// is looked at.
     ///
@@ -26,6 +43,7 @@ impl<H: NodeHash, S: Verifier> Chain<H, S> {
     /// still to come: neither the chain nor the feed changes. Else the refusal of the first root that
     /// `take_list` would refuse, or `Malformed` if the bytes after the roots before are none of a list: the
     /// chain keeps these roots, and the feed has failed.
+    #[inline(never)]
     pub fn take_piece(
         &mut self,
         hash: &mut H,
