@@ -25,7 +25,7 @@ const FEWEST_TOGETHER: usize = 4;
 const MOST_TOGETHER: usize = 256;
 
 /// The most nodes of another nonce that are made anew level by level.
-const MOST_NODES_TOGETHER: usize = 512;
+const MOST_NODES_TOGETHER: usize = 1024;
 
 /// One node of a tree in so many, at most, is made anew level by level at a time. Rows take less than 16
 /// times as many bytes for each of their nodes, so a tree is renewed in less than 16 bytes for each node.
