@@ -27,8 +27,8 @@ const MOST_TOGETHER: usize = 256;
 /// The most nodes of another nonce that are made anew level by level.
 const MOST_NODES_TOGETHER: usize = 1024;
 
-/// One node of a tree in so many, at most, is made anew level by level at a time. Rows take less than 16
-/// times as many bytes for each of their nodes, so a tree is renewed in less than 16 bytes for each node.
+/// Of so many nodes of a tree at most one is made anew level by level at a time. Rows take less than 16
+/// times as many bytes for each of their nodes, that is less than 16 for each node of the tree.
 const NODES_FOR_ONE: usize = 32;
 
 /// How many nodes are made anew level by level at a time, at most, where a tree of this root is renewed.
