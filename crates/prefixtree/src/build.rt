@@ -25,15 +25,29 @@ const FEWEST_TOGETHER: usize = 4;
 const MOST_TOGETHER: usize = 256;
 
 /// The most nodes of another nonce that are made anew level by level.
-const MOST_NODES_TOGETHER: usize = 512;
+const MOST_NODES_TOGETHER: usize = 1024;
 
-/// Whether the nodes of a place are made level by level.
-fn is_made_together(before: &Before, changes: &[Item]) -> bool {
+/// Of so many nodes of a tree at most one is made anew level by level at a time. Rows take less than 16
+/// times as many bytes for each of their nodes, that is less than 16 for each node of the tree.
+const NODES_FOR_ONE: usize = 32;
+
+/// How many nodes are made anew level by level at a time, at most, where a tree of this root is renewed.
+pub(crate) fn most_renewed(node: &Node) -> usize {
+    let enough = MOST_NODES_TOGETHER * NODES_FOR_ONE;
+    match node.room_beside(enough) {
+        Some(left) => (enough - left) / NODES_FOR_ONE,
+        None => MOST_NODES_TOGETHER,
+    }
+}
+
+/// Whether the nodes of a place are made level by level, where that takes at most so many nodes of another
+/// nonce.
+fn is_made_together(before: &Before, changes: &[Item], most: usize) -> bool {
     match before {
         Before::Stale(node) => {
             (changes.len() >= FEWEST_TOGETHER || node.room_beside(FEWEST_TOGETHER).is_none())
                 && changes.len() <= MOST_TOGETHER
-                && node.room_beside(MOST_NODES_TOGETHER).is_some()
+                && node.room_beside(most).is_some()
         }
         _ => changes.len() >= FEWEST_TOGETHER && changes.len() <= MOST_TOGETHER,
     }
@@ -51,7 +65,8 @@ pub(crate) fn halves<'a>(items: &'a [Item], level: usize) -> (&'a [Item], &'a [I
 }
 
 /// The node at the prefix of `level` bits, where `before` stood, with these changes put in. Takes one
-/// digest for each node that is made.
+/// digest for each node that is made. At most `most` nodes of another nonce are made anew level
+/// by level at a time.
 pub(crate) fn grow<H: NodeHash>(
     alloc: Global,
     hash: &mut H,
@@ -60,6 +75,7 @@ pub(crate) fn grow<H: NodeHash>(
     level: usize,
     before: Before,
     changes: &[Item],
+    most: usize,
 ) -> Result<Node, AllocError>
     requires level { level ≤ 256 }
     requires place { IsAt H.digest_of nonce.now prefix.now level before changes.now }
@@ -68,7 +84,7 @@ pub(crate) fn grow<H: NodeHash>(
     ensures work { H.digests hash.new ≤ H.digests hash.old + grown_count (256 - level) before changes.now }
     ensures exact { OnOk result (H.digests hash.new ≡ after_digests (grown_count (256 - level) before changes.now) (H.digests hash.old)) }
 {
-    if is_made_together(&before, changes) {
+    if is_made_together(&before, changes, most) {
         return grow_together(alloc, hash, nonce, prefix, level, before, changes);
     }
     match before.into_outcome(alloc, level, changes)? {
@@ -77,7 +93,16 @@ pub(crate) fn grow<H: NodeHash>(
         Outcome::Single(item) => Ok(leaf(hash, nonce, level, item)),
         Outcome::Parted(zero_side, one_side) => {
             let (zeros, ones) = halves(changes, level);
-            let zero_side = grow(alloc, hash, nonce, prefix, level + 1, zero_side, zeros)?;
+            let zero_side = grow(
+                alloc,
+                hash,
+                nonce,
+                prefix,
+                level + 1,
+                zero_side,
+                zeros,
+                most,
+            )?;
             let one_side = grow(
                 alloc,
                 hash,
@@ -86,6 +111,7 @@ pub(crate) fn grow<H: NodeHash>(
                 level + 1,
                 one_side,
                 ones,
+                most,
             )?;
             let children = Rc::new(
                 alloc,
