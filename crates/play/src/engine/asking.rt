@@ -154,11 +154,12 @@ where
             Response::Proof(found) => found,
             response => return tell_response(text, response),
         };
+        let found_at = found.body().epoch;
         // A proof is the answer to a look-up alone.
         let Ask::Lookup { name, epoch } = ask else {
             unreachable!()
         };
-        self.tell_look(name, *epoch, found.body().epoch, body_of(reply), text)
+        self.tell_look(name, *epoch, found_at, body_of(reply), text)
     }
 
     /// Appends the line of what the client says of a reply to a look-up, which is of the root of this epoch.
