@@ -65,9 +65,7 @@ fn first_directory(alloc: Global) -> Result<ScriptDirectory, AllocError>
 fn want_of_memory(why: Refusal) -> AllocError
     requires { IsBeginRefusal 1 why }
 {
-    let Refusal::Memory = why else {
-        unreachable!()
-    };
+    let Refusal::Memory = why else { unreachable!() };
     AllocError
 }
 

@@ -1,4 +1,4 @@
-use Rattle.std.proofs.Common.{◌≡◌, ◌≢◌, [], ◌∷◌, ◌++◌, Err, Ok, refl, subst, sym, ap, ◌∙◌}
+use Rattle.std.proofs.Common.{◌≡◌, ◌≢◌, [], ◌∷◌, ◌++◌, Err, Ok, refl, subst}
 use Rattle.std.specs.Prelude.{OnOk, Result, codes, decimal}
 use Rattle.proofs.specs.Refusals.{refusal_number}
 use Rattle.proofs.specs.Views.{key_stated}
@@ -62,6 +62,8 @@ returns g c = λ page found same.
           on_ok c.match-look.result
           ((refused : ProofRefusal) × (w.in-Err.why ≡ client.Proof refused) × (c.match-look.text.items ≡ c.args.text.now.items ++ codes "client refuses proof " ++ decimal (refusal_number refused) ++ 10 ∷ [])) _
           (rw (w.result-is, w.text-is) w.tell_refusal.ensures)
-          (λ (refused, is, wrote). (told_refused by page c.args.name.now c.args.text.now.items c.match-look.text.items refused (subst (λ (why : Refusal). LooksSo by page c.args.name.now (Err why)) is so_refused) wrote,
-          looked (refused-fine c.look.result w.in-Err.why refused w.in-Err.is is)))
+          (λ (refused, is, wrote). (
+            told_refused by page c.args.name.now c.args.text.now.items c.match-look.text.items refused (subst (λ (why : Refusal). LooksSo by page c.args.name.now (Err why)) is so_refused) wrote,
+            looked (refused-fine c.look.result w.in-Err.why refused w.in-Err.is is),
+          ))
     ])
