@@ -5,6 +5,7 @@ use Rattle.rootchain.specs.Chains.{Verifies}
 use Rattle.rootchain.specs.SignedRoots.{SpellsRoot}
 use Rattle.rootchain.specs.declared.refusal.Refusal.{Refusal as RootRefusal}
 use Rattle.rootchain.specs.declared.refusal.Refusal.TheVariants as rooted
+use Rattle.client.specs.declared.refusal.RootRefusal.TheVariants as told
 use Rattle.rootchain.specs.declared.signed_root.SignedRoot.{SignedRoot}
 use Rattle.hub.specs.declared.hub_refusal.HubRefusal.{HubRefusal}
 use Rattle.hub.specs.declared.hub_refusal.HubRefusal.TheVariants as hub
@@ -48,11 +49,10 @@ begins-well book.KeepFailed is = absurd is
 module _ (verified : List ℕ → List ℕ → List ℕ → Type 0) (key bytes : List ℕ) (root : SignedRoot) (spells : SpellsRoot bytes root) (verifies : Verifies verified key root) where
   pub starts-well : (why : Refusal) → Starts verified key bytes (Err why) → why ≡ client.Memory
   starts-well client.Memory starts = refl
-  starts-well (client.Root rooted.Malformed) starts = absurd (starts root spells)
-  starts-well (client.Root rooted.BadSignature) (own, also, never) = absurd (never (subst (Verifies verified key) (one-signed bytes root own spells also) verifies))
-  starts-well (client.Root rooted.NotLater) starts = absurd starts
-  starts-well (client.Root rooted.BadLink) starts = absurd starts
-  starts-well (client.Root rooted.Memory) starts = absurd starts
+  starts-well (client.Root told.Malformed) starts = absurd (starts root spells)
+  starts-well (client.Root told.BadSignature) (own, also, never) = absurd (never (subst (Verifies verified key) (one-signed bytes root own spells also) verifies))
+  starts-well (client.Root told.NotLater) starts = absurd starts
+  starts-well (client.Root told.BadLink) starts = absurd starts
   starts-well (client.Proof why) starts = absurd starts
   starts-well client.UnknownRoot starts = absurd starts
   starts-well (client.RootDiffers evidence) starts = absurd starts
