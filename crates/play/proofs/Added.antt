@@ -9,6 +9,7 @@ use Rattle.std.proofs.lemmas.List.Elements.{All-contains, Contains-append_cases,
 use Rattle.rand_core.specs.Stream.{Stream}
 use Rattle.encoding.proofs.Fields.{one_spelling}
 use Rattle.rootchain.specs.Bodies.{body_bytes}
+use Rattle.rootchain.specs.Chains.{Verifies}
 use Rattle.rootchain.specs.Readable.{signed_root_field}
 use Rattle.rootchain.specs.SignedRoots.{read_signed_root, signed_root_bytes, IsSignedRoot, SpellsRoot}
 use Rattle.rootchain.specs.declared.signed_root.SignedRoot.{SignedRoot}
@@ -41,6 +42,7 @@ use Rattle.play.specs.Played.{Stand, watcher_of}
 use Rattle.play.specs.Watchers.{Watcher, ahead, through}
 use Rattle.play.proofs.Ahead.{is_ahead, none-ahead}
 use Rattle.play.proofs.Calling.{in-roots, rooted-epoch}
+use Rattle.play.proofs.Looked.{sealed_well}
 use Rattle.play.proofs.Standing.{all-stand}
 use Rattle.play.proofs.Stepped.{answers-same}
 
@@ -151,7 +153,7 @@ module _ (provider : Provider) where
 
   -- ---- what is asked
 
-  record IsLastSaid (book after : Book) (said : Reply) : Type 0 where
+  pub record IsLastSaid (book after : Book) (said : Reply) : Type 0 where
     pub root : SignedRoot
     pub is : said ≡ reply.Last root
     pub stays : after ≡ book
@@ -196,6 +198,30 @@ module _ {X Y : Type 0} (R : X → Y → Type 0) where
   zip-push (a ∷ xs) (b ∷ ys) x y all here = (all.0, zip-push xs ys x y all.1 here)
 
 module _ {R : Type 0} (digest_of : List ℕ → List ℕ) (value_of signature_of : List ℕ → List ℕ → List ℕ) (stream : R → Stream) (accepted verified : List ℕ → List ℕ → List ℕ → Type 0)
+    (before mid : Parties R) (stand : Stand) (frame : List ℕ)
+    (all : AreAt digest_of value_of signature_of stream accepted verified before stand)
+    (asked : HasAsked digest_of value_of signature_of stream accepted verified before (request.Query Head) frame mid) where
+  abbrev of_head : Provider
+  of_head = provider_of digest_of value_of signature_of stream accepted verified before
+
+  head_asked : asked.asked ≡ Query Head
+  head_asked = let e : Some (Query Head) ≡ Some asked.asked = asked.is in cc
+
+  pub head-said : IsLastSaid of_head stand.book (book_of digest_of value_of signature_of stream accepted verified mid) asked.said
+  head-said =
+      last-said of_head stand.book (book_of digest_of value_of signature_of stream accepted verified mid) before.hub.service.keeper mid.hub.service.keeper asked.said
+      (subst (λ (b : Book). Turn of_head KeepsNothing NeverFails b before.hub.service.keeper (Query Head) asked.said (book_of digest_of value_of signature_of stream accepted verified mid) mid.hub.service.keeper) all.hub.book
+      (subst (λ (command : Operation). Turn of_head KeepsNothing NeverFails (book_of digest_of value_of signature_of stream accepted verified before) before.hub.service.keeper command asked.said (book_of digest_of value_of signature_of stream accepted verified mid) mid.hub.service.keeper) head_asked asked.turn))
+
+  -- the reply is a root that the provider signed
+  pub head-shown : (body : List ℕ) → ((whole : Frame) → IsFrame whole → frame ≡ frame_bytes whole → body ≡ whole.body) → (root : SignedRoot) × SpellsRoot body root × Verifies verified before.key root
+  head-shown body is_body =
+      let said = head-said in
+      let sound : IsSound (index_of of_head) stand.book = subst (IsSound (index_of of_head)) all.hub.book asked.sound in
+      let i = sealed_well of_head accepted verified before.key stand.book sound asked.laws stand.book.last said.root said.rooted in
+      (said.root, (is_body (reply_frame asked.said) asked.read.0 asked.frame ∙ ap (λ (r : Reply). (reply_frame r).body) said.is, (i.form, i.small)), i.signature)
+
+module _ {R : Type 0} (digest_of : List ℕ → List ℕ) (value_of signature_of : List ℕ → List ℕ → List ℕ) (stream : R → Stream) (accepted verified : List ℕ → List ℕ → List ℕ → Type 0)
     (before mid fin : Parties R) (stand : Stand) (frame body name : List ℕ) (start : Option (List ℕ)) (client : Client)
     (all : AreAt digest_of value_of signature_of stream accepted verified before stand)
     (asked : HasAsked digest_of value_of signature_of stream accepted verified before (request.Query Head) frame mid)
@@ -211,14 +237,8 @@ module _ {R : Type 0} (digest_of : List ℕ → List ℕ) (value_of signature_of
   climb : Climb 0 (pages stand.book)
   climb = (climbs (index_of by) stand.book (subst (IsSound (index_of by)) all.hub.book asked.sound)).climb
 
-  is_head : asked.asked ≡ Query Head
-  is_head = let e : Some (Query Head) ≡ Some asked.asked = asked.is in cc
-
   last : IsLastSaid by stand.book (now_book mid) asked.said
-  last =
-      last-said by stand.book (now_book mid) before.hub.service.keeper mid.hub.service.keeper asked.said
-      (subst (λ (b : Book). Turn by KeepsNothing NeverFails b before.hub.service.keeper (Query Head) asked.said (now_book mid) mid.hub.service.keeper) all.hub.book
-      (subst (λ (command : Operation). Turn by KeepsNothing NeverFails (now_book before) before.hub.service.keeper command asked.said (now_book mid) mid.hub.service.keeper) is_head asked.turn))
+  last = head-said digest_of value_of signature_of stream accepted verified before mid stand frame all asked
 
   is_started : client ≡ started before.key last.root
   is_started = starts.2 ∙ ap (started before.key) (one-signed body starts.0 last.root starts.1.0 (bytes, form))

@@ -1,6 +1,6 @@
 -- A request of session 0, and what is read of its reply.
-use Rattle.std.proofs.Common.{◌≡◌, ◌≢◌, ◌⊎◌, ℕ, ◌+◌, List, [], ◌∷◌, drop, length, map, Some, None, Result, Ok, Err, inl, inr, refl, sym, ap, subst, ◌∙◌}
-use Rattle.std.specs.Prelude.{IsOk}
+use Rattle.std.proofs.Common.{◌≡◌, ◌≢◌, ◌⊎◌, ℕ, ◌+◌, List, [], ◌∷◌, drop, length, map, Option, Some, None, Result, Ok, Err, inl, inr, refl, sym, ap, subst, ◌∙◌}
+use Rattle.std.specs.Prelude.{if◌then◌else◌, is_some, IsOk}
 use Rattle.std.specs.Ordering.{nat_cmp}
 use Rattle.std.specs.BTreeMap.{is_at}
 use Rattle.std.specs.Map.{set_value}
@@ -19,7 +19,7 @@ use Rattle.wire.specs.Frames.{Frame, frame_bytes, read_frame, IsFrame}
 use Rattle.wire.specs.FrameViews.{frame_seen, BeginsWith}
 use Rattle.wire.specs.Laws.{FrameIsOneMessage, IsReadAs, RequestsAreOne}
 use Rattle.wire.specs.Requests.{RequestContent, request_frame, Asks, IsAsked}
-use Rattle.wire.specs.Responses.{Refused, ResponseContent}
+use Rattle.wire.specs.Responses.{response_body, Refused, ResponseContent}
 use Rattle.wire.specs.Streams.{Remainder, Message, Rest, Whole, with_more, Tells}
 use Rattle.book.specs.declared.keeper.NoKeeper.{NoKeeper}
 use Rattle.book.specs.declared.refusal.Refusal.TheVariants.{Memory}
@@ -33,7 +33,8 @@ use Rattle.epochs.specs.DirectoryStates.{HasKeysOf}
 use Rattle.hub.specs.declared.hub_refusal.HubRefusal.{HubRefusal}
 use Rattle.hub.specs.Desks.{command, reply_frame, DeskState, DeskAnswers, IsRead, IsResponseOf}
 use Rattle.hub.specs.DeskRuns.{AreRead, IsTurnedAway, IsWell, ShowHonestRun, ShowReplies}
-use Rattle.hub.specs.Events.{HubState, at, Bytes}
+use Rattle.hub.specs.declared.hub_refusal.HubRefusal.TheVariants.{NoSession}
+use Rattle.hub.specs.Events.{HubState, at, due, BySession, Bytes}
 use Rattle.hub.specs.Exchanges as exchange
 use Rattle.hub.specs.Exchanges.{Exchange, Exchanges, Replies}
 use Rattle.hub.specs.Happenings.{Happens}
@@ -93,6 +94,14 @@ module _ {S : Type 0} (answers : S → Frame → List ℕ → S → Type 0) wher
         one_answered frame before.service (Rest (frame_bytes frame)) exchanges after.service left grown told wrote all,
         set ∙ ap (set_value (is_at (nat_cmp 0)) before.sessions) nothing ∙ set_value_same (is_at (nat_cmp 0)) before.sessions (Rest []) idle,
       )
+
+-- the session is open
+pub bytes-due : (sessions : BySession Remainder) (piece : List ℕ) → at sessions 0 ≡ Some (Rest []) → due sessions (Bytes 0 piece) ≡ None
+bytes-due sessions piece idle = ap (λ (held : Option Remainder). if is_some held then None else Some NoSession) idle
+
+-- a body that is not one byte long does not say that memory ran out
+pub not_short : (frame : Frame) (responded : ResponseContent) → IsReadAs frame responded → length frame.body ≢ 1 → responded ≢ Refused 14
+not_short frame responded read long memory = long (ap length read.1.1.0 ∙ ap (λ (r : ResponseContent). length (response_body r)) memory)
 
 -- a reply that is read as a response, which is not that memory ran out
 pub not_memory : (said : Reply) (responded : ResponseContent) → IsResponseOf said responded → responded ≢ Refused 14 → said ≢ reply.Refused Memory

@@ -4,6 +4,7 @@ use Rattle.rand_core.specs.Stream.{Stream}
 use Rattle.std.specs.Ordering.{nat_cmp}
 use Rattle.encoding.proofs.ByteLists.{IsBytes-zeros}
 use Rattle.std.specs.BTreeMap.{insert_entry}
+use Rattle.rootchain.specs.Chains.{Verifies}
 use Rattle.rootchain.specs.SignedRoots.{signed_root_bytes, IsSignedRoot, SpellsRoot}
 use Rattle.rootchain.specs.declared.signed_root.SignedRoot.{SignedRoot}
 use Rattle.wire.specs.Streams.{Remainder, Rest}
@@ -49,6 +50,16 @@ observed hash verified after key bytes root (Ok told) spells (inl (own, also, (v
     now.own ∙ ap (λ (r : SignedRoot). Some (chain_under key (r ∷ []))) same
 observed hash verified after key bytes root (Ok told) spells (inr (none, bad, stays)) ok = absurd (none root spells)
 observed hash verified after key bytes root (Err why) spells observes ok = let e : false ≡ true = ok in absurd cc
+
+-- the last root of a directory verifies
+pub head-well : {R : Type 0} (digest_of : List ℕ → List ℕ) (value_of signature_of : List ℕ → List ℕ → List ℕ) (stream : R → Stream) (accepted verified : List ℕ → List ℕ → List ℕ → Type 0)
+    (directory : DirectoryState R) (key : List ℕ) (root : SignedRoot) (bytes : List ℕ)
+    → IsRootOf (provider digest_of value_of signature_of directory) (book stream directory) directory.last root → IsSound (index_of (provider digest_of value_of signature_of directory)) (book stream directory)
+    → KeepsLaws accepted verified directory.signing_key (provider digest_of value_of signature_of directory) → directory.signing_key ≡ key → bytes ≡ signed_root_bytes root
+    → SpellsRoot bytes root × Verifies verified key root
+head-well digest_of value_of signature_of stream accepted verified directory key root bytes rooted sound laws keyed written =
+    let i = sealed_well (provider digest_of value_of signature_of directory) accepted verified directory.signing_key (book stream directory) sound laws directory.last root rooted in
+    ((written, (i.form, i.small)), subst (λ (k : List ℕ). Verifies verified k root) keyed i.signature)
 
 module _ {R : Type 0} (digest_of : List ℕ → List ℕ) (value_of signature_of : List ℕ → List ℕ → List ℕ) (stream : R → Stream) (accepted verified : List ℕ → List ℕ → List ℕ → Type 0)
     (directory : DirectoryState R) (keeper : NoKeeper) (key : List ℕ) where

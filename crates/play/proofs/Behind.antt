@@ -1,9 +1,9 @@
 -- All take the roots that are new, list by list.
 use Rattle.std.proofs.Common.{◌≡◌, ℕ, zero, suc, ◌+◌, ◌-◌, ◌<◌, List, [], ◌∷◌, ◌++◌, length, length-append, take, drop, get_or, slice_get, Option, Some, Result, Ok, Err, OnOk, refl, sym, ap, ap₂, subst, ◌∙◌, arith, append_assoc, append-nil, take-append-drop}
-use Rattle.std.specs.List.{AllZip}
+use Rattle.std.specs.List.{AllByRecursion, AllZip}
 use Rattle.std.proofs.lemmas.List.{get_or-append_right}
 use Rattle.rand_core.specs.Stream.{Stream}
-use Rattle.rootchain.specs.Chains.{IsHead, KeyedRoots}
+use Rattle.rootchain.specs.Chains.{IsHead, KeyedRoots, Verifies}
 use Rattle.rootchain.specs.RootLists.{SpellsRoots}
 use Rattle.rootchain.specs.declared.signed_root.SignedRoot.{SignedRoot}
 use Rattle.commands.specs.Operations.{Operation, Query, History}
@@ -33,9 +33,10 @@ use Rattle.monitor.specs.Monitors.{Monitor}
 use Rattle.play.specs.Parties.{book_of, chain_under, provider_of, AreAt, AreBehind, HasAsked, HaveTaken, HoldBytes, IsWatcher, KeepsNothing, NeverFails, Parties}
 use Rattle.play.specs.Played.{Stand}
 use Rattle.play.specs.Taking.{AllTake, MonitorTakes}
+use Rattle.play.specs.Wanting.{IsOffered}
 use Rattle.play.proofs.Calling.{rooted-epoch}
 use Rattle.play.proofs.GoingOn.{history}
-use Rattle.play.proofs.Taken.{chain-takes, observes-all, watchers-take}
+use Rattle.play.proofs.Taken.{all-signed, chain-takes, may-take, monitors-may, observes-all, watchers-take}
 
 pub keys-join : {R : Type 0} (before between after : DirectoryState R) → HasKeysOf before between → HasKeysOf between after → HasKeysOf before after
 keys-join before between after one other = (other.0 ∙ one.0, other.1 ∙ one.1)
@@ -303,3 +304,31 @@ module _ {R : Type 0} (digest_of : List ℕ → List ℕ) (value_of signature_of
           watched = watchers-take (P before) accepted verified before.key (B before) (B between) (a.asked ∷ []) (a.said ∷ []) a.honest b.taken items rest any all_now stand.book before.monitors after.monitors stand.watchers
               (subst (λ (ms : List Monitor). AllZip (MonitorTakes digest_of verified items) ms after.monitors) (ap (λ (p : Parties R). p.monitors) a.others) t.monitors)
               b.have.monitors
+
+      -- each of them may take the list
+      pub offered : (bytes : List ℕ) → bytes ≡ (reply_frame a.said).body → IsOffered digest_of verified bytes between
+      offered bytes is = record {
+        roots = items;
+        spelled = spelled;
+        signed = subst (λ (k : List ℕ). AllByRecursion (Verifies verified k) items) (sym key_same)
+            (all-signed (P before) accepted verified before.key (B before) (B between) (a.asked ∷ []) (a.said ∷ []) a.honest items b.taken rest any all_now);
+        client = may-take (P before) accepted verified before.key (B before) (B between) (a.asked ∷ []) (a.said ∷ []) a.honest items [] b.taken rest between.client.chain any all_now
+            (ap (λ (p : Parties R). p.client.chain) a.others ∙ b.have.client) bytes spelled;
+        monitors = monitors-may (P before) accepted verified before.key (B before) (B between) (a.asked ∷ []) (a.said ∷ []) a.honest b.taken items rest any all_now stand.book bytes spelled between.monitors stand.watchers
+            (subst (λ (ms : List Monitor). AllZip (IsWatcher before.key b.taken stand.book) ms stand.watchers) (sym (ap (λ (p : Parties R). p.monitors) a.others)) b.have.monitors);
+      }
+        where
+          items : List SignedRoot
+          items = next-list.items
+
+          rest : List SignedRoot
+          rest = drop 64 b.left
+
+          spelled : SpellsRoots bytes items
+          spelled = subst (λ (text : List ℕ). SpellsRoots text items) (sym is) next-list.spelled
+
+          key_same : between.key ≡ before.key
+          key_same = ap (λ (p : Parties R). p.key) a.others
+
+          all_now : roots (P before) (B between) ≡ b.taken ++ (items ++ rest)
+          all_now = ap (roots (P before)) (next-list.stays ∙ b.hub.book) ∙ b.all ∙ ap (λ (left : List SignedRoot). b.taken ++ left) next-list.parts

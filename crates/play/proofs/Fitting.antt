@@ -4,13 +4,15 @@ use Rattle.std.specs.Prelude.{◌&&◌, nat_eq, nat_le, option_and_then}
 use Rattle.std.specs.List.{AllByRecursion}
 use Rattle.std.specs.Str.{bytes_eq}
 use Rattle.std.proofs.lemmas.Bool.{leb-true}
+use Rattle.wire.specs.declared.frame.TheConstants.{MAX_FRAME_LEN}
 use Rattle.wire.specs.Frames.{frame_size}
 use Rattle.textio.specs.Digits.{hex32}
 use Rattle.commands.specs.declared.edit.Verb.TheVariants.{Register, Change}
 use Rattle.commands.specs.Operations.{Promise, Lookup, History, Head}
 use Rattle.wire.specs.Requests.{RequestContent, Query, Put, Turn, request_frame}
 use Rattle.book.specs.Answers.{is_within}
-use Rattle.play.specs.Scripts.{Line, Pass, Ask, Watch, Piece, End, asking, count_word, epoch_word, hex_word, key_or_none, line_of, line_of_words, said_among, session_word, token, verbs, watching, with_none, with_one, with_two, words, Fits}
+use Rattle.play.specs.Scripts.{Line, Pass, Ask, Watch, Piece, End, asking, count_word, epoch_word, hex_word, key_or_none, line_of, line_of_words, said_among, session_word, token, verbs, watching, with_none, with_one, with_two, words}
+use Rattle.play.specs.Spoken.{Fits}
 
 some_same : {X : Type 0} (x y : X) → Some x ≡ Some y → x ≡ y
 some_same x y e = cc
@@ -26,10 +28,10 @@ own_fits : (line : Line) → Fits line → SaysFitting (Some line)
 own_fits line fits other e = subst Fits (some_same line other e) fits
 
 asking_fits : (requested : RequestContent) → SaysFitting (asking requested)
-asking_fits requested = by (nat_le (frame_size (request_frame requested)) 65536) refl
+asking_fits requested = by (nat_le (frame_size (request_frame requested)) MAX_FRAME_LEN) refl
   where
-    by : (b : Bool) → nat_le (frame_size (request_frame requested)) 65536 ≡ b → SaysFitting (cond b (Some (Ask requested)) None)
-    by true is = own_fits (Ask requested) (leb-true (frame_size (request_frame requested)) 65536 is)
+    by : (b : Bool) → nat_le (frame_size (request_frame requested)) MAX_FRAME_LEN ≡ b → SaysFitting (cond b (Some (Ask requested)) None)
+    by true is = own_fits (Ask requested) (leb-true (frame_size (request_frame requested)) MAX_FRAME_LEN is)
     by false is = none_fits
 
 watching_fits : (name key : List ℕ) → SaysFitting (watching name key)

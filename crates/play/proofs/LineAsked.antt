@@ -23,7 +23,7 @@ use Rattle.book.proofs.Growing.{run-grows, HasGrown}
 use Rattle.book.proofs.Stepping.{Does}
 use Rattle.epochs.specs.DirectoryStates.{book as book_kept, provider as provider_kept, HasKeysOf}
 use Rattle.epochs.proofs.Running.{same_provider}
-use Rattle.play.specs.Checked.{line_of_reply, HasAskedKnowing, HasLooked}
+use Rattle.play.specs.Checked.{line_of_reply, HasAskedKnowing}
 use Rattle.play.specs.Handed.{HasHanded, MayHand}
 use Rattle.play.specs.Lines.{as_lines, checked_text, numbered_text}
 use Rattle.play.specs.Messages.{comes_of, request_asks, Numbered}
@@ -38,6 +38,7 @@ use Rattle.play.specs.Watchers.{all_through, Watcher}
 use Rattle.play.proofs.Answered.{come, request-comes}
 use Rattle.play.proofs.Comes.{Comes}
 use Rattle.play.proofs.Grown.{grows_or_stays, roots_grow, roots_stay, run_waits, watchers_still, GrowsOrStays, StillWaits}
+use Rattle.play.proofs.Looked.{Stays}
 use Rattle.play.proofs.Pieces.{not_less, text_more}
 
 -- ---- the definition, by what comes of the request and whether pages came
@@ -83,7 +84,7 @@ module _ {R : Type 0} (digest_of : List ℕ → List ℕ) (value_of signature_of
     pub knowing : (bytes : List ℕ) → bytes ≡ text → HasAskedKnowing digest_of value_of signature_of stream accepted verified before requested bytes asked
     knowing bytes is = record { asked = subst (λ (some : List ℕ). HasAsked digest_of value_of signature_of stream accepted verified before requested some asked) (sym is) a; chain = knows }
 
-    module _ (looked : Parties R) (l : HasLooked asked looked) where
+    module _ (looked : Parties R) (l : Stays asked looked) where
       -- the promise, if there is one, may be handed out
       pub may-hand : (bytes : List ℕ) → bytes ≡ text → MayHand digest_of value_of signature_of stream accepted verified before asked looked requested bytes stand.watchers
       may-hand bytes is = record {

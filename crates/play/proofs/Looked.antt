@@ -23,6 +23,8 @@ use Rattle.proofs.specs.declared.refusal.Refusal.TheVariants as proof
 use Rattle.proofs.specs.declared.statement.Statement.{Statement}
 use Rattle.proofs.proofs.Passing.{accepts-passed}
 use Rattle.commands.specs.Operations.{Lookup, Query}
+use Rattle.wire.specs.Requests.{RequestContent}
+use Rattle.book.specs.declared.reply.Reply.{Reply}
 use Rattle.book.specs.declared.reply.Reply.TheVariants as reply
 use Rattle.book.specs.Answers.{has_its_index}
 use Rattle.book.specs.Books.{Binding, Book, Page, page_at, pages}
@@ -42,9 +44,11 @@ use Rattle.client.specs.Clients.{Client}
 use Rattle.client.specs.Looking.{IsAnswered, IsAsked, Looks}
 use Rattle.client.specs.declared.refusal.Refusal.{Refusal}
 use Rattle.client.specs.declared.refusal.Refusal.TheVariants as client
+use Rattle.play.specs.Answering.{IsUnchecked}
 use Rattle.play.specs.Calls.{CallsAreHonest, IsDoubleIn, IsFollowed, IsShown, LooksRight}
+use Rattle.play.specs.Checked.{HasChecked}
 use Rattle.play.specs.Lines.{found_text, is_double, refused_proof, statement_text}
-use Rattle.play.specs.Parties.{chain_under}
+use Rattle.play.specs.Parties.{chain_under, Parties}
 use Rattle.play.proofs.Calling.{accepts-stated, in-roots, rooted-epoch}
 
 -- ---- pages
@@ -266,3 +270,30 @@ module _ (provider : Provider) (page : Page) (name before after : List ℕ) wher
 pub on_ok : {X E : Type 0} (result : Result X E) (P Q : Type 0) → OnOk result P → (P → Q) → OnOk result Q
 on_ok (Ok x) P Q holds more = more holds
 on_ok (Err e) P Q holds more = tt
+
+-- ---- what stays
+
+-- the client's chain stays, and what is no client's
+pub record Stays {R : Type 0} (before after : Parties R) : Type 0 where
+  pub others : after ≡ record before { client = after.client }
+  pub chain : after.client.chain ≡ before.client.chain
+
+module _ {R : Type 0} (hash : List ℕ → List ℕ) (accepted : List ℕ → List ℕ → List ℕ → Type 0) where
+  as-were : (before after : Parties R) → after ≡ before → Stays before after
+  as-were before after is = subst (Stays before) (sym is) (record { others = refl; chain = refl })
+
+  pub checked_stays : (before : Parties R) (requested : RequestContent) (said : Reply) (after : Parties R) → HasChecked hash accepted before requested said after → Stays before after
+  checked_stays before requested (reply.Found text) after (name, epoch, of, looked) =
+      record { others = looked.others; chain = looks_stay hash accepted before.client after.client name epoch text looked.answer looked.looks }
+  checked_stays before requested (reply.Promised signed) after is = as-were before after is
+  checked_stays before requested (reply.Told told) after is = as-were before after is
+  checked_stays before requested (reply.Last root) after is = as-were before after is
+  checked_stays before requested (reply.Refused why) after is = as-were before after is
+
+  -- at a reply that no client checks, none looks
+  pub unchecked_stays : (before : Parties R) (requested : RequestContent) (said : Reply) → IsUnchecked said → HasChecked hash accepted before requested said before
+  unchecked_stays before requested (reply.Found text) unchecked = absurd unchecked
+  unchecked_stays before requested (reply.Promised signed) unchecked = refl
+  unchecked_stays before requested (reply.Told told) unchecked = refl
+  unchecked_stays before requested (reply.Last root) unchecked = refl
+  unchecked_stays before requested (reply.Refused why) unchecked = refl

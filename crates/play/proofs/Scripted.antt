@@ -18,7 +18,8 @@ use Rattle.play.specs.Ends.{CannotRead, CannotWrite, Done, OutOfMemory, Plays, W
 use Rattle.play.specs.Lines.{as_lines}
 use Rattle.play.specs.Parties.{AreAt, KeepsNothing, NeverFails, Parties}
 use Rattle.play.specs.Played.{line_played, Stand}
-use Rattle.play.specs.Plays.{PlaysLine, PlaysTo}
+use Rattle.play.specs.PlayedLines.{PlaysLine}
+use Rattle.play.specs.Plays.{PlaysTo}
 use Rattle.play.specs.Printing.{by_line, onto, played_from, text, Printed}
 use Rattle.play.specs.Reading.{TakesLine}
 use Rattle.play.specs.Scripts.{Line, line_of}

@@ -6,7 +6,7 @@ use Rattle.std.proofs.lemmas.Bool.{cases_lt}
 use Rattle.std.proofs.lemmas.List.{get_or-append_right, get_or_append_left, get_or_default}
 use Rattle.std.proofs.lemmas.List.Elements.{Contains-append_cases, Contains-append_left, Contains-append_right}
 use Rattle.encoding.proofs.Fields.{one_spelling}
-use Rattle.rootchain.specs.Chains.{Ascend, KeyedRoots}
+use Rattle.rootchain.specs.Chains.{Ascend, KeyedRoots, Verifies}
 use Rattle.rootchain.specs.RootLists.{SpellsRoots}
 use Rattle.rootchain.specs.Readable.{signed_root_field}
 use Rattle.rootchain.specs.SignedRoots.{read_signed_root, signed_root_bytes, IsSignedRoot}
@@ -18,7 +18,7 @@ use Rattle.rootchain.proofs.Chains.{ascend-linked}
 use Rattle.commands.specs.Operations.{Operation}
 use Rattle.book.specs.declared.reply.Reply.{Reply}
 use Rattle.book.specs.Books.{Book}
-use Rattle.book.specs.Honest.{IsHonest}
+use Rattle.book.specs.Honest.{AreConsecutive, IsHonest}
 use Rattle.book.specs.Shows.{Provider, roots}
 use Rattle.auditor.specs.Chains.{Chains, chain_of}
 use Rattle.auditor.specs.InOrder.{ObservesAll}
@@ -29,11 +29,14 @@ use Rattle.auditor.proofs.Following.{extends}
 use Rattle.client.specs.Clients.{Client}
 use Rattle.client.specs.Updating.{Updates}
 use Rattle.client.specs.declared.refusal.Refusal.{Refusal}
+use Rattle.client.specs.declared.refusal.Refusal.TheVariants as client
 use Rattle.monitor.specs.Monitors.{Monitor}
+use Rattle.play.specs.Calls.{IsFollowed, UpdatesRight}
 use Rattle.play.specs.Parties.{chain_under, IsWatcher}
 use Rattle.play.specs.Taking.{AuditorTakes, ClientTakes, MonitorTakes}
+use Rattle.play.specs.Wanting.{MayTake}
 use Rattle.play.specs.Watchers.{Watcher}
-use Rattle.play.proofs.Following.{one-list, some-more, takes-all}
+use Rattle.play.proofs.Following.{one-list, some-more, takes-all, updated}
 
 -- ---- a list whose elements change one after another
 
@@ -69,6 +72,15 @@ module _ {X : Type 0} (R : X → X → Type 0) where
 
   pub moved-end : (xs ys : List X) (place : ℕ) → length ys ≡ length xs → length xs ≤ place → AreMoved R xs place ys → AllZip R xs ys
   moved-end xs ys place same high are = zip-from xs ys same (λ k d low. are.moved k d (omega (arith, low, high)))
+
+-- what holds of all holds of those that are as before
+all-at : {X : Type 0} (P : X → Type 0) (xs : List X) → AllByRecursion P xs → (k : ℕ) (d : X) → k < length xs → P (get_or xs k d)
+all-at P [] all k d low = absurd (omega (arith, low))
+all-at P (x ∷ xs) all zero d low = all.0
+all-at P (x ∷ xs) all (suc k) d low = all-at P xs all.1 k d (omega (arith, low))
+
+pub still-holds : {X : Type 0} (P : X → Type 0) (R : X → X → Type 0) (xs ys : List X) (place : ℕ) → length ys ≡ length xs → place < length ys → AreMoved R xs place ys → AllByRecursion P xs → (d : X) → P (get_or ys place d)
+still-holds P R xs ys place same low are all d = subst P (sym (are.still place d (omega arith))) (all-at P xs all place d (omega (arith, same, low)))
 
 -- ---- a client that updates
 
@@ -162,6 +174,33 @@ module _ (provider : Provider) (accepted verified : List ℕ → List ℕ → Li
       (front, rest, all ∙ ap (λ (rs : List SignedRoot). front ++ rs) (sym (append_assoc some next rest)))
       (subst (λ (c : KeyedRoots). Takes provider.hash verified c next later) is takes)
 
+  -- the next ones are signed
+  pub all-signed : (next some rest : List SignedRoot) → 0 < length some → roots provider after ≡ some ++ (next ++ rest) → AllByRecursion (Verifies verified key) next
+  all-signed [] some rest any all = tt
+  all-signed (root ∷ more) some rest any all =
+      let n = (h.followed [] some (root ∷ more ++ rest) all any).1 root (more ++ rest) refl in
+      (n.2, all-signed more (some ++ root ∷ []) rest (some-more some (root ∷ []) any) (all ∙ sym (append_assoc some (root ∷ []) (more ++ rest))))
+
+  only-memory : (holder later : Client) (next : List SignedRoot) (why : Refusal) → UpdatesRight holder next (Err why) later → why ≡ client.Memory
+  only-memory holder later next client.Memory right = refl
+  only-memory holder later next (client.Root why) right = absurd right
+  only-memory holder later next (client.Proof why) right = absurd right
+  only-memory holder later next client.UnknownRoot right = absurd right
+  only-memory holder later next (client.RootDiffers evidence) right = absurd right
+  only-memory holder later next client.NoPromise right = absurd right
+
+  -- and are not refused, but for want of memory
+  pub may-take : (next front some rest : List SignedRoot) (chain : KeyedRoots) → 0 < length some → roots provider after ≡ front ++ (some ++ (next ++ rest)) → chain ≡ chain_under key some
+      → (bytes : List ℕ) → SpellsRoots bytes next → MayTake provider.hash verified bytes chain
+  may-take next front some rest chain any all is bytes spelled holder later result why same refused updates =
+      let chain_is : chain_under key some ≡ holder.chain = sym (same ∙ is) in
+      let f : IsFollowed provider key after holder.chain = subst (IsFollowed provider key after) chain_is (record { keyed = refl; some = any; are = (front, next ++ rest, all) }) in
+      let are : AreConsecutive (roots provider after) (holder.chain.roots ++ next) = subst (λ (c : KeyedRoots). AreConsecutive (roots provider after) (c.roots ++ next)) chain_is
+      (front, rest, all ∙ ap (λ (rs : List SignedRoot). front ++ rs) (sym (append_assoc some next rest))) in
+      let right = updated provider accepted verified key before after commands replies h holder later next result f are spelled.1.0
+      (subst (λ (text : List ℕ). Updates provider.hash verified holder text result later) spelled.0 updates) in
+      only-memory holder later next why (subst (λ (r : Result (Unit {0}) Refusal). UpdatesRight holder next r later) refused right)
+
   module _ (taken next rest : List SignedRoot) (any : 0 < length taken) (all : roots provider after ≡ taken ++ (next ++ rest)) where
     up : Ascend (taken ++ next)
     up = ascend-linked provider.hash (taken ++ next) (h.followed [] (taken ++ next) rest (all ∙ sym (append_assoc taken next rest)) (some-more taken next any)).0.linked
@@ -220,3 +259,15 @@ module _ (provider : Provider) (accepted verified : List ℕ → List ℕ → Li
     watchers-take now (m ∷ ms) [] watchers take are = absurd take
     watchers-take now (m ∷ ms) (l ∷ ls) [] take are = absurd are
     watchers-take now (m ∷ ms) (l ∷ ls) (w ∷ ws) take are = (watcher-takes now m l w take.0 are.0, watchers-take now ms ls ws take.1 are.1)
+
+    pub monitors-may : (now : Book) (bytes : List ℕ) → SpellsRoots bytes next → (monitors : List Monitor) (watchers : List Watcher) → AllZip (IsWatcher key taken now) monitors watchers
+        → AllByRecursion (λ (m : Monitor). MayTake provider.hash verified bytes m.client.chain) monitors
+    monitors-may now bytes spelled [] watchers are = tt
+    monitors-may now bytes spelled (m ∷ ms) [] are = absurd are
+    monitors-may now bytes spelled (m ∷ ms) (w ∷ ws) are = (may-take next (take n taken) (drop n taken) rest m.client.chain are.0.some behind are.0.chain bytes spelled, monitors-may now bytes spelled ms ws are.1)
+      where
+        n : ℕ
+        n = are.0.skipped
+
+        behind : roots provider after ≡ take n taken ++ (drop n taken ++ (next ++ rest))
+        behind = all ∙ ap (λ (rs : List SignedRoot). rs ++ (next ++ rest)) (sym (take-append-drop n taken)) ∙ append_assoc (take n taken) (drop n taken) (next ++ rest)

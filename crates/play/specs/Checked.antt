@@ -1,10 +1,13 @@
 -- What the client of a script checks: the replies to look-ups.
-use Rattle.std.specs.Prelude.{◌≡◌, ℕ, List, [], ◌∷◌, Some}
+use Rattle.std.specs.Prelude.{◌≡◌, ◌≢◌, ℕ, List, [], ◌∷◌, Some, Result, Err}
 use Rattle.encoding.specs.Limits.{IsName}
 use Rattle.rand_core.specs.Stream.{Stream}
 use Rattle.rootchain.specs.declared.signed_root.SignedRoot.{SignedRoot}
+use Rattle.proofs.specs.declared.statement.Statement.{Statement}
 use Rattle.commands.specs.Operations.{Lookup, Query}
 use Rattle.wire.specs.Requests.{RequestContent}
+use Rattle.wire.specs.Requests as request
+use Rattle.book.specs.declared.reply.Reply.{Reply}
 use Rattle.book.specs.declared.reply.Reply.TheVariants as replies
 use Rattle.book.specs.Books.{Page, page_at}
 use Rattle.book.specs.Fresh.{KeepsLaws}
@@ -12,14 +15,29 @@ use Rattle.book.specs.Honest.{IsHonest}
 use Rattle.book.specs.Maps.{at}
 use Rattle.book.specs.Shows.{index_of, roots, IsReplyOf, IsRootOf}
 use Rattle.book.specs.Sound.{IsSound}
+use Rattle.client.specs.Looking.{Looks}
+use Rattle.client.specs.declared.refusal.Refusal.{Refusal}
+use Rattle.client.specs.declared.refusal.Refusal.TheVariants as client
 use Rattle.play.specs.Lines.{checked_text, numbered_text}
 use Rattle.play.specs.Messages.{comes_of, request_asks}
 use Rattle.play.specs.Parties.{book_of, chain_under, provider_of, HasAsked, Parties}
 
--- the client's chain stays, and what is no client's
-pub record HasLooked {R : Type 0} (before after : Parties R) : Type 0 where
-  pub others : after ≡ record before { client = after.client }
-  pub chain : after.client.chain ≡ before.client.chain
+module _ {R : Type 0} (hash : List ℕ → List ℕ) (accepted : List ℕ → List ℕ → List ℕ → Type 0) where
+  -- The client looked, at a reply to the look-up of a name at an epoch, and memory did not run out. Nothing but
+  -- the client changed.
+  pub record HasLooked (before : Parties R) (name : List ℕ) (epoch : ℕ) (text : List ℕ) (after : Parties R) : Type 0 where
+    pub answer : Result Statement Refusal
+    pub looks : Looks hash accepted before.client name epoch text answer after.client
+    pub memory : answer ≢ Err client.Memory
+    pub others : after ≡ record before { client = after.client }
+
+  -- what was said to a request was checked: the client looked at the reply to a look-up, and at no other
+  abbrev pub HasChecked : Parties R → RequestContent → Reply → Parties R → Type 0
+  HasChecked before requested (replies.Found text) after = (name : List ℕ) × (epoch : ℕ) × (requested ≡ request.Query (Lookup name epoch)) × HasLooked before name epoch text after
+  HasChecked before requested (replies.Promised signed) after = after ≡ before
+  HasChecked before requested (replies.Told told) after = after ≡ before
+  HasChecked before requested (replies.Last root) after = after ≡ before
+  HasChecked before requested (replies.Refused why) after = after ≡ before
 
 module _ {R : Type 0} (digest_of : List ℕ → List ℕ) (value_of signature_of : List ℕ → List ℕ → List ℕ) (stream : R → Stream) (accepted verified : List ℕ → List ℕ → List ℕ → Type 0) where
   -- The look-up of a name at an epoch found what this page has, and this is the reply. The client has the roots

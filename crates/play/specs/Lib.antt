@@ -16,6 +16,7 @@ pub mod MonitorScripts
 pub mod NamesAndEpochs
 pub mod Parties
 pub mod Played
+pub mod PlayedLines
 pub mod Plays
 pub mod Printing
 pub mod Reading
@@ -28,5 +29,6 @@ pub mod Steps
 pub mod Stops
 pub mod Taking
 pub mod Telling
+pub mod Wanting
 pub mod Watchers
 pub mod WorkedScripts

@@ -1,5 +1,5 @@
 -- What a line of a script says (the form is this directory's own).
-use Rattle.std.specs.Prelude.{ℕ, ◌≤◌, ◌^◌, ◌-◌, ◌==◌, ◌&&◌, nat_le, if◌then◌else◌, List, [], ◌∷◌, Option, Some, None, codes, decimal, option_and_then, replicate, ⊤}
+use Rattle.std.specs.Prelude.{ℕ, ◌^◌, ◌-◌, ◌==◌, ◌&&◌, nat_le, if◌then◌else◌, List, [], ◌∷◌, Option, Some, None, codes, decimal, option_and_then, replicate}
 use Rattle.std.specs.List.{slice_split}
 use Rattle.std.specs.Str.{bytes_eq}
 use Rattle.std.specs.Result.{result_ok}
@@ -27,14 +27,6 @@ pub data Line : Type 0 where
   Piece : ℕ → List ℕ → Line
   -- this session ends
   End : ℕ → Line
-
--- a frame can hold what the line asks
-abbrev pub Fits : Line → Type 0
-Fits Pass = ⊤
-Fits (Ask requested) = frame_size (request_frame requested) ≤ 65536
-Fits (Watch name start) = ⊤
-Fits (Piece session piece) = ⊤
-Fits (End session) = ⊤
 
 -- the token of the operator
 abbrev pub token : List ℕ

@@ -1,8 +1,10 @@
 -- What a line that was read says, regardless of where its bytes lie.
-use Rattle.std.specs.Prelude.{ℕ, List, [], ◌∷◌, Option, Some, None}
+use Rattle.std.specs.Prelude.{ℕ, ◌≤◌, List, [], ◌∷◌, Option, Some, None, ⊤}
 use Rattle.std.specs.Int.NonZero.{non_zero_u32_get}
 use Rattle.commands.specs.Operations.{Promise, Lookup, History, Head}
-use Rattle.wire.specs.Requests.{RequestContent, Query, Put, Turn}
+use Rattle.wire.specs.declared.frame.TheConstants.{MAX_FRAME_LEN}
+use Rattle.wire.specs.Frames.{frame_size}
+use Rattle.wire.specs.Requests.{RequestContent, Query, Put, Turn, request_frame}
 use Rattle.play.specs.declared.ask.Ask.{Ask as AskMade}
 use Rattle.play.specs.declared.ask.Ask.TheVariants as ask
 use Rattle.play.specs.declared.line.Line.{Line as LineMade}
@@ -24,6 +26,18 @@ line_seen (line.Ask asked) = Ask (ask_seen asked)
 line_seen (line.Watch name key) = Watch name key
 line_seen (line.Piece session piece) = Piece (non_zero_u32_get session) piece.items
 line_seen (line.End session) = End (non_zero_u32_get session)
+
+-- a frame has room for the request
+abbrev pub HasRoom : RequestContent → Type 0
+HasRoom requested = frame_size (request_frame requested) ≤ MAX_FRAME_LEN
+
+-- and for what a line asks
+abbrev pub Fits : Line → Type 0
+Fits Pass = ⊤
+Fits (Ask requested) = HasRoom requested
+Fits (Watch name start) = ⊤
+Fits (Piece session piece) = ⊤
+Fits (End session) = ⊤
 
 -- the words that are left of a line, in the text behind the words before them, if there is one
 abbrev pub words_behind : Option (List ℕ) → List (List ℕ)

@@ -1,12 +1,20 @@
-ghost use Rattle.std.specs.Prelude.{◌≡◌, ◌↔◌, ◌≤◌, ◌++◌, IsTrue, OnOk};
-ghost use Rattle.wire.specs.Frames.{frame_bytes, frame_size, IsFrame};
+ghost use Rattle.std.specs.Prelude.{◌≡◌, ◌↔◌, ◌++◌, IsTrue, OnOk};
+ghost use Rattle.wire.specs.Frames.{frame_bytes, IsFrame};
 ghost use Rattle.wire.specs.Requests.{request_frame, IsAsked};
-ghost use Rattle.play.specs.Spoken.{ask_seen};
+ghost use Rattle.play.specs.Scripts as script;
+ghost use Rattle.play.specs.Spoken.{ask_seen, HasRoom};
 
 use commands::{Put, Query, Verb};
 use encoding::Hash32;
 use std::alloc::AllocError;
 use wire::Request;
+
+/// The token of the operator.
+pub(crate) fn token() -> Hash32
+    ensures { result ≡ script.token }
+{
+    Hash32::new([0; 32])
+}
 
 /// What a line asks of the directory, through session 0.
 #[derive(Debug, Drop)]
@@ -38,9 +46,11 @@ pub(crate) enum Ask {
 }
 
 impl Ask {
+    // `fits` and `write` each make the request, since a function that only holds one does not prove.
+
     /// Whether a frame has room for the request that asks it.
     pub(crate) fn fits(&self) -> bool
-        ensures { IsTrue result ↔ (frame_size (request_frame (ask_seen self.now)) ≤ 65536) }
+        ensures { IsTrue result ↔ HasRoom (ask_seen self.now) }
     {
         match self {
             Ask::Put { verb, name, key } => Request::Put(Put {
@@ -56,7 +66,7 @@ impl Ask {
             })
             .fits(),
             Ask::Rotate { epoch, nonce } => Request::Turn {
-                token: Hash32::new([0; 32]),
+                token: token(),
                 epoch: *epoch,
                 nonce: Some(*nonce),
             }
@@ -65,9 +75,9 @@ impl Ask {
         }
     }
 
-    /// Appends the frame of the request. The token of an operator is zeros.
+    /// Appends the frame of the request.
     pub(crate) fn write(&self, output: &mut Vec<u8>) -> Result<(), AllocError>
-        requires { frame_size (request_frame (ask_seen self.now)) ≤ 65536 }
+        requires { HasRoom (ask_seen self.now) }
         ensures ok { OnOk result (output.new.items ≡ output.old.items ++ frame_bytes (request_frame (ask_seen self.now))) }
         ensures form { IsAsked (ask_seen self.now) × IsFrame (request_frame (ask_seen self.now)) }
     {
@@ -91,13 +101,13 @@ impl Ask {
             .write(output),
             Ask::Head => Request::Query(Query::Head).write(output),
             Ask::Close { epoch } => Request::Turn {
-                token: Hash32::new([0; 32]),
+                token: token(),
                 epoch: *epoch,
                 nonce: None,
             }
             .write(output),
             Ask::Rotate { epoch, nonce } => Request::Turn {
-                token: Hash32::new([0; 32]),
+                token: token(),
                 epoch: *epoch,
                 nonce: Some(*nonce),
             }

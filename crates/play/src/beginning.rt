@@ -5,6 +5,7 @@ ghost use Rattle.nodehash.specs.Sha256.{sha256};
 ghost use Rattle.vrfiface.specs.StandIns.{keyed_value, KeyedAccepts};
 ghost use Rattle.sigiface.specs.StandIn.{keyed_signature, KeyedVerifies};
 ghost use Rattle.book.specs.Shows.{index_of};
+ghost use Rattle.epochs.specs.Beginnings.{IsBeginRefusal};
 ghost use Rattle.epochs.specs.DirectoryStates.{provider};
 ghost use Rattle.play.specs.Beginnings as script;
 ghost use Rattle.play.specs.Beginnings.{salts, script_index, script_salts, IsFirst};
@@ -12,6 +13,7 @@ ghost use Rattle.play.specs.Parties.{AreAt};
 ghost use Rattle.play.specs.Played.{opening};
 
 use crate::engine::{Checks, Engine};
+use book::Refusal;
 use encoding::Hash32;
 use epochs::Directory;
 use nodehash::Sha256Hash;
@@ -55,8 +57,16 @@ fn first_directory(alloc: Global) -> Result<ScriptDirectory, AllocError>
     );
     match directory {
         Ok(directory) => Ok(directory),
-        Err(_) => Err(AllocError),
+        Err(why) => Err(want_of_memory(why)),
     }
+}
+
+/// Want of memory, for which alone no directory begins at epoch 1.
+fn want_of_memory(why: Refusal) -> AllocError
+    requires { IsBeginRefusal 1 why }
+{
+    let Refusal::Memory = why else { unreachable!() };
+    AllocError
 }
 
 /// The provider's key for signatures.

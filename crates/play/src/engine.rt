@@ -15,9 +15,10 @@ ghost use Rattle.epochs.specs.DirectoryStates.{book, provider, HasKeysOf};
 ghost use Rattle.hub.specs.DeskRuns.{IsWell};
 ghost use Rattle.play.specs.Parties.{AreAt, HaveDone};
 ghost use Rattle.play.specs.Played.{line_played, Stand};
-ghost use Rattle.play.specs.Scripts.{Fits};
-ghost use Rattle.play.specs.Spoken.{line_seen};
+ghost use Rattle.play.specs.Spoken.{line_seen, Fits};
 
+use self::wanting::{happen, observe, start};
+use crate::ask::token;
 use crate::line::Line;
 use auditor::Auditor;
 use book::NoKeeper;
@@ -37,6 +38,7 @@ mod asking;
 mod following;
 mod handing;
 mod hearing;
+mod wanting;
 mod watching;
 
 /// The session through which a script's lines ask.
@@ -109,23 +111,11 @@ where
     {
         let mut checks = checks;
         let root = directory.head().write();
-        let Ok(client) = Client::start(alloc, &checks.verifier, key, root.bytes()) else {
-            return Err(AllocError);
-        };
+        let client = start(alloc, &checks.verifier, key, root.bytes())?;
         let mut auditor = Auditor::new(alloc);
-        if auditor
-            .observe(&mut checks.hash, &checks.verifier, &key, root.bytes())
-            .is_err()
-        {
-            return Err(AllocError);
-        }
-        let mut hub = Hub::new(alloc, directory, NoKeeper, Hash32::new([0; 32]));
-        if hub
-            .event(&Event::Open(ASKING), &mut Vec::new(alloc))
-            .is_err()
-        {
-            return Err(AllocError);
-        }
+        observe(&mut auditor, &mut checks, &key, root.bytes())?;
+        let mut hub = Hub::new(alloc, directory, NoKeeper, token());
+        happen(&mut hub, &Event::Open(ASKING), &mut Vec::new(alloc))?;
         Ok(Engine {
             alloc,
             hub,

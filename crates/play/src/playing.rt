@@ -4,7 +4,8 @@ ghost use Rattle.book.specs.Shows.{index_of};
 ghost use Rattle.epochs.specs.DirectoryStates.{provider};
 ghost use Rattle.play.specs.Parties.{AreAt};
 ghost use Rattle.play.specs.Played.{Stand};
-ghost use Rattle.play.specs.Plays.{PlaysLine, PlaysTo};
+ghost use Rattle.play.specs.PlayedLines.{PlaysLine};
+ghost use Rattle.play.specs.Plays.{PlaysTo};
 ghost use Rattle.play.specs.Beginnings.{script_index, script_salts};
 ghost use Rattle.play.specs.Printing.{played_from, printed};
 

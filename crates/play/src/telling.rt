@@ -5,11 +5,14 @@ ghost use Rattle.std.specs.Prelude.{◌≡◌, ◌++◌, ◌∷◌, [], OnOk, co
 ghost use Rattle.hex.specs.Hex.{encode_lower};
 ghost use Rattle.proofs.specs.Refusals.{refusal_number};
 ghost use Rattle.proofs.specs.Views.{key_stated};
+ghost use Rattle.proofs.specs.declared.refusal.Refusal.{Refusal as ProofRefusal};
 ghost use Rattle.wire.specs.Responses.{response_seen, Roots};
+ghost use Rattle.client.specs.declared.refusal.Refusal.TheVariants as clients;
 ghost use Rattle.play.specs.Lines.{statement_text};
 ghost use Rattle.play.specs.Watchers.{alarm_key};
 ghost use Rattle.play.specs.Hearing.{response_text};
 ghost use Rattle.play.specs.Telling.{place_text, step_text};
+ghost use Rattle.play.specs.Wanting.{IsOfLook};
 
 use itoa::Buffer;
 use monitor::Step;
@@ -151,8 +154,23 @@ fn tell_place(text: &mut Vec<u8>, word: &[u8], name: &[u8], epoch: u64) -> Resul
     push_number(text, epoch)
 }
 
+/// Appends the line of a refusal of a look, of which no other comes than that of a proof.
+pub(crate) fn tell_refusal(text: &mut Vec<u8>, why: client::Refusal) -> Result<(), AllocError>
+    requires { IsOfLook why }
+    ensures { OnOk result ((refused : ProofRefusal) × (why ≡ clients.Proof refused) × (text.new.items ≡ text.old.items ++ codes "client refuses proof " ++ decimal (refusal_number refused) ++ 10 ∷ [])) }
+{
+    match why {
+        client::Refusal::Proof(refused) => tell_refused(text, refused),
+        client::Refusal::Memory => Err(AllocError),
+        client::Refusal::Root(_) => unreachable!(),
+        client::Refusal::UnknownRoot => unreachable!(),
+        client::Refusal::RootDiffers(_) => unreachable!(),
+        client::Refusal::NoPromise => unreachable!(),
+    }
+}
+
 /// Appends the line of a proof that the client refuses.
-pub(crate) fn tell_refused(text: &mut Vec<u8>, why: proofs::Refusal) -> Result<(), AllocError>
+fn tell_refused(text: &mut Vec<u8>, why: proofs::Refusal) -> Result<(), AllocError>
     ensures { OnOk result (text.new.items ≡ text.old.items ++ codes "client refuses proof " ++ decimal (refusal_number why) ++ 10 ∷ []) }
 {
     text.extend_from_slice(b"client refuses proof ")?;

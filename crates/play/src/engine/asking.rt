@@ -1,27 +1,28 @@
-ghost use Rattle.std.specs.Prelude.{◌≡◌, ◌≢◌, ◌≤◌, ◌++◌, ◌∷◌, [], IfOk, List, OnOk};
+ghost use Rattle.std.specs.Prelude.{◌≡◌, ◌≢◌, ◌++◌, ◌∷◌, [], IfOk, List, OnOk};
 ghost use Rattle.commands.specs.declared.edit.Verb.{Verb};
-ghost use Rattle.wire.specs.Frames.{frame_bytes, frame_size, Frame, IsFrame};
+ghost use Rattle.wire.specs.Frames.{frame_bytes, Frame, IsFrame};
 ghost use Rattle.wire.specs.FrameViews.{frame_seen};
 ghost use Rattle.wire.specs.Laws.{IsReadAs};
-ghost use Rattle.wire.specs.Requests.{request_frame, Put};
+ghost use Rattle.wire.specs.Requests.{Put};
 ghost use Rattle.wire.specs.Responses.{response_seen, Refused, ResponseContent};
 ghost use Rattle.book.specs.Books.{Page};
 ghost use Rattle.book.specs.Shows.{index_of};
 ghost use Rattle.epochs.specs.DirectoryStates.{provider, HasKeysOf};
-ghost use Rattle.play.specs.Checked.{line_of_reply, HasAskedKnowing, HasLooked, IsFound};
+ghost use Rattle.play.specs.Checked.{line_of_reply, HasAskedKnowing, HasChecked, HasLooked, IsFound};
 ghost use Rattle.play.specs.Handed.{HasHanded, MayHand};
 ghost use Rattle.play.specs.Lines.{found_text};
 ghost use Rattle.play.specs.Parties.{AreAt, HasAsked, HaveDone, IsReady, Parties};
 ghost use Rattle.play.specs.Played as played;
 ghost use Rattle.play.specs.Played.{Stand};
-ghost use Rattle.play.specs.Spoken.{ask_seen};
+ghost use Rattle.play.specs.Spoken.{ask_seen, HasRoom};
 ghost use Rattle.play.specs.Watchers.{Watcher};
 
 use super::handing::hand_all;
+use super::wanting::happen;
 use super::{ASKING, Engine};
 use crate::ask::Ask;
 use crate::laws::honest;
-use crate::telling::{tell_refused, tell_response, tell_statement};
+use crate::telling::{tell_refusal, tell_response, tell_statement};
 use book::{NoKeeper, Refusal};
 use encoding::{KeyData, Name};
 use hub::{Event, replies_are_honest};
@@ -71,6 +72,23 @@ pub(super) fn response_of<'a>(frame: &FrameView<'a>) -> Result<Response<'a>, All
     }
 }
 
+/// Reads whether a frame of the directory says that memory ran out.
+///
+/// # Errors
+///
+/// `AllocError` if it says so.
+fn had_memory(frame: &FrameView<'_>) -> Result<(), AllocError>
+    requires { (responded : ResponseContent) × IsReadAs (frame_seen frame.now) responded }
+    ensures { (responded : ResponseContent) → IsReadAs (frame_seen frame.now) responded → OnOk result (responded ≢ Refused 14) }
+{
+    // Only a refusal has a body of one byte, and the others are long to read.
+    if frame.body.len() != 1 {
+        return Ok(());
+    }
+    response_of(frame)?;
+    Ok(())
+}
+
 impl<H, V, S, R> Engine<H, V, S, R>
 where
     H: NodeHash + Drop,
@@ -84,7 +102,7 @@ where
     ///
     /// `AllocError` if memory runs out, here or in the directory.
     pub(super) fn ask(&mut self, ask: &Ask) -> Result<Vec<u8>, AllocError>
-        requires fits { frame_size (request_frame (ask_seen ask.now)) ≤ 65536 }
+        requires fits { HasRoom (ask_seen ask.now) }
         requires ready { IsReady H.digest_of V.value_of S.signature_of R.stream V.accepted S.verified self.old }
         ensures { IfOk result (λ reply. HasAsked H.digest_of V.value_of S.signature_of R.stream V.accepted S.verified self.old (ask_seen ask.now) reply.items self.new) }
     {
@@ -94,26 +112,20 @@ where
         // What the two calls of `head` ensure: the book is sound before and after, and the provider's
         // functions keep their laws.
         self.hub.head();
-        if self
-            .hub
-            .event(&Event::Bytes(ASKING, &frame), &mut reply)
-            .is_err()
-        {
-            return Err(AllocError);
-        }
+        happen(&mut self.hub, &Event::Bytes(ASKING, &frame), &mut reply)?;
         self.hub.head();
         // The request is one message, which is read as this request; its reply is honest.
         messages_are_computed();
         body_spells_one_request();
         replies_are_honest::<H, V, S, R, NoKeeper>();
-        response_of(&frame_of(&reply))?;
+        had_memory(&frame_of(&reply))?;
         Ok(reply)
     }
 
     /// Asks what a line asks, and appends the line of what comes of it, which the client checks. What follows
     /// from it is then done.
     pub(super) fn answer(&mut self, ask: &Ask, text: &mut Vec<u8>) -> Result<(), AllocError>
-        requires fits { frame_size (request_frame (ask_seen ask.now)) ≤ 65536 }
+        requires fits { HasRoom (ask_seen ask.now) }
         requires at { (stand : Stand) × AreAt H.digest_of V.value_of S.signature_of R.stream V.accepted S.verified self.old stand }
         ensures done { (stand : Stand) → AreAt H.digest_of V.value_of S.signature_of R.stream V.accepted S.verified self.old stand → OnOk result (let now = played.ask (index_of (provider H.digest_of V.value_of S.signature_of (self.old).hub.service.directory)) stand (ask_seen ask.now) in HaveDone H.digest_of V.value_of S.signature_of R.stream V.accepted S.verified text.old.items now.0 now.1 text.new.items self.new) }
         ensures keys { OnOk result (HasKeysOf (self.old).hub.service.directory (self.new).hub.service.directory) }
@@ -136,17 +148,18 @@ where
         text: &mut Vec<u8>,
     ) -> Result<(), AllocError>
         requires asked { (before : Parties R) × HasAskedKnowing H.digest_of V.value_of S.signature_of R.stream V.accepted S.verified before (ask_seen ask.now) reply.now self.old }
-        ensures told { (before : Parties R) → HasAskedKnowing H.digest_of V.value_of S.signature_of R.stream V.accepted S.verified before (ask_seen ask.now) reply.now self.old → OnOk result ((text.new.items ≡ text.old.items ++ line_of_reply H.digest_of V.value_of S.signature_of R.stream V.accepted S.verified before (ask_seen ask.now) ++ 10 ∷ []) × HasLooked self.old self.new) }
+        ensures told { (before : Parties R) (known : HasAskedKnowing H.digest_of V.value_of S.signature_of R.stream V.accepted S.verified before (ask_seen ask.now) reply.now self.old) → OnOk result ((text.new.items ≡ text.old.items ++ line_of_reply H.digest_of V.value_of S.signature_of R.stream V.accepted S.verified before (ask_seen ask.now) ++ 10 ∷ []) × HasChecked H.digest_of V.accepted self.old (ask_seen ask.now) known.asked.said self.new) }
     {
         let found = match response_of(&frame_of(reply))? {
             Response::Proof(found) => found,
             response => return tell_response(text, response),
         };
+        let found_at = found.body().epoch;
         // A proof is the answer to a look-up alone.
         let Ask::Lookup { name, epoch } = ask else {
             unreachable!()
         };
-        self.tell_look(name, *epoch, found.body().epoch, body_of(reply), text)
+        self.tell_look(name, *epoch, found_at, body_of(reply), text)
     }
 
     /// Appends the line of what the client says of a reply to a look-up, which is of the root of this epoch.
@@ -160,7 +173,7 @@ where
     ) -> Result<(), AllocError>
         requires found { (page : Page) × IsFound H.digest_of V.value_of S.signature_of R.stream V.accepted S.verified self.old name.now epoch reply.now page × (found_at ≡ page.epoch) }
         ensures { (page : Page) → IsFound H.digest_of V.value_of S.signature_of R.stream V.accepted S.verified self.old name.now epoch reply.now page → found_at ≡ page.epoch
-            → OnOk result ((text.new.items ≡ text.old.items ++ found_text (index_of (provider H.digest_of V.value_of S.signature_of (self.old).hub.service.directory)) page name.now ++ 10 ∷ []) × HasLooked self.old self.new) }
+            → OnOk result ((text.new.items ≡ text.old.items ++ found_text (index_of (provider H.digest_of V.value_of S.signature_of (self.old).hub.service.directory)) page name.now ++ 10 ∷ []) × HasLooked H.digest_of V.accepted self.old name.now epoch reply.now self.new) }
     {
         let Ok(name) = Name::new(name) else {
             unreachable!()
@@ -172,8 +185,7 @@ where
             .look(&mut checks.hash, &checks.vuf, &name, epoch, reply)
         {
             Ok(statement) => tell_statement(text, found_at, statement),
-            Err(client::Refusal::Proof(why)) => tell_refused(text, why),
-            Err(_) => Err(AllocError),
+            Err(why) => tell_refusal(text, why),
         }
     }
 

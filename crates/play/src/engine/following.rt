@@ -1,7 +1,8 @@
 // After a line that made new epochs, all take the new roots, and then each monitor watches them.
 
 ghost use Rattle.std.specs.Prelude.{◌≡◌, List, OnOk};
-ghost use Rattle.std.specs.List.{AllZip};
+ghost use Rattle.std.specs.List.{AllByRecursion, AllZip};
+ghost use Rattle.rootchain.specs.Chains.{Verifies};
 ghost use Rattle.rootchain.specs.RootLists.{SpellsRoots};
 ghost use Rattle.rootchain.specs.declared.signed_root.SignedRoot.{SignedRoot};
 ghost use Rattle.book.specs.Books.{pages};
@@ -10,9 +11,11 @@ ghost use Rattle.epochs.specs.DirectoryStates.{provider, HasKeysOf};
 ghost use Rattle.play.specs.Parties.{AreAt, AreBehind, HaveDone};
 ghost use Rattle.play.specs.Played.{Stand};
 ghost use Rattle.play.specs.Taking.{AllTake, AuditorTakes, MonitorTakes};
+ghost use Rattle.play.specs.Wanting.{IsOffered, MayTake};
 ghost use Rattle.play.specs.Watchers.{all_through};
 
 use super::asking::body_of;
+use super::wanting::{client_memory, observe};
 use super::{Checks, Engine};
 use crate::ask::Ask;
 use auditor::Auditor;
@@ -78,7 +81,7 @@ where
 
     /// Hands a list of roots to all.
     fn hand_list(&mut self, list: &[u8]) -> Result<(), AllocError>
-        requires spelled { (roots : List SignedRoot) × SpellsRoots list.now roots }
+        requires offered { IsOffered H.digest_of S.verified list.now self.old }
         ensures { (roots : List SignedRoot) → SpellsRoots list.now roots → OnOk result (AllTake H.digest_of S.verified roots self.old self.new) }
     {
         observe_all(&mut self.auditor, &mut self.checks, &self.key, list)?;
@@ -86,7 +89,7 @@ where
         let checks = &mut self.checks;
         match self.client.update(&mut checks.hash, &checks.verifier, list) {
             Ok(()) => Ok(()),
-            Err(_) => Err(AllocError),
+            Err(why) => Err(client_memory(why)),
         }
     }
 }
@@ -98,7 +101,7 @@ fn observe_all<H: NodeHash + Drop, V: Vuf + Drop, S: Signer + Drop>(
     key: &Hash32,
     list: &[u8],
 ) -> Result<(), AllocError>
-    requires spelled { (roots : List SignedRoot) × SpellsRoots list.now roots }
+    requires offered { (roots : List SignedRoot) × SpellsRoots list.now roots × AllByRecursion (Verifies S.verified key.now) roots }
     ensures { (roots : List SignedRoot) → SpellsRoots list.now roots → OnOk result (AuditorTakes H.digest_of S.verified roots key.now auditor.old auditor.new) }
 {
     let Ok(mut roots) = RootList::read(list) else {
@@ -108,17 +111,7 @@ fn observe_all<H: NodeHash + Drop, V: Vuf + Drop, S: Signer + Drop>(
         let Some(root) = roots.next() else {
             unreachable!()
         };
-        if auditor
-            .observe(
-                &mut checks.hash,
-                &checks.verifier,
-                key,
-                root.write().bytes(),
-            )
-            .is_err()
-        {
-            return Err(AllocError);
-        }
+        observe(auditor, checks, key, root.write().bytes())?;
     }
     Ok(())
 }
@@ -129,15 +122,26 @@ fn update_all<H: NodeHash + Drop, V: Vuf + Drop, S: Signer + Drop>(
     checks: &mut Checks<H, V, S>,
     list: &[u8],
 ) -> Result<(), AllocError>
+    requires offered { AllByRecursion (λ monitor. MayTake H.digest_of S.verified list.now monitor.client.chain) monitors.old }
     ensures { (roots : List SignedRoot) → SpellsRoots list.now roots → OnOk result (AllZip (MonitorTakes H.digest_of S.verified roots) monitors.old monitors.new) }
 {
     for monitor in monitors.iter_mut() {
-        if monitor
-            .update(&mut checks.hash, &checks.verifier, list)
-            .is_err()
-        {
-            return Err(AllocError);
-        }
+        update(monitor, checks, list)?;
     }
     Ok(())
+}
+
+/// Lets a monitor update its chain by a list of roots.
+fn update<H: NodeHash + Drop, V: Vuf + Drop, S: Signer + Drop>(
+    monitor: &mut Monitor<H, V, S>,
+    checks: &mut Checks<H, V, S>,
+    list: &[u8],
+) -> Result<(), AllocError>
+    requires offered { MayTake H.digest_of S.verified list.now monitor.old.client.chain }
+    ensures { (roots : List SignedRoot) → SpellsRoots list.now roots → OnOk result (MonitorTakes H.digest_of S.verified roots monitor.old monitor.new) }
+{
+    match monitor.update(&mut checks.hash, &checks.verifier, list) {
+        Ok(()) => Ok(()),
+        Err(why) => Err(client_memory(why)),
+    }
 }

@@ -1,11 +1,13 @@
 ghost use Rattle.std.specs.Prelude.{◌≡◌, ◌<◌, ◌++◌, ◌∷◌, [], IfOk, OnOk, Some, length, option_map, slice_get, slice_set};
 ghost use Rattle.encoding.specs.Limits.{IsName};
+ghost use Rattle.rootchain.specs.declared.signed_root.SignedRoot.{SignedRoot};
 ghost use Rattle.commands.specs.Operations.{Lookup};
 ghost use Rattle.wire.specs.Requests.{Query};
 ghost use Rattle.book.specs.Books.{pages};
 ghost use Rattle.book.specs.Shows.{index_of};
 ghost use Rattle.book.specs.Sound.{IsSound};
 ghost use Rattle.epochs.specs.DirectoryStates.{provider, HasKeysOf};
+ghost use Rattle.monitor.specs.Monitors.{IsNext};
 ghost use Rattle.play.specs.Parties.{AreAt, HasAsked, HaveDone, IsReady};
 ghost use Rattle.play.specs.Played as played;
 ghost use Rattle.play.specs.Played.{Stand, watcher_of};
@@ -13,10 +15,10 @@ ghost use Rattle.play.specs.Steps.{HasStepped, IsNextOf, Watches};
 ghost use Rattle.play.specs.Watchers.{ahead, through, Watcher};
 
 use super::asking::body_of;
+use super::wanting::start;
 use super::{Checks, Engine};
 use crate::ask::Ask;
-use crate::telling::{tell_refused, tell_step};
-use client::Client;
+use crate::telling::{tell_refusal, tell_step};
 use encoding::{KeyData, Name};
 use monitor::Monitor;
 use nodehash::NodeHash;
@@ -56,10 +58,7 @@ where
         ensures sound { (stand : Stand) → AreAt H.digest_of V.value_of S.signature_of R.stream V.accepted S.verified self.old stand → OnOk result (IsSound (index_of (provider H.digest_of V.value_of S.signature_of (self.old).hub.service.directory)) stand.book) }
     {
         let reply = self.ask(&Ask::Head)?;
-        let Ok(client) = Client::start(self.alloc, &self.checks.verifier, self.key, body_of(&reply))
-        else {
-            return Err(AllocError);
-        };
+        let client = start(self.alloc, &self.checks.verifier, self.key, body_of(&reply))?;
         let key = match key {
             Some(key) => Some(key.copied()),
             None => None,
@@ -136,6 +135,7 @@ where
     H: NodeHash + Drop,
     V: Vuf + Drop,
     S: Signer + Drop,
+    requires { (root : SignedRoot) × IsNext monitor.old root }
     ensures { IfOk result (λ went. Watches H.digest_of V.accepted (monitor.old) epoch reply.now text.old.items went text.new.items monitor.new) }
 {
     match monitor.step(&mut checks.hash, &checks.vuf, reply) {
@@ -143,10 +143,10 @@ where
             tell_step(text, monitor.name().bytes(), epoch, step)?;
             Ok(true)
         }
-        Err(monitor::Refusal::Client(client::Refusal::Proof(why))) => {
-            tell_refused(text, why)?;
+        Err(monitor::Refusal::Client(why)) => {
+            tell_refusal(text, why)?;
             Ok(false)
         }
-        Err(_) => Err(AllocError),
+        Err(monitor::Refusal::OtherPromise) => unreachable!(),
     }
 }

@@ -1,6 +1,7 @@
 use Rattle.std.proofs.Common.{◌≡◌, ◌<◌, ◌∙◌, ap, arith}
 use Rattle.book.specs.Books.{Book}
 use Rattle.play.specs.Spoken.{ask_seen}
+use Rattle.play.proofs.Looked.{checked_stays}
 use Rattle.play.proofs.LineAsked.{asks_on, asks_only, behind, keys, knowing, may-hand}
 use Rattle.play.proofs.engine.Engine.answer.Goals as goal
 use Rattle.play.proofs.engine.Engine.answer.Goals.{then-latest+in_ok-follow, else-latest}
@@ -19,7 +20,7 @@ pub hand_on-requires : goal.hand_on-requires
 hand_on-requires g c =
     let known = knowing g.H.NodeHash.digest_of g.V.Vuf.value_of g.S.Signer.signature_of g.R.Rng.stream g.V.VufCheck.accepted g.S.Verifier.verified c.args.self.now c.ask.new.self c.requires.at.0 (ask_seen c.args.ask.now) c.in_ok-reply.reply.items c.requires.at.1 c.in_ok-reply.ensures
     c.deref.result.now c.deref.ensures.value in
-    let looked = (c.in_ok-tell_checked.ensures.told c.args.self.now known).1 in
+    let looked = checked_stays g.H.NodeHash.digest_of g.V.VufCheck.accepted c.ask.new.self (ask_seen c.args.ask.now) known.asked.said c.tell_checked.new.self (c.in_ok-tell_checked.ensures.told c.args.self.now known).1 in
     record {
       asked = (
         c.args.self.now,
@@ -34,7 +35,7 @@ pub follow-requires : goal.follow-requires
 follow-requires g c =
     let known = knowing g.H.NodeHash.digest_of g.V.Vuf.value_of g.S.Signer.signature_of g.R.Rng.stream g.V.VufCheck.accepted g.S.Verifier.verified c.args.self.now c.ask.new.self c.requires.at.0 (ask_seen c.args.ask.now) c.in_ok-reply.reply.items c.requires.at.1 c.in_ok-reply.ensures
     c.deref.result.now c.deref.ensures.value in
-    let looked = (c.in_ok-tell_checked.ensures.told c.args.self.now known).1 in
+    let looked = checked_stays g.H.NodeHash.digest_of g.V.VufCheck.accepted c.ask.new.self (ask_seen c.args.ask.now) known.asked.said c.tell_checked.new.self (c.in_ok-tell_checked.ensures.told c.args.self.now known).1 in
     let may = may-hand g.H.NodeHash.digest_of g.V.Vuf.value_of g.S.Signer.signature_of g.R.Rng.stream g.V.VufCheck.accepted g.S.Verifier.verified c.args.self.now c.ask.new.self c.requires.at.0 (ask_seen c.args.ask.now) c.in_ok-reply.reply.items c.requires.at.1 c.in_ok-reply.ensures
     c.tell_checked.new.self looked c.deref-2.result.now c.deref-2.ensures.value in
     let handed = c.in_ok-hand_on.ensures c.args.self.now c.ask.new.self c.requires.at.0.watchers may in
@@ -50,20 +51,21 @@ pub returns-clause-done : goal.returns-clause-done
 returns-clause-done g c stand are =
     let known = knowing g.H.NodeHash.digest_of g.V.Vuf.value_of g.S.Signer.signature_of g.R.Rng.stream g.V.VufCheck.accepted g.S.Verifier.verified c.args.self.now c.ask.new.self stand (ask_seen c.args.ask.now) c.in_ok-reply.reply.items are c.in_ok-reply.ensures c.deref.result.now c.deref.ensures.value in
     let told = c.in_ok-tell_checked.ensures.told c.args.self.now known in
+    let looked = checked_stays g.H.NodeHash.digest_of g.V.VufCheck.accepted c.ask.new.self (ask_seen c.args.ask.now) known.asked.said c.tell_checked.new.self told.1 in
     let may = may-hand g.H.NodeHash.digest_of g.V.Vuf.value_of g.S.Signer.signature_of g.R.Rng.stream g.V.VufCheck.accepted g.S.Verifier.verified c.args.self.now c.ask.new.self stand (ask_seen c.args.ask.now) c.in_ok-reply.reply.items are c.in_ok-reply.ensures
-    c.tell_checked.new.self told.1 c.deref-2.result.now c.deref-2.ensures.value in
+    c.tell_checked.new.self looked c.deref-2.result.now c.deref-2.ensures.value in
     let handed = c.in_ok-hand_on.ensures c.args.self.now c.ask.new.self stand.watchers may in
     let before : c.latest-latest.result ≡ stand.book.last.epoch = c.latest-latest.ensures.epoch ∙ ap (λ (now : Book). now.last.epoch) are.hub.book in
     elim c.if-latest.branch [
       | then-latest+in_ok-follow w ↦
           let above : stand.book.last.epoch < c.hand_on.new.self.hub.service.directory.last.epoch = omega (arith, w.if-latest.true, before, c.latest.ensures.epoch) in
           rw (w.self-is, w.text-is)
-          (asks_on g.H.NodeHash.digest_of g.V.Vuf.value_of g.S.Signer.signature_of g.R.Rng.stream g.V.VufCheck.accepted g.S.Verifier.verified c.args.self.now c.ask.new.self stand (ask_seen c.args.ask.now) c.in_ok-reply.reply.items are c.in_ok-reply.ensures c.tell_checked.new.self told.1 c.hand_on.new.self handed
+          (asks_on g.H.NodeHash.digest_of g.V.Vuf.value_of g.S.Signer.signature_of g.R.Rng.stream g.V.VufCheck.accepted g.S.Verifier.verified c.args.self.now c.ask.new.self stand (ask_seen c.args.ask.now) c.in_ok-reply.reply.items are c.in_ok-reply.ensures c.tell_checked.new.self looked c.hand_on.new.self handed
           c.args.text.now.items c.tell_checked.new.text.items told.0 w.follow.new.text.items w.follow.new.self above w.in_ok-follow.ensures.done)
       | else-latest w ↦
           let not : ¬ (stand.book.last.epoch < c.hand_on.new.self.hub.service.directory.last.epoch) = λ above. omega (arith, w.if-latest.false, above, before, c.latest.ensures.epoch) in
           rw (w.self-is, w.text-is)
-          (asks_only g.H.NodeHash.digest_of g.V.Vuf.value_of g.S.Signer.signature_of g.R.Rng.stream g.V.VufCheck.accepted g.S.Verifier.verified c.args.self.now c.ask.new.self stand (ask_seen c.args.ask.now) c.in_ok-reply.reply.items are c.in_ok-reply.ensures c.tell_checked.new.self told.1 c.hand_on.new.self handed
+          (asks_only g.H.NodeHash.digest_of g.V.Vuf.value_of g.S.Signer.signature_of g.R.Rng.stream g.V.VufCheck.accepted g.S.Verifier.verified c.args.self.now c.ask.new.self stand (ask_seen c.args.ask.now) c.in_ok-reply.reply.items are c.in_ok-reply.ensures c.tell_checked.new.self looked c.hand_on.new.self handed
           c.args.text.now.items c.tell_checked.new.text.items told.0 not)
     ]
 
@@ -71,7 +73,7 @@ pub returns-clause-keys : goal.returns-clause-keys
 returns-clause-keys g c =
     let known = knowing g.H.NodeHash.digest_of g.V.Vuf.value_of g.S.Signer.signature_of g.R.Rng.stream g.V.VufCheck.accepted g.S.Verifier.verified c.args.self.now c.ask.new.self c.requires.at.0 (ask_seen c.args.ask.now) c.in_ok-reply.reply.items c.requires.at.1 c.in_ok-reply.ensures
     c.deref.result.now c.deref.ensures.value in
-    let looked = (c.in_ok-tell_checked.ensures.told c.args.self.now known).1 in
+    let looked = checked_stays g.H.NodeHash.digest_of g.V.VufCheck.accepted c.ask.new.self (ask_seen c.args.ask.now) known.asked.said c.tell_checked.new.self (c.in_ok-tell_checked.ensures.told c.args.self.now known).1 in
     let may = may-hand g.H.NodeHash.digest_of g.V.Vuf.value_of g.S.Signer.signature_of g.R.Rng.stream g.V.VufCheck.accepted g.S.Verifier.verified c.args.self.now c.ask.new.self c.requires.at.0 (ask_seen c.args.ask.now) c.in_ok-reply.reply.items c.requires.at.1 c.in_ok-reply.ensures
     c.tell_checked.new.self looked c.deref-2.result.now c.deref-2.ensures.value in
     let handed = c.in_ok-hand_on.ensures c.args.self.now c.ask.new.self c.requires.at.0.watchers may in

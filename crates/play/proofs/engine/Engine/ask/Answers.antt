@@ -1,5 +1,4 @@
-use Rattle.std.proofs.Common.{◌≡◌, refl, rules, subst, sym, ◌∙◌}
-use Rattle.std.specs.Prelude.{IsOk}
+use Rattle.std.proofs.Common.{◌≡◌, Ok, refl, rules, subst, sym, ◌∙◌}
 use Rattle.wire.specs.Frames.{Frame, frame_bytes}
 use Rattle.wire.specs.FrameViews.{frame_seen}
 use Rattle.wire.specs.Laws.{IsReadAs}
@@ -7,32 +6,33 @@ use Rattle.wire.specs.Requests.{request_frame}
 use Rattle.hub.specs.Desks.{reply_frame}
 use Rattle.play.specs.Parties.{HasAsked, Parties}
 use Rattle.play.specs.Spoken.{ask_seen}
-use Rattle.play.proofs.Asking.{command_of, not_memory, served}
+use Rattle.play.proofs.Asking.{bytes-due, command_of, not_memory, served}
 use Rattle.play.proofs.engine.Engine.ask.Goals as goal
+
+pub happen-requires : goal.happen-requires
+happen-requires g c = bytes-due c.self.inside.hub.sessions c.deref.result.now (rw (← c.self.view_is) at c.requires.ready).idle
 
 pub frame_of-requires : goal.frame_of-requires
 frame_of-requires g c =
     let (asked, is) = command_of c.args.ask.now in
     let before : Parties g.row.R.Denot = record { hub = c.self.inside.hub; key = c.self.inside.key; client = c.self.inside.client; auditor = c.self.inside.auditor; monitors = c.self.inside.monitors.items } in
-    let ok : IsOk c.event.result = search rules in
     let whole : c.deref.result.now ≡ frame_bytes (request_frame (ask_seen c.args.ask.now)) = search rules in
     let (said, responded, says, response, read, fine) =
     served g.H.NodeHash.digest_of g.V.Vuf.value_of g.S.Signer.signature_of g.R.Rng.stream g.V.VufCheck.accepted g.S.Verifier.verified
-    c.messages_are_computed.ensures.one c.body_spells_one_request.ensures c.replies_are_honest.ensures before (record before { hub = c.event.new.self }) (ask_seen c.args.ask.now) asked c.deref.result.now c.event.new.output.items c.event.result
-    (rw (← c.self.view_is) at c.requires.ready) c.write.ensures.form.0 c.write.ensures.form.1 is whole c.head.ensures.well c.head-2.ensures.well ok (rw c.new-reply.ensures.items at c.event.ensures.happens) refl
+    c.messages_are_computed.ensures.one c.body_spells_one_request.ensures c.replies_are_honest.ensures before (record before { hub = c.happen.new.hub }) (ask_seen c.args.ask.now) asked c.deref.result.now c.happen.new.output.items (Ok tt)
+    (rw (← c.self.view_is) at c.requires.ready) c.write.ensures.form.0 c.write.ensures.form.1 is whole c.head.ensures.well c.head-2.ensures.well refl (rw c.new-reply.ensures.items at c.in_ok-happen.ensures) refl
     in
     (reply_frame said, read.0, c.deref-2.ensures.value ∙ says)
 
-pub response_of-requires : goal.response_of-requires
-response_of-requires g c =
+pub had_memory-requires : goal.had_memory-requires
+had_memory-requires g c =
     let (asked, is) = command_of c.args.ask.now in
     let before : Parties g.row.R.Denot = record { hub = c.self.inside.hub; key = c.self.inside.key; client = c.self.inside.client; auditor = c.self.inside.auditor; monitors = c.self.inside.monitors.items } in
-    let ok : IsOk c.event.result = search rules in
     let whole : c.deref.result.now ≡ frame_bytes (request_frame (ask_seen c.args.ask.now)) = search rules in
     let (said, responded, says, response, read, fine) =
     served g.H.NodeHash.digest_of g.V.Vuf.value_of g.S.Signer.signature_of g.R.Rng.stream g.V.VufCheck.accepted g.S.Verifier.verified
-    c.messages_are_computed.ensures.one c.body_spells_one_request.ensures c.replies_are_honest.ensures before (record before { hub = c.event.new.self }) (ask_seen c.args.ask.now) asked c.deref.result.now c.event.new.output.items c.event.result
-    (rw (← c.self.view_is) at c.requires.ready) c.write.ensures.form.0 c.write.ensures.form.1 is whole c.head.ensures.well c.head-2.ensures.well ok (rw c.new-reply.ensures.items at c.event.ensures.happens) refl
+    c.messages_are_computed.ensures.one c.body_spells_one_request.ensures c.replies_are_honest.ensures before (record before { hub = c.happen.new.hub }) (ask_seen c.args.ask.now) asked c.deref.result.now c.happen.new.output.items (Ok tt)
+    (rw (← c.self.view_is) at c.requires.ready) c.write.ensures.form.0 c.write.ensures.form.1 is whole c.head.ensures.well c.head-2.ensures.well refl (rw c.new-reply.ensures.items at c.in_ok-happen.ensures) refl
     in
     let begins : c.deref-2.result.now ≡ frame_bytes (reply_frame said) = c.deref-2.ensures.value ∙ says in
     let seen : frame_seen c.frame_of.result ≡ reply_frame said = c.frame_of.ensures (reply_frame said) read.0 begins in
@@ -42,15 +42,14 @@ pub returns : goal.returns
 returns g c =
     let (asked, is) = command_of c.args.ask.now in
     let before : Parties g.row.R.Denot = record { hub = c.self.inside.hub; key = c.self.inside.key; client = c.self.inside.client; auditor = c.self.inside.auditor; monitors = c.self.inside.monitors.items } in
-    let ok : IsOk c.event.result = search rules in
     let whole : c.deref.result.now ≡ frame_bytes (request_frame (ask_seen c.args.ask.now)) = search rules in
     let (said, responded, says, response, read, fine) =
     served g.H.NodeHash.digest_of g.V.Vuf.value_of g.S.Signer.signature_of g.R.Rng.stream g.V.VufCheck.accepted g.S.Verifier.verified
-    c.messages_are_computed.ensures.one c.body_spells_one_request.ensures c.replies_are_honest.ensures before (record before { hub = c.event.new.self }) (ask_seen c.args.ask.now) asked c.deref.result.now c.event.new.output.items c.event.result
-    (rw (← c.self.view_is) at c.requires.ready) c.write.ensures.form.0 c.write.ensures.form.1 is whole c.head.ensures.well c.head-2.ensures.well ok (rw c.new-reply.ensures.items at c.event.ensures.happens) refl
+    c.messages_are_computed.ensures.one c.body_spells_one_request.ensures c.replies_are_honest.ensures before (record before { hub = c.happen.new.hub }) (ask_seen c.args.ask.now) asked c.deref.result.now c.happen.new.output.items (Ok tt)
+    (rw (← c.self.view_is) at c.requires.ready) c.write.ensures.form.0 c.write.ensures.form.1 is whole c.head.ensures.well c.head-2.ensures.well refl (rw c.new-reply.ensures.items at c.in_ok-happen.ensures) refl
     in
     let begins : c.deref-2.result.now ≡ frame_bytes (reply_frame said) = c.deref-2.ensures.value ∙ says in
     let seen : frame_seen c.frame_of.result ≡ reply_frame said = c.frame_of.ensures (reply_frame said) read.0 begins in
-    let told = c.in_ok-response_of.ensures responded (subst (λ (frame : Frame). IsReadAs frame responded) (sym seen) read) in
-    subst (λ (p : Parties g.row.R.Denot). HasAsked g.H.NodeHash.digest_of g.V.Vuf.value_of g.S.Signer.signature_of g.R.Rng.stream g.V.VufCheck.accepted g.S.Verifier.verified p (ask_seen c.args.ask.now) c.event.new.output.items (record before { hub = c.event.new.self }))
-    c.self.view_is (fine (not_memory said responded response told.1))
+    let told = c.in_ok-had_memory.ensures responded (subst (λ (frame : Frame). IsReadAs frame responded) (sym seen) read) in
+    subst (λ (p : Parties g.row.R.Denot). HasAsked g.H.NodeHash.digest_of g.V.Vuf.value_of g.S.Signer.signature_of g.R.Rng.stream g.V.VufCheck.accepted g.S.Verifier.verified p (ask_seen c.args.ask.now) c.happen.new.output.items (record before { hub = c.happen.new.hub }))
+    c.self.view_is (fine (not_memory said responded response told))

@@ -1,13 +1,28 @@
 use Rattle.std.proofs.Common.{◌≡◌, ◌∙◌, List, length, refl, sym, ap, subst}
-use Rattle.std.specs.List.{AllZip}
+use Rattle.std.specs.List.{AllByRecursion, AllZip}
 use Rattle.std.specs.Prelude.{IsOk, is_ok}
 use Rattle.std.proofs.lemmas.List.{with_items_is}
 use Rattle.std.proofs.lemmas.Slice.Zip.{AllZip-long}
 use Rattle.monitor.specs.Monitors.{Monitor}
 use Rattle.play.specs.Taking.{MonitorTakes}
+use Rattle.play.specs.Wanting.{MayTake}
 use Rattle.play.proofs.Taken.{client-takes}
 use Rattle.play.proofs.engine.Engine.hand_list.Goals.{in-Ok, in-Err}
 use Rattle.play.proofs.engine.Engine.hand_list.Goals as goal
+
+pub observe_all-requires : goal.observe_all-requires
+observe_all-requires g c = let o = rw (← c.self.view_is) at c.requires.offered in record { offered = (o.roots, o.spelled, o.signed) }
+
+pub update_all-requires : goal.update_all-requires
+update_all-requires g c =
+    let o = rw (← c.self.view_is) at c.requires.offered in
+    let old : c.deref_mut.result.now ≡ c.self.inside.monitors.items = c.deref_mut.ensures.value in
+    record { offered = subst (AllByRecursion (λ (monitor : Monitor). MayTake g.H.NodeHash.digest_of g.S.Verifier.verified c.args.list.now monitor.client.chain)) (sym old) o.monitors }
+
+pub client_memory-requires : goal.client_memory-requires
+client_memory-requires g c =
+    let o = rw (← c.self.view_is) at c.requires.offered in
+    o.client c.self.inside.client c.update.new.self c.update.result c.in-Err.why refl c.in-Err.is c.update.ensures.updates
 
 pub returns : goal.returns
 returns g c roots spelled = elim c.match-update.branch [

@@ -1,4 +1,4 @@
-use Rattle.std.proofs.Common.{ap, subst, ◌∙◌, ◌≡◌, IfOk, Some, slice_get, slice_set, ℕ, List}
+use Rattle.std.proofs.Common.{ap, subst, sym, ◌∙◌, ◌≡◌, IfOk, Some, slice_get, slice_set, ℕ, List}
 use Rattle.encoding.specs.Limits.{IsName}
 use Rattle.commands.specs.Operations.{Lookup}
 use Rattle.wire.specs.Requests.{Query}
@@ -6,11 +6,18 @@ use Rattle.play.specs.Parties.{Parties, HasAsked}
 use Rattle.play.specs.Steps.{HasStepped, Watches}
 use Rattle.std.proofs.lemmas.Result.{IfOk-weaker}
 use Rattle.std.proofs.lemmas.Option.{get_or_from_slice_get}
-use Rattle.monitor.specs.Monitors.{Monitor}
+use Rattle.monitor.specs.Monitors.{Monitor, IsNext}
 use Rattle.play.proofs.Stepped.{has-stepped}
 use Rattle.play.proofs.engine.Engine.step.Goals as goal
 
--- src/engine/watching.rt:88:5
+pub watch_epoch-requires : goal.watch_epoch-requires
+watch_epoch-requires g c =
+    let (watching, own, (root, next, at)) = c.requires.next in
+    let there : slice_get c.self-2.inside.monitors.items c.args.place ≡ Some watching
+    = ap (λ parties. slice_get parties.monitors c.args.place) c.self-2.view_is ∙ ap (λ parties. slice_get parties.monitors c.args.place) c.in_ok-reply.ensures.asked.others ∙ own in
+    let same : c.index_mut.result.now ≡ watching = c.index_mut.ensures.value ∙ get_or_from_slice_get c.self-2.inside.monitors.items c.args.place watching c.index_mut.result.now there in
+    (root, subst (λ (m : Monitor). IsNext m root) (sym same) next)
+
 pub returns : goal.returns
 returns g c = λ stand watcher all own.
     let watching = c.requires.next.0 in

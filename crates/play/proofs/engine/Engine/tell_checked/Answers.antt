@@ -1,4 +1,4 @@
-use Rattle.std.proofs.Common.{◌≡◌, ◌++◌, ◌∷◌, [], ap, refl, subst, sym, ◌∙◌, List, ℕ}
+use Rattle.std.proofs.Common.{◌≡◌, ◌++◌, ◌∷◌, [], ap, subst, sym, ◌∙◌, List, ℕ}
 use Rattle.std.proofs.lemmas.Result.{on_ok_weaker}
 use Rattle.rootchain.specs.declared.body.Body.{Body}
 use Rattle.proofs.specs.Replies.{Spells}
@@ -9,9 +9,11 @@ use Rattle.wire.specs.Requests.{Query}
 use Rattle.hub.specs.Desks.{reply_frame}
 use Rattle.book.specs.declared.reply.Reply.{Reply}
 use Rattle.book.specs.declared.reply.Reply.TheVariants.{Found}
+use Rattle.play.specs.Checked.{HasChecked, HasLooked}
 use Rattle.play.specs.Hearing.{response_text}
 use Rattle.play.specs.Spoken.{ask_seen}
 use Rattle.play.proofs.Answered.{asked-lookup, found-of, has-found, no-lookup, unchecked-line, unchecked-of}
+use Rattle.play.proofs.Looked.{unchecked_stays}
 use Rattle.play.proofs.engine.Engine.tell_checked.Goals as goal
 
 pub frame_of-requires : goal.frame_of-requires
@@ -32,7 +34,7 @@ returns-in_default g c = record {
       let unchecked = unchecked-of a.said a.responded c.in_ok-response.response a.response seen.0 c.in_default.not-Proof in
       let line = unchecked-line g.H.NodeHash.digest_of g.V.Vuf.value_of g.S.Signer.signature_of g.R.Rng.stream g.V.VufCheck.accepted g.S.Verifier.verified before c.args.self.now (ask_seen c.args.ask.now) c.args.reply.now a seen.1 unchecked in
       let told = ap response_text seen.0 ∙ line in
-      on_ok_weaker c.tell_response.result (λ wrote. (wrote ∙ ap (λ (l : List ℕ). c.args.text.now.items ++ l ++ 10 ∷ []) told, record { others = refl; chain = refl })) c.tell_response.ensures;
+      on_ok_weaker c.tell_response.result (λ wrote. (wrote ∙ ap (λ (l : List ℕ). c.args.text.now.items ++ l ++ 10 ∷ []) told, unchecked_stays g.H.NodeHash.digest_of g.V.VufCheck.accepted c.args.self.now (ask_seen c.args.ask.now) a.said unchecked)) c.tell_response.ensures;
 }
 
 pub unreachable-requires : goal.unreachable-requires
@@ -75,5 +77,8 @@ returns g c = record {
       let h = has-found g.H.NodeHash.digest_of g.V.Vuf.value_of g.S.Signer.signature_of g.R.Rng.stream g.V.VufCheck.accepted g.S.Verifier.verified before c.args.self.now (ask_seen c.args.ask.now) c.args.reply.now a
       c.body_of.result.now (says ∙ ap (λ (text : List ℕ). Found text) (sym body)) c.deref.result.now c.in-Lookup.epoch of c.in-Proof.found (subst (λ (text : List ℕ). Spells text c.in-Proof.found) (sym body) spells) knowing.chain in
       let at_epoch = ap (λ (b : Body). b.epoch) c.body.ensures ∙ h.at_epoch in
-      on_ok_weaker c.tell_look.result (λ both. (both.0 ∙ ap (λ (l : List ℕ). c.args.text.now.items ++ l ++ 10 ∷ []) h.told, both.1)) (c.tell_look.ensures h.page h.is at_epoch);
+      let looked = λ (looks : HasLooked g.H.NodeHash.digest_of g.V.VufCheck.accepted c.args.self.now c.deref.result.now c.in-Lookup.epoch c.body_of.result.now c.tell_look.new.self).
+      subst (λ (said : Reply). HasChecked g.H.NodeHash.digest_of g.V.VufCheck.accepted c.args.self.now (ask_seen c.args.ask.now) said c.tell_look.new.self) (sym says)
+      (c.deref.result.now, c.in-Lookup.epoch, of, subst (λ (text : List ℕ). HasLooked g.H.NodeHash.digest_of g.V.VufCheck.accepted c.args.self.now c.deref.result.now c.in-Lookup.epoch text c.tell_look.new.self) body looks) in
+      on_ok_weaker c.tell_look.result (λ both. (both.0 ∙ ap (λ (l : List ℕ). c.args.text.now.items ++ l ++ 10 ∷ []) h.told, looked both.1)) (c.tell_look.ensures h.page h.is at_epoch);
 }
