@@ -5,9 +5,9 @@ ghost use Rattle.client.specs.Promising.{Keeps, ReadsPromise};
 ghost use Rattle.client.specs.Starting.{Starts};
 ghost use Rattle.client.specs.declared.refusal.Refusal.TheVariants.{Memory};
 
-use crate::{Refusal, RootRefusal};
 use crate::looks::Looks;
 use crate::roots::{asked, has_root_of};
+use crate::{Refusal, RootRefusal};
 use encoding::{Hash32, Name};
 use nodehash::NodeHash;
 use proofs::{Statement, accept};
