@@ -1,13 +1,13 @@
 #!/usr/bin/env bash
 # Runs `directoryd serve` and `directoryd listen` as processes, asks them over loopback, and compares
-# what they answer with what scripts/formats.py computes. What goes over a socket is in no clause,
-# so it is shown here.
+# what they answer with what scripts/formats.py computes; then the example of a client, whose lines
+# are compared with those of the model. What goes over a socket is in no clause, so it is shown here.
 #
 #   scripts/listen.sh
 #
-# Takes the built program, or the one that DIRECTORYD names. The last line is `N passed, M failed`, and
-# the status is 0 where none failed. It takes some ten seconds, and ends after five minutes whatever
-# happens.
+# Takes the built programs, or those that DIRECTORYD and EXAMPLE_CLIENT name. The last line is
+# `N passed, M failed`, and the status is 0 where none failed. It takes some fifteen seconds, and ends
+# after five minutes whatever happens.
 set -uo pipefail
 cd "$(dirname "$0")/.." || exit 1
 
@@ -16,6 +16,7 @@ if [ -z "${LISTEN_LIMIT:-}" ]; then
 fi
 
 program=${DIRECTORYD:-crates/directoryd/out/directoryd}
+example=${EXAMPLE_CLIENT:-crates/example_client/out/example_client}
 folder=$(mktemp -d)
 server=
 passed=0
@@ -107,10 +108,12 @@ stops() {
     same "$1: output" "" "$(cat "$folder/server_out")"
 }
 
-if [ ! -x "$program" ]; then
-    fails "there is no program $program: build it with (cd crates/directoryd && rt run)"
-    finish
-fi
+for built in "$program" "$example"; do
+    if [ ! -x "$built" ]; then
+        fails "there is no program $built: build it with (cd crates/$(basename "$built") && rt run)"
+        finish
+    fi
+done
 keys=$(scripts/formats.py --keys)
 well "the document has the frames that are computed" scripts/formats.py --in docs/OPERATING.md
 
@@ -181,4 +184,8 @@ for option in "" "--count 0" "--count 00"; do
     wait "$server" 2>/dev/null
     server=
 done
+
+# A client that follows the directory over several connections.
+starts
+well "the example of a client" scripts/example.py "$address" "$example"
 finish
