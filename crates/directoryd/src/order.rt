@@ -12,7 +12,7 @@ mod subcommands;
 
 use audits::{AuditOrder, JudgeOrder};
 use clap::builder::ValueParser;
-use clap::{Arg, ArgMatches, Command, Error};
+use clap::{Arg, ArgAction, ArgMatches, Command, Error};
 use items::{HashChoice, ProveOrder, RootOrder};
 use server::{DirectoryOrder, ListenOrder};
 use std::alloc::{AllocError, Global};
@@ -217,6 +217,37 @@ fn count_arg<'a>(alloc: Global) -> Arg<'a>
         .help("How many connections are answered; 0 for no end")
 }
 
+/// `--sessions N`.
+fn sessions_arg<'a>(alloc: Global) -> Arg<'a>
+{
+    Arg::new(alloc, "sessions")
+        .long("sessions")
+        .value_name("N")
+        .default_value("1000")
+        .value_parser(ValueParser::unsigned(1, 1024))
+        .help("How many connections are open at once, 1 to 1024")
+}
+
+/// `--idle SECONDS`.
+fn idle_arg<'a>(alloc: Global) -> Arg<'a>
+{
+    Arg::new(alloc, "idle")
+        .long("idle")
+        .value_name("SECONDS")
+        .default_value("60")
+        .value_parser(ValueParser::unsigned(0, u64::MAX))
+        .help("When an idle connection is closed; 0 for never")
+}
+
+/// `--until-eof`.
+fn until_eof_arg<'a>(alloc: Global) -> Arg<'a>
+{
+    Arg::new(alloc, "until-eof")
+        .long("until-eof")
+        .action(ArgAction::SetTrue)
+        .help("Stop at the end of standard input")
+}
+
 /// A value that stands alone, and has to be given.
 fn positional_arg<'a>(alloc: Global, name: &'a str, shown: &'a str, help: &'a str) -> Arg<'a>
     ensures rule { rule_of result ≡ positional_rule name.entry.now }
@@ -345,10 +376,13 @@ fn listen_command<'a>(alloc: Global) -> Result<Command<'a>, AllocError>
     ensures local { IfOk result (λ c. (out-Command c).has_globals ≡ false) }
 {
     let bare = Command::new(alloc, "listen")
-        .about("Answers connections one after another")
+        .about("Answers connections, many at once")
         .after_help(LISTEN_HELP);
     let listen = add_directory(alloc, bare)?
         .arg(count_arg(alloc))?
+        .arg(sessions_arg(alloc))?
+        .arg(idle_arg(alloc))?
+        .arg(until_eof_arg(alloc))?
         .arg(address_arg(alloc))?;
     Ok(listen)
 }
@@ -457,6 +491,9 @@ fn named_order<'a>(name: &str, found: &ArgMatches<'a>) -> Order<'a>
         "listen" => Order::Listen(ListenOrder {
             directory: directory_order(found),
             count: number(found, "count", 0),
+            sessions: number(found, "sessions", 1),
+            idle: number(found, "idle", 0),
+            until_eof: found.get_flag("until-eof"),
             address: text(found, "address"),
         }),
         _ => Order::Root(root_order(found)),

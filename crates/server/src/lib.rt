@@ -17,6 +17,8 @@ mod opening;
 mod order;
 mod reopening;
 mod serving;
+mod sockets;
+mod stopping;
 mod streams;
 mod telling;
 

@@ -12,74 +12,20 @@ ghost use Rattle.server.specs.Programs.{AllServedBy, ServedReplied};
 use crate::disk::Disk;
 use crate::keys::{Keys, ServedDesk};
 use crate::opening::{open_file, open_journal};
-use crate::serving::serve_on;
-use crate::streams::SESSION;
-use crate::{ListenOrder, ServeFault};
+use crate::ListenOrder;
+use crate::sockets::Sockets;
 use book::{Keeper, NoKeeper};
+use connections::{Limits, answer_all};
 use hub::Hub;
 use std::alloc::Global;
 use std::fs::{File, Files};
-use std::io::Write;
-use std::net::{Net, SocketAddr, TcpListener, TcpStream};
+use std::io::{BufRead, Write};
+use std::net::{Net, SocketAddr};
+use std::time::Clock;
 use textio::{ProgramFault, write_text};
 
-/// Answers a connection, and closes it.
-#[tactic(auto, using(crate::proofs::Listened::has_exchanges))]
-fn answer<K: Keeper + Drop>(
-    alloc: Global,
-    hub: &mut Hub<ServedDesk<K>>,
-    stream: &TcpStream,
-    disk: Option<&Disk>,
-) -> Result<(), ServeFault>
-    requires { hub.old.sessions ≡ [] }
-    ensures ended { hub.new.sessions ≡ [] }
-    ensures replied { (exchanges : List Exchange) × ServedReplied K.kept K.failed hub.old.service exchanges hub.new.service }
-{
-    // A reply is sent at once. If this fails, it only comes later.
-    let _set = stream.set_nodelay(true);
-    serve_on(alloc, hub, SESSION, &mut &*stream, &mut &*stream, disk)
-}
-
-/// Takes the next connection and answers it. One that fails is closed, or was none.
-fn answer_next<K: Keeper + Drop>(
-    alloc: Global,
-    hub: &mut Hub<ServedDesk<K>>,
-    listener: &TcpListener,
-    disk: Option<&Disk>,
-)
-    requires { hub.old.sessions ≡ [] }
-    ensures ended { hub.new.sessions ≡ [] }
-    ensures replied { (hub.new.service ≡ hub.old.service)
-        ⊎ ((exchanges : List Exchange) × ServedReplied K.kept K.failed hub.old.service exchanges hub.new.service) }
-{
-    let Ok((stream, _)) = listener.accept() else {
-        return;
-    };
-    let _outcome = answer(alloc, hub, &stream, disk);
-}
-
-/// Answers so many connections, one after another; 0 for no end. All of them are sessions of the one
-/// hub, whose messages show one run of its directory.
-pub(crate) fn answer_all<K: Keeper + Drop>(
-    alloc: Global,
-    hub: &mut Hub<ServedDesk<K>>,
-    listener: &TcpListener,
-    disk: Option<&Disk>,
-    count: u64,
-)
-    requires { hub.old.sessions ≡ [] }
-    ensures ended { hub.new.sessions ≡ [] }
-    ensures shown { (served : List (ℕ × List Exchange)) × AllServedBy K.kept K.failed hub.old.service served hub.new.service }
-{
-    // What the two calls of `head` ensure: the book is sound before and after, and the provider's
-    // functions keep their laws.
-    hub.head();
-    let most = if count == 0 { u64::MAX } else { count };
-    for _ in 0..most {
-        answer_next(alloc, hub, listener, disk);
-    }
-    hub.head();
-}
+/// The most connections that are open at once.
+const MOST_SESSIONS: u64 = 1024;
 
 /// Writes the line that says where a server listens.
 fn tell_address<E: Write>(
@@ -99,43 +45,56 @@ fn tell_address<E: Write>(
 }
 
 /// Listens on the address, and answers connections from the hub.
-fn listen_from<N, K, E>(
+fn listen_from<N, K, R, E>(
     alloc: Global,
-    net: &N,
+    system: &N,
     hub: &mut Hub<ServedDesk<K>>,
     disk: Option<&Disk>,
     order: ListenOrder<'_>,
+    input: &mut R,
     errors: &mut E,
 ) -> Result<(), ProgramFault>
 where
-    N: Net<Listener = TcpListener, Stream = TcpStream>,
+    N: Net + Clock,
     K: Keeper + Drop,
+    R: BufRead,
     E: Write,
-    requires { hub.old.sessions ≡ [] }
-    ensures good_hex { IfErr result (λ fault. fault ≢ BadHex) }
-    ensures tells { TellsAddress (E.contents errors.old) result (E.contents errors.new) }
-    ensures served { OnOk result ((served : List (ℕ × List Exchange)) × AllServedBy K.kept K.failed hub.old.service served hub.new.service) }
 {
-    let Ok(listener) = TcpListener::bind(net, order.address) else {
+    let limits = limits_of(order);
+    let input = if order.until_eof { Some(input) } else { None };
+    let Ok(mut sockets) =
+        Sockets::listen(alloc, system, order.address, limits.sessions, disk, input)
+    else {
         return Err(ProgramFault::CannotListen);
     };
-    let Ok(address) = listener.local_addr() else {
+    let Ok(address) = sockets.address() else {
         return Err(ProgramFault::CannotListen);
     };
     tell_address(alloc, address, errors)?;
-    answer_all(alloc, hub, &listener, disk, order.count);
+    answer_all(alloc, hub, &mut sockets, limits, errors)?;
     Ok(())
 }
 
+/// What an order allows.
+fn limits_of(order: ListenOrder<'_>) -> Limits {
+    Limits {
+        sessions: order.sessions.clamp(1, MOST_SESSIONS) as usize,
+        count: order.count,
+        idle: order.idle.saturating_mul(1000),
+    }
+}
+
 /// Listens with a directory that is kept nowhere.
-fn listen_unkept<N, E>(
+fn listen_unkept<N, R, E>(
     alloc: Global,
-    net: &N,
+    system: &N,
     order: ListenOrder<'_>,
+    input: &mut R,
     errors: &mut E,
 ) -> Result<(), ProgramFault>
 where
-    N: Net<Listener = TcpListener, Stream = TcpStream>,
+    N: Net + Clock,
+    R: BufRead,
     E: Write,
     ensures bad_hex { (result ≡ Err BadHex) ↔ (keys_of (values_of order.entry.directory) ≡ None) }
     ensures tells { TellsAddress (E.contents errors.old) result (E.contents errors.new) }
@@ -143,19 +102,21 @@ where
     let keys = Keys::read(&order.directory)?;
     let directory = keys.begin(alloc)?;
     let mut hub = Hub::new(alloc, directory, NoKeeper, keys.token());
-    listen_from(alloc, net, &mut hub, None, order, errors)
+    listen_from(alloc, system, &mut hub, None, order, input, errors)
 }
 
 /// Listens with the directory that is kept in the file of this path.
-fn listen_kept<N, E>(
+fn listen_kept<N, R, E>(
     alloc: Global,
     system: &N,
     order: ListenOrder<'_>,
     path: &str,
+    input: &mut R,
     errors: &mut E,
 ) -> Result<(), ProgramFault>
 where
-    N: Net<Listener = TcpListener, Stream = TcpStream> + Files<File = File>,
+    N: Net + Clock + Files<File = File>,
+    R: BufRead,
     E: Write,
     ensures bad_hex { (result ≡ Err BadHex) ↔ (keys_of (values_of order.entry.directory) ≡ None) }
     ensures tells { TellsKept (values_of order.entry.directory) (E.contents errors.old) result (E.contents errors.new) }
@@ -166,7 +127,7 @@ where
         Ok(hub) => hub,
         Err(fault) => return Err(fault),
     };
-    listen_from(alloc, system, &mut hub, Some(&disk), order, errors)
+    listen_from(alloc, system, &mut hub, Some(&disk), order, input, errors)
 }
 
 /// Listens on the address, and answers connections, one after another, from a directory that begins
@@ -181,20 +142,22 @@ where
 /// journal, as `serve_directory` has them; `OutOfMemory`; `CannotListen` if it cannot listen on the
 /// address; `CannotWrite` if a line cannot be written. A connection that fails is closed, and is not a
 /// fault of `listen`.
-pub fn listen<N, E>(
+pub fn listen<N, R, E>(
     alloc: Global,
     system: &N,
     order: ListenOrder<'_>,
+    input: &mut R,
     errors: &mut E,
 ) -> Result<(), ProgramFault>
 where
-    N: Net<Listener = TcpListener, Stream = TcpStream> + Files<File = File>,
+    N: Net + Clock + Files<File = File>,
+    R: BufRead,
     E: Write,
     ensures bad_hex { (result ≡ Err BadHex) ↔ (keys_of (values_of order.entry.directory) ≡ None) }
     ensures tells { ListenTells (values_of order.entry.directory) (E.contents errors.old) result (E.contents errors.new) }
 {
     match order.directory.journal {
-        None => listen_unkept(alloc, system, order, errors),
-        Some(path) => listen_kept(alloc, system, order, path, errors),
+        None => listen_unkept(alloc, system, order, input, errors),
+        Some(path) => listen_kept(alloc, system, order, path, input, errors),
     }
 }
