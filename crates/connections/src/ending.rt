@@ -1,7 +1,7 @@
 /// Why a connection was closed.
 #[derive(Clone, Copy, Debug, PartialEq, Eq)]
 pub enum Ending {
-    /// The peer sends no more, and all that it was answered was taken.
+    /// The peer sends no more, and took all that its session was answered.
     Done,
     /// A read or a write failed.
     Fault,
@@ -9,10 +9,28 @@ pub enum Ending {
     Idle,
     /// A stop was ordered.
     Stopped,
-    /// The records of what it was answered are not on the disk.
+    /// What its answers tell of is not on the disk.
     Unsynced,
     /// Memory ran out.
     Memory,
-    /// The hub refused to open its session.
+    /// Its session could not be opened.
     Refused,
+}
+
+/// Why a session was not opened, or did not hear.
+#[derive(Clone, Copy, Debug, PartialEq, Eq)]
+pub enum SessionFault {
+    /// Memory ran out.
+    Memory,
+    /// Its number is in use, or too many sessions are open.
+    Refused,
+}
+
+impl From<SessionFault> for Ending {
+    fn from(given: SessionFault) -> Self {
+        match given {
+            SessionFault::Memory => Ending::Memory,
+            SessionFault::Refused => Ending::Refused,
+        }
+    }
 }

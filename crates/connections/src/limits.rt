@@ -1,7 +1,7 @@
-/// What a server allows.
-#[derive(Clone, Copy, Debug)]
+/// What a loop over connections allows.
+#[derive(Clone, Copy, Debug, PartialEq, Eq)]
 pub struct Limits {
-    /// How many connections are open at once: 1 to 1,024.
+    /// How many connections are open at once.
     pub sessions: usize,
     /// How many connections are taken; 0 for no end.
     pub count: u64,
@@ -9,9 +9,16 @@ pub struct Limits {
     pub idle: u64,
 }
 
+/// The most bytes that are read at once.
+pub(crate) const PIECE_SIZE: usize = 4096;
+
+/// Where more bytes than these wait for a connection, nothing is read from it, and its session hears
+/// nothing.
+pub(crate) const FULL_OUTPUT: usize = 65536;
+
 /// For how many milliseconds after an order to stop answers may still be taken.
 pub(crate) const LAST_MILLISECONDS: u64 = 5000;
 
-/// How long a round waits at most, in milliseconds. So a connection that could not be taken for want of
-/// file handles is tried again.
+/// The most milliseconds that a round waits, so that a connection which could not be taken for want of file
+/// handles is tried again.
 pub(crate) const LONGEST_WAIT: u64 = 1000;

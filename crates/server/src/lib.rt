@@ -9,6 +9,7 @@
 
 mod disk;
 mod fault;
+mod framing;
 mod journal_file;
 mod keys;
 mod laws;
@@ -17,6 +18,7 @@ mod opening;
 mod order;
 mod reopening;
 mod serving;
+mod sessions;
 mod sockets;
 mod stopping;
 mod streams;

@@ -13,6 +13,7 @@ use crate::disk::Disk;
 use crate::keys::{Keys, ServedDesk};
 use crate::opening::{open_file, open_journal};
 use crate::ListenOrder;
+use crate::sessions::HubSessions;
 use crate::sockets::Sockets;
 use book::{Keeper, NoKeeper};
 use connections::{Limits, answer_all};
@@ -48,7 +49,7 @@ fn tell_address<E: Write>(
 fn listen_from<N, K, R, E>(
     alloc: Global,
     system: &N,
-    hub: &mut Hub<ServedDesk<K>>,
+    hub: Hub<ServedDesk<K>>,
     disk: Option<&Disk>,
     order: ListenOrder<'_>,
     input: &mut R,
@@ -71,7 +72,8 @@ where
         return Err(ProgramFault::CannotListen);
     };
     tell_address(alloc, address, errors)?;
-    answer_all(alloc, hub, &mut sockets, limits, errors)?;
+    let mut sessions = HubSessions::new(alloc, hub, limits.sessions)?;
+    answer_all(alloc, &mut sessions, &mut sockets, limits, errors)?;
     Ok(())
 }
 
@@ -101,8 +103,8 @@ where
 {
     let keys = Keys::read(&order.directory)?;
     let directory = keys.begin(alloc)?;
-    let mut hub = Hub::new(alloc, directory, NoKeeper, keys.token());
-    listen_from(alloc, system, &mut hub, None, order, input, errors)
+    let hub = Hub::new(alloc, directory, NoKeeper, keys.token());
+    listen_from(alloc, system, hub, None, order, input, errors)
 }
 
 /// Listens with the directory that is kept in the file of this path.
@@ -123,11 +125,11 @@ where
 {
     let keys = Keys::read(&order.directory)?;
     let disk = open_file(system, path)?;
-    let mut hub = match open_journal(alloc, &keys, &disk, errors) {
+    let hub = match open_journal(alloc, &keys, &disk, errors) {
         Ok(hub) => hub,
         Err(fault) => return Err(fault),
     };
-    listen_from(alloc, system, &mut hub, Some(&disk), order, input, errors)
+    listen_from(alloc, system, hub, Some(&disk), order, input, errors)
 }
 
 /// Listens on the address, and answers connections, one after another, from a directory that begins

@@ -4,7 +4,7 @@
 
 use crate::disk::Disk;
 use crate::stopping::StopInput;
-use connections::{Connections, Reading, Writing};
+use connections::{Connections, Ending, Reading, Writing};
 use mio::event::Event;
 use mio::net::{TcpListener, TcpStream};
 use mio::{Events, Interest, Poll, Token};
@@ -218,6 +218,11 @@ impl<'a, N: Net + Clock, R: BufRead> Sockets<'a, N, R> {
 }
 
 impl<N: Net + Clock, R: BufRead> Connections for Sockets<'_, N, R> {
+    ghost use Rattle.std.specs.Prelude.{⊤};
+
+    // Contracts do not know what happens to a socket.
+    ghost has = { λ _ _. ⊤ };
+
     fn wait(&mut self, most: u64) -> u64 {
         let most = if self.stop.waits() { most } else { 0 };
         let timeout = Duration::from_millis(most);
@@ -270,7 +275,7 @@ impl<N: Net + Clock, R: BufRead> Connections for Sockets<'_, N, R> {
         }
     }
 
-    fn close(&mut self, place: usize) {
+    fn close(&mut self, place: usize, _why: Ending) {
         if let Some(socket) = self.places.get_mut(place) {
             *socket = None;
         }

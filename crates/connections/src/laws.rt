@@ -1,0 +1,2 @@
+/// Laws.
+pub fn bytes_are_in_order() {}

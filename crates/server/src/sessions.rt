@@ -1,0 +1,95 @@
+//! The sessions of a hub, for the loop over connections. Each hears its stream in parts that end no more than
+//! one message.
+
+use crate::framing::Framing;
+use connections::{SessionFault, Sessions};
+use hub::{Event, Hub, HubRefusal, Service};
+use std::alloc::{AllocError, Global};
+
+/// A hub, and where the stream of each session stands, by its number.
+#[derive(Drop)]
+pub(crate) struct HubSessions<D: Service + Drop> {
+    hub: Hub<D>,
+    framings: Vec<Framing>,
+    /// What an opening and an end answer: nothing.
+    nothing: Vec<u8>,
+}
+
+impl<D: Service + Drop> HubSessions<D> {
+    /// The sessions of a hub, whose numbers are below `count`.
+    pub(crate) fn new(
+        alloc: Global,
+        hub: Hub<D>,
+        count: usize,
+    ) -> Result<HubSessions<D>, AllocError> {
+        Ok(HubSessions {
+            hub,
+            framings: Vec::from_elem(alloc, Framing::new(), count)?,
+            nothing: Vec::new(alloc),
+        })
+    }
+}
+
+/// Why a session was not opened, or did not hear.
+fn fault_of(refusal: HubRefusal) -> SessionFault {
+    match refusal {
+        HubRefusal::Memory { .. } => SessionFault::Memory,
+        HubRefusal::TooManySessions | HubRefusal::SessionOpen | HubRefusal::NoSession => {
+            SessionFault::Refused
+        }
+    }
+}
+
+impl<D: Service + Drop> Sessions for HubSessions<D> {
+    ghost use Rattle.server.specs.Sessions.{Ended, Heard, Opened, Wanted};
+
+    ghost opens = { λ before session after. Opened D.answers before.hub session after.hub };
+
+    ghost hears = { λ before session part reply after. Heard D.answers before.hub session part reply after.hub };
+
+    ghost wants = { λ before session after. Wanted D.answers before.hub session after.hub };
+
+    ghost ends = { λ before session after. Ended D.answers before.hub session after.hub };
+
+    fn open(&mut self, session: usize) -> Result<(), SessionFault> {
+        let Some(framing) = self.framings.get_mut(session) else {
+            return Err(SessionFault::Refused);
+        };
+        match self
+            .hub
+            .event(&Event::Open(session as u32), &mut self.nothing)
+        {
+            Ok(()) => {
+                *framing = Framing::new();
+                Ok(())
+            }
+            Err(refusal) => Err(fault_of(refusal)),
+        }
+    }
+
+    fn hear(
+        &mut self,
+        session: usize,
+        bytes: &[u8],
+        output: &mut Vec<u8>,
+    ) -> Result<usize, SessionFault> {
+        let Some(framing) = self.framings.get_mut(session) else {
+            return Err(SessionFault::Refused);
+        };
+        let count = framing.part(bytes);
+        let part = &bytes[..count];
+        match self.hub.event(&Event::Bytes(session as u32, part), output) {
+            Ok(()) => {
+                *framing = framing.after(part);
+                Ok(count)
+            }
+            Err(refusal) => Err(fault_of(refusal)),
+        }
+    }
+
+    fn end(&mut self, session: usize) {
+        let _ended = self
+            .hub
+            .event(&Event::End(session as u32), &mut self.nothing);
+    }
+}
