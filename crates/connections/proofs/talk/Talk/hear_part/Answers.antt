@@ -29,4 +29,4 @@ returns-clause-hears g c = λ idle start acts held hearing now here.
         (λ more. c.active_after-self.ensures.longer (grind (arith, common_steps))) (λ more. c.active_after-self.ensures.same (grind (arith, common_steps)))) in
     let next = next_hear idle acts c.args.place part c.drop_front.new.bytes.items ok.2 input c.args.self.now.output.items c.args.self.now.active c.args.self.now.is_over hearing some split c.requires.room here in
     (On c.args.place (Hears part ok.2) ∷ acts, stays_one c.args.place (Hears part ok.2) acts, refl, ((c.args.sessions.now, held.0, heard), (next.0, held.1)),
-    rw (sym ok.4, active) at next.1)
+    rw (sym {A = List ℕ} ok.4, active) at next.1)
