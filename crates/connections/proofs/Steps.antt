@@ -170,3 +170,26 @@ stays_both place acts between after one two = record {
   same_stage = two.same_stage ∙ one.same_stage;
   same_stop = two.same_stop ∙ one.same_stop;
 }
+
+-- ---- what may be read, and told
+
+pub may_read : (there : Option Course) (input output : List ℕ) (active : ℕ) (over : Bool) → input ≡ [] → over ≡ false → length output ≤ FULL_OUTPUT → Here there (Keeps input output active over)
+    → Here there (λ of. Keeps input output active over of × MayRead of)
+may_read there input output active over none more few here =
+    here_so there (Keeps input output active over) (λ (of : Course). Keeps input output active over of × MayRead of)
+    (λ (of : Course) (keeps : Keeps input output active over of).
+    let size : length of.answered ≡ length of.taken + length output = ap length keeps.output_rest ∙ length-append of.taken output in
+    let room : HasRoom of = omega arith in
+    (keeps, (keeps.is_open, keeps.input_rest ∙ ap (λ (t : List ℕ). of.heard ++ t) none ∙ append-nil of.heard, room, keeps.end ∙ more)))
+    here
+
+-- output waits, so less is taken than answered
+pub not_told : (of : Course) (input output : List ℕ) (active : ℕ) (over : Bool) → output ≢ [] → Keeps input output active over of → of.answered ≢ of.taken
+not_told of input output active over some keeps same =
+    let size : length of.answered ≡ length of.taken + length output = ap length keeps.output_rest ∙ length-append of.taken output in
+    let equal : length of.answered ≡ length of.taken = ap length same in
+    some (length-none output (omega arith))
+  where
+    length-none : (xs : List ℕ) → length xs ≡ 0 → xs ≡ []
+    length-none [] e = refl
+    length-none (x ∷ xs) e = absurd (omega arith)

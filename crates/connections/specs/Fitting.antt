@@ -1,5 +1,5 @@
 -- What the loop keeps of a place, and the history that it stands for.
-use Rattle.std.specs.Prelude.{◌≡◌, ◌≢◌, ◌⊎◌, ◌+◌, ◌≤◌, ℕ, List, [], ◌∷◌, ◌++◌, Bool, true, Option, Some, None, Result, Ok, Err, ⊤}
+use Rattle.std.specs.Prelude.{◌≡◌, ◌≢◌, ◌⊎◌, ◌+◌, ◌≤◌, ℕ, List, [], ◌∷◌, ◌++◌, Bool, true, Option, Some, None, Result, Ok, Err, get_or, ⊤}
 use Rattle.connections.specs.declared.ending.Ending.{Ending}
 use Rattle.connections.specs.declared.ending.Ending.TheVariants.{Done, Fault, Idle, Stopped, Unsynced, Memory, Refused}
 use Rattle.connections.specs.declared.limits.TheConstants.{LAST_MILLISECONDS}
@@ -31,6 +31,26 @@ pub record Stays (place : ℕ) (before after : History) : Type 0 where
   pub same_clock : clock after ≡ clock before
   pub same_stage : stage after ≡ stage before
   pub same_stop : stopped after ≡ stopped before
+
+-- the same of each place
+abbrev pub FitAll : List (Option Talk) → History → Type 0
+FitAll places acts = (place : ℕ) → Fits (get_or places place None) (course acts place)
+
+-- the round stays where it is
+pub record Passes (before after : History) : Type 0 where
+  pub same_clock : clock after ≡ clock before
+  pub same_stage : stage after ≡ stage before
+  pub same_stop : stopped after ≡ stopped before
+
+-- why a connection is closed whose session was not opened
+abbrev pub IsOpeningFault : Ending → Type 0
+IsOpeningFault Done = ⊥
+IsOpeningFault Fault = ⊥
+IsOpeningFault Idle = ⊥
+IsOpeningFault Stopped = ⊥
+IsOpeningFault Unsynced = ⊥
+IsOpeningFault Memory = ⊤
+IsOpeningFault Refused = ⊤
 
 -- ---- one step
 
@@ -102,3 +122,15 @@ module _ {S : Type 0} (opens : S → ℕ → S → Type 0) (hears : S → ℕ �
     Attends when place now connections old talk result connections_new new talk_new = (idle : ℕ) (start : S) (acts : History) → Has idle start connections old acts
         → stage acts ≡ when → clock acts ≡ now → Here (course acts place) (KeepsTalk talk)
         → (after : History) × Stays place acts after × Has idle start connections_new new after × Judged idle after place result talk_new
+
+    -- what happens at a place at this stage of a round, whatever is there, and what is then kept
+    abbrev pub Serves : Stage → ℕ → ℕ → Option ℕ → ℕ → C → S → Option Talk → C → S → Option Talk → Type 0
+    Serves when idle now stop place connections old slot connections_new new slot_new = (start : S) (acts : History) → Has idle start connections old acts
+        → stage acts ≡ when → clock acts ≡ now → stopped acts ≡ stop → Fits slot (course acts place)
+        → (after : History) × Stays place acts after × Has idle start connections_new new after × Fits slot_new (course after place)
+
+    -- the same at all places
+    abbrev pub Tours : Stage → ℕ → ℕ → Option ℕ → C → S → List (Option Talk) → C → S → List (Option Talk) → Type 0
+    Tours when idle now stop connections old places connections_new new places_new = (start : S) (acts : History) → Has idle start connections old acts
+        → stage acts ≡ when → clock acts ≡ now → stopped acts ≡ stop → FitAll places acts
+        → (after : History) × Passes acts after × Has idle start connections_new new after × FitAll places_new after

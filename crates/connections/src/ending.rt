@@ -25,12 +25,3 @@ pub enum SessionFault {
     /// Its number is in use, or too many sessions are open.
     Refused,
 }
-
-impl From<SessionFault> for Ending {
-    fn from(given: SessionFault) -> Self {
-        match given {
-            SessionFault::Memory => Ending::Memory,
-            SessionFault::Refused => Ending::Refused,
-        }
-    }
-}

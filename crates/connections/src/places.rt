@@ -1,5 +1,9 @@
 //! All places, one after another, in each part of a round.
 
+ghost use Rattle.std.specs.Prelude.{◌≡◌, ℕ, None, IfOk, IsTrue, get_or};
+ghost use Rattle.connections.specs.Fitting.{Tours};
+ghost use Rattle.connections.specs.Histories.{Hearing, Telling};
+
 use crate::connections::Connections;
 use crate::slots::{Round, Work, hear_at, take_at, tell_at};
 use crate::talk::Talk;
@@ -7,7 +11,9 @@ use crate::Sessions;
 use std::alloc::{AllocError, Global};
 
 /// So many free places.
-pub(crate) fn free_places(alloc: Global, count: usize) -> Result<Vec<Option<Talk>>, AllocError> {
+pub(crate) fn free_places(alloc: Global, count: usize) -> Result<Vec<Option<Talk>>, AllocError>
+    ensures { IfOk result (λ places. (place : ℕ) → get_or places.items place None ≡ None) }
+{
     let mut places = Vec::with_capacity(alloc, count)?;
     for _ in 0..count {
         places.push(None)?;
@@ -16,25 +22,15 @@ pub(crate) fn free_places(alloc: Global, count: usize) -> Result<Vec<Option<Talk
 }
 
 /// Whether no place has a connection.
-pub(crate) fn are_free(places: &[Option<Talk>]) -> bool {
+pub(crate) fn are_free(places: &[Option<Talk>]) -> bool
+    ensures { IsTrue result → (place : ℕ) → get_or places.now place None ≡ None }
+{
     for slot in places {
         if slot.is_some() {
             return false;
         }
     }
     true
-}
-
-/// Whether any connection has output.
-pub(crate) fn have_output(places: &[Option<Talk>]) -> bool {
-    for slot in places {
-        if let Some(talk) = slot {
-            if talk.has_output() {
-                return true;
-            }
-        }
-    }
-    false
 }
 
 /// Takes connections that wait into the free places, at most so many. Returns how many more may be taken.
@@ -46,7 +42,10 @@ pub(crate) fn take_all<S: Sessions, C: Connections>(
     round: Round,
     left: u64,
     work: &mut Work,
-) -> u64 {
+) -> u64
+    requires { round.stopped ≡ None }
+    ensures { Tours S.opens S.hears S.wants S.ends C.has Hearing round.idle round.now round.stopped connections.old sessions.old places.old connections.new sessions.new places.new }
+{
     let mut left = left;
     for place in 0..places.len() {
         if left == 0 {
@@ -70,7 +69,9 @@ pub(crate) fn hear_all<S: Sessions, C: Connections>(
     connections: &mut C,
     round: Round,
     work: &mut Work,
-) {
+)
+    ensures { Tours S.opens S.hears S.wants S.ends C.has Hearing round.idle round.now round.stopped connections.old sessions.old places.old connections.new sessions.new places.new }
+{
     for place in 0..places.len() {
         hear_at(alloc, &mut places[place], sessions, connections, place, round, work);
     }
@@ -84,7 +85,9 @@ pub(crate) fn tell_all<S: Sessions, C: Connections>(
     connections: &mut C,
     round: Round,
     work: &mut Work,
-) {
+)
+    ensures { Tours S.opens S.hears S.wants S.ends C.has (Telling round.is_synced) round.idle round.now round.stopped connections.old sessions.old places.old connections.new sessions.new places.new }
+{
     for place in 0..places.len() {
         tell_at(alloc, &mut places[place], sessions, connections, place, round, work);
     }

@@ -2,9 +2,13 @@
 //! its disk, and then tells each. A round that did anything is followed by one that does not wait: a place may
 //! have become free, and there may be more to read.
 
+ghost use Rattle.std.specs.Prelude.{◌≡◌, ℕ, [], ◌∷◌, None, OnOk};
+ghost use Rattle.connections.specs.Fitting.{Begins, Has, Knows, Tours};
+ghost use Rattle.connections.specs.Histories.{History, Hearing, Telling, Syncs, course, stage};
+
 use crate::connections::Connections;
 use crate::limits::LONGEST_WAIT;
-use crate::places::{are_free, free_places, have_output, hear_all, take_all, tell_all};
+use crate::places::{are_free, free_places, hear_all, take_all, tell_all};
 use crate::slots::{Round, Work};
 use crate::talk::Talk;
 use crate::{Limits, Sessions};
@@ -63,10 +67,14 @@ fn hear_new<S: Sessions, C: Connections>(
     hear_all(alloc, places, sessions, connections, round, work);
 }
 
-/// Puts what was answered on its disk, if any answer waits, and says whether answers may leave.
-fn sync<C: Connections>(places: &[Option<Talk>], connections: &mut C, round: Round) -> Round {
+/// Puts what was answered on its disk, and says whether answers may leave.
+fn sync<C: Connections>(connections: &mut C, round: Round) -> Round
+    ensures syncs { (idle : ℕ) (acts : History) → Knows C.has idle connections.old acts → stage acts ≡ Hearing
+        → Knows C.has idle connections.new (Syncs result.is_synced ∷ acts) }
+    ensures same { (result.now ≡ round.now) × (result.idle ≡ round.idle) × (result.stopped ≡ round.stopped) }
+{
     Round {
-        is_synced: have_output(places) && connections.sync(),
+        is_synced: connections.sync(),
         ..round
     }
 }
@@ -106,7 +114,7 @@ pub fn answer_all<S: Sessions, C: Connections, E: Write>(
         work = Work::new(LONGEST_WAIT);
         left = take_new(alloc, &mut places, sessions, connections, round, left, &mut work);
         hear_new(alloc, &mut places, sessions, connections, round, &mut work);
-        round = sync(&places, connections, round);
+        round = sync(connections, round);
         tell_all(alloc, &mut places, sessions, connections, round, &mut work);
         tell_wanting(errors, work.wanting);
         if (left == 0 || round.stopped.is_some()) && are_free(&places) {

@@ -1,5 +1,11 @@
 //! One place: what happens to the connection there, if there is one, in each part of a round.
 
+ghost use Rattle.std.specs.Prelude.{◌≡◌, ◌↔◌, ℕ, List, true, false, None, Some, IsTrue, IfErr};
+ghost use Rattle.connections.specs.Fitting.{Adds, Has, IsOpeningFault, Judged, KeepsTalk, Knows, Serves, Stays};
+ghost use Rattle.connections.specs.Histories.{History, Hearing, Telling, clock, course, stage, stopped};
+ghost use Rattle.connections.specs.Soundness.{Here, IsReason};
+
+use crate::SessionFault;
 use crate::connections::Connections;
 use crate::talk::Talk;
 use crate::{Ending, Sessions};
@@ -51,9 +57,23 @@ fn close<S: Sessions, C: Connections>(
     connections: &mut C,
     place: usize,
     why: Ending,
-) {
+)
+    ensures { (idle : ℕ) (start : S) (acts : History) → Has S.opens S.hears S.wants S.ends C.has idle start connections.old sessions.old acts
+        → Here (course acts place) (λ of. (of.is_open ≡ true) × IsReason idle acts why of)
+        → (after : History) × Stays place acts after × Has S.opens S.hears S.wants S.ends C.has idle start connections.new sessions.new after × (course after place ≡ None) }
+{
     sessions.end(place);
     connections.close(place, why);
+}
+
+/// Why a connection is closed whose session was not opened.
+fn ending_of(fault: SessionFault) -> Ending
+    ensures { IsOpeningFault result }
+{
+    match fault {
+        SessionFault::Memory => Ending::Memory,
+        SessionFault::Refused => Ending::Refused,
+    }
 }
 
 /// Takes the next connection into a free place, if one waits, and says whether one did. If its session
@@ -66,7 +86,11 @@ pub(crate) fn take_at<S: Sessions, C: Connections>(
     place: usize,
     round: Round,
     work: &mut Work,
-) -> bool {
+) -> bool
+    requires free { slot.old ≡ None }
+    requires goes_on { round.stopped ≡ None }
+    ensures { Serves S.opens S.hears S.wants S.ends C.has Hearing round.idle round.now round.stopped place connections.old sessions.old slot.old connections.new sessions.new slot.new }
+{
     if !connections.take(place) {
         return false;
     }
@@ -74,7 +98,7 @@ pub(crate) fn take_at<S: Sessions, C: Connections>(
     match sessions.open(place) {
         Ok(()) => *slot = Some(Talk::new(alloc, round.now)),
         Err(fault) => {
-            let why = Ending::from(fault);
+            let why = ending_of(fault);
             work.close(why);
             connections.close(place, why);
         }
@@ -91,7 +115,9 @@ pub(crate) fn hear_at<S: Sessions, C: Connections>(
     place: usize,
     round: Round,
     work: &mut Work,
-) {
+)
+    ensures { Serves S.opens S.hears S.wants S.ends C.has Hearing round.idle round.now round.stopped place connections.old sessions.old slot.old connections.new sessions.new slot.new }
+{
     let Some(talk) = slot else {
         return;
     };
@@ -114,7 +140,9 @@ pub(crate) fn tell_at<S: Sessions, C: Connections>(
     place: usize,
     round: Round,
     work: &mut Work,
-) {
+)
+    ensures { Serves S.opens S.hears S.wants S.ends C.has (Telling round.is_synced) round.idle round.now round.stopped place connections.old sessions.old slot.old connections.new sessions.new slot.new }
+{
     let Some(talk) = slot else {
         return;
     };
@@ -136,9 +164,22 @@ fn tell<C: Connections>(
     place: usize,
     round: Round,
     work: &mut Work,
-) -> Result<(), Ending> {
-    let has_told = talk.tell(alloc, connections, place, round.now, round.is_synced)?;
-    work.is_busy = work.is_busy || has_told;
-    work.pause = talk.patience(round.now, round.idle, round.stopped, work.pause)?;
+) -> Result<(), Ending>
+    ensures { (acts : History) → Knows C.has round.idle connections.old acts → stage acts ≡ Telling round.is_synced → clock acts ≡ round.now → stopped acts ≡ round.stopped
+        → Here (course acts place) (KeepsTalk talk.old)
+        → (after : History) × Adds place acts after × Knows C.has round.idle connections.new after × Judged round.idle after place result talk.new }
+{
+    if talk.tell(alloc, connections, place, round.now, round.is_synced)? {
+        work.is_busy = true;
+    }
+    work.pause = judge(talk, round, work.pause)?;
     Ok(())
+}
+
+/// For how many milliseconds a connection may stay as it is, or why it is closed now.
+fn judge(talk: &Talk, round: Round, most: u64) -> Result<u64, Ending>
+    ensures { (acts : History) (place : ℕ) → clock acts ≡ round.now → stopped acts ≡ round.stopped → Here (course acts place) (KeepsTalk talk.now)
+        → Judged round.idle acts place result talk.now }
+{
+    talk.patience(round.now, round.idle, round.stopped, most)
 }

@@ -48,11 +48,11 @@ impl Talk {
         self.output.len() <= FULL_OUTPUT
     }
 
-    /// Whether nothing that was read waits to be heard, and more may come.
-    fn wants_more(&self) -> bool
-        ensures { IsTrue result → (self.now.input.items ≡ []) × (self.now.is_over ≡ false) }
+    /// Whether nothing that was read waits to be heard, more may come, and its answers have room.
+    fn may_read(&self) -> bool
+        ensures { IsTrue result → (self.now.input.items ≡ []) × (self.now.is_over ≡ false) × (length self.now.output.items ≤ FULL_OUTPUT) }
     {
-        self.input.is_empty() && !self.is_over
+        self.input.is_empty() && !self.is_over && self.has_room()
     }
 
     /// Reads a piece, and says whether anything came.
@@ -139,12 +139,14 @@ impl Talk {
     ) -> Result<bool, Ending>
         ensures { Attends S.opens S.hears S.wants S.ends C.has Hearing place now connections.old sessions.old self.old result connections.new sessions.new self.new }
     {
-        let mut has_read = false;
-        if self.wants_more() && self.has_room() {
-            has_read = self.read_piece(alloc, connections, place)?;
+        if !self.may_read() {
+            return self.hear(alloc, sessions, place, now);
         }
-        let has_heard = self.hear(alloc, sessions, place, now)?;
-        Ok(has_read || has_heard)
+        if !self.read_piece(alloc, connections, place)? {
+            return Ok(false);
+        }
+        self.hear(alloc, sessions, place, now)?;
+        Ok(true)
     }
 
     /// Writes what the connection takes of the output, and says whether it took any.
