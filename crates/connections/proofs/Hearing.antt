@@ -53,12 +53,12 @@ module _ {S : Type 0} (opens : S → ℕ → S → Type 0) (hears : S → ℕ �
 
   module _ {C : Type 0} (has : C → History → Type 0) where
     -- what happened to the connection, and then to its session
-    pub attends_both : (place now : ℕ) (connections : C) (old : S) (talk : Talk) (connections_new : C) (kept : Talk) (result : Result Bool Ending) (more : Bool) (new : S) (talk_new : Talk)
+    pub attends_both : (place now : ℕ) (connections : C) (old : S) (talk : Talk) (connections_new : C) (kept : Talk) (result : Result Bool Ending) (new : S) (talk_new : Talk)
         → ((idle : ℕ) (acts : History) → Knows has idle connections acts → stage acts ≡ Hearing → Here (course acts place) (KeepsTalk talk)
           → (after : History) × Adds place acts after × Knows has idle connections_new after × Here (course after place) (KeepsTalk kept))
         → Hearkens opens hears wants ends {X = Bool} place now old kept result new talk_new
         → Attends opens hears wants ends has {X = Bool} Hearing place now connections old talk result connections_new new talk_new
-    attends_both place now connections old talk connections_new kept result more new talk_new one two = λ idle start acts known hearing time here.
+    attends_both place now connections old talk connections_new kept result new talk_new one two = λ idle start acts known hearing time here.
         let a = one idle acts (known.0, known.2) hearing here in
         let stays : Stays place acts a.0 = stays_adds place acts a.0 a.1 in
         let leads : Leads opens hears wants ends start a.0 old = leads_adds start acts a.0 old place a.1 known.1 in

@@ -87,20 +87,20 @@ next_fail idle acts place here =
     (here_at (course acts place) of (λ (of : Course). ⊤) found.1 tt,
     here_at (course (On place Fails ∷ acts) place) (record of { has_failed = true }) (λ (of : Course). (of.is_open ≡ true) × (of.has_failed ≡ true)) (went place Fails acts of found.1) (found.2, refl))
 
-pub next_take : (idle : ℕ) (acts : History) (place : ℕ) (bytes rest input output : List ℕ) (active : ℕ) (over : Bool) → stage acts ≡ Telling true → 1 ≤ length bytes → output ≡ bytes ++ rest
-    → Here (course acts place) (Keeps input output active over) → Next idle acts place (Takes bytes) (Keeps input rest (clock acts) over)
-next_take idle acts place bytes rest input output active over telling some split here =
+pub next_take : (idle : ℕ) (acts : History) (place : ℕ) (bytes rest input output : List ℕ) (active : ℕ) (over : Bool) (now : ℕ) → clock acts ≡ now → stage acts ≡ Telling true → 1 ≤ length bytes → output ≡ bytes ++ rest
+    → Here (course acts place) (Keeps input output active over) → Next idle acts place (Takes bytes) (Keeps input rest now over)
+next_take idle acts place bytes rest input output active over now time telling some split here =
     let found = here_of (course acts place) (Keeps input output active over) here in
     let of : Course = found.0 in
     let keeps : Keeps input output active over of = found.2 in
     let answered : of.answered ≡ of.taken ++ (bytes ++ rest) = keeps.output_rest ∙ ap (λ (t : List ℕ). of.taken ++ t) split in
     (here_at (course acts place) of (λ (of : Course). (stage acts ≡ Telling true) × (1 ≤ length bytes) × AreNext bytes of.answered of.taken) found.1 (telling, some, (rest, answered)),
-    here_at (course (On place (Takes bytes) ∷ acts) place) (record of { taken = of.taken ++ bytes; active = clock acts }) (Keeps input rest (clock acts) over) (went place (Takes bytes) acts of found.1)
+    here_at (course (On place (Takes bytes) ∷ acts) place) (record of { taken = of.taken ++ bytes; active = clock acts }) (Keeps input rest now over) (went place (Takes bytes) acts of found.1)
     (record {
       is_open = keeps.is_open;
       input_rest = keeps.input_rest;
       output_rest = answered ∙ sym (append_assoc of.taken bytes rest);
-      last = refl;
+      last = time;
       end = keeps.end;
     }))
 

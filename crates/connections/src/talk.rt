@@ -27,7 +27,10 @@ pub(crate) struct Talk {
 
 impl Talk {
     /// A connection that was just taken.
-    pub(crate) fn new(alloc: Global, now: u64) -> Self {
+    pub(crate) fn new(alloc: Global, now: u64) -> Self
+        ensures empty { (result.input.items ≡ []) × (result.output.items ≡ []) }
+        ensures now { (result.active ≡ now) × (result.is_over ≡ false) }
+    {
         Talk {
             input: Vec::new(alloc),
             output: Vec::new(alloc),

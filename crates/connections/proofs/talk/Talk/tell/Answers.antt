@@ -1,10 +1,12 @@
-use Rattle.std.proofs.Common.{rules, ◌≡◌, ◌≢◌, ◌↔◌, ◌<◌, ◌≤◌, ◌++◌, [], ℕ, List, length, drop, IsTrue, IfErr, OnOk, Some, true, false, ◌+◌, ◌-◌, ◌*◌, ◌/◌, ◌%◌, Bool, nat_eq, nat_lt, ◌∷◌, slice_index_or, slice_set, bit_and, bit_or, Fits, w8, w32, w64, Bor, MutBor}
-use Rattle.connections.specs.Fitting.{Adds, Attends, Hearkens, IsIdleDue, IsJudged, IsStopDue, Judged, KeepsTalk, Knows}
-use Rattle.connections.specs.Histories.{History, Hearing, Telling, clock, course, stage, stopped}
-use Rattle.connections.specs.Soundness.{Here, MayRead}
-use Rattle.connections.specs.declared.limits.TheConstants.{FULL_OUTPUT}
+use Rattle.std.proofs.Common.{◌≡◌, ◌≢◌, ◌⊎◌, [], Bool, false, rules, refl, inl, ap, sym, ◌∙◌}
+use Rattle.connections.specs.Fitting.{KeepsTalk}
+use Rattle.connections.specs.Histories.{Telling, Course, stage}
+use Rattle.connections.proofs.Steps.{here_so, not_told}
 use Rattle.connections.proofs.talk.Talk.tell.Goals as goal
 
--- src/talk.rt:192:13
 pub returns-then-not-is_synced : goal.returns-then-not-is_synced
-returns-then-not-is_synced g c = ?
+returns-then-not-is_synced g c = λ idle acts knows telling time here.
+    let no : c.args.is_synced ≡ false = search rules in
+    let some : c.args.self.now.output.items ≢ [] = search rules in
+    let failed : stage acts ≡ Telling false = telling ∙ ap (λ (b : Bool). Telling b) no in
+    (acts, inl refl, knows, here_so _ _ _ (λ (of : Course) (keeps : KeepsTalk c.args.self.now of). (keeps.is_open, (failed, not_told of _ _ _ _ some keeps))) here)

@@ -16,9 +16,9 @@ returns-in-Took g c = λ idle acts knows telling time here.
     let some : 1 ≤ length bytes = grind (arith, common_steps) in
     let rest : c.drop_front.new.bytes.items ≡ drop c.in-Took.count output = c.drop_front.ensures in
     let split : output ≡ bytes ++ c.drop_front.new.bytes.items = rw rest (grind (arith, common_steps)) in
-    let next = next_take idle acts c.args.place bytes c.drop_front.new.bytes.items c.args.self.now.input.items output c.args.self.now.active c.args.self.now.is_over telling some split here in
+    let next = next_take idle acts c.args.place bytes c.drop_front.new.bytes.items c.args.self.now.input.items output c.args.self.now.active c.args.self.now.is_over c.args.now time telling some split here in
     come_to g.C.Connections.has idle c.args.place acts c.args.connections.now c.write.new.self (Takes bytes) _ tt
-    (rw seen at (c.write.ensures.bytes c.in-Took.count c.in-Took.is (of_connections acts))) knows (next.0, rw time at next.1)
+    (rw seen at (c.write.ensures.bytes c.in-Took.count c.in-Took.is (of_connections acts))) knows next
 
 pub returns-in-Fault : goal.returns-in-Fault
 returns-in-Fault g c = λ idle acts knows telling time here.
