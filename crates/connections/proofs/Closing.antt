@@ -4,11 +4,10 @@ use Rattle.connections.specs.declared.ending.Ending.{Ending}
 use Rattle.connections.specs.declared.ending.Ending.TheVariants.{Done, Fault, Idle, Stopped, Unsynced, Memory, Refused}
 use Rattle.connections.specs.declared.limits.TheConstants.{LAST_MILLISECONDS}
 use Rattle.connections.specs.declared.talk.Talk.{Talk}
-use Rattle.connections.specs.Fitting.{Adds, Attends, Fits, Has, IsJudged, IsOpeningFault, Judged, Keeps, KeepsTalk, Knows, Serves, Stays}
+use Rattle.connections.specs.Fitting.{Fits, Has, IsJudged, IsOpeningFault, Judged, Keeps, KeepsTalk, Stays}
 use Rattle.connections.specs.Histories.{On, Deed, Comes, Opens, Ends, Closes, History, Course, Stage, Hearing, clock, course, done_at, of_connections, stage, stopped, taken_at}
 use Rattle.connections.specs.Soundness.{Here, IsDue, IsReason}
-use Rattle.connections.proofs.Hearing.{leads_adds, stays_adds}
-use Rattle.connections.proofs.Steps.{here_at, here_of, here_one, here_so, stays_both, stays_none, stays_one, went}
+use Rattle.connections.proofs.Steps.{here_at, here_of, here_one, here_so, stays_both, stays_one, went}
 
 -- ---- a place and its history
 
@@ -99,21 +98,18 @@ module _ {S : Type 0} (opens : S → ℕ → S → Type 0) (hears : S → ℕ �
   module _ (idle : ℕ) (start : S) (acts : History) (place : ℕ) (connections connections_taken : C) (old : S) (known : Has opens hears wants ends has idle start connections old acts)
       (hearing : stage acts ≡ Hearing) (goes : stopped acts ≡ None) (free : course acts place ≡ None)
       (step : has connections (of_connections acts) → has connections_taken (On place Comes ∷ of_connections acts)) where
-    once : History
-    once = On place Comes ∷ acts
-
     there : course (On place Comes ∷ acts) place ≡ Some (taken_at (clock acts))
     there = here_one place Comes acts ∙ ap (done_at Comes (clock acts)) free
 
-    pub opened : (new : S) → opens old place new
-        → (after : History) × Stays place acts after × Has opens hears wants ends has idle start connections_taken new after × Here (course after place) (Keeps [] [] (clock acts) false)
-    opened new does =
+    pub opened : (now : ℕ) → clock acts ≡ now → (new : S) → opens old place new
+        → (after : History) × Stays place acts after × Has opens hears wants ends has idle start connections_taken new after × Here (course after place) (Keeps [] [] now false)
+    opened now time new does =
         let due : IsDue idle (On place Comes ∷ acts) Opens (course (On place Comes ∷ acts) place) =
             here_at (course (On place Comes ∷ acts) place) (taken_at (clock acts)) (λ (of : Course). (of.is_open ≡ false) × (of.read ≡ [])) there (refl, refl) in
         (On place Opens ∷ On place Comes ∷ acts, stays_both place acts (On place Comes ∷ acts) (On place Opens ∷ On place Comes ∷ acts) (stays_one place Comes acts) (stays_one place Opens (On place Comes ∷ acts)),
         (step known.0, (old, known.1, does), (due, ((free, hearing, goes), known.2))),
-        here_at (course (On place Opens ∷ On place Comes ∷ acts) place) (record (taken_at (clock acts)) { is_open = true }) (Keeps [] [] (clock acts) false) (went place Opens (On place Comes ∷ acts) (taken_at (clock acts)) there)
-        (record { is_open = refl; input_rest = refl; output_rest = refl; last = refl; end = refl }))
+        here_at (course (On place Opens ∷ On place Comes ∷ acts) place) (record (taken_at (clock acts)) { is_open = true }) (Keeps [] [] now false) (went place Opens (On place Comes ∷ acts) (taken_at (clock acts)) there)
+        (record { is_open = refl; input_rest = refl; output_rest = refl; last = time; end = refl }))
 
     pub refused : (why : Ending) → IsOpeningFault why → (connections_new : C) → ((acts : History) → has connections_taken acts → has connections_new (On place (Closes why) ∷ acts))
         → (after : History) × Stays place acts after × Has opens hears wants ends has idle start connections_new old after × (course after place ≡ None)
@@ -125,26 +121,3 @@ module _ {S : Type 0} (opens : S → ℕ → S → Type 0) (hears : S → ℕ �
         stays_both place acts (On place Comes ∷ acts) (On place (Closes why) ∷ On place Comes ∷ acts) (stays_one place Comes acts) (stays_one place (Closes why) (On place Comes ∷ acts)),
         (close (On place Comes ∷ of_connections acts) (step known.0), known.1, (due, ((free, hearing, goes), known.2))),
         went place (Closes why) (On place Comes ∷ acts) (taken_at (clock acts)) there)
-
-  -- ---- one place in a round
-
-  pub serves_none : (when : Stage) (idle now : ℕ) (stop : Option ℕ) (place : ℕ) (connections : C) (old : S) (slot : Option Talk)
-      → Serves opens hears wants ends has when idle now stop place connections old slot connections old slot
-  serves_none when idle now stop place connections old slot = λ start acts known at time order fits. (acts, stays_none place acts, known, fits)
-
-  -- a connection goes on
-  pub serves_on : {X : Type 0} (done : X) (when : Stage) (idle now : ℕ) (stop : Option ℕ) (place : ℕ) (connections : C) (old : S) (talk : Talk) (connections_new : C) (new : S) (talk_new : Talk)
-      → Attends opens hears wants ends has {X = X} when place now connections old talk (Ok done) connections_new new talk_new
-      → Serves opens hears wants ends has when idle now stop place connections old (Some talk) connections_new new (Some talk_new)
-  serves_on done when idle now stop place connections old talk connections_new new talk_new attends = λ start acts known at time order fits.
-      let a = attends idle start acts known at time (fits_here talk (course acts place) fits) in
-      (a.0, a.1, a.2, here_fits talk_new (course a.0 place) a.3)
-
-  -- or is closed
-  pub serves_stop : {X : Type 0} (when : Stage) (idle now : ℕ) (stop : Option ℕ) (place : ℕ) (connections : C) (old : S) (talk : Talk) (connections_mid : C) (mid : S) (why : Ending) (kept : Talk) (connections_new : C) (new : S)
-      → Attends opens hears wants ends has {X = X} when place now connections old talk (Err why) connections_mid mid kept → ClosesAt place why connections_mid mid connections_new new
-      → Serves opens hears wants ends has when idle now stop place connections old (Some talk) connections_new new None
-  serves_stop when idle now stop place connections old talk connections_mid mid why kept connections_new new attends closes = λ start acts known at time order fits.
-      let a = attends idle start acts known at time (fits_here talk (course acts place) fits) in
-      let b = closes idle start a.0 a.2 a.3 in
-      (b.0, stays_both place acts a.0 b.0 a.1 b.1, b.2, none_fits (course b.0 place) b.3)

@@ -96,14 +96,17 @@ pub(crate) fn take_at<S: Sessions, C: Connections>(
     }
     work.is_busy = true;
     match sessions.open(place) {
-        Ok(()) => *slot = Some(Talk::new(alloc, round.now)),
+        Ok(()) => {
+            *slot = Some(Talk::new(alloc, round.now));
+            true
+        }
         Err(fault) => {
             let why = ending_of(fault);
             work.close(why);
             connections.close(place, why);
+            true
         }
     }
-    true
 }
 
 /// Reads and hears the connection at a place.
