@@ -4,7 +4,7 @@ use Rattle.connections.specs.declared.ending.Ending.{Ending}
 use Rattle.connections.specs.declared.ending.Ending.TheVariants.{Done, Fault, Idle, Stopped, Unsynced, Memory, Refused}
 use Rattle.connections.specs.declared.limits.TheConstants.{LAST_MILLISECONDS}
 use Rattle.connections.specs.declared.talk.Talk.{Talk}
-use Rattle.connections.specs.Histories.{Stage, Hearing, On, Deed, Comes, Opens, Reads, IsOver, Hears, Wants, Takes, Fails, Ends, Closes, History, Course, clock, course, of_connections, stage, stopped, Leads}
+use Rattle.connections.specs.Histories.{Stage, Hearing, Ordered, On, Deed, Comes, Opens, Reads, IsOver, Hears, Wants, Takes, Fails, Ends, Closes, History, Course, clock, course, of_connections, stage, stopped, Leads}
 use Rattle.connections.specs.Soundness.{Here, IsReason, IsSound}
 
 -- what was read and not heard, what was answered and not taken, and when the connection was last active
@@ -41,6 +41,10 @@ pub record Passes (before after : History) : Type 0 where
   pub same_clock : clock after ≡ clock before
   pub same_stage : stage after ≡ stage before
   pub same_stop : stopped after ≡ stopped before
+
+-- a stop may be ordered
+abbrev pub MayOrder : History → History → Type 0
+MayOrder before after = (after ≡ before) ⊎ (after ≡ Ordered ∷ before)
 
 -- why a connection is closed whose session was not opened
 abbrev pub IsOpeningFault : Ending → Type 0
@@ -134,3 +138,9 @@ module _ {S : Type 0} (opens : S → ℕ → S → Type 0) (hears : S → ℕ �
     Tours when idle now stop connections old places connections_new new places_new = (start : S) (acts : History) → Has idle start connections old acts
         → stage acts ≡ when → clock acts ≡ now → stopped acts ≡ stop → FitAll places acts
         → (after : History) × Passes acts after × Has idle start connections_new new after × FitAll places_new after
+
+    -- one round
+    abbrev pub Turns : ℕ → Option ℕ → C → S → List (Option Talk) → Option ℕ → C → S → List (Option Talk) → Type 0
+    Turns idle stop connections old places stop_new connections_new new places_new = (start : S) (acts : History) → Has idle start connections old acts
+        → stopped acts ≡ stop → FitAll places acts
+        → (after : History) × Has idle start connections_new new after × (stopped after ≡ stop_new) × FitAll places_new after

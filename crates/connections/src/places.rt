@@ -1,6 +1,6 @@
 //! All places, one after another, in each part of a round.
 
-ghost use Rattle.std.specs.Prelude.{◌≡◌, ℕ, None, IfOk, IsTrue, get_or};
+ghost use Rattle.std.specs.Prelude.{◌≡◌, ℕ, None, IfOk, get_or};
 ghost use Rattle.connections.specs.Fitting.{Tours};
 ghost use Rattle.connections.specs.Histories.{Hearing, Telling};
 
@@ -22,9 +22,7 @@ pub(crate) fn free_places(alloc: Global, count: usize) -> Result<Vec<Option<Talk
 }
 
 /// Whether no place has a connection.
-pub(crate) fn are_free(places: &[Option<Talk>]) -> bool
-    ensures { IsTrue result → (place : ℕ) → get_or places.now place None ≡ None }
-{
+pub(crate) fn are_free(places: &[Option<Talk>]) -> bool {
     for slot in places {
         if slot.is_some() {
             return false;
