@@ -2,9 +2,9 @@
 //! its disk, and then tells each. A round that did anything is followed by one that does not wait: a place may
 //! have become free, and there may be more to read.
 
-ghost use Rattle.std.specs.Prelude.{◌≡◌, ℕ, [], ◌∷◌, None, OnOk};
+ghost use Rattle.std.specs.Prelude.{◌≡◌, ℕ, [], ◌∷◌, None, get_or};
 ghost use Rattle.connections.specs.Fitting.{Has, Knows, MayOrder, Tours, Turns};
-ghost use Rattle.connections.specs.Histories.{History, Hearing, At, Syncs, clock, stage, stopped};
+ghost use Rattle.connections.specs.Histories.{History, Hearing, clock, stopped};
 
 use crate::connections::Connections;
 use crate::limits::LONGEST_WAIT;
@@ -31,21 +31,6 @@ fn stop_by<C: Connections>(connections: &mut C, now: u64, stopped: Option<u64>) 
         return Some(now);
     }
     None
-}
-
-/// Begins a round: waits, and looks whether a stop was ordered.
-fn begin<C: Connections>(connections: &mut C, last: Round, most: u64) -> Round
-    ensures begins { (idle : ℕ) (acts : History) → Knows C.has idle connections.old acts → stopped acts ≡ last.stopped
-        → (after : History) × MayOrder (At result.now ∷ acts) after × Knows C.has idle connections.new after × (stopped after ≡ result.stopped) }
-    ensures same { result.idle ≡ last.idle }
-{
-    let now = connections.wait(most);
-    Round {
-        now,
-        idle: last.idle,
-        stopped: stop_by(connections, now, last.stopped),
-        is_synced: false,
-    }
 }
 
 /// Takes new connections, unless a stop was ordered. Returns how many more may be taken.
@@ -81,18 +66,6 @@ fn hear_new<S: Sessions, C: Connections>(
         return;
     }
     hear_all(alloc, places, sessions, connections, round, work);
-}
-
-/// Puts what was answered on its disk, and says whether answers may leave.
-fn sync<C: Connections>(connections: &mut C, round: Round) -> Round
-    ensures syncs { (idle : ℕ) (acts : History) → Knows C.has idle connections.old acts → stage acts ≡ Hearing
-        → Knows C.has idle connections.new (Syncs result.is_synced ∷ acts) }
-    ensures same { (result.now ≡ round.now) × (result.idle ≡ round.idle) × (result.stopped ≡ round.stopped) }
-{
-    Round {
-        is_synced: connections.sync(),
-        ..round
-    }
 }
 
 /// Writes a line for each connection that was closed for want of memory. One that cannot be written is
@@ -151,23 +124,54 @@ fn turn<S: Sessions, C: Connections>(
     ensures turns { Turns S.opens S.hears S.wants S.ends C.has last.round.idle last.round.stopped connections.old sessions.old places.old result.round.stopped connections.new sessions.new places.new }
     ensures same { result.round.idle ≡ last.round.idle }
 {
-    let round = begin(connections, last.round, last.pause());
+    let now = connections.wait(last.pause());
+    let stopped = stop_by(connections, now, last.round.stopped);
+    let mut round = Round {
+        now,
+        idle: last.round.idle,
+        stopped,
+        is_synced: false,
+    };
     let mut work = Work::new(LONGEST_WAIT);
     let left = take_new(alloc, places, sessions, connections, round, last.left, &mut work);
     hear_new(alloc, places, sessions, connections, round, &mut work);
-    let round = sync(connections, round);
+    round.is_synced = connections.sync();
     tell_all(alloc, places, sessions, connections, round, &mut work);
     State { round, work, left }
+}
+
+/// Round after round, over places that are free, until no more connections are taken and those that were
+/// taken have ended.
+fn turn_all<S: Sessions, C: Connections, E: Write>(
+    alloc: Global,
+    places: &mut [Option<Talk>],
+    sessions: &mut S,
+    connections: &mut C,
+    limits: Limits,
+    errors: &mut E,
+)
+    requires { (place : ℕ) → get_or places.old place None ≡ None }
+    ensures { C.has connections.old [] → (acts : History) × Has S.opens S.hears S.wants S.ends C.has limits.idle sessions.old connections.new sessions.new acts }
+{
+    let mut state = State::new(limits);
+    // Every loop of Rattle has an end: this one's is past any life of a server.
+    for _ in 0..u64::MAX {
+        state = turn(alloc, places, sessions, connections, state);
+        tell_wanting(errors, state.work.wanting);
+        if state.is_closing() && are_free(places) {
+            return;
+        }
+    }
 }
 
 /// Answers connections, each by a session of its own, until so many were taken and have ended, or until a
 /// stop is ordered and those that were open have ended. Whatever the connections do, what happens is
 /// sound: each connection takes a beginning of what its session was answered, in order, and is closed for
-/// a reason that holds.
+/// a reason that holds. A connection that is closed for want of memory is told of in a line to the errors.
 ///
 /// # Errors
 ///
-/// `AllocError` if there is no memory for the places of connections. Then none was taken.
+/// `AllocError` if there is no memory for the places of connections. Then nothing has happened.
 pub fn answer_all<S: Sessions, C: Connections, E: Write>(
     alloc: Global,
     sessions: &mut S,
@@ -175,16 +179,9 @@ pub fn answer_all<S: Sessions, C: Connections, E: Write>(
     limits: Limits,
     errors: &mut E,
 ) -> Result<(), AllocError>
-    ensures happens { C.has connections.old [] → (acts : History) × Has S.opens S.hears S.wants S.ends C.has limits.idle sessions.old connections.new sessions.new acts }
+    ensures { C.has connections.old [] → (acts : History) × Has S.opens S.hears S.wants S.ends C.has limits.idle sessions.old connections.new sessions.new acts }
 {
     let mut places = free_places(alloc, limits.sessions)?;
-    let mut state = State::new(limits);
-    for _ in 0..u64::MAX {
-        state = turn(alloc, &mut places, sessions, connections, state);
-        tell_wanting(errors, state.work.wanting);
-        if state.is_closing() && are_free(&places) {
-            return Ok(());
-        }
-    }
+    turn_all(alloc, places.as_mut_slice(), sessions, connections, limits, errors);
     Ok(())
 }
