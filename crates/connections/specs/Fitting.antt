@@ -3,6 +3,7 @@ use Rattle.std.specs.Prelude.{◌≡◌, ◌≢◌, ◌⊎◌, ◌+◌, ◌≤�
 use Rattle.connections.specs.declared.ending.Ending.{Ending}
 use Rattle.connections.specs.declared.ending.Ending.TheVariants.{Done, Fault, Idle, Stopped, Unsynced, Memory, Refused}
 use Rattle.connections.specs.declared.limits.TheConstants.{LAST_MILLISECONDS}
+use Rattle.connections.specs.declared.places.Places.{Places}
 use Rattle.connections.specs.declared.talk.Talk.{Talk}
 use Rattle.connections.specs.Histories.{Stage, Hearing, Ordered, On, Deed, Comes, Opens, Reads, IsOver, Hears, Wants, Takes, Fails, Ends, Closes, History, Course, clock, course, of_connections, stage, stopped, Leads}
 use Rattle.connections.specs.Soundness.{Here, IsReason, IsSound}
@@ -35,6 +36,10 @@ pub record Stays (place : ℕ) (before after : History) : Type 0 where
 -- the same of each place
 abbrev pub FitAll : List (Option Talk) → History → Type 0
 FitAll places acts = (place : ℕ) → Fits (get_or places place None) (course acts place)
+
+-- no place has a connection
+abbrev pub AreFree : Places → Type 0
+AreFree places = (place : ℕ) → get_or places.slots.items place None ≡ None
 
 -- the round stays where it is
 pub record Passes (before after : History) : Type 0 where

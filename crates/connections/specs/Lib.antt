@@ -1,3 +1,4 @@
 pub mod Fitting
 pub mod Histories
 pub mod Soundness
+pub mod Telling

@@ -9,7 +9,6 @@
 
 mod connections;
 mod ending;
-mod laws;
 mod limits;
 mod places;
 mod rounds;
@@ -19,7 +18,7 @@ mod talk;
 
 pub use connections::{Connections, Reading, Writing};
 pub use ending::{Ending, SessionFault};
-pub use laws::bytes_are_in_order;
 pub use limits::Limits;
+pub use places::Places;
 pub use rounds::answer_all;
 pub use sessions::Sessions;

@@ -1,8 +1,6 @@
 /// What a loop over connections allows.
 #[derive(Clone, Copy, Debug, PartialEq, Eq)]
 pub struct Limits {
-    /// How many connections are open at once.
-    pub sessions: usize,
     /// How many connections are taken; 0 for no end.
     pub count: u64,
     /// For how many milliseconds a connection may complete no message and take no byte; 0 for ever.

@@ -1,7 +1,7 @@
 //! All places, one after another, in each part of a round.
 
 ghost use Rattle.std.specs.Prelude.{◌≡◌, ℕ, None, IfOk, get_or};
-ghost use Rattle.connections.specs.Fitting.{Tours};
+ghost use Rattle.connections.specs.Fitting.{AreFree, Tours};
 ghost use Rattle.connections.specs.Histories.{Hearing, Telling};
 
 use crate::connections::Connections;
@@ -10,15 +10,35 @@ use crate::talk::Talk;
 use crate::Sessions;
 use std::alloc::{AllocError, Global};
 
-/// So many free places.
-pub(crate) fn free_places(alloc: Global, count: usize) -> Result<Vec<Option<Talk>>, AllocError>
-    ensures { IfOk result (λ places. (place : ℕ) → get_or places.items place None ≡ None) }
-{
-    let mut places = Vec::with_capacity(alloc, count)?;
-    for _ in 0..count {
-        places.push(None)?;
+/// Places of connections.
+#[derive(Drop)]
+pub struct Places {
+    pub(crate) slots: Vec<Option<Talk>>,
+}
+
+impl Places {
+    /// So many places, all of them free.
+    ///
+    /// # Errors
+    ///
+    /// `AllocError`.
+    pub fn free(alloc: Global, count: usize) -> Result<Places, AllocError>
+        ensures { IfOk result AreFree }
+    {
+        Ok(Places {
+            slots: free_slots(alloc, count)?,
+        })
     }
-    Ok(places)
+}
+
+fn free_slots(alloc: Global, count: usize) -> Result<Vec<Option<Talk>>, AllocError>
+    ensures { IfOk result (λ slots. (place : ℕ) → get_or slots.items place None ≡ None) }
+{
+    let mut slots = Vec::with_capacity(alloc, count)?;
+    for _ in 0..count {
+        slots.push(None)?;
+    }
+    Ok(slots)
 }
 
 /// Whether no place has a connection.

@@ -3,21 +3,19 @@
 //! have become free, and there may be more to read.
 
 ghost use Rattle.std.specs.Prelude.{◌≡◌, ℕ, [], ◌∷◌, None, get_or};
-ghost use Rattle.connections.specs.Fitting.{Has, Knows, MayOrder, Tours, Turns};
+ghost use Rattle.connections.specs.Fitting.{AreFree, Has, Knows, MayOrder, Tours, Turns};
 ghost use Rattle.connections.specs.Histories.{History, Hearing, clock, stopped};
+ghost use Rattle.connections.specs.Telling.{TellsMemory};
 
 use crate::connections::Connections;
 use crate::limits::LONGEST_WAIT;
-use crate::places::{are_free, free_places, hear_all, take_all, tell_all};
+use crate::places::{Places, are_free, hear_all, take_all, tell_all};
 use crate::slots::{Round, Work};
 use crate::talk::Talk;
 use crate::{Limits, Sessions};
-use std::alloc::{AllocError, Global};
+use std::alloc::Global;
 use std::io::Write;
 use textio::write_text;
-
-/// The line about a connection that was closed for want of memory.
-static MEMORY_LINE: &[u8] = b"out of memory\n";
 
 /// When a stop was ordered, if one was by now.
 fn stop_by<C: Connections>(connections: &mut C, now: u64, stopped: Option<u64>) -> Option<u64>
@@ -70,9 +68,11 @@ fn hear_new<S: Sessions, C: Connections>(
 
 /// Writes a line for each connection that was closed for want of memory. One that cannot be written is
 /// passed over.
-fn tell_wanting<E: Write>(errors: &mut E, wanting: u64) {
+fn tell_wanting<E: Write>(errors: &mut E, wanting: u64)
+    ensures { TellsMemory (E.contents errors.old) (E.contents errors.new) }
+{
     for _ in 0..wanting {
-        let _told = write_text(errors, MEMORY_LINE);
+        let _told = write_text(errors, b"out of memory\n");
     }
 }
 
@@ -151,7 +151,8 @@ fn turn_all<S: Sessions, C: Connections, E: Write>(
     errors: &mut E,
 )
     requires { (place : ℕ) → get_or places.old place None ≡ None }
-    ensures { C.has connections.old [] → (acts : History) × Has S.opens S.hears S.wants S.ends C.has limits.idle sessions.old connections.new sessions.new acts }
+    ensures tells { TellsMemory (E.contents errors.old) (E.contents errors.new) }
+    ensures happens { C.has connections.old [] → (acts : History) × Has S.opens S.hears S.wants S.ends C.has limits.idle sessions.old connections.new sessions.new acts }
 {
     let mut state = State::new(limits);
     // Every loop of Rattle has an end: this one's is past any life of a server.
@@ -164,24 +165,22 @@ fn turn_all<S: Sessions, C: Connections, E: Write>(
     }
 }
 
-/// Answers connections, each by a session of its own, until so many were taken and have ended, or until a
-/// stop is ordered and those that were open have ended. Whatever the connections do, what happens is
-/// sound: each connection takes a beginning of what its session was answered, in order, and is closed for
+/// Answers connections, each at a place and by a session of its own, until so many were taken and have ended,
+/// or until a stop is ordered and those that were open have ended. Whatever the connections do, what happens
+/// is sound: each connection takes a beginning of what its session was answered, in order, and is closed for
 /// a reason that holds. A connection that is closed for want of memory is told of in a line to the errors.
-///
-/// # Errors
-///
-/// `AllocError` if there is no memory for the places of connections. Then nothing has happened.
 pub fn answer_all<S: Sessions, C: Connections, E: Write>(
     alloc: Global,
+    places: Places,
     sessions: &mut S,
     connections: &mut C,
     limits: Limits,
     errors: &mut E,
-) -> Result<(), AllocError>
-    ensures { C.has connections.old [] → (acts : History) × Has S.opens S.hears S.wants S.ends C.has limits.idle sessions.old connections.new sessions.new acts }
+)
+    requires { AreFree places }
+    ensures tells { TellsMemory (E.contents errors.old) (E.contents errors.new) }
+    ensures happens { C.has connections.old [] → (acts : History) × Has S.opens S.hears S.wants S.ends C.has limits.idle sessions.old connections.new sessions.new acts }
 {
-    let mut places = free_places(alloc, limits.sessions)?;
-    turn_all(alloc, places.as_mut_slice(), sessions, connections, limits, errors);
-    Ok(())
+    let mut places = places;
+    turn_all(alloc, places.slots.as_mut_slice(), sessions, connections, limits, errors);
 }

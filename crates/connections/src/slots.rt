@@ -43,7 +43,9 @@ impl Work {
     }
 
     /// A connection was closed, so its place is free for another.
-    fn close(&mut self, why: Ending) {
+    fn close(&mut self, why: Ending)
+        ensures { self.new.is_busy ≡ true }
+    {
         self.is_busy = true;
         if why == Ending::Memory {
             self.wanting = self.wanting.saturating_add(1);
@@ -154,7 +156,7 @@ pub(crate) fn tell_at<S: Sessions, C: Connections>(
         Err(why) => {
             work.close(why);
             close(sessions, connections, place, why);
-            *slot = None;
+            *slot = None; // The place is free.
         }
     }
 }

@@ -1,5 +1,6 @@
 pub mod Behind
 pub mod Conversing
+pub mod Crowds
 pub mod Ending
 pub mod Heard
 pub mod Joined

@@ -1,32 +1,52 @@
 //! The sessions of a hub, for the loop over connections. Each hears its stream in parts that end no more than
 //! one message.
+ghost use Rattle.std.specs.Prelude.{◌≡◌, IfOk};
+ghost use Rattle.hub.specs.DeskRuns.{IsWell};
 
 use crate::framing::Framing;
+use book::Keeper;
 use connections::{SessionFault, Sessions};
-use hub::{Event, Hub, HubRefusal, Service};
+use hub::{Desk, Event, Hub, HubRefusal, Service};
+use nodehash::NodeHash;
+use rand_core::Rng;
+use sigiface::Signer;
 use std::alloc::{AllocError, Global};
+use vrfiface::Vuf;
 
 /// A hub, and where the stream of each session stands, by its number.
 #[derive(Drop)]
 pub(crate) struct HubSessions<D: Service + Drop> {
+    alloc: Global,
     hub: Hub<D>,
     framings: Vec<Framing>,
-    /// What an opening and an end answer: nothing.
-    nothing: Vec<u8>,
 }
 
 impl<D: Service + Drop> HubSessions<D> {
     /// The sessions of a hub, whose numbers are below `count`.
-    pub(crate) fn new(
-        alloc: Global,
-        hub: Hub<D>,
-        count: usize,
-    ) -> Result<HubSessions<D>, AllocError> {
+    pub(crate) fn new(alloc: Global, hub: Hub<D>, count: usize) -> Result<Self, AllocError>
+        ensures { IfOk result (λ sessions. sessions.hub ≡ hub) }
+    {
         Ok(HubSessions {
+            alloc,
             hub,
             framings: Vec::from_elem(alloc, Framing::new(), count)?,
-            nothing: Vec::new(alloc),
         })
+    }
+}
+
+impl<H, V, S, R, K> HubSessions<Desk<H, V, S, R, K>>
+where
+    H: NodeHash + Drop,
+    V: Vuf + Drop,
+    S: Signer + Drop,
+    R: Rng + Drop,
+    K: Keeper + Drop,
+{
+    /// What the types keep of the desk: its clause leads from what is answered to a run of the directory.
+    pub(crate) fn head(&self)
+        ensures well { IsWell H.digest_of V.value_of S.signature_of R.stream V.accepted S.verified self.now.hub.service }
+    {
+        self.hub.head();
     }
 }
 
@@ -55,10 +75,8 @@ impl<D: Service + Drop> Sessions for HubSessions<D> {
         let Some(framing) = self.framings.get_mut(session) else {
             return Err(SessionFault::Refused);
         };
-        match self
-            .hub
-            .event(&Event::Open(session as u32), &mut self.nothing)
-        {
+        let mut nothing = Vec::new(self.alloc);
+        match self.hub.event(&Event::Open(session as u32), &mut nothing) {
             Ok(()) => {
                 *framing = Framing::new();
                 Ok(())
@@ -88,8 +106,7 @@ impl<D: Service + Drop> Sessions for HubSessions<D> {
     }
 
     fn end(&mut self, session: usize) {
-        let _ended = self
-            .hub
-            .event(&Event::End(session as u32), &mut self.nothing);
+        let mut nothing = Vec::new(self.alloc);
+        let _ended = self.hub.event(&Event::End(session as u32), &mut nothing);
     }
 }

@@ -1,6 +1,0 @@
-use Rattle.std.specs.Prelude.{◌≡◌, ℕ, None, get_or}
-use Rattle.connections.proofs.places.free_places.Given as goal
-
--- the places so far are free
-abbrev pub invariant-loop : goal.invariant-loop
-invariant-loop l = (place : ℕ) → get_or l.places.items place None ≡ None

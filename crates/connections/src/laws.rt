@@ -1,2 +1,0 @@
-/// Laws.
-pub fn bytes_are_in_order() {}
