@@ -4,6 +4,5 @@ pub mod Crowds
 pub mod Ending
 pub mod Heard
 pub mod Joined
-pub mod Listened
 pub mod Opened
 pub mod Reopened

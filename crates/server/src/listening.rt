@@ -1,13 +1,18 @@
-// Connections over TCP, one after another, each a session of one hub. Contracts do not know what a socket
-// carries, so the clauses say what the directory does: it answers the messages of whole sessions and nothing
-// else. `scripts/listen.sh` covers the rest.
-ghost use Rattle.std.specs.Prelude.{◌≡◌, ◌≢◌, ◌↔◌, ◌⊎◌, ℕ, List, [], Err, IfErr, None, OnOk, ⊤};
-ghost use Rattle.hub.specs.Exchanges.{Exchange};
+// Connections over TCP, many at once, each a session of one hub. Contracts do not know what a socket
+// carries, so the clauses say what the directory does: it answers messages, which show one run of it. What a
+// connection reads and takes is in the contract of the loop (`answer_all` of `connections`), for connections of
+// which contracts know it. `scripts/listen.sh` covers the rest.
+ghost use Rattle.std.specs.Prelude.{◌≡◌, ◌≢◌, ◌↔◌, List, [], Err, IfErr, None, OnOk};
+ghost use Rattle.connections.specs.Fitting.{AreFree};
+ghost use Rattle.connections.specs.Telling.{TellsMemory};
+ghost use Rattle.hub.specs.Desks.{DeskState};
+ghost use Rattle.hub.specs.Runs.{Line};
+ghost use Rattle.rand_chacha.specs.ChaCha.{ChaCha};
 ghost use Rattle.textio.specs.declared.program_fault.ProgramFault.TheVariants.{BadHex};
 ghost use Rattle.server.specs.DirectoryOptions.{values_of};
 ghost use Rattle.server.specs.Directories.{keys_of};
-ghost use Rattle.server.specs.Listening.{ListenTells, TellsAddress, TellsKept};
-ghost use Rattle.server.specs.Programs.{AllServedBy, ServedReplied};
+ghost use Rattle.server.specs.Listening.{ListenTells, TellsAddress, TellsKept, TellsLine};
+ghost use Rattle.server.specs.Programs.{ShownBy};
 
 use crate::disk::Disk;
 use crate::keys::{Keys, ServedDesk};
@@ -16,7 +21,7 @@ use crate::ListenOrder;
 use crate::sessions::HubSessions;
 use crate::sockets::Sockets;
 use book::{Keeper, NoKeeper};
-use connections::{Limits, answer_all};
+use connections::{Connections, Limits, Places, answer_all};
 use hub::Hub;
 use std::alloc::Global;
 use std::fs::{File, Files};
@@ -34,7 +39,7 @@ fn tell_address<E: Write>(
     address: SocketAddr,
     errors: &mut E,
 ) -> Result<(), ProgramFault>
-    ensures tells { TellsAddress (E.contents errors.old) result (E.contents errors.new) }
+    ensures tells { TellsLine (E.contents errors.old) result (E.contents errors.new) }
     ensures good_hex { IfErr result (λ fault. fault ≢ BadHex) }
 {
     let address = format!(in alloc; "{address}")?;
@@ -43,6 +48,38 @@ fn tell_address<E: Write>(
     line.push(b'\n')?;
     write_text(errors, &line)?;
     Ok(())
+}
+
+/// Answers connections by the sessions of a hub, whose messages show one run of its directory.
+fn answer_crowd<K, C, E>(
+    alloc: Global,
+    places: Places,
+    sessions: &mut HubSessions<ServedDesk<K>>,
+    connections: &mut C,
+    limits: Limits,
+    errors: &mut E,
+)
+where
+    K: Keeper + Drop,
+    C: Connections,
+    E: Write,
+    requires { AreFree places }
+    ensures tells { TellsMemory (E.contents errors.old) (E.contents errors.new) }
+    ensures shown { C.has connections.old [] → (lines : List Line) × ShownBy K.kept K.failed sessions.old.hub.service lines sessions.new.hub.service }
+{
+    // What the two calls of `head` ensure: the book is sound before and after, and the provider's
+    // functions keep their laws.
+    sessions.head();
+    answer_all(alloc, places, sessions, connections, limits, errors);
+    sessions.head();
+}
+
+/// What an order allows.
+fn limits_of(order: ListenOrder<'_>) -> Limits {
+    Limits {
+        count: order.count,
+        idle: order.idle.saturating_mul(1000),
+    }
 }
 
 /// Listens on the address, and answers connections from the hub.
@@ -60,30 +97,23 @@ where
     K: Keeper + Drop,
     R: BufRead,
     E: Write,
+    ensures good_hex { IfErr result (λ fault. fault ≢ BadHex) }
+    ensures tells { TellsAddress (E.contents errors.old) result (E.contents errors.new) }
+    ensures served { OnOk result ((lines : List Line) × (after : DeskState ChaCha K) × ShownBy K.kept K.failed hub.service lines after) }
 {
-    let limits = limits_of(order);
+    let count = order.sessions.clamp(1, MOST_SESSIONS) as usize;
+    let places = Places::free(alloc, count)?;
+    let mut sessions = HubSessions::new(alloc, hub, count)?;
     let input = if order.until_eof { Some(input) } else { None };
-    let Ok(mut sockets) =
-        Sockets::listen(alloc, system, order.address, limits.sessions, disk, input)
-    else {
+    let Ok(mut sockets) = Sockets::listen(alloc, system, order.address, count, disk, input) else {
         return Err(ProgramFault::CannotListen);
     };
     let Ok(address) = sockets.address() else {
         return Err(ProgramFault::CannotListen);
     };
     tell_address(alloc, address, errors)?;
-    let mut sessions = HubSessions::new(alloc, hub, limits.sessions)?;
-    answer_all(alloc, &mut sessions, &mut sockets, limits, errors)?;
+    answer_crowd(alloc, places, &mut sessions, &mut sockets, limits_of(order), errors);
     Ok(())
-}
-
-/// What an order allows.
-fn limits_of(order: ListenOrder<'_>) -> Limits {
-    Limits {
-        sessions: order.sessions.clamp(1, MOST_SESSIONS) as usize,
-        count: order.count,
-        idle: order.idle.saturating_mul(1000),
-    }
 }
 
 /// Listens with a directory that is kept nowhere.
@@ -132,18 +162,18 @@ where
     listen_from(alloc, system, hub, Some(&disk), order, input, errors)
 }
 
-/// Listens on the address, and answers connections, one after another, from a directory that begins
-/// with it, or from one that is kept in the order's journal. A journal is opened first, and a line to the
-/// errors says how many records were taken, and how many bytes were cut off, if any were. Once it
-/// listens, it writes a line to the errors: `listening on` and the address, with the port that the
-/// system chose if port 0 was asked for.
+/// Listens on the address, and answers connections, many at once, from a directory that begins with it, or
+/// from one that is kept in the order's journal. A journal is opened first, and a line to the errors says how
+/// many records were taken, and how many bytes were cut off, if any were. Once it listens, it writes a line
+/// to the errors: `listening on` and the address, with the port that the system chose if port 0 was asked
+/// for. A connection that is closed for want of memory is told of in a line behind it.
 ///
 /// # Errors
 ///
 /// `BadHex`, before all else, if a text of the order is not 64 hexadecimal digits; then those of the
 /// journal, as `serve_directory` has them; `OutOfMemory`; `CannotListen` if it cannot listen on the
-/// address; `CannotWrite` if a line cannot be written. A connection that fails is closed, and is not a
-/// fault of `listen`.
+/// address; `CannotWrite` if one of these lines cannot be written. A connection that fails is closed, and is
+/// not a fault of `listen`.
 pub fn listen<N, R, E>(
     alloc: Global,
     system: &N,
