@@ -1,9 +1,20 @@
 -- The sessions of a hub, as the loop over connections uses them.
 use Rattle.std.specs.Prelude.{◌≡◌, ◌⊎◌, ℕ, List, [], false}
 use Rattle.wire.specs.Frames.{Frame}
+use Rattle.connections.specs.declared.ending.SessionFault.{SessionFault}
+use Rattle.connections.specs.declared.ending.SessionFault.TheVariants as fault
+use Rattle.hub.specs.declared.hub_refusal.HubRefusal.{HubRefusal}
+use Rattle.hub.specs.declared.hub_refusal.HubRefusal.TheVariants.{TooManySessions, SessionOpen, NoSession, Memory}
 use Rattle.hub.specs.Events.{Open, Bytes, End, HubState}
 use Rattle.hub.specs.Exchanges.{Exchange, replies}
 use Rattle.hub.specs.Happenings.{Answered, Passes}
+
+-- only want of memory is told as such
+abbrev pub session_fault : HubRefusal → SessionFault
+session_fault TooManySessions = fault.Refused
+session_fault SessionOpen = fault.Refused
+session_fault NoSession = fault.Refused
+session_fault (Memory taken) = fault.Memory
 
 module _ {S : Type 0} (answers : S → Frame → List ℕ → S → Type 0) where
   -- the event of an opening passes

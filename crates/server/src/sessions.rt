@@ -2,6 +2,7 @@
 //! one message.
 ghost use Rattle.std.specs.Prelude.{◌≡◌, IfOk};
 ghost use Rattle.hub.specs.DeskRuns.{IsWell};
+ghost use Rattle.server.specs.Sessions.{session_fault};
 
 use crate::framing::Framing;
 use book::Keeper;
@@ -51,7 +52,9 @@ where
 }
 
 /// Why a session was not opened, or did not hear.
-fn fault_of(refusal: HubRefusal) -> SessionFault {
+fn fault_of(refusal: HubRefusal) -> SessionFault
+    ensures { result ≡ session_fault refusal }
+{
     match refusal {
         HubRefusal::Memory { .. } => SessionFault::Memory,
         HubRefusal::TooManySessions | HubRefusal::SessionOpen | HubRefusal::NoSession => {
