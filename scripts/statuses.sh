@@ -241,7 +241,7 @@ refused "invalid value '18446744073709551616' for '--count <N>': number too larg
     listen $keys --count 18446744073709551616 here:1
 refused "invalid value '0' for '--sessions <N>': 0 is not in 1..=1024" listen $keys --sessions 0 here:1
 refused "invalid value '1025' for '--sessions <N>': 1025 is not in 1..=1024" listen $keys --sessions 1025 here:1
-refused "invalid value '-1' for '--idle <SECONDS>'" listen $keys --idle=-1 here:1
+refused "invalid value '-1' for '--idle <SECONDS>': invalid digit found in string" listen $keys --idle=-1 here:1
 refused "unexpected argument '--until-eof' found" serve $keys --until-eof
 given "x\n" $'\xff'
 ends 2 "" "error: invalid UTF-8 was detected in one or more arguments"

@@ -9,6 +9,7 @@
 
 mod connections;
 mod ending;
+mod laws;
 mod limits;
 mod places;
 mod rounds;
@@ -18,6 +19,7 @@ mod talk;
 
 pub use connections::{Connections, Reading, Writing};
 pub use ending::{Ending, SessionFault};
+pub use laws::{bytes_stay_in_order, done_is_whole};
 pub use limits::Limits;
 pub use places::Places;
 pub use rounds::answer_all;
