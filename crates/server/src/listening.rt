@@ -14,10 +14,10 @@ ghost use Rattle.server.specs.Directories.{keys_of};
 ghost use Rattle.server.specs.Listening.{ListenTells, TellsAddress, TellsKept, TellsLine};
 ghost use Rattle.server.specs.Programs.{ShownBy};
 
+use crate::ListenOrder;
 use crate::disk::Disk;
 use crate::keys::{Keys, ServedDesk};
 use crate::opening::{open_file, open_journal};
-use crate::ListenOrder;
 use crate::sessions::HubSessions;
 use crate::sockets::Sockets;
 use book::{Keeper, NoKeeper};
@@ -112,7 +112,14 @@ where
         return Err(ProgramFault::CannotListen);
     };
     tell_address(alloc, address, errors)?;
-    answer_crowd(alloc, places, &mut sessions, &mut sockets, limits_of(order), errors);
+    answer_crowd(
+        alloc,
+        places,
+        &mut sessions,
+        &mut sockets,
+        limits_of(order),
+        errors,
+    );
     Ok(())
 }
 

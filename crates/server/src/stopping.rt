@@ -33,8 +33,11 @@ impl<'a, R: BufRead> StopInput<'a, R> {
     pub(crate) fn new(registry: &Registry, input: Option<&'a mut R>) -> Self {
         let mut readiness = Readiness::Reported;
         if input.is_some() {
-            let registered =
-                registry.register(&mut SourceFd(&STANDARD_INPUT), INPUT, Interest::READABLE);
+            let registered = registry.register(
+                &mut SourceFd(&STANDARD_INPUT),
+                INPUT,
+                Interest::READABLE,
+            );
             // The system reports no file.
             if registered.is_err() {
                 readiness = Readiness::Always;
@@ -69,8 +72,11 @@ impl<'a, R: BufRead> StopInput<'a, R> {
             if self.readiness == Readiness::Reported {
                 // What is left, if anything is, is reported again.
                 self.may_read = false;
-                let again =
-                    registry.reregister(&mut SourceFd(&STANDARD_INPUT), INPUT, Interest::READABLE);
+                let again = registry.reregister(
+                    &mut SourceFd(&STANDARD_INPUT),
+                    INPUT,
+                    Interest::READABLE,
+                );
                 if again.is_err() {
                     return true;
                 }
@@ -87,10 +93,7 @@ impl<'a, R: BufRead> StopInput<'a, R> {
         let count = match input.fill_buf() {
             Ok(bytes) => bytes.len(),
             Err(error) => {
-                return !matches!(
-                    error.kind(),
-                    ErrorKind::Interrupted | ErrorKind::WouldBlock
-                );
+                return !matches!(error.kind(), ErrorKind::Interrupted | ErrorKind::WouldBlock);
             }
         };
         input.consume(count);

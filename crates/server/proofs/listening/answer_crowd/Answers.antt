@@ -11,6 +11,9 @@ use Rattle.server.proofs.listening.answer_crowd.Goals as goal
 pub returns-clause-shown : goal.returns-clause-shown
 returns-clause-shown g c = λ has.
     let acts = c.answer_all.ensures.happens has in
-    let told = crowd_answered (DeskAnswers sha256 keyed_value keyed_signature salts g.K.Keeper.kept g.K.Keeper.failed) (λ sessions. sessions.hub) c.args.sessions.now acts.0 c.answer_all.new.sessions acts.1.1 in
-    (told.0, told.1, lines_show_honest_run sha256 keyed_value keyed_signature salts g.K.Keeper.kept g.K.Keeper.failed KeyedAccepts KeyedVerifies
-        c.args.sessions.now.hub.service told.0 c.answer_all.new.sessions.hub.service c.head.ensures.well c.head-2.ensures.well told.1)
+    let told = crowd_answered (DeskAnswers sha256 keyed_value keyed_signature salts g.K.Keeper.kept g.K.Keeper.failed) (λ sessions. sessions.hub) c.args.sessions.now acts.0 c.answer_all.new.sessions acts.1.1 in (
+      told.0,
+      told.1,
+      lines_show_honest_run sha256 keyed_value keyed_signature salts g.K.Keeper.kept g.K.Keeper.failed KeyedAccepts KeyedVerifies
+          c.args.sessions.now.hub.service told.0 c.answer_all.new.sessions.hub.service c.head.ensures.well c.head-2.ensures.well told.1,
+    )
