@@ -16,7 +16,7 @@ use std::time::{Clock, Duration, Instant};
 /// The most reports that one wait gives. More come with the next one.
 const MOST_EVENTS: usize = 1024;
 
-/// How often a call is tried that was interrupted, or an `accept` whose connection had gone.
+/// How often an `accept` is tried in one call that was interrupted, or whose connection had gone.
 const MOST_TRIES: usize = 64;
 
 /// The token of the listener. Those of connections are their places.
@@ -61,7 +61,7 @@ fn bind<N: Net>(net: &N, address: &str) -> io::Result<TcpListener> {
 
 /// Tries again as long as a call is interrupted.
 fn read_some<R: Read>(reader: &mut R, room: &mut [u8]) -> io::Result<usize> {
-    for _ in 0..MOST_TRIES {
+    for _ in 0..u64::MAX {
         match reader.read(room) {
             Err(error) if error.kind() == ErrorKind::Interrupted => {}
             other => return other,
@@ -72,7 +72,7 @@ fn read_some<R: Read>(reader: &mut R, room: &mut [u8]) -> io::Result<usize> {
 
 /// Tries again as long as a call is interrupted.
 fn write_some<W: Write>(writer: &mut W, bytes: &[u8]) -> io::Result<usize> {
-    for _ in 0..MOST_TRIES {
+    for _ in 0..u64::MAX {
         match writer.write(bytes) {
             Err(error) if error.kind() == ErrorKind::Interrupted => {}
             other => return other,
