@@ -17,9 +17,9 @@ writes_some old new text (Err fault) none (same, less) = (less.0, less.2)
 -- one line more
 pub tells_more : (old middle new : Option (List ℕ)) (result : Result (Unit {0}) StreamFault) → TellsMemory old middle → OnOk result (Appends middle new memory_line)
     → IfErr result (λ fault. (fault ≡ CannotWrite) × WritesBeginning middle new memory_line) → TellsMemory old new
-tells_more old middle new result (count, tells) ok err = (suc count, middle, tells, writes_some middle new memory_line result ok err)
+tells_more old middle new result (count, tells) ok err = let wrote = writes_some middle new memory_line result ok err in (suc count, (middle, tells, wrote.0, wrote.1))
 
 -- two lists of lines
 pub tells_both : (old middle new : Option (List ℕ)) → TellsMemory old middle → TellsMemory middle new → TellsMemory old new
 tells_both old middle new one (zero, same) = subst (TellsMemory old) (sym same) one
-tells_both old middle new one (suc count, between, tells, wrote) = let so = tells_both old middle between one (count, tells) in (suc so.0, between, so.1, wrote)
+tells_both old middle new one (suc count, (between, tells, rest, wrote)) = let so = tells_both old middle between one (count, tells) in (suc so.0, (between, so.1, rest, wrote))

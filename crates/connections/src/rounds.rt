@@ -17,13 +17,13 @@ use std::alloc::Global;
 use std::io::Write;
 use textio::write_text;
 
-/// When a stop was ordered, if one was by now.
-fn stop_by<C: Connections>(connections: &mut C, now: u64, stopped: Option<u64>) -> Option<u64>
-    ensures { (idle : ℕ) (acts : History) → Knows C.has idle connections.old acts → clock acts ≡ now → stopped acts ≡ stopped
+/// When a stop was ordered, if one was by now, where this was known before.
+fn stop_by<C: Connections>(connections: &mut C, now: u64, known: Option<u64>) -> Option<u64>
+    ensures { (idle : ℕ) (acts : History) → Knows C.has idle connections.old acts → clock acts ≡ now → stopped acts ≡ known
         → (after : History) × MayOrder acts after × Knows C.has idle connections.new after × (stopped after ≡ result) }
 {
-    if stopped.is_some() {
-        return stopped;
+    if known.is_some() {
+        return known;
     }
     if connections.is_stopped() {
         return Some(now);

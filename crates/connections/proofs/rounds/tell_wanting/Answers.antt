@@ -5,7 +5,7 @@ pub loop-init : goal.loop-init
 loop-init g c = tells_none (g.E.Write.contents c.args.errors.now)
 
 pub loop-preserved : goal.loop-preserved
-loop-preserved g c = tells_more _ _ _ c.write_text-_told.result c.loop.invariant c.write_text-_told.ensures.ok c.write_text-_told.ensures.err
+loop-preserved g c = tells_more _ _ _ c.write_text-told.result c.loop.invariant c.write_text-told.ensures.ok c.write_text-told.ensures.err
 
 pub returns : goal.returns
 returns g c = c.loop.invariant
