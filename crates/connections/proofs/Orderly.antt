@@ -17,7 +17,7 @@ stays_in_order idle acts (Reads bytes) now (Some of) (may, rest) (untold, unhear
 stays_in_order idle acts IsOver now None due order = tt
 stays_in_order idle acts IsOver now (Some of) due order = order
 stays_in_order idle acts (Hears part reply) now None due order = tt
-stays_in_order idle acts (Hears part reply) now (Some of) (open, room, stage, some, (rest, split)) (untold, unheard, told, heard) = (
+stays_in_order idle acts (Hears part reply) now (Some of) (opened, room, hearing, some, (rest, split)) (untold, unheard, told, heard) = (
   untold ++ reply,
   rest,
   ap (λ (t : List ℕ). t ++ reply) told ∙ append_assoc of.taken untold reply,
@@ -26,7 +26,7 @@ stays_in_order idle acts (Hears part reply) now (Some of) (open, room, stage, so
 stays_in_order idle acts Wants now None due order = tt
 stays_in_order idle acts Wants now (Some of) due order = order
 stays_in_order idle acts (Takes bytes) now None due order = tt
-stays_in_order idle acts (Takes bytes) now (Some of) (stage, some, (rest, split)) (untold, unheard, told, heard) = (rest, unheard, split ∙ sym (append_assoc of.taken bytes rest), heard)
+stays_in_order idle acts (Takes bytes) now (Some of) (telling, some, (rest, split)) (untold, unheard, told, heard) = (rest, unheard, split ∙ sym (append_assoc of.taken bytes rest), heard)
 stays_in_order idle acts Fails now None due order = tt
 stays_in_order idle acts Fails now (Some of) due order = order
 stays_in_order idle acts Ends now None due order = tt
