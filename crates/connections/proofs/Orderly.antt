@@ -13,7 +13,7 @@ stays_in_order idle acts Comes now (Some of) due order = ([], [], refl, refl)
 stays_in_order idle acts Opens now None due order = tt
 stays_in_order idle acts Opens now (Some of) due order = order
 stays_in_order idle acts (Reads bytes) now None due order = tt
-stays_in_order idle acts (Reads bytes) now (Some of) (may, rest) (untold, unheard, told, heard) = (untold, bytes, told, ap (λ (t : List ℕ). t ++ bytes) may.1)
+stays_in_order idle acts (Reads bytes) now (Some of) (may, hearing, some, few) (untold, unheard, told, heard) = (untold, bytes, told, ap (λ (t : List ℕ). t ++ bytes) may.1)
 stays_in_order idle acts IsOver now None due order = tt
 stays_in_order idle acts IsOver now (Some of) due order = order
 stays_in_order idle acts (Hears part reply) now None due order = tt
@@ -50,7 +50,7 @@ in_order idle (On other deed ∷ acts) place sound = at_place idle acts deed oth
 
 whole : (idle : ℕ) (acts : History) (there : Option Course) → IsDue idle acts (Closes Done) there → Here there (λ of. IsHeard of × IsTold of)
 whole idle acts None due = due
-whole idle acts (Some of) (shut, over, heard, told) = (heard, told)
+whole idle acts (Some of) (shut, (over, heard, told)) = (heard, told)
 
 pub done_whole : (idle : ℕ) (acts : History) (place : ℕ) → IsSound idle (On place (Closes Done) ∷ acts) → Here (course acts place) (λ of. IsHeard of × IsTold of)
 done_whole idle acts place sound = whole idle acts (course acts place) sound.0
