@@ -1,11 +1,11 @@
 -- A connection is taken and its session opened; a session is ended and its connection closed.
-use Rattle.std.proofs.Common.{◌≡◌, ◌⊎◌, ℕ, ◌+◌, ◌≤◌, List, [], ◌∷◌, ◌++◌, Bool, true, false, Option, Some, None, Result, Ok, Err, refl, sym, ap, subst, ◌∙◌, inl, inr, append-nil}
+use Rattle.std.proofs.Common.{◌≡◌, ◌⊎◌, ℕ, ◌+◌, ◌≤◌, List, [], ◌∷◌, ◌++◌, true, false, Option, Some, None, Result, Ok, Err, refl, ap, ◌∙◌, inl, inr, append-nil}
 use Rattle.connections.specs.declared.ending.Ending.{Ending}
 use Rattle.connections.specs.declared.ending.Ending.TheVariants.{Done, Fault, Idle, Stopped, Unsynced, Memory, Refused}
 use Rattle.connections.specs.declared.limits.TheConstants.{LAST_MILLISECONDS}
 use Rattle.connections.specs.declared.talk.Talk.{Talk}
 use Rattle.connections.specs.Fitting.{Fits, Has, IsJudged, IsOpeningFault, Judged, Keeps, KeepsTalk, Stays}
-use Rattle.connections.specs.Histories.{On, Deed, Comes, Opens, Ends, Closes, History, Course, Stage, Hearing, clock, course, done_at, of_connections, stage, stopped, taken_at}
+use Rattle.connections.specs.Histories.{On, Comes, Opens, Ends, Closes, History, Course, Hearing, clock, course, done_at, of_connections, stage, stopped, taken_at}
 use Rattle.connections.specs.Soundness.{Here, IsDue, IsReason}
 use Rattle.connections.proofs.Steps.{here_at, here_of, here_one, here_so, stays_both, stays_one, went}
 
@@ -42,9 +42,14 @@ pub judged : (now idle : ℕ) (stop : Option ℕ) (acts : History) (place : ℕ)
 judged now idle stop acts place talk (Ok most) time order here is = here
 judged now idle stop acts place talk (Err Done) time order here is =
     here_so (course acts place) (KeepsTalk talk) (λ (of : Course). (of.is_open ≡ true) × IsReason idle acts Done of)
-    (λ (of : Course) (keeps : KeepsTalk talk of). (keeps.is_open, (keeps.end ∙ is.0,
-    keeps.input_rest ∙ ap (λ (t : List ℕ). of.heard ++ t) is.1 ∙ append-nil of.heard,
-    keeps.output_rest ∙ ap (λ (t : List ℕ). of.taken ++ t) is.2 ∙ append-nil of.taken))) here
+    (λ (of : Course) (keeps : KeepsTalk talk of). (
+      keeps.is_open,
+      (
+        keeps.end ∙ is.0,
+        keeps.input_rest ∙ ap (λ (t : List ℕ). of.heard ++ t) is.1 ∙ append-nil of.heard,
+        keeps.output_rest ∙ ap (λ (t : List ℕ). of.taken ++ t) is.2 ∙ append-nil of.taken,
+      ),
+    )) here
 judged now idle stop acts place talk (Err Fault) time order here is = absurd is
 judged now idle stop acts place talk (Err Idle) time order here is =
     here_so (course acts place) (KeepsTalk talk) (λ (of : Course). (of.is_open ≡ true) × IsReason idle acts Idle of)
@@ -89,9 +94,12 @@ module _ {S : Type 0} (opens : S → ℕ → S → Type 0) (hears : S → ℕ �
       let there : course once place ≡ Some shut = went place Ends acts of found.1 in
       let due_end : IsDue idle acts Ends (course acts place) = here_at (course acts place) of (λ (of : Course). of.is_open ≡ true) found.1 found.2.0 in
       let due_close : IsDue idle once (Closes why) (course once place) =
-          here_at (course once place) shut (λ (of : Course). (of.is_open ≡ false) × IsReason idle once why of) there (refl, reason_kept idle acts place of why found.2.1) in
-      (On place (Closes why) ∷ once, stays_both place acts once (On place (Closes why) ∷ once) (stays_one place Ends acts) (stays_one place (Closes why) once),
-      (step (of_connections acts) known.0, (old, known.1, ended), (due_close, (due_end, known.2))), went place (Closes why) once shut there)
+      here_at (course once place) shut (λ (of : Course). (of.is_open ≡ false) × IsReason idle once why of) there (refl, reason_kept idle acts place of why found.2.1) in (
+        On place (Closes why) ∷ once,
+        stays_both place acts once (On place (Closes why) ∷ once) (stays_one place Ends acts) (stays_one place (Closes why) once),
+        (step (of_connections acts) known.0, (old, known.1, ended), (due_close, (due_end, known.2))),
+        went place (Closes why) once shut there,
+      )
 
   -- ---- the beginning of one
 
@@ -105,19 +113,22 @@ module _ {S : Type 0} (opens : S → ℕ → S → Type 0) (hears : S → ℕ �
         → (after : History) × Stays place acts after × Has opens hears wants ends has idle start connections_taken new after × Here (course after place) (Keeps [] [] now false)
     opened now time new does =
         let due : IsDue idle (On place Comes ∷ acts) Opens (course (On place Comes ∷ acts) place) =
-            here_at (course (On place Comes ∷ acts) place) (taken_at (clock acts)) (λ (of : Course). (of.is_open ≡ false) × (of.read ≡ [])) there (refl, refl) in
-        (On place Opens ∷ On place Comes ∷ acts, stays_both place acts (On place Comes ∷ acts) (On place Opens ∷ On place Comes ∷ acts) (stays_one place Comes acts) (stays_one place Opens (On place Comes ∷ acts)),
-        (step known.0, (old, known.1, does), (due, ((free, hearing, goes), known.2))),
-        here_at (course (On place Opens ∷ On place Comes ∷ acts) place) (record (taken_at (clock acts)) { is_open = true }) (Keeps [] [] now false) (went place Opens (On place Comes ∷ acts) (taken_at (clock acts)) there)
-        (record { is_open = refl; input_rest = refl; output_rest = refl; last = time; end = refl }))
+        here_at (course (On place Comes ∷ acts) place) (taken_at (clock acts)) (λ (of : Course). (of.is_open ≡ false) × (of.read ≡ [])) there (refl, refl) in (
+          On place Opens ∷ On place Comes ∷ acts,
+          stays_both place acts (On place Comes ∷ acts) (On place Opens ∷ On place Comes ∷ acts) (stays_one place Comes acts) (stays_one place Opens (On place Comes ∷ acts)),
+          (step known.0, (old, known.1, does), (due, ((free, hearing, goes), known.2))),
+          here_at (course (On place Opens ∷ On place Comes ∷ acts) place) (record (taken_at (clock acts)) { is_open = true }) (Keeps [] [] now false) (went place Opens (On place Comes ∷ acts) (taken_at (clock acts)) there)
+              (record { is_open = refl; input_rest = refl; output_rest = refl; last = time; end = refl }),
+        )
 
     pub refused : (why : Ending) → IsOpeningFault why → (connections_new : C) → ((acts : History) → has connections_taken acts → has connections_new (On place (Closes why) ∷ acts))
         → (after : History) × Stays place acts after × Has opens hears wants ends has idle start connections_new old after × (course after place ≡ None)
     refused why is connections_new close =
         let due : IsDue idle (On place Comes ∷ acts) (Closes why) (course (On place Comes ∷ acts) place) =
-            here_at (course (On place Comes ∷ acts) place) (taken_at (clock acts)) (λ (of : Course). (of.is_open ≡ false) × IsReason idle (On place Comes ∷ acts) why of) there
-            (refl, opening_reason idle (On place Comes ∷ acts) (clock acts) why is) in
-        (On place (Closes why) ∷ On place Comes ∷ acts,
-        stays_both place acts (On place Comes ∷ acts) (On place (Closes why) ∷ On place Comes ∷ acts) (stays_one place Comes acts) (stays_one place (Closes why) (On place Comes ∷ acts)),
-        (close (On place Comes ∷ of_connections acts) (step known.0), known.1, (due, ((free, hearing, goes), known.2))),
-        went place (Closes why) (On place Comes ∷ acts) (taken_at (clock acts)) there)
+        here_at (course (On place Comes ∷ acts) place) (taken_at (clock acts)) (λ (of : Course). (of.is_open ≡ false) × IsReason idle (On place Comes ∷ acts) why of) there
+        (refl, opening_reason idle (On place Comes ∷ acts) (clock acts) why is) in (
+          On place (Closes why) ∷ On place Comes ∷ acts,
+          stays_both place acts (On place Comes ∷ acts) (On place (Closes why) ∷ On place Comes ∷ acts) (stays_one place Comes acts) (stays_one place (Closes why) (On place Comes ∷ acts)),
+          (close (On place Comes ∷ of_connections acts) (step known.0), known.1, (due, ((free, hearing, goes), known.2))),
+          went place (Closes why) (On place Comes ∷ acts) (taken_at (clock acts)) there,
+        )

@@ -1,10 +1,10 @@
 -- Several parts that are heard, and both sides of an attendance.
-use Rattle.std.proofs.Common.{◌≡◌, ℕ, List, [], ◌∷◌, Bool, true, false, Option, Some, None, Result, Ok, Err, refl, sym, ap, subst, ◌∙◌, inl, inr}
+use Rattle.std.proofs.Common.{◌≡◌, ℕ, List, ◌∷◌, Bool, Result, Ok, Err, refl, sym, subst, ◌∙◌, inl, inr}
 use Rattle.connections.specs.declared.ending.Ending.{Ending}
 use Rattle.connections.specs.declared.talk.Talk.{Talk}
-use Rattle.connections.specs.Fitting.{Adds, Attends, Has, Hearkens, Held, IsOfConnection, Judged, KeepsTalk, Knows, Stays}
-use Rattle.connections.specs.Histories.{On, Deed, Comes, Opens, Reads, IsOver, Hears, Wants, Takes, Fails, Ends, Closes, History, Course, Stage, Hearing, clock, course, of_connections, stage, Leads}
-use Rattle.connections.specs.Soundness.{Here, IsSound}
+use Rattle.connections.specs.Fitting.{Adds, Attends, Hearkens, IsOfConnection, Judged, KeepsTalk, Knows, Stays}
+use Rattle.connections.specs.Histories.{On, Deed, Comes, Opens, Reads, IsOver, Hears, Wants, Takes, Fails, Ends, Closes, History, Stage, Hearing, clock, course, stage, Leads}
+use Rattle.connections.specs.Soundness.{Here}
 use Rattle.connections.proofs.Steps.{stays_both, stays_none, stays_one}
 
 pub stays_adds : (place : ℕ) (acts after : History) → Adds place acts after → Stays place acts after
@@ -55,7 +55,7 @@ module _ {S : Type 0} (opens : S → ℕ → S → Type 0) (hears : S → ℕ �
     -- what happened to the connection, and then to its session
     pub attends_both : (place now : ℕ) (connections : C) (old : S) (talk : Talk) (connections_new : C) (kept : Talk) (result : Result Bool Ending) (new : S) (talk_new : Talk)
         → ((idle : ℕ) (acts : History) → Knows has idle connections acts → stage acts ≡ Hearing → Here (course acts place) (KeepsTalk talk)
-          → (after : History) × Adds place acts after × Knows has idle connections_new after × Here (course after place) (KeepsTalk kept))
+        → (after : History) × Adds place acts after × Knows has idle connections_new after × Here (course after place) (KeepsTalk kept))
         → Hearkens opens hears wants ends {X = Bool} place now old kept result new talk_new
         → Attends opens hears wants ends has {X = Bool} Hearing place now connections old talk result connections_new new talk_new
     attends_both place now connections old talk connections_new kept result new talk_new one two = λ idle start acts known hearing time here.
@@ -68,7 +68,7 @@ module _ {S : Type 0} (opens : S → ℕ → S → Type 0) (hears : S → ℕ �
     -- only what happened to the connection
     pub attends_first : {X : Type 0} (when : Stage) (place now : ℕ) (connections : C) (old : S) (talk : Talk) (connections_new : C) (result : Result X Ending) (talk_new : Talk)
         → ((idle : ℕ) (acts : History) → Knows has idle connections acts → stage acts ≡ when → clock acts ≡ now → Here (course acts place) (KeepsTalk talk)
-          → (after : History) × Adds place acts after × Knows has idle connections_new after × Judged idle after place result talk_new)
+        → (after : History) × Adds place acts after × Knows has idle connections_new after × Judged idle after place result talk_new)
         → Attends opens hears wants ends has {X = X} when place now connections old talk result connections_new old talk_new
     attends_first when place now connections old talk connections_new result talk_new one = λ idle start acts known hearing time here.
         let a = one idle acts (known.0, known.2) hearing time here in

@@ -5,7 +5,7 @@ use Rattle.std.specs.Prelude.{◌==◌}
 use Rattle.connections.specs.declared.ending.Ending.TheVariants.{Done}
 use Rattle.connections.specs.Histories.{At, Ordered, Syncs, On, Deed, Comes, Opens, Reads, IsOver, Hears, Wants, Takes, Fails, Ends, Closes, History, Course, clock, course, done_at}
 use Rattle.connections.specs.Laws.{AreInOrder}
-use Rattle.connections.specs.Soundness.{Here, IsDue, IsHeard, IsReason, IsSound, IsTold}
+use Rattle.connections.specs.Soundness.{Here, IsDue, IsHeard, IsSound, IsTold}
 
 stays_in_order : (idle : ℕ) (acts : History) (deed : Deed) (now : ℕ) (there : Option Course) → IsDue idle acts deed there → AreInOrder there → AreInOrder (done_at deed now there)
 stays_in_order idle acts Comes now None due order = ([], [], refl, refl)

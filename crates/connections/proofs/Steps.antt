@@ -1,12 +1,12 @@
 -- One deed more at a place.
-use Rattle.std.proofs.Common.{◌≡◌, ◌≢◌, ◌⊎◌, ℕ, ◌+◌, ◌<◌, ◌≤◌, List, [], ◌∷◌, ◌++◌, length, Bool, true, false, Option, Some, None, refl, sym, ap, subst, ◌∙◌, append_assoc, arith, inl, inr}
+use Rattle.std.proofs.Common.{◌≡◌, ◌≢◌, ℕ, ◌+◌, ◌<◌, ◌≤◌, List, [], ◌∷◌, ◌++◌, length, Bool, true, false, Option, Some, None, refl, sym, ap, ◌∙◌, append_assoc, arith, inr}
 use Rattle.std.proofs.lemmas.Bool.{eq-eqb, ne_eqb}
 use Rattle.std.proofs.lemmas.List.{append-nil, length-append}
 use Rattle.std.specs.Prelude.{◌==◌, ⊤}
 use Rattle.connections.specs.declared.limits.TheConstants.{PIECE_SIZE, FULL_OUTPUT}
 use Rattle.connections.specs.Fitting.{Adds, IsOfConnection, Keeps, Knows, Stays}
-use Rattle.connections.specs.Histories.{On, Deed, Comes, Opens, Reads, IsOver, Hears, Wants, Takes, Fails, Ends, Closes, History, Course, Hearing, Telling, clock, course, done_at, if_answered, of_connections, stage, went_on}
-use Rattle.connections.specs.Soundness.{Here, AreNext, HasRoom, IsDue, IsSound, MayRead}
+use Rattle.connections.specs.Histories.{On, Deed, Reads, IsOver, Hears, Wants, Takes, Fails, History, Course, Hearing, Telling, clock, course, done_at, if_answered, of_connections, stage, went_on}
+use Rattle.connections.specs.Soundness.{Here, AreNext, HasRoom, IsDue, MayRead}
 
 -- ---- where a connection is
 
@@ -52,40 +52,43 @@ next_read idle acts place bytes input output active over hearing some few here =
     let found = here_of (course acts place) (λ (of : Course). Keeps input output active over of × MayRead of) here in
     let of : Course = found.0 in
     let keeps : Keeps input output active over of = found.2.0 in
-    let may : MayRead of = found.2.1 in
-    (here_at (course acts place) of (λ (of : Course). MayRead of × (stage acts ≡ Hearing) × (1 ≤ length bytes) × (length bytes ≤ PIECE_SIZE)) found.1 (may, hearing, some, few),
-    here_at (course (On place (Reads bytes) ∷ acts) place) (record of { read = of.read ++ bytes }) (Keeps bytes output active over) (went place (Reads bytes) acts of found.1)
-    (record {
-      is_open = keeps.is_open;
-      input_rest = ap (λ (t : List ℕ). t ++ bytes) may.1;
-      output_rest = keeps.output_rest;
-      last = keeps.last;
-      end = keeps.end;
-    }))
+    let may : MayRead of = found.2.1 in (
+      here_at (course acts place) of (λ (of : Course). MayRead of × (stage acts ≡ Hearing) × (1 ≤ length bytes) × (length bytes ≤ PIECE_SIZE)) found.1 (may, hearing, some, few),
+      here_at (course (On place (Reads bytes) ∷ acts) place) (record of { read = of.read ++ bytes }) (Keeps bytes output active over) (went place (Reads bytes) acts of found.1)
+          (record {
+            is_open = keeps.is_open;
+            input_rest = ap (λ (t : List ℕ). t ++ bytes) may.1;
+            output_rest = keeps.output_rest;
+            last = keeps.last;
+            end = keeps.end;
+          }),
+    )
 
 pub next_over : (idle : ℕ) (acts : History) (place : ℕ) (input output : List ℕ) (active : ℕ) (over : Bool) → stage acts ≡ Hearing
     → Here (course acts place) (λ of. Keeps input output active over of × MayRead of) → Next idle acts place IsOver (Keeps input output active true)
 next_over idle acts place input output active over hearing here =
     let found = here_of (course acts place) (λ (of : Course). Keeps input output active over of × MayRead of) here in
     let of : Course = found.0 in
-    let keeps : Keeps input output active over of = found.2.0 in
-    (here_at (course acts place) of (λ (of : Course). MayRead of × (stage acts ≡ Hearing)) found.1 (found.2.1, hearing),
-    here_at (course (On place IsOver ∷ acts) place) (record of { is_over = true }) (Keeps input output active true) (went place IsOver acts of found.1)
-    (record {
-      is_open = keeps.is_open;
-      input_rest = keeps.input_rest;
-      output_rest = keeps.output_rest;
-      last = keeps.last;
-      end = refl;
-    }))
+    let keeps : Keeps input output active over of = found.2.0 in (
+      here_at (course acts place) of (λ (of : Course). MayRead of × (stage acts ≡ Hearing)) found.1 (found.2.1, hearing),
+      here_at (course (On place IsOver ∷ acts) place) (record of { is_over = true }) (Keeps input output active true) (went place IsOver acts of found.1)
+          (record {
+            is_open = keeps.is_open;
+            input_rest = keeps.input_rest;
+            output_rest = keeps.output_rest;
+            last = keeps.last;
+            end = refl;
+          }),
+    )
 
 pub next_fail : (idle : ℕ) (acts : History) (place : ℕ) → Here (course acts place) (λ of. of.is_open ≡ true)
     → Next idle acts place Fails (λ of. (of.is_open ≡ true) × (of.has_failed ≡ true))
 next_fail idle acts place here =
     let found = here_of (course acts place) (λ (of : Course). of.is_open ≡ true) here in
-    let of : Course = found.0 in
-    (here_at (course acts place) of (λ (of : Course). ⊤) found.1 tt,
-    here_at (course (On place Fails ∷ acts) place) (record of { has_failed = true }) (λ (of : Course). (of.is_open ≡ true) × (of.has_failed ≡ true)) (went place Fails acts of found.1) (found.2, refl))
+    let of : Course = found.0 in (
+      here_at (course acts place) of (λ (of : Course). ⊤) found.1 tt,
+      here_at (course (On place Fails ∷ acts) place) (record of { has_failed = true }) (λ (of : Course). (of.is_open ≡ true) × (of.has_failed ≡ true)) (went place Fails acts of found.1) (found.2, refl),
+    )
 
 pub next_take : (idle : ℕ) (acts : History) (place : ℕ) (bytes rest input output : List ℕ) (active : ℕ) (over : Bool) (now : ℕ) → clock acts ≡ now → stage acts ≡ Telling true → 1 ≤ length bytes → output ≡ bytes ++ rest
     → Here (course acts place) (Keeps input output active over) → Next idle acts place (Takes bytes) (Keeps input rest now over)
@@ -93,16 +96,17 @@ next_take idle acts place bytes rest input output active over now time telling s
     let found = here_of (course acts place) (Keeps input output active over) here in
     let of : Course = found.0 in
     let keeps : Keeps input output active over of = found.2 in
-    let answered : of.answered ≡ of.taken ++ (bytes ++ rest) = keeps.output_rest ∙ ap (λ (t : List ℕ). of.taken ++ t) split in
-    (here_at (course acts place) of (λ (of : Course). (stage acts ≡ Telling true) × (1 ≤ length bytes) × AreNext bytes of.answered of.taken) found.1 (telling, some, (rest, answered)),
-    here_at (course (On place (Takes bytes) ∷ acts) place) (record of { taken = of.taken ++ bytes; active = clock acts }) (Keeps input rest now over) (went place (Takes bytes) acts of found.1)
-    (record {
-      is_open = keeps.is_open;
-      input_rest = keeps.input_rest;
-      output_rest = answered ∙ sym (append_assoc of.taken bytes rest);
-      last = time;
-      end = keeps.end;
-    }))
+    let answered : of.answered ≡ of.taken ++ (bytes ++ rest) = keeps.output_rest ∙ ap (λ (t : List ℕ). of.taken ++ t) split in (
+      here_at (course acts place) of (λ (of : Course). (stage acts ≡ Telling true) × (1 ≤ length bytes) × AreNext bytes of.answered of.taken) found.1 (telling, some, (rest, answered)),
+      here_at (course (On place (Takes bytes) ∷ acts) place) (record of { taken = of.taken ++ bytes; active = clock acts }) (Keeps input rest now over) (went place (Takes bytes) acts of found.1)
+          (record {
+            is_open = keeps.is_open;
+            input_rest = keeps.input_rest;
+            output_rest = answered ∙ sym (append_assoc of.taken bytes rest);
+            last = time;
+            end = keeps.end;
+          }),
+    )
 
 -- ---- a deed of a connection
 
@@ -137,26 +141,28 @@ next_hear idle acts place part rest reply input output active over hearing some 
     let keeps : Keeps input output active over of = found.2 in
     let read : of.read ≡ of.heard ++ (part ++ rest) = keeps.input_rest ∙ ap (λ (t : List ℕ). of.heard ++ t) split in
     let size : length of.answered ≡ length of.taken + length output = ap length keeps.output_rest ∙ length-append of.taken output in
-    let room : HasRoom of = omega arith in
-    (here_at (course acts place) of (λ (of : Course). (of.is_open ≡ true) × HasRoom of × (stage acts ≡ Hearing) × (1 ≤ length part) × AreNext part of.read of.heard) found.1
-    (keeps.is_open, room, hearing, some, (rest, read)),
-    here_at (course (On place (Hears part reply) ∷ acts) place) (record of { heard = of.heard ++ part; answered = of.answered ++ reply; active = if_answered reply (clock acts) of.active })
-    (Keeps rest (output ++ reply) (if_answered reply (clock acts) active) over) (went place (Hears part reply) acts of found.1)
-    (record {
-      is_open = keeps.is_open;
-      input_rest = read ∙ sym (append_assoc of.heard part rest);
-      output_rest = ap (λ (t : List ℕ). t ++ reply) keeps.output_rest ∙ append_assoc of.taken output reply;
-      last = ap (if_answered reply (clock acts)) keeps.last;
-      end = keeps.end;
-    }))
+    let room : HasRoom of = omega arith in (
+      here_at (course acts place) of (λ (of : Course). (of.is_open ≡ true) × HasRoom of × (stage acts ≡ Hearing) × (1 ≤ length part) × AreNext part of.read of.heard) found.1
+          (keeps.is_open, room, hearing, some, (rest, read)),
+      here_at (course (On place (Hears part reply) ∷ acts) place) (record of { heard = of.heard ++ part; answered = of.answered ++ reply; active = if_answered reply (clock acts) of.active })
+          (Keeps rest (output ++ reply) (if_answered reply (clock acts) active) over) (went place (Hears part reply) acts of found.1)
+          (record {
+            is_open = keeps.is_open;
+            input_rest = read ∙ sym (append_assoc of.heard part rest);
+            output_rest = ap (λ (t : List ℕ). t ++ reply) keeps.output_rest ∙ append_assoc of.taken output reply;
+            last = ap (if_answered reply (clock acts)) keeps.last;
+            end = keeps.end;
+          }),
+    )
 
 pub next_want : (idle : ℕ) (acts : History) (place : ℕ) → Here (course acts place) (λ of. of.is_open ≡ true)
     → Next idle acts place Wants (λ of. (of.is_open ≡ true) × ⊤)
 next_want idle acts place here =
     let found = here_of (course acts place) (λ (of : Course). of.is_open ≡ true) here in
-    let of : Course = found.0 in
-    (here_at (course acts place) of (λ (of : Course). of.is_open ≡ true) found.1 found.2,
-    here_at (course (On place Wants ∷ acts) place) (record of { is_wanting = true }) (λ (of : Course). (of.is_open ≡ true) × ⊤) (went place Wants acts of found.1) (found.2, tt))
+    let of : Course = found.0 in (
+      here_at (course acts place) of (λ (of : Course). of.is_open ≡ true) found.1 found.2,
+      here_at (course (On place Wants ∷ acts) place) (record of { is_wanting = true }) (λ (of : Course). (of.is_open ≡ true) × ⊤) (went place Wants acts of found.1) (found.2, tt),
+    )
 
 -- ---- several deeds
 

@@ -1,8 +1,8 @@
 -- How a round begins.
-use Rattle.std.proofs.Common.{◌≡◌, ◌⊎◌, ℕ, List, [], ◌∷◌, get_or, Option, None, refl, sym, subst, inl, inr}
+use Rattle.std.proofs.Common.{◌≡◌, ℕ, List, [], ◌∷◌, get_or, Option, None, refl, sym, subst, inl, inr}
 use Rattle.connections.specs.declared.talk.Talk.{Talk}
 use Rattle.connections.specs.Fitting.{Fits, FitAll, Has, MayOrder, Turns}
-use Rattle.connections.specs.Histories.{At, Ordered, History, Course, Hearing, clock, course, of_connections, stage, stopped, Leads}
+use Rattle.connections.specs.Histories.{At, History, Course, Hearing, clock, course, stage, stopped, Leads}
 
 -- nothing happened yet
 pub all_free : (places : List (Option Talk)) → ((place : ℕ) → get_or places place None ≡ None) → FitAll places []

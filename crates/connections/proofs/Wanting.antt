@@ -4,7 +4,7 @@ use Rattle.std.specs.Io.KnownBytes.{Appends}
 use Rattle.textio.specs.declared.stream_fault.StreamFault.{StreamFault}
 use Rattle.textio.specs.declared.stream_fault.StreamFault.TheVariants.{CannotWrite}
 use Rattle.textio.specs.Output.{WritesBeginning, WritesBut}
-use Rattle.connections.specs.Telling.{memory_line, TellsMemory, TellsTimes}
+use Rattle.connections.specs.Telling.{memory_line, TellsMemory}
 
 pub tells_none : (old : Option (List ℕ)) → TellsMemory old old
 tells_none old = (zero, refl)

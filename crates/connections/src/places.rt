@@ -4,10 +4,10 @@ ghost use Rattle.std.specs.Prelude.{◌≡◌, ℕ, None, IfOk, get_or};
 ghost use Rattle.connections.specs.Fitting.{AreFree, Tours};
 ghost use Rattle.connections.specs.Histories.{Hearing, Telling};
 
+use crate::Sessions;
 use crate::connections::Connections;
 use crate::slots::{Round, Work, hear_at, take_at, tell_at};
 use crate::talk::Talk;
-use crate::Sessions;
 use std::alloc::{AllocError, Global};
 
 /// Places of connections.
@@ -70,7 +70,15 @@ pub(crate) fn take_all<S: Sessions, C: Connections>(
             return left;
         }
         if places[place].is_none() {
-            if !take_at(alloc, &mut places[place], sessions, connections, place, round, work) {
+            if !take_at(
+                alloc,
+                &mut places[place],
+                sessions,
+                connections,
+                place,
+                round,
+                work,
+            ) {
                 return left;
             }
             left -= 1;
@@ -91,7 +99,15 @@ pub(crate) fn hear_all<S: Sessions, C: Connections>(
     ensures { Tours S.opens S.hears S.wants S.ends C.has Hearing round.idle round.now round.stopped connections.old sessions.old places.old connections.new sessions.new places.new }
 {
     for place in 0..places.len() {
-        hear_at(alloc, &mut places[place], sessions, connections, place, round, work);
+        hear_at(
+            alloc,
+            &mut places[place],
+            sessions,
+            connections,
+            place,
+            round,
+            work,
+        );
     }
 }
 
@@ -107,6 +123,14 @@ pub(crate) fn tell_all<S: Sessions, C: Connections>(
     ensures { Tours S.opens S.hears S.wants S.ends C.has (Telling round.is_synced) round.idle round.now round.stopped connections.old sessions.old places.old connections.new sessions.new places.new }
 {
     for place in 0..places.len() {
-        tell_at(alloc, &mut places[place], sessions, connections, place, round, work);
+        tell_at(
+            alloc,
+            &mut places[place],
+            sessions,
+            connections,
+            place,
+            round,
+            work,
+        );
     }
 }

@@ -98,13 +98,21 @@ impl State {
                 is_synced: false,
             },
             work: Work::new(0),
-            left: if limits.count == 0 { u64::MAX } else { limits.count },
+            left: if limits.count == 0 {
+                u64::MAX
+            } else {
+                limits.count
+            },
         }
     }
 
     /// How many milliseconds the next round may wait.
     fn pause(self) -> u64 {
-        if self.work.is_busy { 0 } else { self.work.pause }
+        if self.work.is_busy {
+            0
+        } else {
+            self.work.pause
+        }
     }
 
     /// Whether no more connections are taken.
@@ -133,7 +141,15 @@ fn turn<S: Sessions, C: Connections>(
         is_synced: false,
     };
     let mut work = Work::new(LONGEST_WAIT);
-    let left = take_new(alloc, places, sessions, connections, round, last.left, &mut work);
+    let left = take_new(
+        alloc,
+        places,
+        sessions,
+        connections,
+        round,
+        last.left,
+        &mut work,
+    );
     hear_new(alloc, places, sessions, connections, round, &mut work);
     round.is_synced = connections.sync();
     tell_all(alloc, places, sessions, connections, round, &mut work);
@@ -182,5 +198,12 @@ pub fn answer_all<S: Sessions, C: Connections, E: Write>(
     ensures happens { C.has connections.old [] → (acts : History) × Has S.opens S.hears S.wants S.ends C.has limits.idle sessions.old connections.new sessions.new acts }
 {
     let mut places = places;
-    turn_all(alloc, places.slots.as_mut_slice(), sessions, connections, limits, errors);
+    turn_all(
+        alloc,
+        places.slots.as_mut_slice(),
+        sessions,
+        connections,
+        limits,
+        errors,
+    );
 }

@@ -32,7 +32,12 @@ pub trait Sessions {
     /// # Errors
     ///
     /// `Memory`, and the session is to be ended.
-    fn hear(&mut self, session: usize, bytes: &[u8], output: &mut Vec<u8>) -> Result<usize, SessionFault>
+    fn hear(
+        &mut self,
+        session: usize,
+        bytes: &[u8],
+        output: &mut Vec<u8>,
+    ) -> Result<usize, SessionFault>
         requires { bytes.now ≢ [] }
         ensures ok { IfOk result (λ count. (1 ≤ count) × (count ≤ length bytes.now)
             × (reply : List ℕ) × hears self.old session (take count bytes.now) reply self.new

@@ -5,10 +5,9 @@ ghost use Rattle.connections.specs.Fitting.{Adds, Has, IsOpeningFault, Judged, K
 ghost use Rattle.connections.specs.Histories.{History, Hearing, Telling, clock, course, stage, stopped};
 ghost use Rattle.connections.specs.Soundness.{Here, IsReason};
 
-use crate::SessionFault;
 use crate::connections::Connections;
 use crate::talk::Talk;
-use crate::{Ending, Sessions};
+use crate::{Ending, SessionFault, Sessions};
 use std::alloc::Global;
 
 /// What was done in a round.

@@ -222,12 +222,7 @@ impl Talk {
         self.is_over && self.input.is_empty() && self.output.is_empty()
     }
 
-    fn patience_of_stop(
-        &self,
-        now: u64,
-        stopped: Option<u64>,
-        most: u64,
-    ) -> Result<u64, Ending>
+    fn patience_of_stop(&self, now: u64, stopped: Option<u64>, most: u64) -> Result<u64, Ending>
         ensures { IfErr result (λ why. (why ≡ Ending.Stopped) × IsStopDue now stopped self.now) }
     {
         let Some(then) = stopped else {

@@ -1,5 +1,5 @@
 use Rattle.connections.specs.Fitting.{Tours}
-use Rattle.connections.specs.Histories.{Hearing, Telling}
+use Rattle.connections.specs.Histories.{Telling}
 use Rattle.connections.proofs.places.tell_all.Given as goal
 
 -- the places so far have had their turn

@@ -5,6 +5,9 @@ use Rattle.connections.proofs.rounds.stop_by.Goals as goal
 pub returns-then-is_stopped : goal.returns-then-is_stopped
 returns-then-is_stopped g c = λ idle acts knows time order.
     let none : c.args.known ≡ None = search rules in
-    let yes : c.is_stopped.result ≡ true = search rules in
-    (Ordered ∷ acts, inr refl, (c.is_stopped.ensures.yes yes (of_connections acts) knows.0, knows.1),
-    ap (λ (known : Option ℕ). or_now known (clock acts)) (order ∙ none) ∙ ap (λ (at : ℕ). Some at) time)
+    let yes : c.is_stopped.result ≡ true = search rules in (
+      Ordered ∷ acts,
+      inr refl,
+      (c.is_stopped.ensures.yes yes (of_connections acts) knows.0, knows.1),
+      ap (λ (known : Option ℕ). or_now known (clock acts)) (order ∙ none) ∙ ap (λ (at : ℕ). Some at) time,
+    )

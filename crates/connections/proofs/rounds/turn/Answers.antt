@@ -1,4 +1,4 @@
-use Rattle.std.proofs.Common.{◌≡◌, ◌∷◌, ℕ, refl, ◌∙◌}
+use Rattle.std.proofs.Common.{◌≡◌, ◌∷◌, refl, ◌∙◌}
 use Rattle.connections.specs.Histories.{At, Syncs, Hearing, of_connections, stage}
 use Rattle.connections.proofs.Touring.{begun, fit_begun}
 use Rattle.connections.proofs.rounds.turn.Goals as goal

@@ -1,8 +1,7 @@
-use Rattle.std.proofs.Common.{◌≡◌, ◌<◌, ◌≤◌, ◌∷◌, ◌++◌, List, ℕ, length, take, drop, rules, arith, refl, sym, subst, ◌∙◌}
+use Rattle.std.proofs.Common.{◌≡◌, ◌≤◌, ◌∷◌, ◌++◌, List, ℕ, length, take, drop, arith, refl, sym, subst}
 use Rattle.std.proofs.lemmas.Grind.{common_steps}
-use Rattle.connections.specs.Fitting.{KeepsTalk, Stays}
-use Rattle.connections.specs.Histories.{Hears, On, Wants, Course, clock, course, if_answered}
-use Rattle.connections.specs.Soundness.{Here}
+use Rattle.connections.specs.Fitting.{KeepsTalk}
+use Rattle.connections.specs.Histories.{Hears, On, Wants, Course, clock, if_answered}
 use Rattle.connections.proofs.Steps.{active_is, here_so, next_hear, next_want, stays_one}
 use Rattle.connections.proofs.talk.Talk.hear_part.Goals as goal
 
@@ -25,8 +24,12 @@ returns-clause-hears g c = λ idle start acts held hearing now here.
     let part_same : take c.in-Ok.count c.deref.result.now ≡ part = rw seen refl in
     let heard : g.S.Sessions.hears c.args.sessions.now c.args.place part ok.2 c.hear.new.self = subst (λ (t : List ℕ). g.S.Sessions.hears c.args.sessions.now c.args.place t ok.2 c.hear.new.self) part_same ok.3 in
     let active : if_answered ok.2 (clock acts) c.args.self.now.active ≡ c.active_after-self.result =
-        rw now (active_is ok.2 c.args.self.now.output.items c.hear.new.output.items c.args.now c.args.self.now.active c.active_after-self.result ok.4
-        (λ more. c.active_after-self.ensures.longer (grind (arith, common_steps))) (λ more. c.active_after-self.ensures.same (grind (arith, common_steps)))) in
-    let next = next_hear idle acts c.args.place part c.drop_front.new.bytes.items ok.2 input c.args.self.now.output.items c.args.self.now.active c.args.self.now.is_over hearing some split c.requires.room here in
-    (On c.args.place (Hears part ok.2) ∷ acts, stays_one c.args.place (Hears part ok.2) acts, refl, ((c.args.sessions.now, held.0, heard), (next.0, held.1)),
-    rw (sym {A = List ℕ} ok.4, active) at next.1)
+    rw now (active_is ok.2 c.args.self.now.output.items c.hear.new.output.items c.args.now c.args.self.now.active c.active_after-self.result ok.4
+    (λ more. c.active_after-self.ensures.longer (grind (arith, common_steps))) (λ more. c.active_after-self.ensures.same (grind (arith, common_steps)))) in
+    let next = next_hear idle acts c.args.place part c.drop_front.new.bytes.items ok.2 input c.args.self.now.output.items c.args.self.now.active c.args.self.now.is_over hearing some split c.requires.room here in (
+      On c.args.place (Hears part ok.2) ∷ acts,
+      stays_one c.args.place (Hears part ok.2) acts,
+      refl,
+      ((c.args.sessions.now, held.0, heard), (next.0, held.1)),
+      rw (sym {A = List ℕ} ok.4, active) at next.1,
+    )

@@ -1,8 +1,8 @@
-use Rattle.std.proofs.Common.{◌≡◌, ◌≤◌, List, ℕ, Bool, take, length, true, rules, arith, sym, subst}
+use Rattle.std.proofs.Common.{◌≡◌, ◌≤◌, List, ℕ, take, length, true, arith}
 use Rattle.std.proofs.lemmas.Grind.{common_steps}
 use Rattle.std.specs.Prelude.{⊤}
 use Rattle.connections.specs.Fitting.{Keeps, KeepsTalk}
-use Rattle.connections.specs.Histories.{Fails, IsOver, Reads, Course, of_connections, course}
+use Rattle.connections.specs.Histories.{Fails, IsOver, Reads, Course, of_connections}
 use Rattle.connections.specs.Soundness.{MayRead}
 use Rattle.connections.proofs.Steps.{come_to, here_so, next_fail, next_over, next_read}
 use Rattle.connections.proofs.talk.Talk.read_piece.Goals as goal

@@ -1,4 +1,4 @@
-use Rattle.std.proofs.Common.{◌≡◌, ◌≢◌, ◌⊎◌, [], Bool, false, rules, refl, inl, ap, sym, ◌∙◌}
+use Rattle.std.proofs.Common.{◌≡◌, ◌≢◌, [], Bool, false, rules, refl, inl, ap, ◌∙◌}
 use Rattle.connections.specs.Fitting.{KeepsTalk}
 use Rattle.connections.specs.Histories.{Telling, Course, stage}
 use Rattle.connections.proofs.Steps.{here_so, not_told}

@@ -1,7 +1,7 @@
-use Rattle.std.proofs.Common.{◌≡◌, ◌<◌, ◌≤◌, ◌∷◌, ◌++◌, List, ℕ, length, take, drop, rules, arith, refl, sym, subst}
+use Rattle.std.proofs.Common.{◌≡◌, ◌≤◌, ◌++◌, List, ℕ, length, take, drop, arith, sym}
 use Rattle.std.proofs.lemmas.Grind.{common_steps}
 use Rattle.connections.specs.Fitting.{KeepsTalk}
-use Rattle.connections.specs.Histories.{Fails, On, Takes, Course, of_connections}
+use Rattle.connections.specs.Histories.{Fails, Takes, Course, of_connections}
 use Rattle.connections.proofs.Steps.{come_to, here_so, next_fail, next_take}
 use Rattle.connections.proofs.talk.Talk.write.Goals as goal
 
