@@ -8,9 +8,10 @@ ghost use Rattle.audits.specs.Verdicts.{JudgesAt};
 ghost use Rattle.directoryd.specs.Orders.{values_in};
 ghost use Rattle.directoryd.specs.Programs.{verdict_outcome, EndsAs, Obeys, Runs, Starts};
 
+use crate::keys::{ask_with, directory_with, keys_at, listen_with};
 use crate::order::{Order, order};
 use crate::refusing::{refuse, refuse_bytes};
-use crate::{audit, judge_at, listen, play, prove, root, serve_directory};
+use crate::{ask, audit, judge_at, listen, play, prove, root, serve_directory};
 use audits::JudgeOrder;
 use std::alloc::Global;
 use std::convert::AsStr;
@@ -66,8 +67,19 @@ where
         Order::Audit(order) => audit(alloc, order, reader, writer)?,
         Order::Judge(order) => return judge(alloc, system, order, writer),
         Order::Play => play(alloc, reader, writer)?,
-        Order::Serve(order) => serve_directory(alloc, system, order, reader, writer, errors)?,
-        Order::Listen(order) => listen(alloc, system, order, errors)?,
+        Order::Serve(order, path) => {
+            let file = keys_at(alloc, system, path)?;
+            let order = directory_with(order, &file);
+            serve_directory(alloc, system, order, reader, writer, errors)?;
+        }
+        Order::Listen(order, path) => {
+            let file = keys_at(alloc, system, path)?;
+            listen(alloc, system, listen_with(order, &file), errors)?;
+        }
+        Order::Ask(order, path) => {
+            let file = keys_at(alloc, system, path)?;
+            return ask(alloc, system, ask_with(order, &file), reader, writer, errors);
+        }
     }
     Ok(0)
 }

@@ -10,7 +10,7 @@ use wire::Request;
 
 /// What a line asks of the directory, through session 0.
 #[derive(Debug, Drop)]
-pub(crate) enum Ask {
+pub enum Ask {
     Put {
         verb: Verb,
         name: Vec<u8>,

@@ -10,7 +10,7 @@ use textio::ProgramFault;
 /// # Errors
 ///
 /// `CannotRead`, and `OutOfMemory` if memory runs out.
-pub(crate) fn next_line<R: BufRead>(
+pub fn next_line<R: BufRead>(
     reader: &mut R,
     line: &mut Vec<u8>,
 ) -> Result<bool, ProgramFault>

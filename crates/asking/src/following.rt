@@ -1,0 +1,79 @@
+// The client and its monitors take the roots that are new.
+use crate::answering::response_to;
+use crate::checking::tell_client;
+use crate::{AskFault, Asker, Said};
+use nodehash::NodeHash;
+use play::Ask;
+use rootchain::MAX_ROOTS;
+use sigiface::Verifier;
+use std::io::{Read, Write};
+use vrfiface::VufCheck;
+use wire::Response;
+
+impl<H, V, S> Asker<H, V, S>
+where
+    H: NodeHash + Drop,
+    V: VufCheck + Drop,
+    S: Verifier + Drop,
+{
+    /// Lets the client and the monitors take all roots that are new.
+    ///
+    /// # Errors
+    ///
+    /// `NoReply`; `Stopped` if a root is refused, or no roots come; `OutOfMemory`.
+    pub fn follow<T: Read + Write>(
+        &mut self,
+        stream: &mut T,
+        said: &mut Said,
+    ) -> Result<(), AskFault> {
+        // Every loop of Rattle has an end: this one's is past any chain.
+        for _ in 0..u64::MAX {
+            if !self.take_list(stream, said)? {
+                return Ok(());
+            }
+        }
+        Err(AskFault::NoReply)
+    }
+
+    /// Takes the next roots, as many as a list has. Returns whether there were any.
+    fn take_list<T: Read + Write>(
+        &mut self,
+        stream: &mut T,
+        said: &mut Said,
+    ) -> Result<bool, AskFault> {
+        let Some(from) = self.head().checked_add(1) else {
+            return Ok(false);
+        };
+        let count = MAX_ROOTS as u16;
+        let ask = Ask::History { from, count };
+        let reply = self.request(stream, &ask)?;
+        let frame = reply.frame()?;
+        let Some(Response::Roots(roots)) = response_to(self.alloc, &ask, &frame, said)? else {
+            return Err(AskFault::Stopped);
+        };
+        if roots.len() == 0 {
+            return Ok(false);
+        }
+        self.take(frame.body, said)?;
+        Ok(true)
+    }
+
+    /// Hands a list of new roots to the client and the monitors.
+    fn take(&mut self, list: &[u8], said: &mut Said) -> Result<(), AskFault> {
+        let checks = &mut self.checks;
+        if let Err(why) = self
+            .client
+            .update(&mut checks.hash, &checks.verifier, list)
+        {
+            tell_client(self.alloc, b"root", why, said)?;
+            return Err(AskFault::Stopped);
+        }
+        for monitor in self.monitors.iter_mut() {
+            if let Err(why) = monitor.update(&mut checks.hash, &checks.verifier, list) {
+                tell_client(self.alloc, b"root", why, said)?;
+                return Err(AskFault::Stopped);
+            }
+        }
+        Ok(())
+    }
+}
