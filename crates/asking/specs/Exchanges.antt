@@ -1,7 +1,7 @@
--- A request and its reply on a stream.
-use Rattle.std.specs.Prelude.{◌≡◌, ℕ, List}
-use Rattle.wire.specs.Frames.{Frame, frame_bytes, IsFrame}
+-- A reply on a stream.
+use Rattle.std.specs.Prelude.{◌≡◌, ℕ, List, Ok}
+use Rattle.wire.specs.Frames.{Frame, read_frame}
 
--- the bytes are one whole frame
-abbrev pub IsOneFrame : List ℕ → Type 0
-IsOneFrame bytes = (frame : Frame) × IsFrame frame × (bytes ≡ frame_bytes frame)
+-- the bytes begin with this frame
+abbrev pub HoldsFrame : List ℕ → Frame → Type 0
+HoldsFrame bytes frame = (left : List ℕ) × (read_frame bytes ≡ Ok (frame, left))

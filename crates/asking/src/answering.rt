@@ -1,16 +1,20 @@
 // Whether a reply answers what was asked. Only then it is checked.
-ghost use Rattle.std.specs.Prelude.{◌≡◌};
+ghost use Rattle.std.specs.Prelude.{◌≡◌, ◌↔◌, IsTrue, OnOk, codes};
+ghost use Rattle.wire.specs.Refusals.{read_refusal_number};
 ghost use Rattle.wire.specs.Requests.{request_seen};
+ghost use Rattle.wire.specs.Responses.{response_seen, Refused};
+ghost use Rattle.play.specs.Hearing.{response_text};
 ghost use Rattle.play.specs.Spoken.{ask_seen};
-ghost use Rattle.asking.specs.Answering.{with_token};
+ghost use Rattle.asking.specs.Answering.{with_token, Answers};
+ghost use Rattle.asking.specs.Refused.{refuses_text};
+ghost use Rattle.asking.specs.Told.{refused, Tells};
 
 use crate::said::{Said, directory_words};
 use commands::{Put, Query};
-use encoding::Hash32;
-use play::{Ask, tell_response};
-use rootchain::RootList;
+use encoding::{Hash32, Name};
+use play::{Ask, push_number, tell_response};
 use std::alloc::{AllocError, Global};
-use wire::{FrameView, Request, Response};
+use wire::{FrameView, ReadRefusal, Request, Response};
 
 /// The request that asks it, with this token of the operator.
 pub(crate) fn request_of<'a>(ask: &'a Ask, token: Hash32) -> Request<'a>
@@ -45,26 +49,10 @@ pub(crate) fn request_of<'a>(ask: &'a Ask, token: Hash32) -> Request<'a>
     }
 }
 
-/// Whether these are at most so many roots, each of at least this epoch.
-fn are_from(body: &[u8], from: u64, count: u16) -> bool {
-    let Ok(mut roots) = RootList::read(body) else {
-        return false;
-    };
-    if usize::from(count) < roots.len() {
-        return false;
-    }
-    for _ in 0..roots.len() {
-        if let Some(root) = roots.next() {
-            if root.body.epoch < from {
-                return false;
-            }
-        }
-    }
-    true
-}
-
 /// Whether a response is one to what was asked: of its kind, and about what it names.
-fn answers(ask: &Ask, response: &Response<'_>, body: &[u8]) -> bool {
+pub(crate) fn answers(ask: &Ask, response: &Response<'_>) -> bool
+    ensures { IsTrue result ↔ Answers (ask_seen ask.now) (response_seen response.now) }
+{
     match (ask, response) {
         (Ask::Put { name, key, .. }, Response::Promise(signed)) => {
             signed.promise.name.bytes() == name.as_slice()
@@ -73,10 +61,10 @@ fn answers(ask: &Ask, response: &Response<'_>, body: &[u8]) -> bool {
         (Ask::Promise { name }, Response::Promise(signed)) => {
             signed.promise.name.bytes() == name.as_slice()
         }
-        (Ask::Lookup { epoch, .. }, Response::Proof(found)) => {
-            *epoch == 0 || found.body().epoch == *epoch
+        (Ask::Lookup { name, epoch }, Response::Proof(found)) => {
+            Name::new(name).is_ok() && (*epoch == 0 || found.body().epoch == *epoch)
         }
-        (Ask::History { from, count }, Response::Roots(_)) => are_from(body, *from, *count),
+        (Ask::History { count, .. }, Response::Roots(roots)) => roots.len() <= usize::from(*count),
         (Ask::Head, Response::Root(_)) => true,
         (Ask::Close { epoch }, Response::Root(root)) => root.body.epoch == *epoch,
         (Ask::Rotate { epoch, nonce }, Response::Root(root)) => {
@@ -86,37 +74,50 @@ fn answers(ask: &Ask, response: &Response<'_>, body: &[u8]) -> bool {
     }
 }
 
-/// The response that a frame is, if it answers what was asked; else tells why it does not.
-pub(crate) fn response_to<'a>(
+/// Tells a refusal of the directory.
+pub(crate) fn tell_refused(code: u8, said: &mut Said) -> Result<(), AllocError>
+    ensures { OnOk result (Tells said.old (refused (response_text (Refused code))) said.new) }
+{
+    tell_response(&mut said.text, Response::Refused(code))?;
+    said.words.extend_from_slice(b"refused ")?;
+    push_number(&mut said.words, u64::from(code))?;
+    said.explain(directory_words(code))
+}
+
+/// The body of a frame that answers what was asked; else tells why it does not.
+pub(crate) fn body_of<'a>(
     alloc: Global,
     ask: &Ask,
     frame: &FrameView<'a>,
     said: &mut Said,
-) -> Result<Option<Response<'a>>, AllocError> {
+) -> Result<Option<&'a [u8]>, AllocError> {
     match Response::read(frame.kind, frame.body) {
         Ok(Response::Refused(code)) => {
             tell_refused(code, said)?;
             Ok(None)
         }
         Ok(response) => {
-            if answers(ask, &response, frame.body) {
-                return Ok(Some(response));
+            if answers(ask, &response) {
+                return Ok(Some(frame.body));
             }
             said.refuse_other()?;
             Ok(None)
         }
         Err(why) => {
-            let words = format!(in alloc; "{why}")?;
-            said.refuse(b"reply", why.number(), words.as_bytes())?;
+            tell_unread(alloc, why, said)?;
             Ok(None)
         }
     }
 }
 
-/// Tells a refusal of the directory.
-fn tell_refused(code: u8, said: &mut Said) -> Result<(), AllocError> {
-    tell_response(&mut said.text, Response::Refused(code))?;
-    said.words.extend_from_slice(b"refused ")?;
-    play::push_number(&mut said.words, u64::from(code))?;
-    said.explain(directory_words(code))
+/// Tells that a frame is no response.
+pub(crate) fn tell_unread(
+    alloc: Global,
+    why: ReadRefusal,
+    said: &mut Said,
+) -> Result<(), AllocError>
+    ensures { OnOk result (Tells said.old (refused (refuses_text (codes "reply") (read_refusal_number why))) said.new) }
+{
+    let words = format!(in alloc; "{why}")?;
+    said.refuse(b"reply", why.number(), words.as_bytes())
 }

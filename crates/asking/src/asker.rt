@@ -4,6 +4,7 @@ use client::{Client, Refusal};
 use encoding::{Hash32, Name};
 use monitor::Monitor;
 use nodehash::NodeHash;
+use rootchain::SignedPromise;
 use sigiface::Verifier;
 use std::alloc::Global;
 use vrfiface::VufCheck;
@@ -40,6 +41,8 @@ where
     pub(crate) client: Client<H, V, S>,
     pub(crate) monitors: Vec<Monitor<H, V, S>>,
     pub(crate) marks: Vec<Mark>,
+    /// The promises that were kept in earlier runs, which a monitor that begins expects.
+    pub(crate) earlier: Vec<SignedPromise>,
 }
 
 impl<H, V, S> Asker<H, V, S>
@@ -69,6 +72,7 @@ where
             client,
             monitors: Vec::new(alloc),
             marks: Vec::new(alloc),
+            earlier: Vec::new(alloc),
         })
     }
 

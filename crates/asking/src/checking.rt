@@ -1,20 +1,33 @@
-// What the client makes of a reply.
-ghost use Rattle.std.specs.Prelude.{◌≡◌};
+// What the client makes of the reply to what was asked.
+ghost use Rattle.std.specs.Prelude.{◌≡◌, ◌++◌, ◌∷◌, [], OnOk, Result};
+ghost use Rattle.encoding.specs.Limits.{IsName};
+ghost use Rattle.wire.specs.FrameViews.{frame_seen};
+ghost use Rattle.wire.specs.Responses.{response_seen};
+ghost use Rattle.wire.specs.Responses as responds;
+ghost use Rattle.client.specs.Looking.{Looks};
+ghost use Rattle.client.specs.Promising.{Keeps};
+ghost use Rattle.client.specs.declared.refusal.Refusal.{Refusal};
+ghost use Rattle.proofs.specs.declared.statement.Statement.{Statement};
+ghost use Rattle.rootchain.specs.declared.chain.placing.Place.{Place};
+ghost use Rattle.rootchain.specs.declared.refusal.Refusal.{Refusal as RootRefusal};
+ghost use Rattle.audits.specs.Files.{evidence_text};
+ghost use Rattle.play.specs.Spoken.{ask_seen};
+ghost use Rattle.asking.specs.Answering.{Answers};
+ghost use Rattle.asking.specs.Checking.{look_told, place_told, promise_told, AreTold, HearsFrame, IsCheckedAs, Places};
+ghost use Rattle.asking.specs.Refused.{client_refuses};
+ghost use Rattle.asking.specs.Told.{Told, Tells};
 
-use crate::answering::{request_of, response_to};
-use crate::exchange::{Reply, exchange};
-use crate::{AskFault, Asker, Said};
+use crate::answering::{answers, tell_refused, tell_unread};
+use crate::{Checks, Said};
 use auditor::Evidence;
 use audits::evidence_json;
-use client::Refusal;
+use client::{Client, Refusal};
 use encoding::Name;
 use nodehash::NodeHash;
-use play::{Ask, tell_response, tell_statement};
-use proofs::ReplyView;
+use play::{Ask, push_number, tell_response, tell_statement};
 use rootchain::{Place, RootList, SignedPromise, SignedRoot};
 use sigiface::Verifier;
 use std::alloc::{AllocError, Global};
-use std::io::{Read, Write};
 use vrfiface::VufCheck;
 use wire::{FrameView, Response};
 
@@ -23,7 +36,10 @@ pub(crate) fn tell_evidence(
     alloc: Global,
     evidence: &Evidence,
     said: &mut Said,
-) -> Result<(), AllocError> {
+) -> Result<(), AllocError>
+    ensures text { OnOk result ((said.new).text.items ≡ (said.old).text.items ++ evidence_text evidence.now ++ 10 ∷ []) }
+    ensures status { (said.new).status ≡ (said.old).status }
+{
     let json = evidence_json(alloc, evidence)?;
     said.text.extend_from_slice(json.as_bytes())?;
     said.text.push(b'\n')?;
@@ -36,7 +52,9 @@ pub(crate) fn tell_client(
     what: &[u8],
     why: Refusal,
     said: &mut Said,
-) -> Result<(), AllocError> {
+) -> Result<(), AllocError>
+    ensures { OnOk result (Tells said.old (client_refuses what.now why) said.new) }
+{
     if why == Refusal::Memory {
         return Err(AllocError);
     }
@@ -48,172 +66,200 @@ pub(crate) fn tell_client(
     said.refuse(what, number, words.as_bytes())
 }
 
-/// The epoch of which a response speaks, if it speaks of one.
-fn epoch_of(response: &Response<'_>) -> u64 {
-    match response {
-        Response::Promise(signed) => signed.promise.epoch,
-        Response::Proof(found) => found.body().epoch,
-        Response::Root(root) => root.body.epoch,
-        Response::Roots(_) | Response::Refused(_) => 0,
-    }
-}
-
-impl<H, V, S> Asker<H, V, S>
+/// What the client makes of the frame that came back for what was asked. A promise is kept.
+///
+/// # Errors
+///
+/// `AllocError` if memory runs out.
+pub fn hear<H, V, S>(
+    alloc: Global,
+    client: &mut Client<H, V, S>,
+    checks: &mut Checks<H, V, S>,
+    ask: &Ask,
+    frame: &FrameView<'_>,
+    said: &mut Said,
+) -> Result<(), AllocError>
 where
     H: NodeHash + Drop,
     V: VufCheck + Drop,
     S: Verifier + Drop,
+    ensures { OnOk result ((told : Told) × HearsFrame H.digest_of V.accepted S.verified client.old (ask_seen ask.now) (frame_seen frame.now) told client.new × Tells said.old told said.new) }
 {
-    /// Asks what a line asks, and tells what the client makes of the reply. If there are new epochs, the
-    /// monitors then watch them, and the promises that are due are tested.
-    ///
-    /// # Errors
-    ///
-    /// `NoReply`; `Stopped`; `OutOfMemory`.
-    pub fn ask<T: Read + Write>(
-        &mut self,
-        stream: &mut T,
-        ask: &Ask,
-        said: &mut Said,
-    ) -> Result<(), AskFault> {
-        let head = self.head();
-        let reply = self.request(stream, ask)?;
-        let frame = reply.frame()?;
-        if let Some(response) = response_to(self.alloc, ask, &frame, said)? {
-            // The roots up to the one that the reply speaks of come first.
-            if self.head() < epoch_of(&response) {
-                self.follow(stream, said)?;
+    match Response::read(frame.kind, frame.body) {
+        Ok(Response::Refused(code)) => tell_refused(code, said),
+        Ok(response) => {
+            if answers(ask, &response) {
+                check(alloc, client, checks, ask, response, frame.body, said)
+            } else {
+                said.refuse_other()
             }
-            self.check(ask, response, &frame, said)?;
         }
-        if head < self.head() {
-            self.go_on(stream, said)?;
-        }
-        Ok(())
+        Err(why) => tell_unread(alloc, why, said),
     }
+}
 
-    /// Sends what is asked, and reads the reply.
-    pub(crate) fn request<T: Read + Write>(
-        &mut self,
-        stream: &mut T,
-        ask: &Ask,
-    ) -> Result<Reply, AskFault> {
-        exchange(self.alloc, stream, &request_of(ask, self.token))
-    }
-
-    /// Checks a response to what was asked, and tells its line.
-    fn check(
-        &mut self,
-        ask: &Ask,
-        response: Response<'_>,
-        frame: &FrameView<'_>,
-        said: &mut Said,
-    ) -> Result<(), AllocError> {
-        match response {
-            Response::Proof(found) => self.check_proof(ask, &found, frame.body, said),
-            Response::Promise(signed) => self.check_promise(ask, signed, frame.body, said),
-            Response::Root(root) => self.check_root(root, said),
-            Response::Roots(roots) => self.check_roots(roots, frame, said),
-            Response::Refused(_) => Ok(()),
-        }
-    }
-
-    /// Checks a reply to a look-up.
-    fn check_proof(
-        &mut self,
-        ask: &Ask,
-        found: &ReplyView<'_>,
-        reply: &[u8],
-        said: &mut Said,
-    ) -> Result<(), AllocError> {
-        let Ask::Lookup { name, epoch } = ask else {
-            return Ok(());
-        };
-        let Ok(name) = Name::new(name) else {
-            return said.refuse_other();
-        };
-        let checks = &mut self.checks;
-        match self
-            .client
-            .look(&mut checks.hash, &checks.vuf, &name, *epoch, reply)
-        {
-            Ok(statement) => tell_statement(&mut said.text, found.body().epoch, statement),
-            Err(why) => tell_client(self.alloc, b"proof", why, said),
-        }
-    }
-
-    /// Checks a promise, and keeps it. One that was asked for by `register` or `change` is also handed to the
-    /// monitors of the name.
-    fn check_promise(
-        &mut self,
-        ask: &Ask,
-        signed: SignedPromise,
-        promise: &[u8],
-        said: &mut Said,
-    ) -> Result<(), AllocError> {
-        let checks = &mut self.checks;
-        if let Err(why) =
-            self.client
-                .keep_promise(&mut checks.hash, &checks.verifier, promise)
-        {
-            return tell_client(self.alloc, b"promise", why, said);
-        }
-        if let Ask::Put { .. } = ask {
-            self.hand_out(&signed, promise)?;
-        }
-        tell_response(&mut said.text, Response::Promise(signed))
-    }
-
-    /// Checks the latest root. The chain has it by now.
-    fn check_root(&mut self, root: SignedRoot, said: &mut Said) -> Result<(), AllocError> {
-        match self.place(&root) {
-            Ok(Place::Known) => tell_response(&mut said.text, Response::Root(root)),
-            Ok(Place::Next | Place::Ahead) => {
-                let why = rootchain::Refusal::BadLink;
-                tell_client(self.alloc, b"root", Refusal::from(why), said)
-            }
-            Ok(Place::BeforeStart) => {
-                let why = rootchain::Refusal::NotLater;
-                tell_client(self.alloc, b"root", Refusal::from(why), said)
-            }
-            Ok(Place::Evidence(roots)) => {
-                tell_client(self.alloc, b"root", Refusal::RootDiffers(roots), said)
-            }
-            Err(why) => tell_client(self.alloc, b"root", Refusal::from(why), said),
-        }
-    }
-
-    /// Checks each root of a list: it verifies, and is no evidence with the chain.
-    fn check_roots(
-        &mut self,
-        roots: RootList<'_>,
-        frame: &FrameView<'_>,
-        said: &mut Said,
-    ) -> Result<(), AllocError> {
-        let mut rest = roots;
-        for _ in 0..rest.len() {
-            let Some(root) = rest.next() else {
-                break;
+/// Checks a response that answers what was asked.
+fn check<H, V, S>(
+    alloc: Global,
+    client: &mut Client<H, V, S>,
+    checks: &mut Checks<H, V, S>,
+    ask: &Ask,
+    response: Response<'_>,
+    body: &[u8],
+    said: &mut Said,
+) -> Result<(), AllocError>
+where
+    H: NodeHash + Drop,
+    V: VufCheck + Drop,
+    S: Verifier + Drop,
+    requires { Answers (ask_seen ask.now) (response_seen response) }
+    ensures { OnOk result ((told : Told) × IsCheckedAs H.digest_of V.accepted S.verified client.old body.now (ask_seen ask.now) (response_seen response.entry) told client.new × Tells said.old told said.new) }
+{
+    match response {
+        Response::Proof(found) => {
+            let Ask::Lookup { name, epoch } = ask else {
+                unreachable!()
             };
-            match self.place(&root) {
-                Ok(Place::Evidence(roots)) => {
-                    return tell_client(self.alloc, b"root", Refusal::RootDiffers(roots), said);
-                }
-                Ok(_) => {}
-                Err(why) => return tell_client(self.alloc, b"root", Refusal::from(why), said),
-            }
+            let found_at = found.body().epoch;
+            look(alloc, client, checks, name, *epoch, found_at, body, said)
         }
-        match RootList::read(frame.body) {
-            Ok(roots) => tell_response(&mut said.text, Response::Roots(roots)),
-            Err(_) => Ok(()),
+        Response::Promise(signed) => keep(alloc, client, checks, signed, body, said),
+        Response::Root(root) => place_latest(alloc, client, checks, root, said),
+        Response::Roots(roots) => {
+            let Ask::History { from, .. } = ask else {
+                unreachable!()
+            };
+            place_all(alloc, client, checks, *from, roots, said)
         }
+        Response::Refused(_) => unreachable!(),
     }
+}
 
-    /// Where a root stands to the client's chain.
-    fn place(&mut self, root: &SignedRoot) -> Result<Place, rootchain::Refusal> {
-        let checks = &mut self.checks;
-        self.client
-            .chain()
-            .place(&mut checks.hash, &checks.verifier, root)
+/// Looks at a reply to a look-up, which is of an epoch.
+fn look<H, V, S>(
+    alloc: Global,
+    client: &mut Client<H, V, S>,
+    checks: &mut Checks<H, V, S>,
+    name: &[u8],
+    epoch: u64,
+    found_at: u64,
+    reply: &[u8],
+    said: &mut Said,
+) -> Result<(), AllocError>
+where
+    H: NodeHash + Drop,
+    V: VufCheck + Drop,
+    S: Verifier + Drop,
+    requires named { IsName name.now }
+    ensures { OnOk result ((answer : Result Statement Refusal) × Looks H.digest_of V.accepted client.old name.now epoch reply.now answer client.new × Tells said.old (look_told found_at answer) said.new) }
+{
+    let Ok(name) = Name::new(name) else {
+        unreachable!()
+    };
+    match client.look(&mut checks.hash, &checks.vuf, &name, epoch, reply) {
+        Ok(statement) => tell_statement(&mut said.text, found_at, statement),
+        Err(why) => tell_client(alloc, b"proof", why, said),
     }
+}
+
+/// Keeps a promise, if it is one of the client's provider over a root of the chain.
+fn keep<H, V, S>(
+    alloc: Global,
+    client: &mut Client<H, V, S>,
+    checks: &mut Checks<H, V, S>,
+    signed: SignedPromise,
+    promise: &[u8],
+    said: &mut Said,
+) -> Result<(), AllocError>
+where
+    H: NodeHash + Drop,
+    V: VufCheck + Drop,
+    S: Verifier + Drop,
+    ensures { OnOk result ((answer : Result (Unit {0}) Refusal) × Keeps H.digest_of S.verified client.old promise.now answer client.new × Tells said.old (promise_told (responds.Promise signed) answer) said.new) }
+{
+    match client.keep_promise(&mut checks.hash, &checks.verifier, promise) {
+        Ok(()) => tell_response(&mut said.text, Response::Promise(signed)),
+        Err(why) => tell_client(alloc, b"promise", why, said),
+    }
+}
+
+/// Where a root stands to the chain of a client.
+fn place<H, V, S>(
+    client: &Client<H, V, S>,
+    checks: &mut Checks<H, V, S>,
+    root: &SignedRoot,
+) -> Result<Place, rootchain::Refusal>
+where
+    H: NodeHash + Drop,
+    V: VufCheck + Drop,
+    S: Verifier + Drop,
+    ensures { Places H.digest_of S.verified client.now.chain root.now result }
+{
+    client
+        .chain()
+        .place(&mut checks.hash, &checks.verifier, root)
+}
+
+/// Tells the latest root, which the chain has to have.
+fn place_latest<H, V, S>(
+    alloc: Global,
+    client: &Client<H, V, S>,
+    checks: &mut Checks<H, V, S>,
+    root: SignedRoot,
+    said: &mut Said,
+) -> Result<(), AllocError>
+where
+    H: NodeHash + Drop,
+    V: VufCheck + Drop,
+    S: Verifier + Drop,
+    ensures { OnOk result ((place : Result Place RootRefusal) × Places H.digest_of S.verified client.now.chain root place × Tells said.old (place_told root place) said.new) }
+{
+    let why = match place(client, checks, &root) {
+        Ok(Place::Known) => return tell_response(&mut said.text, Response::Root(root)),
+        Ok(Place::Next) => Refusal::from(rootchain::Refusal::BadLink),
+        Ok(Place::Ahead) => Refusal::from(rootchain::Refusal::BadLink),
+        Ok(Place::BeforeStart) => Refusal::from(rootchain::Refusal::NotLater),
+        Ok(Place::Evidence(roots)) => Refusal::RootDiffers(roots),
+        Err(why) => Refusal::from(why),
+    };
+    tell_client(alloc, b"root", why, said)
+}
+
+/// Tells roots that were asked for from an epoch on. Each verifies, and is no evidence with the chain.
+fn place_all<H, V, S>(
+    alloc: Global,
+    client: &Client<H, V, S>,
+    checks: &mut Checks<H, V, S>,
+    from: u64,
+    roots: RootList<'_>,
+    said: &mut Said,
+) -> Result<(), AllocError>
+where
+    H: NodeHash + Drop,
+    V: VufCheck + Drop,
+    S: Verifier + Drop,
+    ensures { OnOk result ((told : Told) × AreTold H.digest_of S.verified client.now.chain from roots.entry roots.entry told × Tells said.old told said.new) }
+{
+    let mut rest = roots;
+    let mut line = Vec::from_slice(alloc, b"roots")?;
+    for _ in 0..rest.len() {
+        let Some(root) = rest.next() else {
+            unreachable!()
+        };
+        if root.body.epoch < from {
+            return said.refuse_other();
+        }
+        match place(client, checks, &root) {
+            Ok(Place::Evidence(roots)) => {
+                return tell_client(alloc, b"root", Refusal::RootDiffers(roots), said);
+            }
+            Ok(Place::Known | Place::Next | Place::Ahead | Place::BeforeStart) => {}
+            Err(why) => return tell_client(alloc, b"root", Refusal::from(why), said),
+        }
+        line.push(b' ')?;
+        push_number(&mut line, root.body.epoch)?;
+    }
+    line.push(b'\n')?;
+    said.text.extend_from_slice(&line)?;
+    Ok(())
 }

@@ -2,9 +2,10 @@
 // read.
 ghost use Rattle.std.specs.Prelude.{◌≡◌, ◌≤◌, IfOk, OnOk};
 ghost use Rattle.std.specs.Io.KnownBytes.{Appends, Consumes};
-ghost use Rattle.wire.specs.Frames.{frame_bytes, frame_size, Frame, IsFrame};
+ghost use Rattle.wire.specs.Frames.{frame_bytes, frame_size};
+ghost use Rattle.wire.specs.FrameViews.{frame_seen};
 ghost use Rattle.wire.specs.Requests.{request_frame, request_seen};
-ghost use Rattle.asking.specs.Exchanges.{IsOneFrame};
+ghost use Rattle.asking.specs.Exchanges.{HoldsFrame};
 
 use crate::AskFault;
 use std::alloc::Global;
@@ -15,29 +16,24 @@ use wire::{FrameView, Front, MAX_FRAME_LEN, Request, front_of};
 /// How many bytes tell the length of a frame.
 const LENGTH: usize = 4;
 
-/// A frame that came whole.
-#[derive(Debug, Drop)]
-pub(crate) struct Reply {
-    bytes: Vec<u8>,
-}
-
-impl Reply {
-    /// The frame, if the bytes are one.
-    pub(crate) fn frame(&self) -> Result<FrameView<'_>, AskFault> {
-        match front_of(&self.bytes) {
-            Front::Whole(frame) => Ok(frame),
-            Front::Short | Front::Bad => Err(AskFault::NoReply),
-        }
+/// The frame that begins the bytes that came.
+pub(crate) fn frame_in(bytes: &[u8]) -> Result<FrameView<'_>, AskFault>
+    ensures { IfOk result (λ frame. HoldsFrame bytes.entry.now (frame_seen frame)) }
+{
+    match front_of(bytes) {
+        Front::Whole(frame) => Ok(frame),
+        Front::Short | Front::Bad => Err(AskFault::NoReply),
     }
 }
 
-/// Reads the next frame.
+/// Reads as many bytes as the next frame has, by its length.
 ///
 /// # Errors
 ///
-/// `NoReply` if the stream ends or fails before the frame is whole, or has a length that no frame has;
-/// `OutOfMemory`.
-pub(crate) fn read_reply<R: Read>(alloc: Global, reader: &mut R) -> Result<Reply, AskFault> {
+/// `NoReply` if the stream ends or fails before, or has a length that no frame has; `OutOfMemory`.
+pub(crate) fn read_reply<R: Read>(alloc: Global, reader: &mut R) -> Result<Vec<u8>, AskFault>
+    ensures { IfOk result (λ bytes. Consumes (R.remaining reader.old) (R.remaining reader.new) bytes.items) }
+{
     let mut length = [0; LENGTH];
     if reader.read_exact(&mut length).is_err() {
         return Err(AskFault::NoReply);
@@ -46,12 +42,14 @@ pub(crate) fn read_reply<R: Read>(alloc: Global, reader: &mut R) -> Result<Reply
     if size < 1 || MAX_FRAME_LEN < size {
         return Err(AskFault::NoReply);
     }
-    let mut bytes = Vec::from_slice(alloc, &length)?;
-    bytes.resize(LENGTH + size, 0)?;
-    if reader.read_exact(&mut bytes[LENGTH..]).is_err() {
+    let mut body = Vec::new(alloc);
+    body.resize(size, 0)?;
+    if reader.read_exact(&mut body).is_err() {
         return Err(AskFault::NoReply);
     }
-    Ok(Reply { bytes })
+    let mut bytes = Vec::from_slice(alloc, &length)?;
+    bytes.extend_from_slice(&body)?;
+    Ok(bytes)
 }
 
 /// Sends a request, and reads its reply.
@@ -63,9 +61,10 @@ pub(crate) fn exchange<T: Read + Write>(
     alloc: Global,
     stream: &mut T,
     request: &Request<'_>,
-) -> Result<Reply, AskFault>
-    requires fits { frame_size (request_frame (request_seen request.now)) ≤ 65536 }
-{
+) -> Result<Vec<u8>, AskFault> {
+    if !request.fits() {
+        return Err(AskFault::NoReply);
+    }
     let mut frame = Vec::new(alloc);
     request.write(&mut frame)?;
     if write_text(stream, &frame).is_err() {

@@ -1,6 +1,7 @@
 // The client and its monitors take the roots that are new.
-use crate::answering::response_to;
+use crate::answering::body_of;
 use crate::checking::tell_client;
+use crate::exchange::frame_in;
 use crate::{AskFault, Asker, Said};
 use nodehash::NodeHash;
 use play::Ask;
@@ -8,7 +9,9 @@ use rootchain::MAX_ROOTS;
 use sigiface::Verifier;
 use std::io::{Read, Write};
 use vrfiface::VufCheck;
-use wire::Response;
+
+/// The bytes of a list of no root.
+const EMPTY_LIST: [u8; 2] = [0, 0];
 
 impl<H, V, S> Asker<H, V, S>
 where
@@ -47,14 +50,17 @@ where
         let count = MAX_ROOTS as u16;
         let ask = Ask::History { from, count };
         let reply = self.request(stream, &ask)?;
-        let frame = reply.frame()?;
-        let Some(Response::Roots(roots)) = response_to(self.alloc, &ask, &frame, said)? else {
+        let Some(list) = body_of(self.alloc, &ask, &frame_in(&reply)?, said)? else {
             return Err(AskFault::Stopped);
         };
-        if roots.len() == 0 {
+        if list == EMPTY_LIST.as_slice() {
             return Ok(false);
         }
-        self.take(frame.body, said)?;
+        self.take(list, said)?;
+        if self.head() < from {
+            said.refuse_other()?;
+            return Err(AskFault::Stopped);
+        }
         Ok(true)
     }
 

@@ -15,6 +15,7 @@
 
 mod answering;
 mod asker;
+mod asking;
 mod checking;
 mod exchange;
 mod fault;
@@ -27,6 +28,7 @@ mod state;
 mod watching;
 
 pub use asker::{Asker, Checks};
+pub use checking::hear;
 pub use fault::AskFault;
 pub use order::AskOrder;
 pub use running::ask;

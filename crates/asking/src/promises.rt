@@ -1,18 +1,21 @@
 // The promises that the client keeps are tested once the chain has the next root.
-use crate::answering::response_to;
+ghost use Rattle.std.specs.Prelude.{IfOk};
+ghost use Rattle.asking.specs.Testing.{TellsDue};
+
+use crate::answering::body_of;
 use crate::checking::{tell_client, tell_evidence};
+use crate::exchange::frame_in;
 use crate::said::OTHER_INDEX;
-use crate::{AskFault, Asker, Said};
+use crate::{AskFault, Asker, Checks, Said};
 use auditor::Evidence;
-use client::Due;
+use client::{Client, Due};
 use encoding::Name;
 use nodehash::NodeHash;
 use play::{Ask, push_hex};
 use sigiface::Verifier;
-use std::alloc::AllocError;
+use std::alloc::{AllocError, Global};
 use std::io::{Read, Write};
 use vrfiface::VufCheck;
-use wire::FrameView;
 
 impl<H, V, S> Asker<H, V, S>
 where
@@ -33,12 +36,12 @@ where
         let mut place = 0;
         // Every loop of Rattle has an end: this one's is past any list.
         for _ in 0..u64::MAX {
-            if self.client.promises().len() <= place {
+            let Some(signed) = self.client.promises().get(place) else {
                 return Ok(());
-            }
-            let name = self.client.promises()[place].promise.name.copied();
+            };
+            let name = signed.promise.name.copied();
             if self.waits_for_monitor(&name) || !self.test(stream, &name, said)? {
-                place += 1;
+                place = place.saturating_add(1);
             }
         }
         Ok(())
@@ -65,41 +68,46 @@ where
             epoch,
         };
         let reply = self.request(stream, &ask)?;
-        let frame = reply.frame()?;
-        if response_to(self.alloc, &ask, &frame, said)?.is_none() {
+        let Some(found) = body_of(self.alloc, &ask, &frame_in(&reply)?, said)? else {
             return Ok(false);
-        }
-        Ok(self.tell_due(name, &frame, said)?)
-    }
-
-    /// Tells what a reply shows of a promise. Returns whether it was kept.
-    fn tell_due(
-        &mut self,
-        name: &Name,
-        frame: &FrameView<'_>,
-        said: &mut Said,
-    ) -> Result<bool, AllocError> {
+        };
         let checks = &mut self.checks;
-        match self
-            .client
-            .due(&mut checks.hash, &checks.vuf, name, frame.body)
-        {
-            Ok(Due::Kept) => Ok(true),
-            Ok(Due::Broken(broken)) => {
-                tell_evidence(self.alloc, &Evidence::Broken(broken), said)?;
-                said.words.extend_from_slice(b"promise for ")?;
-                push_hex(&mut said.words, name.bytes())?;
-                said.explain(b"it was not kept")?;
-                Ok(false)
-            }
-            Ok(Due::OtherIndex) => {
-                said.refuse(b"promise", OTHER_INDEX, b"the name has another index")?;
-                Ok(false)
-            }
-            Err(why) => {
-                tell_client(self.alloc, b"proof", why, said)?;
-                Ok(false)
-            }
+        Ok(tell_due(self.alloc, &mut self.client, checks, name, found, said)?)
+    }
+}
+
+/// Tells what a reply shows of the promise that is tested for a name: nothing where it was kept. Returns whether it
+/// was.
+fn tell_due<H, V, S>(
+    alloc: Global,
+    client: &mut Client<H, V, S>,
+    checks: &mut Checks<H, V, S>,
+    name: &Name,
+    reply: &[u8],
+    said: &mut Said,
+) -> Result<bool, AllocError>
+where
+    H: NodeHash + Drop,
+    V: VufCheck + Drop,
+    S: Verifier + Drop,
+    ensures { IfOk result (λ kept. TellsDue H.digest_of V.accepted client.old name.now reply.now said.old kept said.new client.new) }
+{
+    match client.due(&mut checks.hash, &checks.vuf, name, reply) {
+        Ok(Due::Kept) => Ok(true),
+        Ok(Due::Broken(broken)) => {
+            tell_evidence(alloc, &Evidence::Broken(broken), said)?;
+            said.words.extend_from_slice(b"promise for ")?;
+            push_hex(&mut said.words, name.bytes())?;
+            said.explain(b"it was not kept")?;
+            Ok(false)
+        }
+        Ok(Due::OtherIndex) => {
+            said.refuse(b"promise", OTHER_INDEX, b"the name has another index")?;
+            Ok(false)
+        }
+        Err(why) => {
+            tell_client(alloc, b"proof", why, said)?;
+            Ok(false)
         }
     }
 }

@@ -1,6 +1,7 @@
 // A run of questions over a connection. Contracts do not know what a socket or a file has.
-use crate::answering::response_to;
+use crate::answering::{body_of, request_of};
 use crate::checking::tell_client;
+use crate::exchange::{exchange, frame_in};
 use crate::said::REFUSED;
 use crate::state::State;
 use crate::{AskFault, AskOrder, Asker, Checks, Said};
@@ -15,7 +16,6 @@ use std::net::{Net, TcpListener, TcpStream};
 use std::time::Duration;
 use textio::{ProgramFault, option_hex32, option_nonce, write_text};
 use vrfiface::KeyedVuf;
-use wire::Response;
 
 /// How long a reply is waited for.
 const SECONDS: u64 = 60;
@@ -26,10 +26,10 @@ type KeyedChecks = Checks<Sha256Hash, KeyedVuf, KeyedSign>;
 
 /// What a run works with: the stream to the directory, the files of the state, and what is said.
 #[derive(Drop)]
-struct Run<'a, F, T, W, E> {
+struct Run<'a, 's, F, T, W, E> {
     alloc: Global,
     files: &'a F,
-    stream: &'a mut T,
+    stream: &'s mut T,
     writer: &'a mut W,
     errors: &'a mut E,
     state: Option<State<'a>>,
@@ -45,13 +45,13 @@ struct Run<'a, F, T, W, E> {
 /// `BadHex`, before all else, if a text of the order is not 64 hexadecimal digits; `NotACommand` at the first
 /// line that asks nothing of a directory; `BadItem` at a line of the state that is not as a run wrote it;
 /// `CannotRead`; `CannotWrite`; `OutOfMemory`.
-pub fn ask<N, R, W, E>(
+pub fn ask<'a, N, R, W, E>(
     alloc: Global,
-    system: &N,
-    order: AskOrder<'_>,
+    system: &'a N,
+    order: AskOrder<'a>,
     reader: &mut R,
-    writer: &mut W,
-    errors: &mut E,
+    writer: &'a mut W,
+    errors: &'a mut E,
 ) -> Result<u8, ProgramFault>
 where
     N: Net<Listener = TcpListener, Stream = TcpStream> + Files<File = File>,
@@ -109,7 +109,7 @@ fn line_of_words(alloc: Global, words: &[Option<&str>]) -> Result<Vec<u8>, Progr
     Ok(line)
 }
 
-impl<F, T, W, E> Run<'_, F, T, W, E>
+impl<F, T, W, E> Run<'_, '_, F, T, W, E>
 where
     F: Files<File = File>,
     T: Read + Write,
@@ -187,15 +187,12 @@ where
         key: Hash32,
         token: Hash32,
     ) -> Result<KeyedAsker, AskFault> {
-        let request = crate::answering::request_of(&Ask::Head, token);
-        let reply = crate::exchange::exchange(self.alloc, self.stream, &request)?;
-        let frame = reply.frame()?;
-        let Some(Response::Root(_)) =
-            response_to(self.alloc, &Ask::Head, &frame, &mut self.said)?
-        else {
+        let reply = exchange(self.alloc, self.stream, &request_of(&Ask::Head, token))?;
+        let frame = frame_in(&reply)?;
+        let Some(root) = body_of(self.alloc, &Ask::Head, &frame, &mut self.said)? else {
             return Err(AskFault::Stopped);
         };
-        match Asker::start(self.alloc, checks, key, token, frame.body) {
+        match Asker::start(self.alloc, checks, key, token, root) {
             Ok(asker) => Ok(asker),
             Err(why) => {
                 tell_client(self.alloc, b"root", why, &mut self.said)?;

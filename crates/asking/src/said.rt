@@ -1,12 +1,9 @@
-ghost use Rattle.std.specs.Prelude.{◌≡◌, ◌++◌, ◌∷◌, [], OnOk, codes};
-ghost use Rattle.asking.specs.Refused.{refuses_text};
-ghost use Rattle.asking.specs.declared.said.TheConstants.{OTHER_REPLY};
+ghost use Rattle.std.specs.Prelude.{◌≡◌, ◌++◌, [], OnOk};
+ghost use Rattle.asking.specs.Refused.{other_reply, refuses_text};
+ghost use Rattle.asking.specs.Told.{refused, worse, Tells};
 
 use play::push_number;
 use std::alloc::{AllocError, Global};
-
-/// The status of a run in which all went well.
-pub(crate) const FINE: u8 = 0;
 
 /// The status of a run in which the directory or the client refused.
 pub(crate) const REFUSED: u8 = 1;
@@ -15,12 +12,12 @@ pub(crate) const REFUSED: u8 = 1;
 pub(crate) const ALARM: u8 = 3;
 
 /// The number of the refusal of a reply that does not answer what was asked.
-pub(crate) const OTHER_REPLY: u8 = 25;
+const OTHER_REPLY: u8 = 25;
 
 /// The number of the refusal of a promise whose name has another index than it says.
 pub(crate) const OTHER_INDEX: u8 = 26;
 
-/// What a line is answered with.
+/// What is said to a line.
 #[derive(Debug, Drop)]
 pub struct Said {
     /// The lines for the output.
@@ -40,28 +37,30 @@ impl Said {
         Said {
             text: Vec::new(alloc),
             words: Vec::new(alloc),
-            status: FINE,
+            status: 0,
         }
     }
 
     /// Raises the status to this one.
     pub(crate) fn raise(&mut self, status: u8)
-        ensures text { self.new.text ≡ self.old.text }
+        ensures text { (self.new).text ≡ (self.old).text }
+        ensures words { (self.new).words ≡ (self.old).words }
+        ensures status { (self.new).status ≡ worse (self.old).status status }
     {
         if self.status < status {
             self.status = status;
         }
     }
 
-    /// Tells that the client refuses something, by the number of the refusal: `root`, `promise`, `proof` or
-    /// `reply`.
+    /// Tells that the client refuses something, by the number of the refusal: a `root`, a `promise`, a `proof` or
+    /// a `reply`.
     pub(crate) fn refuse(
         &mut self,
         what: &[u8],
         number: u8,
         words: &[u8],
     ) -> Result<(), AllocError>
-        ensures { OnOk result ((self.new).text.items ≡ (self.old).text.items ++ refuses_text what.now number ++ 10 ∷ []) }
+        ensures { OnOk result (Tells self.old (refused (refuses_text what.now number)) self.new) }
     {
         push_refusal(&mut self.text, what, number)?;
         self.text.push(b'\n')?;
@@ -71,14 +70,19 @@ impl Said {
 
     /// Tells that a reply does not answer what was asked.
     pub(crate) fn refuse_other(&mut self) -> Result<(), AllocError>
-        ensures { OnOk result ((self.new).text.items ≡ (self.old).text.items ++ refuses_text (codes "reply") OTHER_REPLY ++ 10 ∷ []) }
+        ensures { OnOk result (Tells self.old other_reply self.new) }
     {
-        self.refuse(b"reply", OTHER_REPLY, b"the reply is not to what was asked")
+        self.refuse(
+            b"reply",
+            OTHER_REPLY,
+            b"the reply is not to what was asked",
+        )
     }
 
-    /// Ends a line of the errors by these words. The run is then one that was refused.
+    /// Ends a line of the errors by these words. Something was refused.
     pub(crate) fn explain(&mut self, words: &[u8]) -> Result<(), AllocError>
-        ensures text { (self.new).text ≡ (self.old).text }
+        ensures text { OnOk result ((self.new).text ≡ (self.old).text) }
+        ensures status { OnOk result ((self.new).status ≡ worse (self.old).status 1) }
     {
         self.words.extend_from_slice(b": ")?;
         self.words.extend_from_slice(words)?;

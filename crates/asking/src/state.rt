@@ -101,18 +101,18 @@ impl<'a> State<'a> {
             Ok(asker) => asker,
             Err(why) => return Err(fault_of(&why, 1)),
         };
-        let mut number = 1;
+        let mut number: u64 = 1;
         for line in lines {
-            number += 1;
+            number = number.saturating_add(1);
             if !line.is_empty() {
                 asker.take_line(line, number)?;
             }
         }
         self.epoch = asker.head();
         if let Some(kept) = file_bytes(alloc, files, self.beside.as_str())? {
-            let mut number = 0;
+            let mut number: u64 = 0;
             for line in kept.split(|byte| *byte == b'\n') {
-                number += 1;
+                number = number.saturating_add(1);
                 if !line.is_empty() {
                     asker.keep_line(line, number)?;
                 }
@@ -191,14 +191,7 @@ where
     fn keep_line(&mut self, line: &[u8], number: u64) -> Result<(), ProgramFault> {
         if let Some(promise) = line.strip_prefix(b"promise ".as_slice()) {
             let promise = line_bytes(self.alloc, promise, number)?;
-            let checks = &mut self.checks;
-            return match self
-                .client
-                .keep_promise(&mut checks.hash, &checks.verifier, &promise)
-            {
-                Ok(()) => Ok(()),
-                Err(why) => Err(fault_of(&why, number)),
-            };
+            return self.keep_earlier(&promise, number);
         }
         let Some(mark) = line.strip_prefix(b"watched ".as_slice()) else {
             return Err(ProgramFault::BadItem(number));
@@ -206,17 +199,34 @@ where
         self.keep_mark(mark, number)
     }
 
+    /// Keeps a promise of an earlier run.
+    fn keep_earlier(&mut self, promise: &[u8], number: u64) -> Result<(), ProgramFault> {
+        let checks = &mut self.checks;
+        let read = self
+            .client
+            .read_promise(&mut checks.hash, &checks.verifier, promise);
+        let signed = match read {
+            Ok(signed) => signed,
+            Err(why) => return Err(fault_of(&why, number)),
+        };
+        self.earlier.push(signed.copied())?;
+        match self.client.keep_read(signed) {
+            Ok(()) => Ok(()),
+            Err(why) => Err(fault_of(&why, number)),
+        }
+    }
+
     /// Keeps how far a name was watched: `NAME EPOCH`.
     fn keep_mark(&mut self, mark: &[u8], number: u64) -> Result<(), ProgramFault> {
-        let Some(place) = mark.iter().position(|byte| *byte == b' ') else {
+        let mut words = mark.split(|byte| *byte == b' ');
+        let (Some(name), Some(epoch), None) = (words.next(), words.next(), words.next()) else {
             return Err(ProgramFault::BadItem(number));
         };
-        let (name, epoch) = mark.split_at(place);
         let name = line_bytes(self.alloc, name, number)?;
         let Ok(name) = Name::new(&name) else {
             return Err(ProgramFault::BadItem(number));
         };
-        let Ok(epoch) = str::from_utf8(epoch.split_at(1).1) else {
+        let Ok(epoch) = str::from_utf8(epoch) else {
             return Err(ProgramFault::BadItem(number));
         };
         let Ok(epoch) = epoch.parse::<u64>() else {
@@ -242,6 +252,24 @@ where
         Ok(text)
     }
 
+    /// How far the name of a monitor was watched by all of its monitors, if this is the first of them.
+    fn new_mark(&self, place: usize) -> Option<(&Name, u64)> {
+        let name = self.monitors.get(place)?.name();
+        let mut least = self.head();
+        for (other, monitor) in self.monitors.iter().enumerate() {
+            if monitor.name() == name {
+                if other < place {
+                    return None;
+                }
+                if let Some(next) = monitor.next_epoch() {
+                    let root = self.client.chain().at(next)?;
+                    least = least.min(root.body.previous_epoch);
+                }
+            }
+        }
+        Some((name, least))
+    }
+
     /// The lines of the promises that are kept, and of how far names were watched.
     fn kept_lines(&self) -> Result<Vec<u8>, AllocError> {
         let mut text = Vec::new(self.alloc);
@@ -250,15 +278,10 @@ where
             push_hex(&mut text, signed.write().bytes())?;
             text.push(b'\n')?;
         }
-        for monitor in self.monitors.iter() {
-            let epoch = match monitor.next_epoch() {
-                None => self.head(),
-                Some(next) => match self.client.chain().at(next) {
-                    Some(root) => root.body.previous_epoch,
-                    None => continue,
-                },
-            };
-            push_mark(&mut text, monitor.name(), epoch)?;
+        for place in 0..self.monitors.len() {
+            if let Some((name, epoch)) = self.new_mark(place) {
+                push_mark(&mut text, name, epoch)?;
+            }
         }
         for mark in self.marks.iter() {
             if !self

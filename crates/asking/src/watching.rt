@@ -1,8 +1,12 @@
 // The monitors of names.
-use crate::answering::response_to;
+ghost use Rattle.std.specs.Prelude.{IfOk};
+ghost use Rattle.asking.specs.Watching.{WatchesEpoch};
+
+use crate::answering::body_of;
 use crate::checking::tell_client;
+use crate::exchange::frame_in;
 use crate::said::ALARM;
-use crate::{AskFault, Asker, Said};
+use crate::{AskFault, Asker, Checks, Said};
 use client::Client;
 use encoding::{KeyData, Name};
 use monitor::{Monitor, Refusal, Step};
@@ -10,10 +14,9 @@ use nodehash::NodeHash;
 use play::{Ask, tell_step};
 use rootchain::{SignedPromise, SignedRoot, write_list};
 use sigiface::Verifier;
-use std::alloc::AllocError;
+use std::alloc::{AllocError, Global};
 use std::io::{Read, Write};
 use vrfiface::VufCheck;
-use wire::{FrameView, Response};
 
 impl<H, V, S> Asker<H, V, S>
 where
@@ -70,8 +73,8 @@ where
         Some(self.client.chain().head().copied())
     }
 
-    /// Adds a monitor whose chain is that of the client from this root on. What the client was promised for the
-    /// name before is expected at first, and what it was promised there changes it.
+    /// Adds a monitor whose chain is that of the client from this root on. What earlier runs were promised for the
+    /// name before that root is expected at first, and what they were promised there changes it.
     fn add_monitor(
         &mut self,
         first: &SignedRoot,
@@ -79,38 +82,21 @@ where
         key: Option<&KeyData>,
         said: &mut Said,
     ) -> Result<(), AllocError> {
-        let root = first.write();
-        let started = Client::start(self.alloc, &self.checks.verifier, self.key, root.bytes());
-        let mut client = match started {
+        let client = match self.client_from(first) {
             Ok(client) => client,
             Err(why) => return tell_client(self.alloc, b"root", why, said),
         };
-        let mut epoch = first.body.epoch;
-        let mut list = Vec::new(self.alloc);
-        // Every loop of Rattle has an end: this one's is past any chain.
-        for _ in 0..u64::MAX {
-            let Some(root) = self.client.chain().after(epoch) else {
-                break;
-            };
-            epoch = root.body.epoch;
-            list.clear();
-            write_list(&[root.copied()], &mut list)?;
-            let checks = &mut self.checks;
-            if let Err(why) = client.update(&mut checks.hash, &checks.verifier, &list) {
-                return tell_client(self.alloc, b"root", why, said);
-            }
-        }
-        let start = match self.promised_before(name, first.body.epoch) {
-            Some(key) => Some(key),
+        let key = match self.promised_before(name, first.body.epoch) {
+            Some(promised) => Some(promised),
             None => match key {
                 Some(key) => Some(key.copied()),
                 None => None,
             },
         };
-        let mut monitor = Monitor::new(self.alloc, client, name.copied(), start);
-        for signed in self.client.promises() {
+        let mut monitor = Monitor::new(self.alloc, client, name.copied(), key);
+        let checks = &mut self.checks;
+        for signed in self.earlier.iter() {
             if signed.promise.name == *name {
-                let checks = &mut self.checks;
                 // A promise from before the first root, or one that is kept twice, is refused.
                 let _taken = monitor.expect_change(
                     &mut checks.hash,
@@ -124,10 +110,32 @@ where
         Ok(())
     }
 
+    /// A client whose chain is that of the client from this root on.
+    fn client_from(&mut self, first: &SignedRoot) -> Result<Client<H, V, S>, client::Refusal> {
+        let checks = &mut self.checks;
+        let root = first.write();
+        let mut client = Client::start(self.alloc, &checks.verifier, self.key, root.bytes())?;
+        let mut epoch = first.body.epoch;
+        let mut list = Vec::new(self.alloc);
+        // Every loop of Rattle has an end: this one's is past any chain.
+        for _ in 0..u64::MAX {
+            let Some(root) = self.client.chain().after(epoch) else {
+                break;
+            };
+            epoch = root.body.epoch;
+            list.clear();
+            if write_list(&[root.copied()], &mut list).is_err() {
+                return Err(client::Refusal::Memory);
+            }
+            client.update(&mut checks.hash, &checks.verifier, &list)?;
+        }
+        Ok(client)
+    }
+
     /// The key of the last promise for a name from before this epoch.
     fn promised_before(&self, name: &Name, epoch: u64) -> Option<KeyData> {
         let mut last: Option<&SignedPromise> = None;
-        for signed in self.client.promises() {
+        for signed in self.earlier.iter() {
             let is_later = match last {
                 Some(other) => other.promise.epoch < signed.promise.epoch,
                 None => true,
@@ -142,12 +150,11 @@ where
         }
     }
 
-    /// Gives a promise to each monitor of its name.
-    pub(crate) fn hand_out(
-        &mut self,
-        signed: &SignedPromise,
-        promise: &[u8],
-    ) -> Result<(), AllocError> {
+    /// Gives the last promise that the client kept, of which these are the bytes, to each monitor of its name.
+    pub(crate) fn hand_out(&mut self, promise: &[u8]) -> Result<(), AllocError> {
+        let Some(signed) = self.client.promises().last() else {
+            return Ok(());
+        };
         let checks = &mut self.checks;
         for monitor in self.monitors.iter_mut() {
             if *monitor.name() == signed.promise.name {
@@ -171,58 +178,68 @@ where
     ) -> Result<(), AskFault> {
         // Every loop of Rattle has an end: this one's is past any chain.
         for _ in 0..u64::MAX {
-            let Some(epoch) = self.monitors[place].next_epoch() else {
-                return Ok(());
-            };
-            if !self.step(stream, place, epoch, said)? {
+            if !self.step(stream, place, said)? {
                 return Ok(());
             }
         }
         Ok(())
     }
 
-    /// Lets a monitor watch its next epoch. Returns whether its client accepted the proof.
+    /// Lets a monitor watch its next epoch. Returns whether it had one, and its client accepted the proof.
     fn step<T: Read + Write>(
         &mut self,
         stream: &mut T,
         place: usize,
-        epoch: u64,
         said: &mut Said,
     ) -> Result<bool, AskFault> {
-        let name = Vec::from_slice(self.alloc, self.monitors[place].name().bytes())?;
+        let Some(monitor) = self.monitors.get(place) else {
+            return Ok(false);
+        };
+        let Some(epoch) = monitor.next_epoch() else {
+            return Ok(false);
+        };
+        let name = Vec::from_slice(self.alloc, monitor.name().bytes())?;
         let ask = Ask::Lookup { name, epoch };
         let reply = self.request(stream, &ask)?;
-        let frame = reply.frame()?;
-        if response_to(self.alloc, &ask, &frame, said)?.is_none() {
+        let Some(found) = body_of(self.alloc, &ask, &frame_in(&reply)?, said)? else {
             return Ok(false);
-        }
-        let went = self.watch_epoch(place, epoch, &frame, said)?;
-        Ok(went)
-    }
-
-    /// Lets a monitor watch its next epoch by a reply, and tells its step.
-    fn watch_epoch(
-        &mut self,
-        place: usize,
-        epoch: u64,
-        frame: &FrameView<'_>,
-        said: &mut Said,
-    ) -> Result<bool, AllocError> {
+        };
         let checks = &mut self.checks;
-        let monitor = &mut self.monitors[place];
-        match monitor.step(&mut checks.hash, &checks.vuf, frame.body) {
-            Ok(step) => {
-                tell_step(&mut said.text, monitor.name().bytes(), epoch, step)?;
-                if let Step::Alarm { .. } = step {
-                    said.raise(ALARM);
-                }
-                Ok(true)
-            }
-            Err(Refusal::Client(why)) => {
-                tell_client(self.alloc, b"proof", why, said)?;
-                Ok(false)
-            }
-            Err(Refusal::OtherPromise) => Ok(false),
+        match self.monitors.get_mut(place) {
+            Some(monitor) => Ok(watch_epoch(self.alloc, monitor, checks, epoch, found, said)?),
+            None => Ok(false),
         }
+    }
+}
+
+/// Lets a monitor watch its next epoch by a reply, and tells its step. Returns whether its client accepted the
+/// proof.
+fn watch_epoch<H, V, S>(
+    alloc: Global,
+    monitor: &mut Monitor<H, V, S>,
+    checks: &mut Checks<H, V, S>,
+    epoch: u64,
+    reply: &[u8],
+    said: &mut Said,
+) -> Result<bool, AllocError>
+where
+    H: NodeHash + Drop,
+    V: VufCheck + Drop,
+    S: Verifier + Drop,
+    ensures { IfOk result (λ went. WatchesEpoch H.digest_of V.accepted monitor.old epoch reply.now said.old went said.new monitor.new) }
+{
+    match monitor.step(&mut checks.hash, &checks.vuf, reply) {
+        Ok(step) => {
+            tell_step(&mut said.text, monitor.name().bytes(), epoch, step)?;
+            if let Step::Alarm { .. } = step {
+                said.raise(ALARM);
+            }
+            Ok(true)
+        }
+        Err(Refusal::Client(why)) => {
+            tell_client(alloc, b"proof", why, said)?;
+            Ok(false)
+        }
+        Err(Refusal::OtherPromise) => unreachable!(),
     }
 }
