@@ -1,3 +1,4 @@
+pub mod AskOptions
 pub mod Answering
 pub mod Checking
 pub mod Exchanges

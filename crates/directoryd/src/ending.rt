@@ -8,10 +8,10 @@ ghost use Rattle.audits.specs.Verdicts.{JudgesAt};
 ghost use Rattle.directoryd.specs.Orders.{values_in};
 ghost use Rattle.directoryd.specs.Programs.{verdict_outcome, EndsAs, Obeys, Runs, Starts};
 
-use crate::keys::{ask_with, directory_with, keys_at, listen_with};
+use crate::keyed::{ask_keyed, listen_keyed, serve_keyed};
 use crate::order::{Order, order};
 use crate::refusing::{refuse, refuse_bytes};
-use crate::{ask, audit, judge_at, listen, play, prove, root, serve_directory};
+use crate::{audit, judge_at, play, prove, root};
 use audits::JudgeOrder;
 use std::alloc::Global;
 use std::convert::AsStr;
@@ -67,18 +67,12 @@ where
         Order::Audit(order) => audit(alloc, order, reader, writer)?,
         Order::Judge(order) => return judge(alloc, system, order, writer),
         Order::Play => play(alloc, reader, writer)?,
-        Order::Serve(order, path) => {
-            let file = keys_at(alloc, system, path)?;
-            let order = directory_with(order, &file);
-            serve_directory(alloc, system, order, reader, writer, errors)?;
+        Order::Serve(order, keys) => {
+            serve_keyed(alloc, system, order, keys, reader, writer, errors)?;
         }
-        Order::Listen(order, path) => {
-            let file = keys_at(alloc, system, path)?;
-            listen(alloc, system, listen_with(order, &file), errors)?;
-        }
-        Order::Ask(order, path) => {
-            let file = keys_at(alloc, system, path)?;
-            return ask(alloc, system, ask_with(order, &file), reader, writer, errors);
+        Order::Listen(order, keys) => listen_keyed(alloc, system, order, keys, errors)?,
+        Order::Ask(order, keys) => {
+            return ask_keyed(alloc, system, order, keys, reader, writer, errors);
         }
     }
     Ok(0)

@@ -3,6 +3,7 @@
 #![tactic(auto)]
 
 mod ending;
+mod keyed;
 mod keys;
 mod order;
 mod refusing;

@@ -3,10 +3,11 @@ ghost use Rattle.std.specs.NonZero.{non_zero_u64_get};
 ghost use Rattle.clap.specs.Words.{app_of, found_of, kind_of, rows_of, rule_of};
 ghost use Rattle.clap.specs.declared.builder.command.Command.TheViews.{out-Command};
 ghost use Rattle.clap.specs.declared.error.kind.ErrorKind.TheVariants.{OutOfMemory};
-ghost use Rattle.directoryd.specs.CommandLine.{audit_app, directory_app, hash_rule, journal_rule, judge_app, listen_app, nonce_rule, number_rule, play_app, positional_rule, prove_app, required_rule, root_app, serve_app, text_rule, with_directory, with_keys, IsHashNames, Refuses};
+ghost use Rattle.directoryd.specs.CommandLine.{ask_app, audit_app, directory_app, hash_rule, judge_app, listen_app, nonce_rule, number_rule, play_app, positional_rule, prove_app, required_rule, root_app, serve_app, text_rule, with_directory, with_keys, word_rule, IsHashNames, Refuses};
 ghost use Rattle.items.specs.TreeOptions.{values_of};
 ghost use Rattle.server.specs.DirectoryOptions.{values_of as directory_values};
-ghost use Rattle.directoryd.specs.Orders.{asked_in, directory_in, hash_named, number_from, task_in, text_in, values_in, IsTask};
+ghost use Rattle.asking.specs.AskOptions.{values_of as ask_values};
+ghost use Rattle.directoryd.specs.Orders.{asked_in, asking_in, directory_in, hash_named, number_from, task_in, text_in, values_in, IsTask};
 
 mod subcommands;
 
