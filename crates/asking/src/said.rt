@@ -98,7 +98,8 @@ fn push_refusal(text: &mut Vec<u8>, what: &[u8], number: u8) -> Result<(), Alloc
     text.extend_from_slice(b"client refuses ")?;
     text.extend_from_slice(what)?;
     text.push(b' ')?;
-    push_number(text, u64::from(number))
+    push_number(text, u64::from(number))?;
+    Ok(())
 }
 
 /// The words for a refusal of the directory.
