@@ -1,11 +1,11 @@
 -- What the client refuses, as it is told.
-use Rattle.std.specs.Prelude.{ℕ, List, ◌++◌, codes, decimal}
+use Rattle.std.specs.Prelude.{ℕ, List, [], ◌∷◌, ◌++◌, codes, decimal}
 use Rattle.auditor.specs.declared.evidence.Evidence.TheVariants as evidence
 use Rattle.audits.specs.Files.{evidence_text}
 use Rattle.client.specs.Refusals.{refusal_number}
 use Rattle.client.specs.declared.refusal.Refusal.{Refusal}
 use Rattle.client.specs.declared.refusal.Refusal.TheVariants.{Root, Proof, UnknownRoot, RootDiffers, Memory, NoPromise}
-use Rattle.asking.specs.Told.{Told, behind, refused}
+use Rattle.asking.specs.Told.{Told, refused}
 
 -- a root, a promise, a proof or a reply, by the number of its refusal
 abbrev pub refuses_text : List ℕ → ℕ → List ℕ
@@ -15,11 +15,15 @@ refuses_text what number = codes "client refuses " ++ what ++ codes " " ++ decim
 abbrev pub other_reply : Told
 other_reply = refused (refuses_text (codes "reply") 25)
 
+-- the roots of a refusal that is evidence
+abbrev pub evidence_before : Refusal → List ℕ
+evidence_before (RootDiffers roots) = evidence_text (evidence.Root roots) ++ 10 ∷ []
+evidence_before (Root why) = []
+evidence_before (Proof why) = []
+evidence_before UnknownRoot = []
+evidence_before Memory = []
+evidence_before NoPromise = []
+
 -- a refusal of the client, behind its evidence
 abbrev pub client_refuses : List ℕ → Refusal → Told
-client_refuses what (RootDiffers roots) = behind (evidence_text (evidence.Root roots)) (refused (refuses_text what 21))
-client_refuses what (Root why) = refused (refuses_text what (refusal_number (Root why)))
-client_refuses what (Proof why) = refused (refuses_text what (refusal_number (Proof why)))
-client_refuses what UnknownRoot = refused (refuses_text what (refusal_number UnknownRoot))
-client_refuses what Memory = refused (refuses_text what (refusal_number Memory))
-client_refuses what NoPromise = refused (refuses_text what (refusal_number NoPromise))
+client_refuses what why = record { lines = evidence_before why ++ (refuses_text what (refusal_number why) ++ 10 ∷ []); status = 1 }

@@ -14,10 +14,6 @@ fine line = record { lines = line ++ 10 ∷ []; status = 0 }
 abbrev pub refused : List ℕ → Told
 refused line = record { lines = line ++ 10 ∷ []; status = 1 }
 
--- a line in front
-abbrev pub behind : List ℕ → Told → Told
-behind line told = record told { lines = (line ++ 10 ∷ []) ++ told.lines }
-
 -- nothing
 abbrev pub silent : Told
 silent = record { lines = []; status = 0 }

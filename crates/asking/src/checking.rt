@@ -14,7 +14,7 @@ ghost use Rattle.audits.specs.Files.{evidence_text};
 ghost use Rattle.play.specs.Spoken.{ask_seen};
 ghost use Rattle.asking.specs.Answering.{Answers};
 ghost use Rattle.asking.specs.Checking.{look_told, place_told, promise_told, AreTold, HearsFrame, IsCheckedAs, Places};
-ghost use Rattle.asking.specs.Refused.{client_refuses};
+ghost use Rattle.asking.specs.Refused.{client_refuses, evidence_before};
 ghost use Rattle.asking.specs.Told.{Told, Tells};
 
 use crate::answering::{answers, tell_refused, tell_unread};
@@ -46,6 +46,21 @@ pub(crate) fn tell_evidence(
     Ok(())
 }
 
+/// Tells the evidence of a refusal, if it has some.
+fn tell_roots(alloc: Global, why: Refusal, said: &mut Said) -> Result<(), AllocError>
+    ensures text { OnOk result ((said.new).text.items ≡ (said.old).text.items ++ evidence_before why) }
+    ensures status { (said.new).status ≡ (said.old).status }
+{
+    match why {
+        Refusal::RootDiffers(roots) => tell_evidence(alloc, &Evidence::Root(roots), said),
+        Refusal::Root(_)
+        | Refusal::Proof(_)
+        | Refusal::UnknownRoot
+        | Refusal::Memory
+        | Refusal::NoPromise => Ok(()),
+    }
+}
+
 /// Tells a refusal of the client, behind the evidence if there is some.
 pub(crate) fn tell_client(
     alloc: Global,
@@ -60,9 +75,7 @@ pub(crate) fn tell_client(
     }
     let words = format!(in alloc; "{why}")?;
     let number = why.number();
-    if let Refusal::RootDiffers(roots) = why {
-        tell_evidence(alloc, &Evidence::Root(roots), said)?;
-    }
+    tell_roots(alloc, why, said)?;
     said.refuse(what, number, words.as_bytes())
 }
 
