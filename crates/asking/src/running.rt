@@ -1,4 +1,9 @@
 // A run of questions over a connection. Contracts do not know what a socket or a file has.
+ghost use Rattle.std.specs.Prelude.{◌≡◌, Err, None};
+ghost use Rattle.std.specs.Io.KnownBytes.{Keeps};
+ghost use Rattle.textio.specs.declared.program_fault.ProgramFault.TheVariants.{BadHex};
+ghost use Rattle.asking.specs.AskOptions.{ask_keys_of, values_of};
+
 use crate::answering::{body_of, request_of};
 use crate::checking::tell_client;
 use crate::exchange::{exchange, frame_in};
@@ -58,6 +63,8 @@ where
     R: BufRead,
     W: Write,
     E: Write,
+    ensures bad_hex { ask_keys_of (values_of order.entry) ≡ None
+        → (result ≡ Err BadHex) × Keeps (W.contents writer.old) (W.contents writer.new) × Keeps (E.contents errors.old) (E.contents errors.new) }
 {
     let key = Hash32::new(option_hex32(order.provider)?);
     let token = Hash32::new(option_nonce(order.token)?);

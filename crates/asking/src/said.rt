@@ -1,4 +1,4 @@
-ghost use Rattle.std.specs.Prelude.{◌≡◌, ◌++◌, [], OnOk};
+ghost use Rattle.std.specs.Prelude.{◌≡◌, ◌++◌, [], OnOk, codes, decimal};
 ghost use Rattle.asking.specs.Refused.{other_reply, refuses_text};
 ghost use Rattle.asking.specs.Told.{refused, worse, Tells};
 
@@ -96,6 +96,13 @@ fn push_refusal(text: &mut Vec<u8>, what: &[u8], number: u8) -> Result<(), Alloc
     ensures { OnOk result (text.new.items ≡ text.old.items ++ refuses_text what.now number) }
 {
     text.extend_from_slice(b"client refuses ")?;
+    push_numbered(text, what, number)?;
+    Ok(())
+}
+
+fn push_numbered(text: &mut Vec<u8>, what: &[u8], number: u8) -> Result<(), AllocError>
+    ensures { OnOk result (text.new.items ≡ text.old.items ++ what.now ++ codes " " ++ decimal number) }
+{
     text.extend_from_slice(what)?;
     text.push(b' ')?;
     push_number(text, u64::from(number))?;

@@ -64,8 +64,8 @@ ListensKeyed asked keys err err-new result =
 abbrev pub AsksKeyed : AskOptions → Option Text → Option (List ℕ) → Option (List ℕ) → Option (List ℕ) → Option (List ℕ) → Result ℕ ProgramFault → Type 0
 AsksKeyed asked keys out out-new err err-new outcome =
     (HasNoKeys keys outcome × Keeps out out-new × Keeps err err-new)
-    ⊎ ((used : AskOptions) × Uses AreAskKeys keys asked used × ((outcome ≡ Err BadHex) ↔ (ask_keys_of used ≡ None))
-    × (outcome ≡ Err BadHex → Keeps out out-new × Keeps err err-new))
+    ⊎ ((used : AskOptions) × Uses AreAskKeys keys asked used
+    × (ask_keys_of used ≡ None → (outcome ≡ Err BadHex) × Keeps out out-new × Keeps err err-new))
 
 -- What is ordered is done: a root is written, or the path of an index; an input is audited; a file is
 -- judged; a script is played; a directory begins, or goes on from its journal, and serves one session; one serves connections, and

@@ -9,3 +9,4 @@ abbrev pub invariant-loop : goal.invariant-loop
 invariant-loop g l = (l.counter + length l.rest ≡ l.end)
     × (l.line.items ++ flat_map (λ root. codes " " ++ decimal root.body.epoch) l.rest ≡ codes "roots" ++ flat_map (λ root. codes " " ++ decimal root.body.epoch) l.initial.rest)
     × IsPassing g.H.NodeHash.digest_of g.S.Verifier.verified l.client.chain l.from l.initial.rest l.rest
+    × (l.said ≡ l.fn.said)
