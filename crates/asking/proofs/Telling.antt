@@ -12,10 +12,10 @@ pub behind_evidence : {A E : Type 0} (what : List ℕ) (why : Refusal) (number :
     → middle.text.items ≡ before.text.items ++ evidence_before why → middle.status ≡ before.status
     → OnOk result (Tells middle (refused (refuses_text what number)) after) → OnOk result (Tells before (client_refuses what why) after)
 behind_evidence what why number before middle after (Ok done) numbered text status told = (
-      told.0 ∙ ap (λ (xs : List ℕ). xs ++ (refuses_text what number ++ 10 ∷ [])) text ∙ append_assoc before.text.items (evidence_before why) (refuses_text what number ++ 10 ∷ [])
-          ∙ ap (λ (n : ℕ). before.text.items ++ (evidence_before why ++ (refuses_text what n ++ 10 ∷ []))) numbered,
-      told.1 ∙ ap (λ (s : ℕ). worse s 1) status,
-    )
+  told.0 ∙ ap (λ (xs : List ℕ). xs ++ (refuses_text what number ++ 10 ∷ [])) text ∙ append_assoc before.text.items (evidence_before why) (refuses_text what number ++ 10 ∷ [])
+      ∙ ap (λ (n : ℕ). before.text.items ++ (evidence_before why ++ (refuses_text what n ++ 10 ∷ []))) numbered,
+  told.1 ∙ ap (λ (s : ℕ). worse s 1) status,
+)
 behind_evidence what why number before middle after (Err fault) numbered text status told = tt
 
 -- this is told, and it is so

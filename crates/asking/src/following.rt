@@ -67,10 +67,7 @@ where
     /// Hands a list of new roots to the client and the monitors.
     fn take(&mut self, list: &[u8], said: &mut Said) -> Result<(), AskFault> {
         let checks = &mut self.checks;
-        if let Err(why) = self
-            .client
-            .update(&mut checks.hash, &checks.verifier, list)
-        {
+        if let Err(why) = self.client.update(&mut checks.hash, &checks.verifier, list) {
             tell_client(self.alloc, b"root", why, said)?;
             return Err(AskFault::Stopped);
         }

@@ -54,12 +54,7 @@ impl Said {
 
     /// Tells that the client refuses something, by the number of the refusal: a `root`, a `promise`, a `proof` or
     /// a `reply`.
-    pub(crate) fn refuse(
-        &mut self,
-        what: &[u8],
-        number: u8,
-        words: &[u8],
-    ) -> Result<(), AllocError>
+    pub(crate) fn refuse(&mut self, what: &[u8], number: u8, words: &[u8]) -> Result<(), AllocError>
         ensures { OnOk result (Tells self.old (refused (refuses_text what.now number)) self.new) }
     {
         push_refusal(&mut self.text, what, number)?;
@@ -72,11 +67,7 @@ impl Said {
     pub(crate) fn refuse_other(&mut self) -> Result<(), AllocError>
         ensures { OnOk result (Tells self.old other_reply self.new) }
     {
-        self.refuse(
-            b"reply",
-            OTHER_REPLY,
-            b"the reply is not to what was asked",
-        )
+        self.refuse(b"reply", OTHER_REPLY, b"the reply is not to what was asked")
     }
 
     /// Ends a line of the errors by these words. Something was refused.

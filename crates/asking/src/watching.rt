@@ -159,8 +159,12 @@ where
         for monitor in self.monitors.iter_mut() {
             if *monitor.name() == signed.promise.name {
                 let key = &signed.promise.key;
-                let handed =
-                    monitor.expect_change(&mut checks.hash, &checks.verifier, key, promise);
+                let handed = monitor.expect_change(
+                    &mut checks.hash,
+                    &checks.verifier,
+                    key,
+                    promise,
+                );
                 if handed == Err(Refusal::Client(client::Refusal::Memory)) {
                     return Err(AllocError);
                 }

@@ -90,10 +90,7 @@ fn option_or<'a>(given: Option<&'a str>, file: &'a str, option: &str) -> Option<
 }
 
 /// The order, with the keys that were not given from a file.
-pub(crate) fn directory_with<'a>(
-    order: DirectoryOrder<'a>,
-    file: &'a str,
-) -> DirectoryOrder<'a>
+pub(crate) fn directory_with<'a>(order: DirectoryOrder<'a>, file: &'a str) -> DirectoryOrder<'a>
     ensures { AreDirectoryKeys (directory_values order.entry) (directory_values result) }
 {
     DirectoryOrder {

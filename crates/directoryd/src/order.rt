@@ -137,8 +137,7 @@ Example: directoryd ask --provider $SIGN --state roots.txt 127.0.0.1:7000 lookup
 
 static PROVIDER_HELP: &str = "The provider's public key, 64 hexadecimal digits";
 
-static ASK_TOKEN_HELP: &str =
-    "The token of the operator, 64 hexadecimal digits [default: zeros]";
+static ASK_TOKEN_HELP: &str = "The token of the operator, 64 hexadecimal digits [default: zeros]";
 
 static KEYS_HELP: &str =
     "A file of keys: lines of an option's name, a space and its 64 hexadecimal digits";
@@ -381,12 +380,10 @@ fn listen_command<'a>(alloc: Global) -> Result<Command<'a>, AllocError>
     let bare = Command::new(alloc, "listen")
         .about("Answers connections one after another")
         .after_help(LISTEN_HELP);
-    let listen = add_directory(alloc, bare)?
-        .arg(count_arg(alloc))?
-        .arg(address_arg(
-            alloc,
-            "The address to listen on, such as 127.0.0.1:7000",
-        ))?;
+    let listen = add_directory(alloc, bare)?.arg(count_arg(alloc))?.arg(address_arg(
+        alloc,
+        "The address to listen on, such as 127.0.0.1:7000",
+    ))?;
     Ok(listen)
 }
 
