@@ -1,5 +1,5 @@
 -- What the client makes of the reply to what was asked, and the lines that tell it.
-use Rattle.std.specs.Prelude.{◌≡◌, ◌≤◌, ◌<◌, ◌⊎◌, ℕ, List, [], ◌∷◌, Result, Ok, Err, codes}
+use Rattle.std.specs.Prelude.{◌≡◌, ◌≤◌, ◌<◌, ◌⊎◌, ℕ, List, [], ◌∷◌, Option, None, Some, Result, Ok, Err, codes}
 use Rattle.commands.specs.Operations.{Question, Promise, Lookup, History, Head}
 use Rattle.rootchain.specs.Chains.{KeyedRoots, Verifies}
 use Rattle.rootchain.specs.Places.{IsPlace}
@@ -47,14 +47,19 @@ place_told told (Ok BeforeStart) = client_refuses (codes "root") (of_root root.N
 place_told told (Ok (Evidence roots)) = client_refuses (codes "root") (RootDiffers roots)
 place_told told (Err why) = client_refuses (codes "root") (of_root why)
 
--- roots go on where one of them is no evidence, and else end with its refusal
-abbrev pub GoesOn : Type 0 → Result Place RootRefusal → Told → Type 0
-GoesOn later (Ok (Evidence roots)) told = told ≡ client_refuses (codes "root") (RootDiffers roots)
-GoesOn later (Ok Known) told = later
-GoesOn later (Ok Next) told = later
-GoesOn later (Ok Ahead) told = later
-GoesOn later (Ok BeforeStart) told = later
-GoesOn later (Err why) told = told ≡ client_refuses (codes "root") (of_root why)
+-- why a root is refused that comes with others: it does not verify, or is evidence
+abbrev pub refusal_at : Result Place RootRefusal → Option Refusal
+refusal_at (Ok (Evidence roots)) = Some (RootDiffers roots)
+refusal_at (Ok Known) = None
+refusal_at (Ok Next) = None
+refusal_at (Ok Ahead) = None
+refusal_at (Ok BeforeStart) = None
+refusal_at (Err why) = Some (of_root why)
+
+-- behind a root that is not refused the others follow; one that is refused is told
+abbrev pub GoesOn : Type 0 → Option Refusal → Told → Type 0
+GoesOn later None told = later
+GoesOn later (Some why) told = told ≡ client_refuses (codes "root") why
 
 module _ (hash : List ℕ → List ℕ) (verified : List ℕ → List ℕ → List ℕ → Type 0) where
   -- where a root stands to a chain, if it verifies
@@ -68,7 +73,7 @@ module _ (hash : List ℕ → List ℕ) (verified : List ℕ → List ℕ → Li
   AreTold chain from all [] told = told ≡ fine (response_text (Roots all))
   AreTold chain from all (first ∷ more) told =
       ((first.body.epoch < from) × (told ≡ other_reply))
-      ⊎ ((from ≤ first.body.epoch) × (place : Result Place RootRefusal) × Places chain first place × GoesOn (AreTold chain from all more told) place told)
+      ⊎ ((from ≤ first.body.epoch) × (place : Result Place RootRefusal) × Places chain first place × GoesOn (AreTold chain from all more told) (refusal_at place) told)
 
 module _ (hash : List ℕ → List ℕ) (accepted verified : List ℕ → List ℕ → List ℕ → Type 0) where
   module _ (before : Client) (body : List ℕ) where

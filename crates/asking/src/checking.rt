@@ -12,8 +12,7 @@ ghost use Rattle.rootchain.specs.declared.chain.placing.Place.{Place};
 ghost use Rattle.rootchain.specs.declared.refusal.Refusal.{Refusal as RootRefusal};
 ghost use Rattle.audits.specs.Files.{evidence_text};
 ghost use Rattle.play.specs.Spoken.{ask_seen};
-ghost use Rattle.asking.specs.Answering.{Answers};
-ghost use Rattle.asking.specs.Checking.{look_told, place_told, promise_told, AreTold, HearsFrame, IsCheckedAs, Places};
+ghost use Rattle.asking.specs.Checking.{look_told, place_told, promise_told, refusal_at, AreTold, Hears, HearsFrame, Places};
 ghost use Rattle.asking.specs.Refused.{client_refuses, evidence_before};
 ghost use Rattle.asking.specs.Told.{Told, Tells};
 
@@ -99,20 +98,13 @@ where
     ensures { OnOk result ((told : Told) × HearsFrame H.digest_of V.accepted S.verified client.old (ask_seen ask.now) (frame_seen frame.now) told client.new × Tells said.old told said.new) }
 {
     match Response::read(frame.kind, frame.body) {
-        Ok(Response::Refused(code)) => tell_refused(code, said),
-        Ok(response) => {
-            if answers(ask, &response) {
-                check(alloc, client, checks, ask, response, frame.body, said)
-            } else {
-                said.refuse_other()
-            }
-        }
+        Ok(response) => hear_response(alloc, client, checks, ask, response, frame.body, said),
         Err(why) => tell_unread(alloc, why, said),
     }
 }
 
-/// Checks a response that answers what was asked.
-fn check<H, V, S>(
+/// What the client makes of a response. One that does not answer what was asked is not checked.
+fn hear_response<H, V, S>(
     alloc: Global,
     client: &mut Client<H, V, S>,
     checks: &mut Checks<H, V, S>,
@@ -125,26 +117,42 @@ where
     H: NodeHash + Drop,
     V: VufCheck + Drop,
     S: Verifier + Drop,
-    requires { Answers (ask_seen ask.now) (response_seen response) }
-    ensures { OnOk result ((told : Told) × IsCheckedAs H.digest_of V.accepted S.verified client.old body.now (ask_seen ask.now) (response_seen response.entry) told client.new × Tells said.old told said.new) }
+    ensures { OnOk result ((told : Told) × Hears H.digest_of V.accepted S.verified client.old body.now (ask_seen ask.now) (response_seen response.entry) told client.new × Tells said.old told said.new) }
 {
+    let is_answer = answers(ask, &response);
     match response {
+        Response::Refused(code) => tell_refused(code, said),
+        Response::Promise(signed) => {
+            if !is_answer {
+                return said.refuse_other();
+            }
+            keep(alloc, client, checks, signed, body, said)
+        }
+        Response::Root(root) => {
+            if !is_answer {
+                return said.refuse_other();
+            }
+            place_latest(alloc, client, checks, root, said)
+        }
         Response::Proof(found) => {
+            if !is_answer {
+                return said.refuse_other();
+            }
             let Ask::Lookup { name, epoch } = ask else {
                 unreachable!()
             };
             let found_at = found.body().epoch;
             look(alloc, client, checks, name, *epoch, found_at, body, said)
         }
-        Response::Promise(signed) => keep(alloc, client, checks, signed, body, said),
-        Response::Root(root) => place_latest(alloc, client, checks, root, said),
         Response::Roots(roots) => {
+            if !is_answer {
+                return said.refuse_other();
+            }
             let Ask::History { from, .. } = ask else {
                 unreachable!()
             };
             place_all(alloc, client, checks, *from, roots, said)
         }
-        Response::Refused(_) => unreachable!(),
     }
 }
 
@@ -238,6 +246,20 @@ where
     tell_client(alloc, b"root", why, said)
 }
 
+/// Why a root is refused that comes with others, by where it stands.
+fn refusal_of(place: Result<Place, rootchain::Refusal>) -> Option<Refusal>
+    ensures { result ≡ refusal_at place }
+{
+    match place {
+        Ok(Place::Evidence(roots)) => Some(Refusal::RootDiffers(roots)),
+        Ok(Place::Known) => None,
+        Ok(Place::Next) => None,
+        Ok(Place::Ahead) => None,
+        Ok(Place::BeforeStart) => None,
+        Err(why) => Some(Refusal::from(why)),
+    }
+}
+
 /// Tells roots that were asked for from an epoch on. Each verifies, and is no evidence with the chain.
 fn place_all<H, V, S>(
     alloc: Global,
@@ -262,12 +284,9 @@ where
         if root.body.epoch < from {
             return said.refuse_other();
         }
-        match place(client, checks, &root) {
-            Ok(Place::Evidence(roots)) => {
-                return tell_client(alloc, b"root", Refusal::RootDiffers(roots), said);
-            }
-            Ok(Place::Known | Place::Next | Place::Ahead | Place::BeforeStart) => {}
-            Err(why) => return tell_client(alloc, b"root", Refusal::from(why), said),
+        let placed = place(client, checks, &root);
+        if let Some(why) = refusal_of(placed) {
+            return tell_client(alloc, b"root", why, said);
         }
         line.push(b' ')?;
         push_number(&mut line, root.body.epoch)?;
