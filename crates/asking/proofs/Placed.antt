@@ -34,7 +34,7 @@ module _ (hash : List ℕ → List ℕ) (verified : List ℕ → List ℕ → Li
 
   -- a root that is
   pub passing-refused : (first : SignedRoot) (more : List SignedRoot) (place : Result Place RootRefusal) (why : Refusal) → IsPassing (first ∷ more) → from ≤ first.body.epoch
-      → Places hash verified chain first place → refusal_at place ≡ Some why → AreTold hash verified chain from all all (client_refuses (codes "root") why)
+      → Places hash verified chain first place → refusal_at place ≡ Some why → AreTold hash verified chain from all all (client_refuses (codes "client refuses root") why)
   passing-refused first more place why passing asked is some =
-      let told = client_refuses (codes "root") why in
+      let told = client_refuses (codes "client refuses root") why in
       passing-placed first more place told passing asked is (subst (λ (refusal : Option Refusal). GoesOn (AreTold hash verified chain from all more told) refusal told) (sym some) refl)

@@ -31,21 +31,21 @@ use Rattle.asking.specs.Told.{Told, fine, refused}
 -- what is told of a look at a reply that is of an epoch
 abbrev pub look_told : ℕ → Result Statement Refusal → Told
 look_told epoch (Ok statement) = fine (statement_text epoch (key_stated statement))
-look_told epoch (Err why) = client_refuses (codes "proof") why
+look_told epoch (Err why) = client_refuses (codes "client refuses proof") why
 
 -- what is told of a response that the client accepts or refuses
 abbrev pub promise_told : {A : Type 0} → ResponseContent → Result A Refusal → Told
 promise_told responded (Ok _) = fine (response_text responded)
-promise_told responded (Err why) = client_refuses (codes "promise") why
+promise_told responded (Err why) = client_refuses (codes "client refuses promise") why
 
 -- what is told of the latest root, by where it stands: the chain has to have it
 abbrev pub place_told : SignedRoot → Result Place RootRefusal → Told
 place_told told (Ok Known) = fine (response_text (Root told))
-place_told told (Ok Next) = client_refuses (codes "root") (of_root root.BadLink)
-place_told told (Ok Ahead) = client_refuses (codes "root") (of_root root.BadLink)
-place_told told (Ok BeforeStart) = client_refuses (codes "root") (of_root root.NotLater)
-place_told told (Ok (Evidence roots)) = client_refuses (codes "root") (RootDiffers roots)
-place_told told (Err why) = client_refuses (codes "root") (of_root why)
+place_told told (Ok Next) = client_refuses (codes "client refuses root") (of_root root.BadLink)
+place_told told (Ok Ahead) = client_refuses (codes "client refuses root") (of_root root.BadLink)
+place_told told (Ok BeforeStart) = client_refuses (codes "client refuses root") (of_root root.NotLater)
+place_told told (Ok (Evidence roots)) = client_refuses (codes "client refuses root") (RootDiffers roots)
+place_told told (Err why) = client_refuses (codes "client refuses root") (of_root why)
 
 -- why a root is refused that comes with others: it does not verify, or is evidence
 abbrev pub refusal_at : Result Place RootRefusal → Option Refusal
@@ -59,7 +59,7 @@ refusal_at (Err why) = Some (of_root why)
 -- behind a root that is not refused the others follow; one that is refused is told
 abbrev pub GoesOn : Type 0 → Option Refusal → Told → Type 0
 GoesOn later None told = later
-GoesOn later (Some why) told = told ≡ client_refuses (codes "root") why
+GoesOn later (Some why) told = told ≡ client_refuses (codes "client refuses root") why
 
 module _ (hash : List ℕ → List ℕ) (verified : List ℕ → List ℕ → List ℕ → Type 0) where
   -- where a root stands to a chain, if it verifies
@@ -99,4 +99,4 @@ module _ (hash : List ℕ → List ℕ) (accepted verified : List ℕ → List �
   abbrev pub HearsFrame : Client → RequestContent → Frame → Told → Client → Type 0
   HearsFrame before asked frame told after =
       ((responded : ResponseContent) × Responds frame.kind frame.body responded × Hears before frame.body asked responded told after)
-      ⊎ ((why : ReadRefusal) × ReadsResponse frame.kind frame.body (Err why) × (told ≡ refused (refuses_text (codes "reply") (read_refusal_number why))) × (after ≡ before))
+      ⊎ ((why : ReadRefusal) × ReadsResponse frame.kind frame.body (Err why) × (told ≡ refused (refuses_text (codes "client refuses reply") (read_refusal_number why))) × (after ≡ before))

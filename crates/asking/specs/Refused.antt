@@ -7,13 +7,13 @@ use Rattle.client.specs.declared.refusal.Refusal.{Refusal}
 use Rattle.client.specs.declared.refusal.Refusal.TheVariants.{Root, Proof, UnknownRoot, RootDiffers, Memory, NoPromise}
 use Rattle.asking.specs.Told.{Told, refused}
 
--- a root, a promise, a proof or a reply, by the number of its refusal
+-- that the client refuses a root, a promise, a proof or a reply, and the number of the refusal
 abbrev pub refuses_text : List ℕ → ℕ → List ℕ
-refuses_text what number = codes "client refuses " ++ what ++ codes " " ++ decimal number
+refuses_text what number = what ++ codes " " ++ decimal number
 
 -- a reply that does not answer what was asked
 abbrev pub other_reply : Told
-other_reply = refused (refuses_text (codes "reply") 25)
+other_reply = refused (refuses_text (codes "client refuses reply") 25)
 
 -- the roots of a refusal that is evidence
 abbrev pub evidence_before : Refusal → List ℕ

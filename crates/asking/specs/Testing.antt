@@ -15,8 +15,8 @@ use Rattle.asking.specs.Told.{Told, Tells, refused, silent}
 abbrev pub due_told : Result Due Refusal → Told
 due_told (Ok Kept) = silent
 due_told (Ok (Broken broken)) = refused (evidence_text (evidence.Broken broken))
-due_told (Ok OtherIndex) = refused (refuses_text (codes "promise") 26)
-due_told (Err why) = client_refuses (codes "proof") why
+due_told (Ok OtherIndex) = refused (refuses_text (codes "client refuses promise") 26)
+due_told (Err why) = client_refuses (codes "client refuses proof") why
 
 -- whether it was kept
 abbrev pub was_kept : Result Due Refusal → Bool

@@ -21,4 +21,4 @@ abbrev pub WatchesEpoch : (List ℕ → List ℕ) → (List ℕ → List ℕ →
 WatchesEpoch hash accepted before epoch reply said true now after =
     (step : Step) × Steps hash accepted before reply (Ok step) after × Tells said (step_told before.name epoch step) now
 WatchesEpoch hash accepted before epoch reply said false now after =
-    (why : Refusal) × Steps hash accepted before reply (Err (Client why)) after × Tells said (client_refuses (codes "proof") why) now
+    (why : Refusal) × Steps hash accepted before reply (Err (Client why)) after × Tells said (client_refuses (codes "client refuses proof") why) now

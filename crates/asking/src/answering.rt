@@ -119,5 +119,5 @@ pub(crate) fn tell_unread(
     ensures { OnOk result (Tells said.old (refused (refuses_text (codes "reply") (read_refusal_number why))) said.new) }
 {
     let words = format!(in alloc; "{why}")?;
-    said.refuse(b"reply", why.number(), words.as_bytes())
+    said.refuse(b"client refuses reply", why.number(), words.as_bytes())
 }

@@ -179,7 +179,7 @@ where
     };
     match client.look(&mut checks.hash, &checks.vuf, &name, epoch, reply) {
         Ok(statement) => tell_statement(&mut said.text, found_at, statement),
-        Err(why) => tell_client(alloc, b"proof", why, said),
+        Err(why) => tell_client(alloc, b"client refuses proof", why, said),
     }
 }
 
@@ -200,7 +200,7 @@ where
 {
     match client.keep_promise(&mut checks.hash, &checks.verifier, promise) {
         Ok(()) => tell_response(&mut said.text, Response::Promise(signed)),
-        Err(why) => tell_client(alloc, b"promise", why, said),
+        Err(why) => tell_client(alloc, b"client refuses promise", why, said),
     }
 }
 
@@ -243,7 +243,7 @@ where
         Ok(Place::Evidence(roots)) => Refusal::RootDiffers(roots),
         Err(why) => Refusal::from(why),
     };
-    tell_client(alloc, b"root", why, said)
+    tell_client(alloc, b"client refuses root", why, said)
 }
 
 /// Why a root is refused that comes with others, by where it stands.
@@ -286,7 +286,7 @@ where
         }
         let placed = place(client, checks, &root);
         if let Some(why) = refusal_of(placed) {
-            return tell_client(alloc, b"root", why, said);
+            return tell_client(alloc, b"client refuses root", why, said);
         }
         line.push(b' ')?;
         push_number(&mut line, root.body.epoch)?;

@@ -68,12 +68,12 @@ where
     fn take(&mut self, list: &[u8], said: &mut Said) -> Result<(), AskFault> {
         let checks = &mut self.checks;
         if let Err(why) = self.client.update(&mut checks.hash, &checks.verifier, list) {
-            tell_client(self.alloc, b"root", why, said)?;
+            tell_client(self.alloc, b"client refuses root", why, said)?;
             return Err(AskFault::Stopped);
         }
         for monitor in self.monitors.iter_mut() {
             if let Err(why) = monitor.update(&mut checks.hash, &checks.verifier, list) {
-                tell_client(self.alloc, b"root", why, said)?;
+                tell_client(self.alloc, b"client refuses root", why, said)?;
                 return Err(AskFault::Stopped);
             }
         }

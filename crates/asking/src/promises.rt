@@ -102,11 +102,15 @@ where
             Ok(false)
         }
         Ok(Due::OtherIndex) => {
-            said.refuse(b"promise", OTHER_INDEX, b"the name has another index")?;
+            said.refuse(
+                b"client refuses promise",
+                OTHER_INDEX,
+                b"the name has another index",
+            )?;
             Ok(false)
         }
         Err(why) => {
-            tell_client(alloc, b"proof", why, said)?;
+            tell_client(alloc, b"client refuses proof", why, said)?;
             Ok(false)
         }
     }

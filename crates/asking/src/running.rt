@@ -202,7 +202,7 @@ where
         match Asker::start(self.alloc, checks, key, token, root) {
             Ok(asker) => Ok(asker),
             Err(why) => {
-                tell_client(self.alloc, b"root", why, &mut self.said)?;
+                tell_client(self.alloc, b"client refuses root", why, &mut self.said)?;
                 Err(AskFault::Stopped)
             }
         }

@@ -1,4 +1,4 @@
-ghost use Rattle.std.specs.Prelude.{◌≡◌, ◌++◌, [], OnOk, codes, decimal};
+ghost use Rattle.std.specs.Prelude.{◌≡◌, ◌++◌, [], OnOk};
 ghost use Rattle.asking.specs.Refused.{other_reply, refuses_text};
 ghost use Rattle.asking.specs.Told.{refused, worse, Tells};
 
@@ -67,7 +67,11 @@ impl Said {
     pub(crate) fn refuse_other(&mut self) -> Result<(), AllocError>
         ensures { OnOk result (Tells self.old other_reply self.new) }
     {
-        self.refuse(b"reply", OTHER_REPLY, b"the reply is not to what was asked")
+        self.refuse(
+            b"client refuses reply",
+            OTHER_REPLY,
+            b"the reply is not to what was asked",
+        )
     }
 
     /// Ends a line of the errors by these words. Something was refused.
@@ -85,14 +89,6 @@ impl Said {
 
 fn push_refusal(text: &mut Vec<u8>, what: &[u8], number: u8) -> Result<(), AllocError>
     ensures { OnOk result (text.new.items ≡ text.old.items ++ refuses_text what.now number) }
-{
-    text.extend_from_slice(b"client refuses ")?;
-    push_numbered(text, what, number)?;
-    Ok(())
-}
-
-fn push_numbered(text: &mut Vec<u8>, what: &[u8], number: u8) -> Result<(), AllocError>
-    ensures { OnOk result (text.new.items ≡ text.old.items ++ what.now ++ codes " " ++ decimal number) }
 {
     text.extend_from_slice(what)?;
     text.push(b' ')?;

@@ -84,7 +84,7 @@ where
     ) -> Result<(), AllocError> {
         let client = match self.client_from(first) {
             Ok(client) => client,
-            Err(why) => return tell_client(self.alloc, b"root", why, said),
+            Err(why) => return tell_client(self.alloc, b"client refuses root", why, said),
         };
         let key = match self.promised_before(name, first.body.epoch) {
             Some(promised) => Some(promised),
@@ -241,7 +241,7 @@ where
             Ok(true)
         }
         Err(Refusal::Client(why)) => {
-            tell_client(alloc, b"proof", why, said)?;
+            tell_client(alloc, b"client refuses proof", why, said)?;
             Ok(false)
         }
         Err(Refusal::OtherPromise) => unreachable!(),

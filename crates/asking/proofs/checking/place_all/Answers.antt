@@ -23,6 +23,6 @@ returns-in-Some-refusal_of g c =
     let why = c.in-Some-refusal_of.why in
     let passing = subst (λ (rs : List SignedRoot). IsPassing hash verified chain c.args.from c.args.roots rs) c.in-Some.ensures c.loop.invariant.2 in
     let asked : c.args.from ≤ c.in-Some.root.body.epoch = omega (arith, c.if-root-from.false) in
-    tells_so c.tell_client.result (AreTold hash verified chain c.args.from c.args.roots c.args.roots) (client_refuses (codes "root") why) c.args.said.now c.loop.said c.tell_client.new.said c.loop.invariant.3
+    tells_so c.tell_client.result (AreTold hash verified chain c.args.from c.args.roots c.args.roots) (client_refuses (codes "client refuses root") why) c.args.said.now c.loop.said c.tell_client.new.said c.loop.invariant.3
     (passing-refused hash verified chain c.args.from c.args.roots c.in-Some.root c.next.new.self c.place-placed.result why passing asked c.place-placed.ensures (sym c.refusal_of.ensures ∙ c.in-Some-refusal_of.is))
     c.tell_client.ensures
