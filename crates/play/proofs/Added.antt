@@ -77,7 +77,7 @@ last-ahead book climb name start =
 
 module _ (provider : Provider) where
   -- the roots, up to that of the last page
-  record EndsWith (book : Book) : Type 0 where
+  pub record EndsWith (book : Book) : Type 0 where
     pub front : List SignedRoot
     pub root : SignedRoot
     pub is : roots provider book ≡ front ++ root ∷ []
@@ -91,7 +91,7 @@ module _ (provider : Provider) where
       let here : SignedPage = record { page = page; root = root } in
       (here ∷ more.0, more.1, ap (λ (rest : List SignedPage). here ∷ rest) more.2)
 
-  ends-with : (book : Book) → EndsWith book
+  pub ends-with : (book : Book) → EndsWith book
   ends-with book =
       let split = sealed-split 0 (replicate 32 0) book.earlier book.last in
       record {

@@ -201,6 +201,12 @@ module _ {R : Type 0} (digest_of : List ℕ → List ℕ) (value_of signature_of
       → HasKeysOf before.hub.service.directory after.hub.service.directory
   keys-kept before between after requested text items a t = subst (λ (hub : HubState (DeskState R NoKeeper)). HasKeysOf before.hub.service.directory hub.service.directory) (sym t.hub) a.keys
 
+  -- a client that takes roots looks at nothing
+  pub looks-kept : (before between after : Parties R) (requested : request.RequestContent) (text : List ℕ) (items : List SignedRoot)
+      → HasAsked digest_of value_of signature_of stream accepted verified before requested text between → AllTake digest_of verified items between after
+      → after.client.looks ≡ before.client.looks
+  looks-kept before between after requested text items a t = ap (λ (c : Client). c.looks) t.client.2 ∙ ap (λ (p : Parties R). p.client.looks) a.others
+
   pub same-provider : (before after : Parties R) → HasKeysOf before.hub.service.directory after.hub.service.directory → P after ≡ P before
   same-provider before after keys = ap₂ (λ (vuf_key key : List ℕ). fresh.provider_of digest_of value_of vuf_key signature_of key) keys.0 keys.1
 

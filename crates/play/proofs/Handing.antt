@@ -1,17 +1,21 @@
 -- A promise of a key that waits is handed to the monitors of its name, as to the watchers.
-use Rattle.std.proofs.Common.{◌≡◌, ◌⊎◌, ℕ, ◌<◌, List, [], ◌∷◌, Option, Some, Ok, Err, Bool, true, false, if◌then◌else◌, IsSome, refl, sym, ap, ap₂, subst, inl, inr, ◌∙◌}
+use Rattle.std.proofs.Common.{◌≡◌, ◌⊎◌, ℕ, zero, suc, ◌<◌, ◌≤◌, List, [], ◌∷◌, ◌++◌, length, drop, get_or, Option, Some, Ok, Err, Bool, true, false, if◌then◌else◌, IsSome, Contains, refl, sym, ap, ap₂, subst, inl, inr, ◌∙◌, arith}
 use Rattle.std.specs.Prelude.{is_some}
 use Rattle.std.specs.BTreeMap.{is_at}
-use Rattle.std.specs.List.{AllZip}
+use Rattle.std.specs.List.{AllByRecursion, AllZip}
 use Rattle.std.specs.Str.{bytes_eq}
 use Rattle.std.proofs.lemmas.Bool.{false_from_ne_true}
-use Rattle.std.proofs.lemmas.List.Elements.{All-push}
+use Rattle.std.proofs.lemmas.List.Elements.{All-push, Contains-append_cases, Contains-append_right}
 use Rattle.std.proofs.lemmas.Slice.Eq.{bytes_eq-Decides}
 use Rattle.rand_core.specs.Stream.{Stream}
 use Rattle.encoding.specs.Limits.{IsKeyData}
-use Rattle.rootchain.specs.Promises.{IsSignedPromise, SpellsPromise}
+use Rattle.rootchain.specs.Bodies.{body_bytes}
+use Rattle.rootchain.specs.Chains.{Ascend, IsChain, KeyedRoots}
+use Rattle.rootchain.specs.Promises.{IsSignedPromise, PromiseVerifies, SpellsPromise}
 use Rattle.rootchain.specs.declared.signed_promise.SignedPromise.{SignedPromise}
 use Rattle.rootchain.specs.declared.signed_root.SignedRoot.{SignedRoot}
+use Rattle.rootchain.proofs.Agreement.{unique}
+use Rattle.rootchain.proofs.Chains.{ascend-linked}
 use Rattle.proofs.specs.Watches.{Watch}
 use Rattle.commands.specs.declared.edit.Verb.{Verb}
 use Rattle.commands.specs.Operations.{Operation, Edit}
@@ -34,15 +38,21 @@ use Rattle.book.specs.Refusals.{refusal_number}
 use Rattle.book.specs.Shows.{Provider, index_of, roots}
 use Rattle.book.specs.Turns.{Shows, Turn}
 use Rattle.book.proofs.Entries.{at_put_other, at_put_same, is_name, is_no_name}
+use Rattle.book.proofs.Members.{first-or-later, first-there, none-there}
+use Rattle.client.specs.Clients.{HasRootOf}
+use Rattle.monitor.specs.Expecting.{MayExpect}
 use Rattle.monitor.specs.Monitors.{Monitor, with_change}
-use Rattle.play.specs.Handed.{HasHanded, IsHanded, MayHand}
+use Rattle.play.specs.Handed.{HasHanded, IsHanded, MayBeHanded, MayHand}
 use Rattle.play.specs.Messages as message
 use Rattle.play.specs.Messages.{comes_of, request_asks}
-use Rattle.play.specs.Parties.{Parties, KeepsNothing, NeverFails, book_of, provider_of, IsWatcher}
+use Rattle.play.specs.Parties.{Parties, KeepsNothing, NeverFails, book_of, chain_under, provider_of, IsWatcher}
 use Rattle.play.specs.Played.{after_promise}
 use Rattle.play.specs.Watchers.{Watcher, expecting, handed}
-use Rattle.play.proofs.Calling.{rooted-epoch}
+use Rattle.play.proofs.Added.{EndsWith, ends-with}
+use Rattle.play.proofs.Calling.{in-roots, rooted-epoch}
 use Rattle.play.proofs.Comes.{turn_comes, Comes, HasCome}
+use Rattle.play.proofs.InTime.{promises-later}
+use Rattle.play.proofs.Taken.{below-all}
 use Rattle.encoding.specs.Bytes.{bytes_cmp}
 
 -- what waits goes on to wait
@@ -107,6 +117,13 @@ module _ (own : List ℕ) (taken : List SignedRoot) (book : Book) (name key : Li
   hands-all (m ∷ ms) [] ws are handed = absurd handed
   hands-all (m ∷ ms) (l ∷ ls) [] are handed = absurd are
   hands-all (m ∷ ms) (l ∷ ls) (w ∷ ws) are handed = (hands m l w are.0 handed.0, hands-all ms ls ws are.1 handed.1)
+
+-- the last of some is among those that are left, where any is
+last-left : (n : ℕ) (front : List SignedRoot) (root : SignedRoot) → 0 < length (drop n (front ++ root ∷ [])) → Contains (drop n (front ++ root ∷ [])) root
+last-left zero front root some = Contains-append_right front (root ∷ []) root (first-there root [])
+last-left (suc zero) [] root some = absurd (omega (arith, some))
+last-left (suc (suc n)) [] root some = absurd (omega (arith, some))
+last-left (suc n) (x ∷ front) root some = last-left n front root some
 
 -- ---- what was said
 
@@ -186,12 +203,12 @@ module _ {R : Type 0} (digest_of : List ℕ → List ℕ) (value_of signature_of
     pub answer : Answer
     pub told : come.told ≡ Ok answer
 
+  kept : (promised : SignedPromise) → may.was.said ≡ reply.Promised promised → IsKept by accepted verified before.key (now_book asked) command promised
+  kept promised is = may.was.honest.kept command promised (inl (is_put, is))
+
   pub is-given : (promised : SignedPromise) → may.was.said ≡ reply.Promised promised → IsGiven promised
   is-given promised is = by_told come.told refl come.comes
     where
-      kept : IsKept by accepted verified before.key (now_book asked) command promised
-      kept = may.was.honest.kept command promised (inl (is_put, is))
-
       other : {why : Refusal} → reply.Promised promised ≡ reply.Refused why → ⊥
       other e = absurd cc
 
@@ -201,8 +218,8 @@ module _ {R : Type 0} (digest_of : List ℕ → List ℕ) (value_of signature_of
           let shown = subst (λ (said : Reply). Shows by (now_book asked) answer said) is shows in
           record {
             epoch = ap (λ (p : SignedPromise). p.promise.epoch) shown.5 ∙ rooted-epoch by (now_book asked) (now_book asked).last shown.2 shown.4 ∙ ap (λ (b : Book). b.last.epoch) does.1;
-            bound = kept.asked.1;
-            form = kept.form;
+            bound = (kept promised is).asked.1;
+            form = (kept promised is).form;
             book = does.1;
             answer = answer;
             told = told;
@@ -251,3 +268,88 @@ module _ {R : Type 0} (digest_of : List ℕ → List ℕ) (value_of signature_of
   -- of a key within its limits
   pub key-fits : (promised : SignedPromise) → may.was.said ≡ reply.Promised promised → IsKeyData key
   key-fits promised is = let given = is-given promised is in subst IsKeyData given.bound given.form.0.5
+
+  -- ---- each monitor of the name may expect it
+
+  module _ (promised : SignedPromise) (is : may.was.said ≡ reply.Promised promised) where
+    abbrev all : List SignedRoot
+    all = roots by (now_book before)
+
+    promise-given : IsGiven promised
+    promise-given = is-given promised is
+
+    is-kept : IsKept by accepted verified before.key (with_pending (now_book before) name key) command promised
+    is-kept = subst (λ (b : Book). IsKept by accepted verified before.key b command promised) promise-given.book (kept promised is)
+
+    up : Ascend all
+    up = ascend-linked by.hash all (subst (λ (b : Book). IsChain by.hash verified (record { key = before.key; roots = roots by b })) promise-given.book may.was.honest.chain).linked
+
+    ends : EndsWith by (now_book before)
+    ends = ends-with by (now_book before)
+
+    last-epoch : ends.root.body.epoch ≡ promised.promise.epoch
+    last-epoch = rooted-epoch by (now_book before) (now_book before).last ends.root ends.rooted ∙ sym promise-given.epoch
+
+    -- no root is later than the last
+    until-last : (root : SignedRoot) → Contains all root → root.body.epoch ≤ promised.promise.epoch
+    until-last root there = elim (Contains-append_cases ends.front (ends.root ∷ []) root (subst (λ (rs : List SignedRoot). Contains rs root) ends.is there)) [
+      | inl early ↦
+          let less = below-all ends.front (ends.root ∷ []) (subst Ascend ends.is up) root ends.root early (first-there ends.root []) in
+          omega (arith, less, last-epoch)
+      | inr last ↦ elim (first-or-later ends.root [] root last) [
+        | inl same ↦ let e : ends.root.body.epoch ≡ root.body.epoch = ap (λ (r : SignedRoot). r.body.epoch) same in omega (arith, e, last-epoch)
+        | inr later ↦ absurd (none-there root later)
+      ]
+    ]
+
+    -- it is over the last
+    over-last : promised.promise.body_hash ≡ by.hash (body_bytes ends.root.body)
+    over-last =
+        let own = in-roots by (with_pending (now_book before) name key) is-kept.page is-kept.root is-kept.is in
+        let same : is-kept.root ≡ ends.root =
+        unique (chain_under before.key all) up promised.promise.epoch is-kept.root ends.root (own, sym is-kept.epoch) (in-roots by (now_book before) (now_book before).last ends.root ends.rooted, last-epoch) in
+        is-kept.body_hash ∙ ap (λ (r : SignedRoot). by.hash (body_bytes r.body)) same
+
+    -- the change was promised before, or it is that which waits
+    abbrev IsTimely : List ℕ → ℕ × List ℕ → Type 0
+    IsTimely own change = (change.0 < (now_book before).last.epoch) ⊎ ((change.0 ≡ (now_book before).last.epoch) × IsSome (at (now_book before).pending own))
+
+    -- none waits, since the promise was given
+    lower : (change : ℕ × List ℕ) → IsTimely name change → change.0 < promised.promise.epoch
+    lower change timely =
+        let low = (promises-later (index_of by) (now_book before) verb name key promise-given.answer (change ∷ []) (told_is ∙ promise-given.told) (timely, tt)).0 in
+        omega (arith, low, promise-given.epoch)
+
+    may-expect : (watching : Monitor) (watcher : Watcher) → IsWatcher before.key all (now_book before) watching watcher → watching.name ≡ name → MayExpect watching key promised.promise
+    may-expect watching watcher own named = record {
+      named = is-kept.asked.0 ∙ sym named;
+      keyed = promise-given.bound;
+      later = λ k d within.
+          let timely = own.promised k d (subst (λ (w : Watch). k < length w.changes) own.watch within) in
+          lower (get_or watching.watch.changes k d)
+          (subst (λ (w : Watch). IsTimely name (get_or w.changes k d)) (sym own.watch)
+          (subst (λ (n : List ℕ). IsTimely n (get_or watcher.watch.changes k d)) (sym own.name ∙ named) timely));
+      unwatched = let low = until-last own.until.0 own.until.1 in omega (arith, low, own.until.3);
+    }
+
+    one-may : (watching : Monitor) (watcher : Watcher) (body : List ℕ) → SpellsPromise body promised → IsWatcher before.key all (now_book before) watching watcher → MayBeHanded by.hash verified name key body watching
+    unfolding PromiseVerifies HasRootOf
+    one-may watching watcher body spells own named =
+        let there : Contains (drop own.skipped all) ends.root =
+        subst (λ (rs : List SignedRoot). Contains (drop own.skipped rs) ends.root) (sym ends.is)
+        (last-left own.skipped ends.front ends.root (subst (λ (rs : List SignedRoot). 0 < length (drop own.skipped rs)) ends.is own.some)) in
+        let rooted : HasRootOf by.hash (chain_under before.key (drop own.skipped all)) promised.promise = (ends.root, (there, last-epoch), over-last) in (
+          promised,
+          (
+            ((spells, subst (λ (c : KeyedRoots). PromiseVerifies verified c.key promised) (sym own.chain) is-kept.signed), subst (λ (c : KeyedRoots). HasRootOf by.hash c promised.promise) (sym own.chain) rooted),
+            may-expect watching watcher own named,
+          ),
+        )
+
+    pub may-be-handed : (body : List ℕ) → SpellsPromise body promised → AllByRecursion (MayBeHanded by.hash verified name key body) now.monitors
+    may-be-handed body spells = subst (AllByRecursion (MayBeHanded by.hash verified name key body)) (sym monitors_are) (each before.monitors watchers may.are)
+      where
+        each : (monitors : List Monitor) (beside : List Watcher) → AllZip (IsWatcher before.key all (now_book before)) monitors beside → AllByRecursion (MayBeHanded by.hash verified name key body) monitors
+        each [] beside are = tt
+        each (m ∷ ms) [] are = absurd are
+        each (m ∷ ms) (w ∷ ws) are = (one-may m w body spells are.0, each ms ws are.1)

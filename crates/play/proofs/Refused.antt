@@ -1,11 +1,13 @@
 -- What an honest directory gives no cause for: a refusal that is not for want of memory.
-use Rattle.std.proofs.Common.{◌≡◌, ℕ, List, None, Some, Err, inl, inr, refl, sym, subst, ◌∙◌, arith}
+use Rattle.std.proofs.Common.{◌≡◌, ℕ, List, None, Some, Result, Ok, Err, inl, inr, refl, sym, subst, ◌∙◌, arith}
 use Rattle.wire.specs.Frames.{Frame}
 use Rattle.rootchain.specs.Chains.{Verifies}
+use Rattle.rootchain.specs.Promises.{PromiseVerifies}
 use Rattle.rootchain.specs.SignedRoots.{SpellsRoot}
 use Rattle.rootchain.specs.declared.refusal.Refusal.{Refusal as RootRefusal}
 use Rattle.rootchain.specs.declared.refusal.Refusal.TheVariants as rooted
 use Rattle.client.specs.declared.refusal.RootRefusal.TheVariants as told
+use Rattle.rootchain.specs.declared.signed_promise.SignedPromise.{SignedPromise}
 use Rattle.rootchain.specs.declared.signed_root.SignedRoot.{SignedRoot}
 use Rattle.hub.specs.declared.hub_refusal.HubRefusal.{HubRefusal}
 use Rattle.hub.specs.declared.hub_refusal.HubRefusal.TheVariants as hub
@@ -13,11 +15,14 @@ use Rattle.hub.specs.Events.{due, Happening, HubState}
 use Rattle.hub.specs.Happenings.{Happens}
 use Rattle.auditor.specs.Chains.{Chains}
 use Rattle.auditor.specs.Observing.{Observes}
+use Rattle.client.specs.Clients.{HasRootOf}
 use Rattle.client.specs.Starting.{Starts}
 use Rattle.client.specs.declared.refusal.Refusal.{Refusal}
 use Rattle.client.specs.declared.refusal.Refusal.TheVariants as client
+use Rattle.monitor.specs.Expecting.{Expects, IsNew, MayExpect}
 use Rattle.monitor.specs.Monitors.{Monitor, IsNext}
 use Rattle.monitor.specs.Stepping.{Steps}
+use Rattle.monitor.specs.declared.refusal.Refusal.{Refusal as MonitorRefusal}
 use Rattle.monitor.specs.declared.refusal.Refusal.TheVariants as monitor
 use Rattle.book.specs.declared.refusal.Refusal.{Refusal as BookRefusal}
 use Rattle.book.specs.declared.refusal.Refusal.TheVariants as book
@@ -26,6 +31,7 @@ use Rattle.book.specs.Books.{Page}
 use Rattle.book.specs.Shows.{Provider}
 use Rattle.play.specs.Wanting.{IsMemory, IsOfLook}
 use Rattle.play.proofs.Added.{one-signed}
+use Rattle.play.proofs.Calling.{one-promise}
 use Rattle.play.proofs.Looked.{LooksSo}
 
 -- ---- a directory that begins
@@ -97,3 +103,22 @@ steps-well hash accepted before after bytes root next client.UnknownRoot steps =
 steps-well hash accepted before after bytes root next (client.Root why) steps = absurd steps
 steps-well hash accepted before after bytes root next (client.RootDiffers evidence) steps = absurd steps
 steps-well hash accepted before after bytes root next client.NoPromise steps = absurd steps
+
+-- ---- a promise that a monitor may expect
+
+module _ (hash : List ℕ → List ℕ) (verified : List ℕ → List ℕ → List ℕ → Type 0) (before after : Monitor) (key bytes : List ℕ) (promised : SignedPromise) (new : IsNew hash verified before key bytes promised) where
+  pub expects-well : (result : Result (Unit {0}) MonitorRefusal) → Expects hash verified before key bytes result after → (why : MonitorRefusal) → result ≡ Err why → why ≡ monitor.Client client.Memory
+  expects-well (Ok done) expects why is = absurd cc
+  expects-well (Err (monitor.Client client.Memory)) expects why is = cc
+  expects-well (Err monitor.OtherPromise) ((signed, given, may_not), stays) why is =
+      absurd (may_not (subst (λ (p : SignedPromise). MayExpect before key p.promise) (one-promise bytes promised signed new.0.0.0 given.0.0) new.1))
+  expects-well (Err (monitor.Client (client.Root told.Malformed))) expects why is = absurd (expects.0 promised new.0.0.0)
+  expects-well (Err (monitor.Client (client.Root told.BadSignature))) ((signed, spells, never), stays) why is =
+      absurd (never (subst (PromiseVerifies verified before.client.chain.key) (one-promise bytes promised signed new.0.0.0 spells) new.0.0.1))
+  expects-well (Err (monitor.Client (client.Root told.NotLater))) expects why is = absurd expects.0
+  expects-well (Err (monitor.Client (client.Root told.BadLink))) expects why is = absurd expects.0
+  expects-well (Err (monitor.Client client.UnknownRoot)) ((signed, spells, none), stays) why is =
+      absurd (none (subst (λ (p : SignedPromise). HasRootOf hash before.client.chain p.promise) (one-promise bytes promised signed new.0.0.0 spells.0) new.0.1))
+  expects-well (Err (monitor.Client (client.Proof refusal))) expects why is = absurd expects
+  expects-well (Err (monitor.Client (client.RootDiffers evidence))) expects why is = absurd expects
+  expects-well (Err (monitor.Client client.NoPromise)) expects why is = absurd expects

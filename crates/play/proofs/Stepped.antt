@@ -310,6 +310,9 @@ module _ {R : Type 0} (digest_of : List ℕ → List ℕ) (value_of signature_of
   keys =
       keys-stay digest_of value_of signature_of stream accepted verified before mid fin stand (request.Query (Lookup watching.name epoch)) frame (slice_set mid.monitors place later) stand.watchers all asked ends
 
+  looks-stay : fin.client.looks ≡ before.client.looks
+  looks-stay = ap (λ (m : Parties R). m.client.looks) ends ∙ ap (λ (m : Parties R). m.client.looks) asked.others
+
   -- what was told is what the watcher says, and all stand as after it
   pub has-stepped : (printed text : List ℕ) (went : Bool) → Watches digest_of accepted watching epoch body printed went text later
       → HasStepped digest_of value_of signature_of stream accepted verified before stand place watcher printed went text fin
@@ -333,6 +336,7 @@ module _ {R : Type 0} (digest_of : List ℕ → List ℕ) (value_of signature_of
         is = (subst (λ (name : List ℕ). is_double (index_of by) s.0 name ≡ false) is.name states.1, refl, refl);
         rest = refl;
         keys = keys;
+        looks = looks-stay;
         done = record {
           text = told_so ∙ ap (λ (l : List ℕ). printed ++ l ++ 10 ∷ []) line ∙ one-line printed (watched_text watcher s.0);
           stands = stands (record watcher { behind = s.0.epoch })
@@ -352,6 +356,7 @@ module _ {R : Type 0} (digest_of : List ℕ → List ℕ) (value_of signature_of
         is = (subst (λ (name : List ℕ). is_double (index_of by) s.0 name ≡ true) is.name refused.1, refl, refl);
         rest = refl;
         keys = keys;
+        looks = looks-stay;
         done = record {
           text = told_so ∙ ap (λ (front : List ℕ). front ++ 10 ∷ []) (append_assoc printed (codes "client refuses proof ") (decimal (refusal_number why))) ∙ ap (λ (l : List ℕ). printed ++ l ++ 10 ∷ []) (refused-text why refused.0) ∙ one-line printed refused_proof;
           stands = stands watcher (subst (λ (m : Monitor). IsWatcher before.key (roots by stand.book) stand.book m watcher) (sym after) is);

@@ -126,7 +126,7 @@ drop-front (suc n) [] ys some = absurd (omega (arith, some))
 drop-front (suc n) (x ∷ xs) ys some = drop-front n xs ys some
 
 -- a root of the first list is below each root of the second
-below-all : (xs ys : List SignedRoot) → Ascend (xs ++ ys) → (one other : SignedRoot) → Contains xs one → Contains ys other → one.body.epoch < other.body.epoch
+pub below-all : (xs ys : List SignedRoot) → Ascend (xs ++ ys) → (one other : SignedRoot) → Contains xs one → Contains ys other → one.body.epoch < other.body.epoch
 below-all xs ys up one other (i, low, is) (j, high, also) =
     let first : get_or (xs ++ ys) i one ≡ one = get_or_append_left xs ys one i low ∙ is in
     let back : length xs + j - length xs ≡ j = omega arith in

@@ -173,6 +173,7 @@ module _ {R : Type 0} (digest_of : List ℕ → List ℕ) (value_of signature_of
   -- these lines are appended, and what is left of the watcher's lines is that of the watcher now
   pub record HasGone (before : Parties R) (printed : List ℕ) (stand : Stand) (place : ℕ) (watcher : Watcher) (text : List ℕ) (parties : Parties R) : Type 0 where
     pub keys : HasKeysOf before.hub.service.directory parties.hub.service.directory
+    pub looks : parties.client.looks ≡ before.client.looks
     pub now : Watcher
     pub lines : List (List ℕ)
     pub done : HaveDone digest_of value_of signature_of stream accepted verified printed lines (with_watcher stand place now) text parties
@@ -182,6 +183,7 @@ module _ {R : Type 0} (digest_of : List ℕ → List ℕ) (value_of signature_of
     pub not-yet : AreAt digest_of value_of signature_of stream accepted verified before stand → HasGone before printed stand place watcher printed before
     not-yet all = record {
       keys = (refl, refl);
+      looks = refl;
       now = watcher;
       lines = [];
       done = record {
@@ -221,6 +223,7 @@ module _ {R : Type 0} (digest_of : List ℕ → List ℕ) (value_of signature_of
       pub goes-farther : (later : List ℕ) (after : Parties R) → HasNext true later after → HasGone before printed stand place watcher later after
       goes-farther later after step = record {
         keys = keys-on after step.keys;
+        looks = step.looks ∙ gone.looks;
         now = step.now;
         lines = gone.lines ++ step.line ∷ [];
         done = grown step.line later step.now after step.done;

@@ -1,5 +1,5 @@
 -- What the client of a script checks: the replies to look-ups.
-use Rattle.std.specs.Prelude.{◌≡◌, ◌≢◌, ℕ, List, [], ◌∷◌, Some, Result, Err}
+use Rattle.std.specs.Prelude.{◌≡◌, ◌≢◌, ℕ, List, [], ◌∷◌, Some, Result, Err, ⊤}
 use Rattle.encoding.specs.Limits.{IsName}
 use Rattle.rand_core.specs.Stream.{Stream}
 use Rattle.rootchain.specs.declared.signed_root.SignedRoot.{SignedRoot}
@@ -21,6 +21,7 @@ use Rattle.client.specs.declared.refusal.Refusal.TheVariants as client
 use Rattle.play.specs.Lines.{checked_text, numbered_text}
 use Rattle.play.specs.Messages.{comes_of, request_asks}
 use Rattle.play.specs.Parties.{book_of, chain_under, provider_of, HasAsked, Parties}
+use Rattle.play.specs.Scripts.{Line, Pass, Ask, Watch, Piece, End}
 
 module _ {R : Type 0} (hash : List ℕ → List ℕ) (accepted : List ℕ → List ℕ → List ℕ → Type 0) where
   -- The client looked, at a reply to the look-up of a name at an epoch, and memory did not run out. Nothing but
@@ -63,3 +64,20 @@ module _ {R : Type 0} (digest_of : List ℕ → List ℕ) (value_of signature_of
   pub record HasAskedKnowing (before : Parties R) (requested : RequestContent) (text : List ℕ) (after : Parties R) : Type 0 where
     pub asked : HasAsked digest_of value_of signature_of stream accepted verified before requested text after
     pub chain : before.client.chain ≡ chain_under before.key (roots (provider_of digest_of value_of signature_of stream accepted verified before) (book_of digest_of value_of signature_of stream accepted verified before))
+
+  -- a request was asked and its reply checked, and the client has looked at nothing since
+  pub record HasAnswered (before : Parties R) (requested : RequestContent) (after : Parties R) : Type 0 where
+    pub asked : Parties R
+    pub text : List ℕ
+    pub was : HasAsked digest_of value_of signature_of stream accepted verified before requested text asked
+    pub checked : Parties R
+    pub checks : HasChecked digest_of accepted asked requested was.said checked
+    pub looks : after.client.looks ≡ checked.client.looks
+
+  -- so was that of a line that asks
+  abbrev pub AnswersLine : Parties R → Line → Parties R → Type 0
+  AnswersLine before Pass after = ⊤
+  AnswersLine before (Ask requested) after = HasAnswered before requested after
+  AnswersLine before (Watch name start) after = ⊤
+  AnswersLine before (Piece session piece) after = ⊤
+  AnswersLine before (End session) after = ⊤

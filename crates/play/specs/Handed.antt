@@ -5,6 +5,7 @@ use Rattle.rand_core.specs.Stream.{Stream}
 use Rattle.rootchain.specs.declared.signed_promise.SignedPromise.{SignedPromise}
 use Rattle.wire.specs.Requests.{RequestContent}
 use Rattle.book.specs.Shows.{index_of, roots}
+use Rattle.monitor.specs.Expecting.{IsNew}
 use Rattle.monitor.specs.Monitors.{Monitor, with_change}
 use Rattle.play.specs.Messages.{comes_of, request_asks}
 use Rattle.play.specs.Parties.{book_of, provider_of, HasAsked, IsWatcher, Parties}
@@ -14,6 +15,10 @@ use Rattle.play.specs.Watchers.{Watcher}
 -- a monitor of the name expects the change of this promise, and no other changes
 abbrev pub IsHanded : List ℕ → SignedPromise → Monitor → Monitor → Type 0
 IsHanded name promised before after = ((before.name ≡ name) × (after ≡ with_change before promised)) ⊎ ((before.name ≢ name) × (after ≡ before))
+
+-- if the monitor is one of the name, the bytes spell a promise of the key that it may expect
+abbrev pub MayBeHanded : (List ℕ → List ℕ) → (List ℕ → List ℕ → List ℕ → Type 0) → List ℕ → List ℕ → List ℕ → Monitor → Type 0
+MayBeHanded hash verified name key bytes monitor = monitor.name ≡ name → (promised : SignedPromise) × IsNew hash verified monitor key bytes promised
 
 module _ {R : Type 0} (digest_of : List ℕ → List ℕ) (value_of signature_of : List ℕ → List ℕ → List ℕ) (stream : R → Stream) (accepted verified : List ℕ → List ℕ → List ℕ → Type 0) where
   -- This was asked for, and answered with this text. The monitors are these watchers, as they were before.

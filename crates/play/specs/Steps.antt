@@ -44,4 +44,5 @@ module _ {R : Type 0} (digest_of : List ℕ → List ℕ) (value_of signature_of
     pub is : IsStep (index_of (provider_of digest_of value_of signature_of stream accepted verified before)) watcher page went line now
     pub rest : ahead (record watcher { behind = page.epoch }) (pages stand.book) ≡ more
     pub keys : HasKeysOf before.hub.service.directory parties.hub.service.directory
+    pub looks : parties.client.looks ≡ before.client.looks
     pub done : HaveDone digest_of value_of signature_of stream accepted verified printed (line ∷ []) (record stand { watchers = slice_set stand.watchers place now }) text parties

@@ -13,6 +13,7 @@ ghost use Rattle.book.specs.Fresh.{fresh};
 ghost use Rattle.book.specs.Shows.{index_of};
 ghost use Rattle.epochs.specs.DirectoryStates.{book, provider, HasKeysOf};
 ghost use Rattle.hub.specs.DeskRuns.{IsWell};
+ghost use Rattle.play.specs.Checked.{AnswersLine};
 ghost use Rattle.play.specs.Parties.{AreAt, HaveDone};
 ghost use Rattle.play.specs.Played.{line_played, Stand};
 ghost use Rattle.play.specs.Spoken.{line_seen, Fits};
@@ -139,6 +140,7 @@ where
             → OnOk result (let now = line_played (index_of (provider H.digest_of V.value_of S.signature_of (self.old).hub.service.directory)) stand (line_seen line.now) in
             HaveDone H.digest_of V.value_of S.signature_of R.stream V.accepted S.verified text.old.items now.0 now.1 text.new.items self.new) }
         ensures keys { OnOk result (HasKeysOf (self.old).hub.service.directory (self.new).hub.service.directory) }
+        ensures checked { OnOk result (AnswersLine H.digest_of V.value_of S.signature_of R.stream V.accepted S.verified self.old (line_seen line.now) self.new) }
     {
         match line {
             Line::Pass => Ok(()),

@@ -8,7 +8,7 @@ ghost use Rattle.wire.specs.Responses.{response_seen, Refused, ResponseContent};
 ghost use Rattle.book.specs.Books.{Page};
 ghost use Rattle.book.specs.Shows.{index_of};
 ghost use Rattle.epochs.specs.DirectoryStates.{provider, HasKeysOf};
-ghost use Rattle.play.specs.Checked.{line_of_reply, HasAskedKnowing, HasChecked, HasLooked, IsFound};
+ghost use Rattle.play.specs.Checked.{line_of_reply, HasAnswered, HasAskedKnowing, HasChecked, HasLooked, IsFound};
 ghost use Rattle.play.specs.Handed.{HasHanded, MayHand};
 ghost use Rattle.play.specs.Lines.{found_text};
 ghost use Rattle.play.specs.Parties.{AreAt, HasAsked, HaveDone, IsReady, Parties};
@@ -129,6 +129,7 @@ where
         requires at { (stand : Stand) × AreAt H.digest_of V.value_of S.signature_of R.stream V.accepted S.verified self.old stand }
         ensures done { (stand : Stand) → AreAt H.digest_of V.value_of S.signature_of R.stream V.accepted S.verified self.old stand → OnOk result (let now = played.ask (index_of (provider H.digest_of V.value_of S.signature_of (self.old).hub.service.directory)) stand (ask_seen ask.now) in HaveDone H.digest_of V.value_of S.signature_of R.stream V.accepted S.verified text.old.items now.0 now.1 text.new.items self.new) }
         ensures keys { OnOk result (HasKeysOf (self.old).hub.service.directory (self.new).hub.service.directory) }
+        ensures checked { OnOk result (HasAnswered H.digest_of V.value_of S.signature_of R.stream V.accepted S.verified self.old (ask_seen ask.now) self.new) }
     {
         let latest = self.latest();
         let reply = self.ask(ask)?;

@@ -41,6 +41,7 @@ where
         requires behind { (stand : Stand) × AreBehind H.digest_of V.value_of S.signature_of R.stream V.accepted S.verified self.old stand }
         ensures done { (stand : Stand) → AreBehind H.digest_of V.value_of S.signature_of R.stream V.accepted S.verified self.old stand → OnOk result (let now = all_through (index_of (provider H.digest_of V.value_of S.signature_of (self.old).hub.service.directory)) (pages stand.book) stand.watchers in HaveDone H.digest_of V.value_of S.signature_of R.stream V.accepted S.verified text.old.items now.0 (record stand { watchers = now.1 }) text.new.items self.new) }
         ensures keys { OnOk result (HasKeysOf (self.old).hub.service.directory (self.new).hub.service.directory) }
+        ensures looks { OnOk result ((self.new).client.looks ≡ (self.old).client.looks) }
     {
         self.take_roots()?;
         for place in 0..self.monitors.len() {
@@ -54,6 +55,7 @@ where
         requires behind { (stand : Stand) × AreBehind H.digest_of V.value_of S.signature_of R.stream V.accepted S.verified self.old stand }
         ensures at { (stand : Stand) → AreBehind H.digest_of V.value_of S.signature_of R.stream V.accepted S.verified self.old stand → OnOk result (AreAt H.digest_of V.value_of S.signature_of R.stream V.accepted S.verified self.new stand) }
         ensures keys { OnOk result (HasKeysOf (self.old).hub.service.directory (self.new).hub.service.directory) }
+        ensures looks { OnOk result ((self.new).client.looks ≡ (self.old).client.looks) }
     {
         // Every loop of Rattle has an end: this one's is past any chain.
         for _ in 0..u64::MAX {
@@ -70,6 +72,7 @@ where
         requires behind { (stand : Stand) × AreBehind H.digest_of V.value_of S.signature_of R.stream V.accepted S.verified self.old stand }
         ensures behind { (stand : Stand) → AreBehind H.digest_of V.value_of S.signature_of R.stream V.accepted S.verified self.old stand → OnOk result (AreBehind H.digest_of V.value_of S.signature_of R.stream V.accepted S.verified self.new stand) }
         ensures keys { OnOk result (HasKeysOf (self.old).hub.service.directory (self.new).hub.service.directory) }
+        ensures looks { OnOk result ((self.new).client.looks ≡ (self.old).client.looks) }
     {
         let Some(from) = self.client.chain().head().body.epoch.checked_add(1) else {
             return Ok(());

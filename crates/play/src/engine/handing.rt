@@ -1,12 +1,13 @@
 // A promise of a key goes to the monitors of its name.
 
 ghost use Rattle.std.specs.Prelude.{OnOk};
-ghost use Rattle.std.specs.List.{AllZip};
+ghost use Rattle.std.specs.List.{AllByRecursion, AllZip};
 ghost use Rattle.rootchain.specs.Promises.{SpellsPromise};
 ghost use Rattle.rootchain.specs.declared.signed_promise.SignedPromise.{SignedPromise};
-ghost use Rattle.play.specs.Handed.{IsHanded};
+ghost use Rattle.play.specs.Handed.{IsHanded, MayBeHanded};
 
 use super::Checks;
+use super::wanting::monitor_memory;
 use encoding::KeyData;
 use monitor::Monitor;
 use nodehash::NodeHash;
@@ -22,6 +23,7 @@ pub(super) fn hand_all<H: NodeHash + Drop, V: Vuf + Drop, S: Signer + Drop>(
     key: &KeyData,
     promise: &[u8],
 ) -> Result<(), AllocError>
+    requires { AllByRecursion (MayBeHanded H.digest_of S.verified name.now key.now promise.now) monitors.old }
     ensures { (promised : SignedPromise) → SpellsPromise promise.now promised → OnOk result (AllZip (IsHanded name.now promised) monitors.old monitors.new) }
 {
     for monitor in monitors.iter_mut() {
@@ -38,6 +40,7 @@ fn hand_to<H: NodeHash + Drop, V: Vuf + Drop, S: Signer + Drop>(
     key: &KeyData,
     promise: &[u8],
 ) -> Result<(), AllocError>
+    requires { MayBeHanded H.digest_of S.verified name.now key.now promise.now monitor.old }
     ensures { (promised : SignedPromise) → SpellsPromise promise.now promised → OnOk result (IsHanded name.now promised monitor.old monitor.new) }
 {
     if monitor.name().bytes() != name {
@@ -45,6 +48,6 @@ fn hand_to<H: NodeHash + Drop, V: Vuf + Drop, S: Signer + Drop>(
     }
     match monitor.expect_change(&mut checks.hash, &checks.verifier, key, promise) {
         Ok(()) => Ok(()),
-        Err(_) => Err(AllocError),
+        Err(why) => Err(monitor_memory(why)),
     }
 }

@@ -12,6 +12,7 @@ ghost use Rattle.auditor.specs.Observing.{Observes};
 ghost use Rattle.auditor.specs.declared.auditor.Observed.{Observed};
 ghost use Rattle.client.specs.Starting.{Starts};
 ghost use Rattle.client.specs.declared.refusal.Refusal.TheVariants as clients;
+ghost use Rattle.monitor.specs.declared.refusal.Refusal.TheVariants as monitors;
 ghost use Rattle.play.specs.Wanting.{IsMemory};
 
 use super::Checks;
@@ -76,6 +77,16 @@ pub(super) fn client_memory(why: client::Refusal) -> AllocError
     requires { why ≡ clients.Memory }
 {
     let client::Refusal::Memory = why else {
+        unreachable!()
+    };
+    AllocError
+}
+
+/// Want of memory, which a monitor tells.
+pub(super) fn monitor_memory(why: monitor::Refusal) -> AllocError
+    requires { why ≡ monitors.Client clients.Memory }
+{
+    let monitor::Refusal::Client(client::Refusal::Memory) = why else {
         unreachable!()
     };
     AllocError

@@ -78,6 +78,7 @@ where
         requires at { (stand : Stand) × AreAt H.digest_of V.value_of S.signature_of R.stream V.accepted S.verified self.old stand }
         requires there { place < length (self.old).monitors }
         ensures keys { OnOk result (HasKeysOf (self.old).hub.service.directory (self.new).hub.service.directory) }
+        ensures looks { OnOk result ((self.new).client.looks ≡ (self.old).client.looks) }
         ensures done { (stand : Stand) (watcher : Watcher) → AreAt H.digest_of V.value_of S.signature_of R.stream V.accepted S.verified self.old stand → slice_get stand.watchers place ≡ Some watcher → OnOk result (let now = through (index_of (provider H.digest_of V.value_of S.signature_of (self.old).hub.service.directory)) watcher (ahead watcher (pages stand.book)) in HaveDone H.digest_of V.value_of S.signature_of R.stream V.accepted S.verified text.old.items now.0 (record stand { watchers = slice_set stand.watchers place now.1 }) text.new.items self.new) }
     {
         // Every loop of Rattle has an end: this one's is past any chain.

@@ -1,5 +1,6 @@
 use Rattle.std.proofs.Common.{◌≡◌, ◌<◌, ◌∙◌, ap, arith}
 use Rattle.book.specs.Books.{Book}
+use Rattle.play.specs.Parties.{Parties}
 use Rattle.play.specs.Spoken.{ask_seen}
 use Rattle.play.proofs.Looked.{checked_stays}
 use Rattle.play.proofs.LineAsked.{asks_on, asks_only, behind, keys, knowing, may-hand}
@@ -82,4 +83,19 @@ returns-clause-keys g c =
     elim c.if-latest.branch [
       | then-latest+in_ok-follow w ↦ let more = w.in_ok-follow.ensures.keys in rw w.self-is (more.0 ∙ own.0, more.1 ∙ own.1)
       | else-latest w ↦ rw w.self-is own
+    ]
+
+pub returns-clause-checked : goal.returns-clause-checked
+returns-clause-checked g c =
+    let known = knowing g.H.NodeHash.digest_of g.V.Vuf.value_of g.S.Signer.signature_of g.R.Rng.stream g.V.VufCheck.accepted g.S.Verifier.verified c.args.self.now c.ask.new.self c.requires.at.0 (ask_seen c.args.ask.now) c.in_ok-reply.reply.items c.requires.at.1 c.in_ok-reply.ensures
+    c.deref.result.now c.deref.ensures.value in
+    let told = c.in_ok-tell_checked.ensures.told c.args.self.now known in
+    let looked = checked_stays g.H.NodeHash.digest_of g.V.VufCheck.accepted c.ask.new.self (ask_seen c.args.ask.now) known.asked.said c.tell_checked.new.self told.1 in
+    let may = may-hand g.H.NodeHash.digest_of g.V.Vuf.value_of g.S.Signer.signature_of g.R.Rng.stream g.V.VufCheck.accepted g.S.Verifier.verified c.args.self.now c.ask.new.self c.requires.at.0 (ask_seen c.args.ask.now) c.in_ok-reply.reply.items c.requires.at.1 c.in_ok-reply.ensures
+    c.tell_checked.new.self looked c.deref-2.result.now c.deref-2.ensures.value in
+    let handed = c.in_ok-hand_on.ensures c.args.self.now c.ask.new.self c.requires.at.0.watchers may in
+    let stay : c.hand_on.new.self.client.looks ≡ c.tell_checked.new.self.client.looks = ap (λ (p : Parties g.row.R.Denot). p.client.looks) handed.others in
+    elim c.if-latest.branch [
+      | then-latest+in_ok-follow w ↦ rw w.self-is (record { asked = c.ask.new.self; text = c.deref.result.now; was = known.asked; checked = c.tell_checked.new.self; checks = told.1; looks = w.in_ok-follow.ensures.looks ∙ stay })
+      | else-latest w ↦ rw w.self-is (record { asked = c.ask.new.self; text = c.deref.result.now; was = known.asked; checked = c.tell_checked.new.self; checks = told.1; looks = stay })
     ]

@@ -14,6 +14,7 @@ loop-place-init g c =
       λ stand b. watched-begin g.H.NodeHash.digest_of g.V.Vuf.value_of g.S.Signer.signature_of g.R.Rng.stream g.V.VufCheck.accepted g.S.Verifier.verified
           (index_of (provider g.H.NodeHash.digest_of g.V.Vuf.value_of g.S.Signer.signature_of c.args.self.now.hub.service.directory)) c.args.text.now.items stand
           c.len-place-end.result c.take_roots.new.self many (c.in_ok-take_roots.ensures.at stand b),
+      c.in_ok-take_roots.ensures.looks,
     )
 
 pub step_through-requires-clause-at : goal.step_through-requires-clause-at
@@ -38,6 +39,7 @@ loop-place-preserved g c =
           (index_of (provider g.H.NodeHash.digest_of g.V.Vuf.value_of g.S.Signer.signature_of c.args.self.now.hub.service.directory)) c.args.text.now.items stand
           (index_of (provider g.H.NodeHash.digest_of g.V.Vuf.value_of g.S.Signer.signature_of c.loop-place.self.hub.service.directory)) c.len-place-end.result c.loop-place.place
           c.loop-place.text.items c.step_through.new.text.items c.loop-place.self c.step_through.new.self same c.loop-place-test.true c.in_ok-step_through.ensures.done (c.loop-place.invariant.1 stand b),
+      c.in_ok-step_through.ensures.looks ∙ c.loop-place.invariant.2,
     )
 
 pub returns-clause-done : goal.returns-clause-done
@@ -48,3 +50,6 @@ returns-clause-done g c stand b =
 
 pub returns-clause-keys : goal.returns-clause-keys
 returns-clause-keys g c = c.loop-place.invariant.0
+
+pub returns-clause-looks : goal.returns-clause-looks
+returns-clause-looks g c = c.loop-place.invariant.2

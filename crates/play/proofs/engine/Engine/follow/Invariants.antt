@@ -1,3 +1,4 @@
+use Rattle.std.proofs.Common.{◌≡◌}
 use Rattle.book.specs.Shows.{index_of}
 use Rattle.epochs.specs.DirectoryStates.{provider, HasKeysOf}
 use Rattle.play.specs.Parties.{AreBehind}
@@ -11,3 +12,4 @@ invariant-loop-place g l = HasKeysOf l.fn.self.hub.service.directory l.self.hub.
     × ((stand : Stand) → AreBehind g.H.NodeHash.digest_of g.V.Vuf.value_of g.S.Signer.signature_of g.R.Rng.stream g.V.VufCheck.accepted g.S.Verifier.verified l.fn.self stand
     → HaveWatched g.H.NodeHash.digest_of g.V.Vuf.value_of g.S.Signer.signature_of g.R.Rng.stream g.V.VufCheck.accepted g.S.Verifier.verified
     (index_of (provider g.H.NodeHash.digest_of g.V.Vuf.value_of g.S.Signer.signature_of l.fn.self.hub.service.directory)) l.fn.text.items stand l.place-end l.place l.text.items l.self)
+    × (l.self.client.looks ≡ l.fn.self.client.looks)

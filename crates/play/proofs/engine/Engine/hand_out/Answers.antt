@@ -1,5 +1,5 @@
-use Rattle.std.proofs.Common.{ap, sym, subst, ◌≡◌, ◌∙◌, true, false, length, List}
-use Rattle.std.specs.List.{AllZip}
+use Rattle.std.proofs.Common.{ap, sym, subst, ◌≡◌, ◌∙◌, true, false, length, ℕ, List}
+use Rattle.std.specs.List.{AllByRecursion, AllZip}
 use Rattle.std.proofs.lemmas.List.{with_items_is}
 use Rattle.std.proofs.lemmas.Slice.Zip.{AllZip-long}
 use Rattle.std.proofs.lemmas.Result.{on_ok_weaker}
@@ -7,10 +7,10 @@ use Rattle.wire.specs.Frames.{Frame}
 use Rattle.wire.specs.Laws.{IsReadAs}
 use Rattle.hub.specs.Desks.{reply_frame}
 use Rattle.monitor.specs.Monitors.{Monitor}
-use Rattle.play.specs.Handed.{IsHanded}
+use Rattle.play.specs.Handed.{IsHanded, MayBeHanded}
 use Rattle.play.specs.Parties.{Parties}
 use Rattle.play.specs.declared.engine.Engine.TheInside.{Inside}
-use Rattle.play.proofs.Handing.{key-fits, no-promise, nothing-handed, promise-handed, spells-promise, was-promise}
+use Rattle.play.proofs.Handing.{key-fits, may-be-handed, no-promise, nothing-handed, promise-handed, spells-promise, was-promise}
 use Rattle.play.proofs.engine.Engine.hand_out.Given.{Over}
 use Rattle.play.proofs.engine.Engine.hand_out.Goals as goal
 
@@ -37,6 +37,18 @@ unreachable-requires g c =
     let fits = key-fits g.H.NodeHash.digest_of g.V.Vuf.value_of g.S.Signer.signature_of g.R.Rng.stream g.V.VufCheck.accepted g.S.Verifier.verified before asked c.args.self.now verb c.args.name.now c.args.key.now c.args.reply.now watchers may c.in-Promise.field-0 (was-promise g.H.NodeHash.digest_of g.V.Vuf.value_of g.S.Signer.signature_of g.R.Rng.stream g.V.VufCheck.accepted g.S.Verifier.verified before asked c.args.self.now verb c.args.name.now c.args.key.now c.args.reply.now watchers may c.in_ok-response_of.field-0 c.in-Promise.field-0 read.0 c.in-Promise.is) in
     let never : false ≡ true = c.in_default-new.ensures.limits.1 fits in
     absurd cc
+
+pub hand_all-requires : goal.hand_all-requires
+hand_all-requires g c =
+    let (before, asked, verb, watchers, may) = c.requires.asked in
+    let frame = c.frame_of.ensures (reply_frame may.was.said) may.was.read.0 may.was.frame in
+    let read = c.in_ok-response_of.ensures may.was.responded (subst (λ (f : Frame). IsReadAs f may.was.responded) (sym frame) may.was.read) in
+    let said = was-promise g.H.NodeHash.digest_of g.V.Vuf.value_of g.S.Signer.signature_of g.R.Rng.stream g.V.VufCheck.accepted g.S.Verifier.verified before asked c.args.self.now verb c.args.name.now c.args.key.now c.args.reply.now watchers may c.in_ok-response_of.field-0 c.in-Promise.field-0 read.0 c.in-Promise.is in
+    let spells = spells-promise g.H.NodeHash.digest_of g.V.Vuf.value_of g.S.Signer.signature_of g.R.Rng.stream g.V.VufCheck.accepted g.S.Verifier.verified before asked c.args.self.now verb c.args.name.now c.args.key.now c.args.reply.now watchers may c.in-Promise.field-0 said c.body_of.result.now c.body_of.ensures in
+    let were : c.deref_mut.result.now ≡ c.args.self.now.monitors = c.deref_mut.ensures.value ∙ ap (λ (p : Parties g.row.R.Denot). p.monitors) c.self.view_is in
+    let may_all = may-be-handed g.H.NodeHash.digest_of g.V.Vuf.value_of g.S.Signer.signature_of g.R.Rng.stream g.V.VufCheck.accepted g.S.Verifier.verified before asked c.args.self.now verb c.args.name.now c.args.key.now c.args.reply.now watchers may c.in-Promise.field-0 said c.body_of.result.now spells in
+    subst (λ (own : List ℕ). AllByRecursion (MayBeHanded g.H.NodeHash.digest_of g.S.Verifier.verified c.args.name.now own c.body_of.result.now) c.deref_mut.result.now) (sym c.in-Ok.ensures.value)
+    (subst (AllByRecursion (MayBeHanded g.H.NodeHash.digest_of g.S.Verifier.verified c.args.name.now c.args.key.now c.body_of.result.now)) (sym were) may_all)
 
 pub returns : goal.returns
 returns g c = λ before asked verb watchers may.

@@ -41,6 +41,7 @@ returns-in_default g c =
     let placed : slice_get c.loop.self.monitors c.args.place ≡ Some c.index.result.now = got g c.self.inside c.loop.self c.args.place c.index.result.now c.self.view_is c.index.ensures within in
     record {
       keys = gone.keys;
+      looks = gone.looks;
       done = λ stand watcher all own. ends-here g.H.NodeHash.digest_of g.V.Vuf.value_of g.S.Signer.signature_of g.R.Rng.stream g.V.VufCheck.accepted g.S.Verifier.verified c.args.self.now c.args.text.now.items stand c.args.place watcher own c.loop.text.items c.loop.self (c.loop.invariant stand watcher all own) c.index.result.now placed (search rules);
     }
 
@@ -63,6 +64,7 @@ returns-then-not-branch g c =
     let gone = c.loop.invariant c.requires.at.0 w.0 c.requires.at.1 w.1 in
     record {
       keys = let step = c.in_ok-step.ensures _ gone.now gone.done.stands (now-there g.H.NodeHash.digest_of g.V.Vuf.value_of g.S.Signer.signature_of g.R.Rng.stream g.V.VufCheck.accepted g.S.Verifier.verified c.args.self.now c.args.text.now.items c.requires.at.0 c.args.place w.0 w.1 c.loop.text.items c.loop.self gone) in (step.keys.0 ∙ gone.keys.0, step.keys.1 ∙ gone.keys.1);
+      looks = let step = c.in_ok-step.ensures _ gone.now gone.done.stands (now-there g.H.NodeHash.digest_of g.V.Vuf.value_of g.S.Signer.signature_of g.R.Rng.stream g.V.VufCheck.accepted g.S.Verifier.verified c.args.self.now c.args.text.now.items c.requires.at.0 c.args.place w.0 w.1 c.loop.text.items c.loop.self gone) in step.looks ∙ gone.looks;
       done = λ stand watcher all own.
           let own_gone = c.loop.invariant stand watcher all own in
           let step = c.in_ok-step.ensures _ own_gone.now own_gone.done.stands (now-there g.H.NodeHash.digest_of g.V.Vuf.value_of g.S.Signer.signature_of g.R.Rng.stream g.V.VufCheck.accepted g.S.Verifier.verified c.args.self.now c.args.text.now.items stand c.args.place watcher own c.loop.text.items c.loop.self own_gone) in

@@ -5,7 +5,7 @@ use Rattle.play.proofs.Behind.{at-end, keys-join}
 use Rattle.play.proofs.engine.Engine.take_roots.Goals as goal
 
 pub loop-init : goal.loop-init
-loop-init g c = ((refl, refl), λ stand b. b)
+loop-init g c = ((refl, refl), λ stand b. b, refl)
 
 pub returns-then-head-latest-clause-at : goal.returns-then-head-latest-clause-at
 returns-then-head-latest-clause-at g c stand b =
@@ -14,6 +14,9 @@ returns-then-head-latest-clause-at g c stand b =
     at-end g.H.NodeHash.digest_of g.V.Vuf.value_of g.S.Signer.signature_of g.R.Rng.stream g.V.VufCheck.accepted g.S.Verifier.verified c.loop.self stand c.head.result.now
     c.latest.ensures.well.sound at_head (c.if-head-latest.true ∙ c.latest.ensures.epoch) (c.loop.invariant.1 stand b)
 
+pub returns-then-head-latest-clause-looks : goal.returns-then-head-latest-clause-looks
+returns-then-head-latest-clause-looks g c = c.loop.invariant.2
+
 pub take_list-requires : goal.take_list-requires
 take_list-requires g c = record { behind = (c.requires.behind.0, c.loop.invariant.1 c.requires.behind.0 c.requires.behind.1) }
 
@@ -21,4 +24,5 @@ pub loop-preserved : goal.loop-preserved
 loop-preserved g c = (
   keys-join c.args.self.now.hub.service.directory c.loop.self.hub.service.directory c.take_list.new.self.hub.service.directory c.loop.invariant.0 c.in_ok-take_list.ensures.keys,
   λ stand b. c.in_ok-take_list.ensures.behind stand (c.loop.invariant.1 stand b),
+  c.in_ok-take_list.ensures.looks ∙ c.loop.invariant.2,
 )
