@@ -22,9 +22,9 @@ use nodehash::NodeHash;
 use sigiface::Verifier;
 
 impl<H: NodeHash, S: Verifier> Chain<H, S> {
-    /// Takes the next piece of a list where it is too short to make a root whole and there is memory for all
-    /// roots that are still to come, and returns whether it took it. Else neither the chain nor the feed
-    /// changes. `take_piece` does the same with such a piece.
+    /// Takes the next piece of a list, or leaves it to `take_piece`, and returns whether it took it. It takes
+    /// only a piece that makes no root whole, as `take_piece` would. A piece that it leaves changes neither
+    /// the chain nor the feed.
     #[inline(always)]
     pub fn take_part(&mut self, feed: &mut RootFeed, piece: &[u8]) -> bool
         ensures part { TakesPart feed.old piece.now result feed.new }
