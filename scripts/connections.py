@@ -3,7 +3,7 @@
 
     scripts/connections.py HOST:PORT exactly COUNT  COUNT clients are answered, and two that wait behind them are not
     scripts/connections.py HOST:PORT heads COUNT    COUNT clients, one after another, each of whom is answered
-    scripts/connections.py HOST:PORT waits          a second client is answered once the first is gone, and not before
+    scripts/connections.py HOST:PORT beside         a second client is answered while the first is silent, and then the first
     scripts/connections.py HOST:PORT fails          a client that resets its connection, one that takes no reply, and one
                                                     that is answered after them: three connections
 
@@ -18,7 +18,6 @@ sys.dont_write_bytecode = True
 from send_frames import connected, frames
 
 HEAD = bytes.fromhex("0000000106")
-PATIENCE = 0.3
 
 
 def all_received(client):
@@ -49,7 +48,7 @@ def ask(client):
 
 
 def exactly(address, count):
-    """While the first client is silent all others wait, so that the server has no time to end."""
+    """Those who wait behind are not taken, and their connections end with the server."""
     count = int(count)
     clients = [connected(address) for _ in range(count + 2)]
     for number, client in enumerate(clients, 1):
@@ -68,21 +67,12 @@ def heads(address, count):
                 yield f"client {number} was not answered"
 
 
-def waits(address):
+def beside(address):
     first, second = connected(address), connected(address)
-    second.sendall(HEAD)
-    second.settimeout(PATIENCE)
-    try:
-        yield f"the second client got {second.recv(65536).hex()} while the first was there"
-    except TimeoutError:
-        pass
+    if not is_root(ask(second)):
+        yield "the second client was not answered while the first was silent"
     if not is_root(ask(first)):
         yield "the first client was not answered"
-    first.close()
-    second.settimeout(60)
-    second.shutdown(socket.SHUT_WR)
-    if not is_root(all_received(second)):
-        yield "the second client was not answered"
 
 
 def fails(address):
@@ -95,7 +85,7 @@ def fails(address):
     yield from heads(address, 1)
 
 
-WAYS = {"exactly": exactly, "heads": heads, "waits": waits, "fails": fails}
+WAYS = {"exactly": exactly, "heads": heads, "beside": beside, "fails": fails}
 
 
 def main(address, way, *words):

@@ -6,7 +6,7 @@
 #   scripts/listen.sh
 #
 # Takes the built programs, or those that DIRECTORYD and EXAMPLE_CLIENT name. The last line is
-# `N passed, M failed`, and the status is 0 where none failed. It takes some fifteen seconds, and ends
+# `N passed, M failed`, and the status is 0 where none failed. It takes some twenty seconds, and ends
 # after five minutes whatever happens.
 set -uo pipefail
 cd "$(dirname "$0")/.." || exit 1
@@ -144,8 +144,8 @@ server=
 same "a client that waits, status" 0 "$status"
 same "a client that waits, errors" "" "$(cat "$folder/err")"
 
-# One connection after another, with one directory, whatever a client sends: all requests, and twice those
-# that change nothing; two bad streams; 3 connections that fail or follow; 2 that wait; and 300.
+# Connections with one directory, whatever a client sends: all requests, and twice those that change
+# nothing; two bad streams; 3 connections that fail or follow; 2 beside each other; and 300.
 starts --count 310
 
 # The keys come before the address, and the words before both.
@@ -165,7 +165,7 @@ well "the same directory over the next" scripts/formats.py --again "$address"
 told "half a frame" "00000029 07 04040404" ""
 told "a length that no frame has" "ffffffff ffffffff" 00000002ff01
 well "connections that fail, and the next" scripts/connections.py "$address" fails
-well "one client after another" scripts/connections.py "$address" waits
+well "one client beside another" scripts/connections.py "$address" beside
 well "the same directory after these" scripts/formats.py --again "$address"
 well "three hundred clients" scripts/connections.py "$address" heads 300
 stops "after all connections" 0
@@ -176,6 +176,64 @@ for count in 1 2 3; do
     well "$count connections" scripts/connections.py "$address" exactly $count
     stops "after $count connections" 0
 done
+
+# Many connections at once.
+ends_now() {
+    kill "$server" 2>/dev/null
+    wait "$server" 2>/dev/null
+    server=
+}
+
+starts
+well "500 clients at once beside 100 that are silent" scripts/crowds.py "$address" checked 500 100
+well "a slow client" scripts/crowds.py "$address" slow
+well "a client that takes no reply" scripts/crowds.py "$address" deaf
+well "clients that reset their connections" scripts/crowds.py "$address" resets 50
+same "no line about these" "listening on $address" "$(cat "$folder/server_err")"
+ends_now
+
+starts --idle 1
+well "silent clients are closed" scripts/crowds.py "$address" idle 1
+ends_now
+
+starts --sessions 3
+well "no free place" scripts/crowds.py "$address" full 3
+ends_now
+
+ends "no place at all" 2 "" "error: invalid value '0' for '--sessions <N>': 0 is not in 1..=1024" \
+    /dev/null listen $keys --sessions 0 127.0.0.1:0
+
+# File handles run out, and the server goes on.
+limit=$(ulimit -S -n)
+ulimit -S -n 64
+starts
+ulimit -S -n "$limit"
+well "more clients than file handles" scripts/crowds.py "$address" many 120
+ends_now
+
+# The end of standard input is an order to stop: of a pipe, with and without something before it, and of a file.
+for before in 0 60000; do
+    mkfifo "$folder/order"
+    : >"$folder/server_err"
+    "$program" listen $keys --until-eof 127.0.0.1:0 <"$folder/order" >"$folder/server_out" 2>"$folder/server_err" &
+    server=$!
+    exec 8>"$folder/order"
+    for _ in {1..600}; do
+        address=$(sed -n 's/^listening on \(127\.0\.0\.1:[1-9][0-9]*\)$/\1/p' "$folder/server_err")
+        [ -z "$address" ] || break
+        sleep 0.05
+    done
+    head -c $before /dev/zero >&8
+    well "a server with an order to come" scripts/connections.py "$address" heads 3
+    same "it goes on" yes "$(sleep 0.2; kill -0 "$server" 2>/dev/null && echo yes)"
+    exec 8>&-
+    stops "after the end of its input, $before bytes" 0
+    rm "$folder/order"
+done
+status=0
+timeout --foreground 60 "$program" listen $keys --until-eof 127.0.0.1:0 <"$folder/requests" 2>/dev/null || status=$?
+same "a file as the order to stop" 0 "$status"
+
 for option in "" "--count 0" "--count 00"; do
     starts $option
     well "connections without an end" scripts/connections.py "$address" heads 5

@@ -169,6 +169,9 @@ for name in serve listen; do
         "The first epoch, a number from 1 on [default: 1]" "--nonce <HEX>" "Example: directoryd $name "
 done
 helps listen --help -- "--count <N>" "How many connections are answered; 0 for no end [default: 0]" \
+    "--sessions <N>" "How many connections are open at once, 1 to 1024 [default: 1000]" \
+    "--idle <SECONDS>" "After how many idle seconds a connection is closed; 0 for never [default: 60]" \
+    "--until-eof" "Take the end of standard input as an order to stop" \
     "<ADDR>" "The address to listen on"
 given "" root --help
 cp "$folder/out" "$folder/help"
@@ -236,6 +239,10 @@ refused "unexpected argument 'here:2' found" listen $keys here:1 here:2
 refused "invalid value 'few' for '--count <N>': invalid digit found in string" listen $keys --count few here:1
 refused "invalid value '18446744073709551616' for '--count <N>': number too large to fit in target type" \
     listen $keys --count 18446744073709551616 here:1
+refused "invalid value '0' for '--sessions <N>': 0 is not in 1..=1024" listen $keys --sessions 0 here:1
+refused "invalid value '1025' for '--sessions <N>': 1025 is not in 1..=1024" listen $keys --sessions 1025 here:1
+refused "invalid value '-1' for '--idle <SECONDS>': invalid digit found in string" listen $keys --idle=-1 here:1
+refused "unexpected argument '--until-eof' found" serve $keys --until-eof
 given "x\n" $'\xff'
 ends 2 "" "error: invalid UTF-8 was detected in one or more arguments"
 given "x\n" root --nonce $'\xff'

@@ -1,5 +1,6 @@
 -- The command line, as clap's definitions read it.
 use Rattle.std.specs.Prelude.{◌≡◌, ℕ, List, [], ◌∷◌, Some, codes, map, true, false}
+use Rattle.clap.specs.declared.builder.action.ArgAction.TheVariants.{SetTrue}
 use Rattle.clap.specs.declared.builder.value_parser.ValueParser.{ValueParser}
 use Rattle.clap.specs.declared.builder.value_parser.ValueParser.TheVariants.{Names, Unsigned}
 use Rattle.clap.specs.declared.error.Error.{Error}
@@ -32,9 +33,17 @@ nonce_rule = text_rule (codes "nonce")
 abbrev pub greatest : ℕ
 greatest = 18446744073709551615
 
--- an option whose value is a number from this one on, which is also the default, as a text
+-- an option whose value is a number within these limits, with a default, as a text
+abbrev pub bounded_rule : Text → ℕ → ℕ → Text → Rule
+bounded_rule name least most default = record (text_rule name) { defaults = default ∷ []; parser = Some (Unsigned least most) }
+
+-- the same with no other limit than that of 64 bits
 abbrev pub number_rule : Text → ℕ → Text → Rule
-number_rule name least default = record (text_rule name) { defaults = default ∷ []; parser = Some (Unsigned least greatest) }
+number_rule name least default = bounded_rule name least greatest default
+
+-- an option without a value
+abbrev pub flag_rule : Text → Rule
+flag_rule name = record (new_rule name) { long = Some name; action = Some SetTrue }
 
 -- a value that has to be given, with no name before it
 abbrev pub positional_rule : Text → Rule
@@ -77,7 +86,10 @@ abbrev pub serve_app : App
 serve_app = with_directory (new_app (codes "serve"))
 
 abbrev pub listen_app : App
-listen_app = with_rule (with_rule (with_directory (new_app (codes "listen"))) (number_rule (codes "count") 0 (codes "0"))) (positional_rule (codes "address"))
+listen_app =
+    with_rule (with_rule (with_rule (with_rule (with_rule (with_directory (new_app (codes "listen")))
+    (number_rule (codes "count") 0 (codes "0"))) (bounded_rule (codes "sessions") 1 1024 (codes "1000"))) (number_rule (codes "idle") 0 (codes "60")))
+    (flag_rule (codes "until-eof"))) (positional_rule (codes "address"))
 
 -- the program without its subcommands, of which one has to be there; it has a version
 abbrev pub bare_app : App

@@ -1,5 +1,5 @@
 -- What a command line orders.
-use Rattle.std.specs.Prelude.{◌≡◌, ℕ, List, [], Option, Some, option_map, unwrap_or, codes, if◌then◌else◌}
+use Rattle.std.specs.Prelude.{◌≡◌, ℕ, Bool, List, [], Option, Some, option_map, unwrap_or, codes, if◌then◌else◌}
 use Rattle.std.specs.Option.{option_map_or}
 use Rattle.std.specs.Str.{bytes_eq}
 use Rattle.std.specs.Str.Parse.{digits_value, without_leading_plus}
@@ -14,6 +14,15 @@ use Rattle.directoryd.specs.declared.order.subcommands.Order.{Order}
 use Rattle.directoryd.specs.declared.order.subcommands.Order.TheVariants.{Root, Prove, Audit, Judge, Play, Serve, Listen}
 use Rattle.directoryd.specs.CommandLine.{directory_app, greatest, IsHashNames}
 
+-- how connections are taken: how many, and how many at once; for how many seconds one may be idle; whether the end
+-- of the input is an order to stop; and the text of the address
+pub record ConnectionOptions : Type 0 where
+  pub count : ℕ
+  pub sessions : ℕ
+  pub idle : ℕ
+  pub until_eof : Bool
+  pub address : Text
+
 -- what is ordered: a root; the path of the index that a text gives; an audit under the key that a text
 -- gives; the verdict, under such a key, on the file of this name; a script; a directory for one session; or
 -- one for so many connections, at the address that a text gives
@@ -24,7 +33,7 @@ pub data Task : Type 0 where
   the_verdict : Text → Text → Task
   the_script : Task
   the_session : DirectoryOptions → Task
-  the_connections : DirectoryOptions → ℕ → Text → Task
+  the_connections : DirectoryOptions → ConnectionOptions → Task
 
 abbrev pub values_in : Order → Task
 values_in (Root order) = the_root (values_of order)
@@ -33,7 +42,8 @@ values_in (Audit order) = the_audit order.key.now
 values_in (Judge order) = the_verdict order.key.now order.file.now
 values_in Play = the_script
 values_in (Serve order) = the_session (directory_values order)
-values_in (Listen order) = the_connections (directory_values order.directory) order.count order.address.now
+values_in (Listen order) = the_connections (directory_values order.directory)
+    (record { count = order.count; sessions = order.sessions; idle = order.idle; until_eof = order.until_eof; address = order.address.now })
 
 -- the hash function of a name: the sum, or else SHA-256
 abbrev pub hash_named : Option Text → HashChoice
@@ -46,6 +56,10 @@ text_in name rows = unwrap_or (first_of name rows) []
 -- the number of a text that clap takes for a number from `least` on; of any other, `least`
 abbrev pub number_from : ℕ → Text → ℕ
 number_from least text = if is_unsigned_in least greatest text then digits_value 10 (without_leading_plus text) else least
+
+-- whether an option without a value is given
+abbrev pub flag_in : Text → List Row → Bool
+flag_in name rows = bytes_eq (text_in name rows) (codes "true")
 
 -- the values of a tree's options
 abbrev pub asked_in : List Row → TreeOptions
@@ -63,6 +77,16 @@ directory_in rows = record {
   journal = first_of (codes "journal") rows;
 }
 
+-- how connections are taken
+abbrev pub connections_in : List Row → ConnectionOptions
+connections_in rows = record {
+  count = number_from 0 (text_in (codes "count") rows);
+  sessions = number_from 1 (text_in (codes "sessions") rows);
+  idle = number_from 0 (text_in (codes "idle") rows);
+  until_eof = flag_in (codes "until-eof") rows;
+  address = text_in (codes "address") rows;
+}
+
 -- what a subcommand orders by its name: a path, an audit, a verdict, a script, a session, connections, or else a root
 abbrev pub task_in : Text → List Row → Task
 task_in name rows =
@@ -72,7 +96,7 @@ task_in name rows =
     else (if bytes_eq name (codes "play") then the_script
     else (if bytes_eq name (codes "serve") then the_session (directory_in rows)
     else (if bytes_eq name (codes "listen")
-    then the_connections (directory_in rows) (number_from 0 (text_in (codes "count") rows)) (text_in (codes "address") rows)
+    then the_connections (directory_in rows) (connections_in rows)
     else the_root (asked_in rows))))))
 
 -- what the words order: the values that clap's function of the words gives to the options

@@ -58,7 +58,7 @@ Obeys the_script input out out-new err err-new outcome = IsZero outcome × Keeps
     × PlaysTo (printed script_index script_salts) input out out-new (without_status outcome)
 Obeys (the_session asked) input out out-new err err-new outcome = IsZero outcome
     × (left : Option (List ℕ)) × DirectoryServes asked input out err (without_status outcome) left out-new err-new
-Obeys (the_connections asked count address) input out out-new err err-new outcome = IsZero outcome × Keeps out out-new
+Obeys (the_connections asked taken) input out out-new err err-new outcome = IsZero outcome × Keeps out out-new
     × ((outcome ≡ Err BadHex) ↔ (keys_of asked ≡ None)) × ListenTells asked err (without_status outcome) err-new
 
 -- a text is written whole, and this status returned; or less of it if a write failed, or nothing if

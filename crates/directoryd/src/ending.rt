@@ -16,7 +16,8 @@ use std::alloc::Global;
 use std::convert::AsStr;
 use std::fs::{File, Files};
 use std::io::{self, BufRead, Write};
-use std::net::{Net, TcpListener, TcpStream};
+use std::net::Net;
+use std::time::Clock;
 use textio::ProgramFault;
 
 /// How the process ends.
@@ -53,7 +54,7 @@ fn obey<N, R, W, E>(
     errors: &mut E,
 ) -> Result<u8, ProgramFault>
 where
-    N: Net<Listener = TcpListener, Stream = TcpStream> + Files<File = File>,
+    N: Net + Clock + Files<File = File>,
     R: BufRead,
     W: Write,
     E: Write,
@@ -67,7 +68,7 @@ where
         Order::Judge(order) => return judge(alloc, system, order, writer),
         Order::Play => play(alloc, reader, writer)?,
         Order::Serve(order) => serve_directory(alloc, system, order, reader, writer, errors)?,
-        Order::Listen(order) => listen(alloc, system, order, errors)?,
+        Order::Listen(order) => listen(alloc, system, order, reader, errors)?,
     }
     Ok(0)
 }
@@ -82,7 +83,7 @@ fn run<N, S, R, W, E>(
     errors: &mut E,
 ) -> Result<u8, ProgramFault>
 where
-    N: Net<Listener = TcpListener, Stream = TcpStream> + Files<File = File>,
+    N: Net + Clock + Files<File = File>,
     S: AsStr,
     R: BufRead,
     W: Write,
@@ -106,7 +107,7 @@ fn start<N, R, W, E>(
     errors: &mut E,
 ) -> Result<u8, ProgramFault>
 where
-    N: Net<Listener = TcpListener, Stream = TcpStream> + Files<File = File>,
+    N: Net + Clock + Files<File = File>,
     R: BufRead + Drop,
     W: Write,
     E: Write,
@@ -156,7 +157,7 @@ pub fn end<N, R, W, E>(
     errors: &mut E,
 ) -> Ending
 where
-    N: Net<Listener = TcpListener, Stream = TcpStream> + Files<File = File>,
+    N: Net + Clock + Files<File = File>,
     R: BufRead + Drop,
     W: Write,
     E: Write,

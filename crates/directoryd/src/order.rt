@@ -3,16 +3,16 @@ ghost use Rattle.std.specs.NonZero.{non_zero_u64_get};
 ghost use Rattle.clap.specs.Words.{app_of, found_of, kind_of, rows_of, rule_of};
 ghost use Rattle.clap.specs.declared.builder.command.Command.TheViews.{out-Command};
 ghost use Rattle.clap.specs.declared.error.kind.ErrorKind.TheVariants.{OutOfMemory};
-ghost use Rattle.directoryd.specs.CommandLine.{audit_app, directory_app, hash_rule, journal_rule, judge_app, listen_app, nonce_rule, number_rule, play_app, positional_rule, prove_app, required_rule, root_app, serve_app, text_rule, with_directory, with_keys, IsHashNames, Refuses};
+ghost use Rattle.directoryd.specs.CommandLine.{audit_app, bounded_rule, directory_app, flag_rule, hash_rule, journal_rule, judge_app, listen_app, nonce_rule, number_rule, play_app, positional_rule, prove_app, required_rule, root_app, serve_app, text_rule, with_directory, with_keys, IsHashNames, Refuses};
 ghost use Rattle.items.specs.TreeOptions.{values_of};
 ghost use Rattle.server.specs.DirectoryOptions.{values_of as directory_values};
-ghost use Rattle.directoryd.specs.Orders.{asked_in, directory_in, hash_named, number_from, task_in, text_in, values_in, IsTask};
+ghost use Rattle.directoryd.specs.Orders.{asked_in, connections_in, directory_in, flag_in, hash_named, number_from, task_in, text_in, the_connections, values_in, IsTask};
 
 mod subcommands;
 
 use audits::{AuditOrder, JudgeOrder};
 use clap::builder::ValueParser;
-use clap::{Arg, ArgMatches, Command, Error};
+use clap::{Arg, ArgAction, ArgMatches, Command, Error};
 use items::{HashChoice, ProveOrder, RootOrder};
 use server::{DirectoryOrder, ListenOrder};
 use std::alloc::{AllocError, Global};
@@ -111,8 +111,8 @@ Example: directoryd serve --sign-key $SIGN --vuf-key $VUF --salt-key $SALT --tok
 
 /// What stands below the options of `listen`.
 static LISTEN_HELP: &str = "\
-Answers connections one after another, all from one directory. A connection with a fault is closed,
-and the next one is taken. The directory is new, and nothing of it is kept at the end, unless --journal
+Answers many connections at once, all from one directory. A connection with a fault is closed, and so is
+one that is idle for too long. The directory is new, and nothing of it is kept at the end, unless --journal
 is given: then it goes on as the file has it, and everything is kept there.
 
 Example: directoryd listen --sign-key $SIGN --vuf-key $VUF --salt-key $SALT --token $TOKEN 127.0.0.1:7000";
@@ -215,6 +215,43 @@ fn count_arg<'a>(alloc: Global) -> Arg<'a>
         .default_value("0")
         .value_parser(ValueParser::unsigned(0, u64::MAX))
         .help("How many connections are answered; 0 for no end")
+}
+
+/// `--sessions N`.
+fn sessions_arg<'a>(alloc: Global) -> Arg<'a>
+    ensures rule { rule_of result ≡ bounded_rule (codes "sessions") 1 1024 (codes "1000") }
+    ensures local { result.global ≡ false }
+{
+    Arg::new(alloc, "sessions")
+        .long("sessions")
+        .value_name("N")
+        .default_value("1000")
+        .value_parser(ValueParser::unsigned(1, 1024))
+        .help("How many connections are open at once, 1 to 1024")
+}
+
+/// `--idle SECONDS`.
+fn idle_arg<'a>(alloc: Global) -> Arg<'a>
+    ensures rule { rule_of result ≡ number_rule (codes "idle") 0 (codes "60") }
+    ensures local { result.global ≡ false }
+{
+    Arg::new(alloc, "idle")
+        .long("idle")
+        .value_name("SECONDS")
+        .default_value("60")
+        .value_parser(ValueParser::unsigned(0, u64::MAX))
+        .help("After how many idle seconds a connection is closed; 0 for never")
+}
+
+/// `--until-eof`.
+fn until_eof_arg<'a>(alloc: Global) -> Arg<'a>
+    ensures rule { rule_of result ≡ flag_rule (codes "until-eof") }
+    ensures local { result.global ≡ false }
+{
+    Arg::new(alloc, "until-eof")
+        .long("until-eof")
+        .action(ArgAction::SetTrue)
+        .help("Take the end of standard input as an order to stop")
 }
 
 /// A value that stands alone, and has to be given.
@@ -345,10 +382,13 @@ fn listen_command<'a>(alloc: Global) -> Result<Command<'a>, AllocError>
     ensures local { IfOk result (λ c. (out-Command c).has_globals ≡ false) }
 {
     let bare = Command::new(alloc, "listen")
-        .about("Answers connections one after another")
+        .about("Answers connections, many at once")
         .after_help(LISTEN_HELP);
     let listen = add_directory(alloc, bare)?
         .arg(count_arg(alloc))?
+        .arg(sessions_arg(alloc))?
+        .arg(idle_arg(alloc))?
+        .arg(until_eof_arg(alloc))?
         .arg(address_arg(alloc))?;
     Ok(listen)
 }
@@ -421,6 +461,13 @@ fn first_epoch(found: &ArgMatches<'_>) -> NonZeroU64
     }
 }
 
+/// Whether an option without a value is given.
+fn flag(found: &ArgMatches<'_>, name: &str) -> bool
+    ensures { result ≡ flag_in name.now (rows_of (found_of found.now)) }
+{
+    text(found, name) == "true"
+}
+
 /// The options of a directory, as a subcommand has them.
 fn directory_order<'a>(found: &ArgMatches<'a>) -> DirectoryOrder<'a>
     ensures { directory_values result ≡ directory_in (rows_of (found_of found.now)) }
@@ -433,6 +480,20 @@ fn directory_order<'a>(found: &ArgMatches<'a>) -> DirectoryOrder<'a>
         epoch: first_epoch(found),
         nonce: found.get_str("nonce"),
         journal: found.get_str("journal"),
+    }
+}
+
+/// The options of `listen`.
+fn listen_order<'a>(found: &ArgMatches<'a>) -> ListenOrder<'a>
+    ensures { values_in (Order.Listen result) ≡ the_connections (directory_in (rows_of (found_of found.now))) (connections_in (rows_of (found_of found.now))) }
+{
+    ListenOrder {
+        directory: directory_order(found),
+        count: number(found, "count", 0),
+        sessions: number(found, "sessions", 1),
+        idle: number(found, "idle", 0),
+        until_eof: flag(found, "until-eof"),
+        address: text(found, "address"),
     }
 }
 
@@ -454,11 +515,7 @@ fn named_order<'a>(name: &str, found: &ArgMatches<'a>) -> Order<'a>
         }),
         "play" => Order::Play,
         "serve" => Order::Serve(directory_order(found)),
-        "listen" => Order::Listen(ListenOrder {
-            directory: directory_order(found),
-            count: number(found, "count", 0),
-            address: text(found, "address"),
-        }),
+        "listen" => Order::Listen(listen_order(found)),
         _ => Order::Root(root_order(found)),
     }
 }

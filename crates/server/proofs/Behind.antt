@@ -1,18 +1,16 @@
 -- What comes behind a journal that was opened.
 use Rattle.std.proofs.Common.{◌≡◌, ℕ, List, false, Option, Result, Ok, Err, ap, inl, inr}
-use Rattle.std.specs.Prelude.{OnOk, ⊤}
+use Rattle.std.specs.Prelude.{⊤}
 use Rattle.std.specs.Io.KnownBytes.{Appends}
 use Rattle.rand_chacha.specs.ChaCha.{ChaCha}
 use Rattle.epochs.specs.DirectoryStates.{DirectoryState}
-use Rattle.hub.specs.Exchanges.{Exchange}
 use Rattle.journal.specs.Journals.{JournalState}
 use Rattle.textio.specs.Output.{WritesBeginning}
 use Rattle.textio.specs.declared.program_fault.ProgramFault.{ProgramFault}
 use Rattle.textio.specs.declared.program_fault.ProgramFault.TheVariants.{CannotWrite}
 use Rattle.server.specs.declared.journal_file.DiskFile.{DiskFile}
 use Rattle.server.specs.Directories.{DirectoryKeys}
-use Rattle.server.specs.Listening.{ServesConnections}
-use Rattle.server.specs.Programs.{AfterJournal, AllServedBy, IsReopened, KeepsInFile, KeptDesk, LosesInFile}
+use Rattle.server.specs.Programs.{AfterJournal, IsReopened, KeptDesk}
 use Rattle.server.specs.Reopening.{journal_line, HasReopened}
 
 -- what comes of a journal that is not opened, or whose line is not written, is the same whatever is next
@@ -36,7 +34,3 @@ pub reopened : (keys : DirectoryKeys) (directory : DirectoryState ChaCha) (journ
     → HasReopened keys known directory after records cut → journal.is_broken ≡ false → desk ≡ record { directory = directory; keeper = journal; token = token } → token ≡ keys.token
     → IsReopened keys desk records cut
 reopened keys directory journal known after records cut token desk (bytes, held, turns, leads) whole is same = rw is (bytes, held, leads, same, whole)
-
-pub connections : (result : Result (Unit {0}) ProgramFault) (desk after : KeptDesk) → OnOk result ((served : List (ℕ × List Exchange)) × AllServedBy KeepsInFile LosesInFile desk served after) → ServesConnections result desk
-connections (Ok done) desk after (served, all) = (served, after, all)
-connections (Err fault) desk after none = tt

@@ -40,7 +40,7 @@ beginning_after old mid new text more wrote (rest, some, but) = (rest, some, but
 module _ {S : Type 0} (answers : S → Frame → List ℕ → S → Type 0) where
   -- ---- messages
 
-  all_replied : (session : ℕ) (s : S) (h : Remainder) (xs : List Exchange) (t : S) (left : Remainder) → Exchanges answers s h xs t left → AllReplied answers session s xs t
+  pub all_replied : (session : ℕ) (s : S) (h : Remainder) (xs : List Exchange) (t : S) (left : Remainder) → Exchanges answers s h xs t left → AllReplied answers session s xs t
   all_replied session s h [] t left (same, held) = same
   all_replied session s h (x ∷ xs) t left (middle, between, takes, replied, rest) = (middle, replied, all_replied session middle between xs t left rest)
 

@@ -1,8 +1,8 @@
 pub mod Behind
 pub mod Conversing
+pub mod Crowds
 pub mod Ending
 pub mod Heard
 pub mod Joined
-pub mod Listened
 pub mod Opened
 pub mod Reopened

@@ -6,3 +6,4 @@ pub mod Pieces
 pub mod Programs
 pub mod Reopening
 pub mod Serving
+pub mod Sessions

@@ -4,24 +4,30 @@ use Rattle.std.specs.Io.KnownBytes.{Appends, Keeps}
 use Rattle.textio.specs.declared.program_fault.ProgramFault.{ProgramFault}
 use Rattle.textio.specs.declared.program_fault.ProgramFault.TheVariants.{BadHex, CannotWrite}
 use Rattle.textio.specs.Output.{WritesBeginning}
-use Rattle.hub.specs.Exchanges.{Exchange}
+use Rattle.connections.specs.Telling.{TellsMemory}
+use Rattle.hub.specs.Runs.{Line}
 use Rattle.server.specs.DirectoryOptions.{DirectoryOptions}
 use Rattle.server.specs.Directories.{keys_of, DirectoryKeys}
-use Rattle.server.specs.Programs.{AfterJournal, AllServedBy, KeepsInFile, KeptDesk, LosesInFile}
+use Rattle.server.specs.Programs.{AfterJournal, KeepsInFile, KeptDesk, LosesInFile, ShownBy}
 
 -- the line with an address
 abbrev pub address_line : List ℕ → List ℕ
 address_line address = codes "listening on " ++ address ++ 10 ∷ []
 
 -- the line of an address is written, or less of it if a write failed; nothing at any other fault
-abbrev pub TellsAddress : Option (List ℕ) → Result (Unit {0}) ProgramFault → Option (List ℕ) → Type 0
-TellsAddress old (Ok done) new = (address : List ℕ) × Appends old new (address_line address)
-TellsAddress old (Err CannotWrite) new = (address : List ℕ) × WritesBeginning old new (address_line address)
-TellsAddress old (Err _) new = Keeps old new
+abbrev pub TellsLine : Option (List ℕ) → Result (Unit {0}) ProgramFault → Option (List ℕ) → Type 0
+TellsLine old (Ok done) new = (address : List ℕ) × Appends old new (address_line address)
+TellsLine old (Err CannotWrite) new = (address : List ℕ) × WritesBeginning old new (address_line address)
+TellsLine old (Err _) new = Keeps old new
 
--- connections are served from a desk on, each a session, if all went well
+-- the same, and behind the line those about connections that were closed for want of memory
+abbrev pub TellsAddress : Option (List ℕ) → Result (Unit {0}) ProgramFault → Option (List ℕ) → Type 0
+TellsAddress old (Ok done) new = (address : List ℕ) × (told : Option (List ℕ)) × Appends old told (address_line address) × TellsMemory told new
+TellsAddress old (Err fault) new = TellsLine old (Err fault) new
+
+-- connections are served from a desk on, if all went well: what their sessions are answered shows a run
 abbrev pub ServesConnections : Result (Unit {0}) ProgramFault → KeptDesk → Type 0
-ServesConnections result desk = OnOk result ((served : List (ℕ × List Exchange)) × (after : KeptDesk) × AllServedBy KeepsInFile LosesInFile desk served after)
+ServesConnections result desk = OnOk result ((lines : List Line) × (after : KeptDesk) × ShownBy KeepsInFile LosesInFile desk lines after)
 
 -- the same behind a journal, whose line comes first
 abbrev pub TellsKept : DirectoryOptions → Option (List ℕ) → Result (Unit {0}) ProgramFault → Option (List ℕ) → Type 0

@@ -10,6 +10,7 @@ use Rattle.book.specs.declared.record.Record.{Record}
 use Rattle.hub.specs.DeskRuns.{ShowHonestRun}
 use Rattle.hub.specs.Desks.{DeskState, DeskAnswers}
 use Rattle.hub.specs.Exchanges.{Exchange}
+use Rattle.hub.specs.Runs.{AllAnswered, Line}
 use Rattle.textio.specs.declared.program_fault.ProgramFault.{ProgramFault}
 use Rattle.textio.specs.declared.program_fault.ProgramFault.TheVariants.{BadHex, BadItem, IndexRepeated, NotACommand, NotEvidence, BadRecord, OtherKeys, CannotRead, CannotWrite, CannotListen, OutOfMemory}
 use Rattle.server.specs.declared.fault.ServeFault.{ServeFault}
@@ -21,7 +22,7 @@ use Rattle.server.specs.Faults.{outcome_of}
 use Rattle.server.specs.Reopening.{journal_line, IsUnopened, Reopens}
 use Rattle.server.specs.DirectoryOptions.{DirectoryOptions}
 use Rattle.server.specs.Directories.{keys_of, salts, Begins, DirectoryKeys}
-use Rattle.server.specs.Serving.{all_lines, AllServed, RepliedHonestly, Serves}
+use Rattle.server.specs.Serving.{RepliedHonestly, Serves}
 
 -- nothing is kept, and that never fails
 abbrev pub KeepsNothing : NoKeeper → Record → NoKeeper → Type 0
@@ -36,10 +37,10 @@ module _ {K : Type 0} (kept failed : K → Record → K → Type 0) where
   abbrev pub ServedReplied : DeskState ChaCha K → List Exchange → DeskState ChaCha K → Type 0
   ServedReplied = RepliedHonestly sha256 keyed_value keyed_signature salts kept failed KeyedAccepts KeyedVerifies 1
 
-  -- its desk serves these sessions, one after another, and their messages show one run of its directory
-  abbrev pub AllServedBy : DeskState ChaCha K → List (ℕ × List Exchange) → DeskState ChaCha K → Type 0
-  AllServedBy before served after = AllServed (DeskAnswers sha256 keyed_value keyed_signature salts kept failed) before served after
-      × ShowHonestRun sha256 keyed_value keyed_signature salts kept failed KeyedAccepts KeyedVerifies before (all_lines served) after
+  -- its desk answers these messages, of whichever sessions, one after another, and they show one run of its directory
+  abbrev pub ShownBy : DeskState ChaCha K → List Line → DeskState ChaCha K → Type 0
+  ShownBy before lines after = AllAnswered (DeskAnswers sha256 keyed_value keyed_signature salts kept failed) before lines after
+      × ShowHonestRun sha256 keyed_value keyed_signature salts kept failed KeyedAccepts KeyedVerifies before lines after
 
 -- the directory of these keys is begun, and one session is served
 abbrev pub ServesFrom : DirectoryOptions → Option (List ℕ) → Option (List ℕ) → Result (Unit {0}) ServeFault → Option (List ℕ) → Option (List ℕ) → Type 0

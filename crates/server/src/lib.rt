@@ -1,5 +1,4 @@
-//! The servers of a directory: one session from a reader to a writer, or connections over TCP, one after
-//! another.
+//! The servers of a directory: one session from a reader to a writer, or connections over TCP, many at once.
 //!
 //! To the layers above: `serve` writes exactly the replies to the messages in the bytes that it reads, or a
 //! beginning of them if there is a fault, and it ends the session on every way out. With a journal, the
@@ -9,6 +8,7 @@
 
 mod disk;
 mod fault;
+mod framing;
 mod journal_file;
 mod keys;
 mod laws;
@@ -17,6 +17,9 @@ mod opening;
 mod order;
 mod reopening;
 mod serving;
+mod sessions;
+mod sockets;
+mod stopping;
 mod streams;
 mod telling;
 

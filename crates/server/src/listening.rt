@@ -1,85 +1,37 @@
-// Connections over TCP, one after another, each a session of one hub. Contracts do not know what a socket
-// carries, so the clauses say what the directory does: it answers the messages of whole sessions and nothing
-// else. `scripts/listen.sh` covers the rest.
-ghost use Rattle.std.specs.Prelude.{◌≡◌, ◌≢◌, ◌↔◌, ◌⊎◌, ℕ, List, [], Err, IfErr, None, OnOk, ⊤};
-ghost use Rattle.hub.specs.Exchanges.{Exchange};
+// Connections over TCP, many at once, each a session of one hub. Contracts do not know what a socket
+// carries, so the clauses say what the directory does: it answers messages, which show one run of it. What a
+// connection reads and takes is in the contract of the loop (`answer_all` of `connections`), for connections of
+// which contracts know it. `scripts/listen.sh` covers the rest.
+ghost use Rattle.std.specs.Prelude.{◌≡◌, ◌≢◌, ◌↔◌, List, [], Err, IfErr, None, OnOk};
+ghost use Rattle.connections.specs.Fitting.{AreFree};
+ghost use Rattle.connections.specs.Telling.{TellsMemory};
+ghost use Rattle.hub.specs.Desks.{DeskState};
+ghost use Rattle.hub.specs.Runs.{Line};
+ghost use Rattle.rand_chacha.specs.ChaCha.{ChaCha};
 ghost use Rattle.textio.specs.declared.program_fault.ProgramFault.TheVariants.{BadHex};
 ghost use Rattle.server.specs.DirectoryOptions.{values_of};
 ghost use Rattle.server.specs.Directories.{keys_of};
-ghost use Rattle.server.specs.Listening.{ListenTells, TellsAddress, TellsKept};
-ghost use Rattle.server.specs.Programs.{AllServedBy, ServedReplied};
+ghost use Rattle.server.specs.Listening.{ListenTells, TellsAddress, TellsKept, TellsLine};
+ghost use Rattle.server.specs.Programs.{ShownBy};
 
+use crate::ListenOrder;
 use crate::disk::Disk;
 use crate::keys::{Keys, ServedDesk};
 use crate::opening::{open_file, open_journal};
-use crate::serving::serve_on;
-use crate::streams::SESSION;
-use crate::{ListenOrder, ServeFault};
+use crate::sessions::HubSessions;
+use crate::sockets::Sockets;
 use book::{Keeper, NoKeeper};
+use connections::{Connections, Limits, Places, answer_all};
 use hub::Hub;
 use std::alloc::Global;
 use std::fs::{File, Files};
-use std::io::Write;
-use std::net::{Net, SocketAddr, TcpListener, TcpStream};
+use std::io::{BufRead, Write};
+use std::net::{Net, SocketAddr};
+use std::time::Clock;
 use textio::{ProgramFault, write_text};
 
-/// Answers a connection, and closes it.
-#[tactic(auto, using(crate::proofs::Listened::has_exchanges))]
-fn answer<K: Keeper + Drop>(
-    alloc: Global,
-    hub: &mut Hub<ServedDesk<K>>,
-    stream: &TcpStream,
-    disk: Option<&Disk>,
-) -> Result<(), ServeFault>
-    requires { hub.old.sessions ≡ [] }
-    ensures ended { hub.new.sessions ≡ [] }
-    ensures replied { (exchanges : List Exchange) × ServedReplied K.kept K.failed hub.old.service exchanges hub.new.service }
-{
-    // A reply is sent at once. If this fails, it only comes later.
-    let _set = stream.set_nodelay(true);
-    serve_on(alloc, hub, SESSION, &mut &*stream, &mut &*stream, disk)
-}
-
-/// Takes the next connection and answers it. One that fails is closed, or was none.
-fn answer_next<K: Keeper + Drop>(
-    alloc: Global,
-    hub: &mut Hub<ServedDesk<K>>,
-    listener: &TcpListener,
-    disk: Option<&Disk>,
-)
-    requires { hub.old.sessions ≡ [] }
-    ensures ended { hub.new.sessions ≡ [] }
-    ensures replied { (hub.new.service ≡ hub.old.service)
-        ⊎ ((exchanges : List Exchange) × ServedReplied K.kept K.failed hub.old.service exchanges hub.new.service) }
-{
-    let Ok((stream, _)) = listener.accept() else {
-        return;
-    };
-    let _outcome = answer(alloc, hub, &stream, disk);
-}
-
-/// Answers so many connections, one after another; 0 for no end. All of them are sessions of the one
-/// hub, whose messages show one run of its directory.
-pub(crate) fn answer_all<K: Keeper + Drop>(
-    alloc: Global,
-    hub: &mut Hub<ServedDesk<K>>,
-    listener: &TcpListener,
-    disk: Option<&Disk>,
-    count: u64,
-)
-    requires { hub.old.sessions ≡ [] }
-    ensures ended { hub.new.sessions ≡ [] }
-    ensures shown { (served : List (ℕ × List Exchange)) × AllServedBy K.kept K.failed hub.old.service served hub.new.service }
-{
-    // What the two calls of `head` ensure: the book is sound before and after, and the provider's
-    // functions keep their laws.
-    hub.head();
-    let most = if count == 0 { u64::MAX } else { count };
-    for _ in 0..most {
-        answer_next(alloc, hub, listener, disk);
-    }
-    hub.head();
-}
+/// The most connections that are open at once.
+const MOST_SESSIONS: u64 = 1024;
 
 /// Writes the line that says where a server listens.
 fn tell_address<E: Write>(
@@ -87,7 +39,7 @@ fn tell_address<E: Write>(
     address: SocketAddr,
     errors: &mut E,
 ) -> Result<(), ProgramFault>
-    ensures tells { TellsAddress (E.contents errors.old) result (E.contents errors.new) }
+    ensures tells { TellsLine (E.contents errors.old) result (E.contents errors.new) }
     ensures good_hex { IfErr result (λ fault. fault ≢ BadHex) }
 {
     let address = format!(in alloc; "{address}")?;
@@ -98,103 +50,153 @@ fn tell_address<E: Write>(
     Ok(())
 }
 
-/// Listens on the address, and answers connections from the hub.
-fn listen_from<N, K, E>(
+/// Answers connections by the sessions of a hub, whose messages show one run of its directory.
+fn answer_crowd<K, C, E>(
     alloc: Global,
-    net: &N,
-    hub: &mut Hub<ServedDesk<K>>,
+    places: Places,
+    sessions: &mut HubSessions<ServedDesk<K>>,
+    connections: &mut C,
+    limits: Limits,
+    errors: &mut E,
+)
+where
+    K: Keeper + Drop,
+    C: Connections,
+    E: Write,
+    requires { AreFree places }
+    ensures tells { TellsMemory (E.contents errors.old) (E.contents errors.new) }
+    ensures shown { C.has connections.old [] → (lines : List Line) × ShownBy K.kept K.failed sessions.old.hub.service lines sessions.new.hub.service }
+{
+    // What the two calls of `head` ensure: the book is sound before and after, and the provider's
+    // functions keep their laws.
+    sessions.head();
+    answer_all(alloc, places, sessions, connections, limits, errors);
+    sessions.head();
+}
+
+/// What an order allows.
+fn limits_of(order: ListenOrder<'_>) -> Limits {
+    Limits {
+        count: order.count,
+        idle: order.idle.saturating_mul(1000),
+    }
+}
+
+/// Listens on the address, and answers connections from the hub.
+fn listen_from<N, K, R, E>(
+    alloc: Global,
+    system: &N,
+    hub: Hub<ServedDesk<K>>,
     disk: Option<&Disk>,
     order: ListenOrder<'_>,
+    input: &mut R,
     errors: &mut E,
 ) -> Result<(), ProgramFault>
 where
-    N: Net<Listener = TcpListener, Stream = TcpStream>,
+    N: Net + Clock,
     K: Keeper + Drop,
+    R: BufRead,
     E: Write,
-    requires { hub.old.sessions ≡ [] }
     ensures good_hex { IfErr result (λ fault. fault ≢ BadHex) }
     ensures tells { TellsAddress (E.contents errors.old) result (E.contents errors.new) }
-    ensures served { OnOk result ((served : List (ℕ × List Exchange)) × AllServedBy K.kept K.failed hub.old.service served hub.new.service) }
+    ensures served { OnOk result ((lines : List Line) × (after : DeskState ChaCha K) × ShownBy K.kept K.failed hub.service lines after) }
 {
-    let Ok(listener) = TcpListener::bind(net, order.address) else {
+    let count = order.sessions.clamp(1, MOST_SESSIONS) as usize;
+    let places = Places::free(alloc, count)?;
+    let mut sessions = HubSessions::new(alloc, hub, count)?;
+    let input = if order.until_eof { Some(input) } else { None };
+    let Ok(mut sockets) = Sockets::listen(alloc, system, order.address, count, disk, input) else {
         return Err(ProgramFault::CannotListen);
     };
-    let Ok(address) = listener.local_addr() else {
+    let Ok(address) = sockets.address() else {
         return Err(ProgramFault::CannotListen);
     };
     tell_address(alloc, address, errors)?;
-    answer_all(alloc, hub, &listener, disk, order.count);
+    answer_crowd(
+        alloc,
+        places,
+        &mut sessions,
+        &mut sockets,
+        limits_of(order),
+        errors,
+    );
     Ok(())
 }
 
 /// Listens with a directory that is kept nowhere.
-fn listen_unkept<N, E>(
+fn listen_unkept<N, R, E>(
     alloc: Global,
-    net: &N,
+    system: &N,
     order: ListenOrder<'_>,
+    input: &mut R,
     errors: &mut E,
 ) -> Result<(), ProgramFault>
 where
-    N: Net<Listener = TcpListener, Stream = TcpStream>,
+    N: Net + Clock,
+    R: BufRead,
     E: Write,
     ensures bad_hex { (result ≡ Err BadHex) ↔ (keys_of (values_of order.entry.directory) ≡ None) }
     ensures tells { TellsAddress (E.contents errors.old) result (E.contents errors.new) }
 {
     let keys = Keys::read(&order.directory)?;
     let directory = keys.begin(alloc)?;
-    let mut hub = Hub::new(alloc, directory, NoKeeper, keys.token());
-    listen_from(alloc, net, &mut hub, None, order, errors)
+    let hub = Hub::new(alloc, directory, NoKeeper, keys.token());
+    listen_from(alloc, system, hub, None, order, input, errors)
 }
 
 /// Listens with the directory that is kept in the file of this path.
-fn listen_kept<N, E>(
+fn listen_kept<N, R, E>(
     alloc: Global,
     system: &N,
     order: ListenOrder<'_>,
     path: &str,
+    input: &mut R,
     errors: &mut E,
 ) -> Result<(), ProgramFault>
 where
-    N: Net<Listener = TcpListener, Stream = TcpStream> + Files<File = File>,
+    N: Net + Clock + Files<File = File>,
+    R: BufRead,
     E: Write,
     ensures bad_hex { (result ≡ Err BadHex) ↔ (keys_of (values_of order.entry.directory) ≡ None) }
     ensures tells { TellsKept (values_of order.entry.directory) (E.contents errors.old) result (E.contents errors.new) }
 {
     let keys = Keys::read(&order.directory)?;
     let disk = open_file(system, path)?;
-    let mut hub = match open_journal(alloc, &keys, &disk, errors) {
+    let hub = match open_journal(alloc, &keys, &disk, errors) {
         Ok(hub) => hub,
         Err(fault) => return Err(fault),
     };
-    listen_from(alloc, system, &mut hub, Some(&disk), order, errors)
+    listen_from(alloc, system, hub, Some(&disk), order, input, errors)
 }
 
-/// Listens on the address, and answers connections, one after another, from a directory that begins
-/// with it, or from one that is kept in the order's journal. A journal is opened first, and a line to the
-/// errors says how many records were taken, and how many bytes were cut off, if any were. Once it
-/// listens, it writes a line to the errors: `listening on` and the address, with the port that the
-/// system chose if port 0 was asked for.
+/// Listens on the address, and answers connections, many at once, from a directory that begins with it, or
+/// from one that is kept in the order's journal. A journal is opened first, and a line to the errors says how
+/// many records were taken, and how many bytes were cut off, if any were. Once it listens, it writes a line
+/// to the errors: `listening on` and the address, with the port that the system chose if port 0 was asked
+/// for. A connection that is closed for want of memory is told of in a line behind it.
 ///
 /// # Errors
 ///
 /// `BadHex`, before all else, if a text of the order is not 64 hexadecimal digits; then those of the
 /// journal, as `serve_directory` has them; `OutOfMemory`; `CannotListen` if it cannot listen on the
-/// address; `CannotWrite` if a line cannot be written. A connection that fails is closed, and is not a
-/// fault of `listen`.
-pub fn listen<N, E>(
+/// address; `CannotWrite` if one of these lines cannot be written. A connection that fails is closed, and is
+/// not a fault of `listen`.
+pub fn listen<N, R, E>(
     alloc: Global,
     system: &N,
     order: ListenOrder<'_>,
+    input: &mut R,
     errors: &mut E,
 ) -> Result<(), ProgramFault>
 where
-    N: Net<Listener = TcpListener, Stream = TcpStream> + Files<File = File>,
+    N: Net + Clock + Files<File = File>,
+    R: BufRead,
     E: Write,
     ensures bad_hex { (result ≡ Err BadHex) ↔ (keys_of (values_of order.entry.directory) ≡ None) }
     ensures tells { ListenTells (values_of order.entry.directory) (E.contents errors.old) result (E.contents errors.new) }
 {
     match order.directory.journal {
-        None => listen_unkept(alloc, system, order, errors),
-        Some(path) => listen_kept(alloc, system, order, path, errors),
+        None => listen_unkept(alloc, system, order, input, errors),
+        Some(path) => listen_kept(alloc, system, order, path, input, errors),
     }
 }

@@ -26,6 +26,13 @@ pub struct ListenOrder<'a> {
     pub directory: DirectoryOrder<'a>,
     /// How many connections are answered; 0 for no end.
     pub count: u64,
+    /// How many of them are open at once: 1 to 1,024.
+    pub sessions: u64,
+    /// After how many seconds a connection is closed that completed no message and took no byte of an
+    /// answer; 0 for never.
+    pub idle: u64,
+    /// Whether the end of standard input is an order to stop.
+    pub until_eof: bool,
     /// The address to listen on, such as `127.0.0.1:7000`.
     pub address: &'a str,
 }

@@ -1,5 +1,5 @@
 use Rattle.std.proofs.Common.{inr}
-use Rattle.server.proofs.Behind.{connections, told, undone}
+use Rattle.server.proofs.Behind.{told, undone}
 use Rattle.server.proofs.listening.listen_kept.Goals as goal
 
 pub returns-in-Err-clause-tells : goal.returns-in-Err-clause-tells
@@ -11,5 +11,5 @@ returns-clause-tells g c =
       c.in_ok-keys.keys,
       c.in_ok-keys.ensures,
       told c.in_ok-keys.keys c.in-Ok.hub.service _ _ _ _ _ _ (c.in-Ok.ensures.ok.1, c.in-Ok.ensures.ok.2, c.in-Ok.ensures.ok.3, c.in-Ok.ensures.ok.4)
-          (c.listen_from.ensures.tells, connections c.listen_from.result c.in-Ok.hub.service _ c.listen_from.ensures.served),
+          (c.listen_from.ensures.tells, c.listen_from.ensures.served),
     )

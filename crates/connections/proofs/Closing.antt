@@ -1,0 +1,134 @@
+-- A connection is taken and its session opened; a session is ended and its connection closed.
+use Rattle.std.proofs.Common.{◌≡◌, ◌⊎◌, ℕ, ◌+◌, ◌≤◌, List, [], ◌∷◌, ◌++◌, true, false, Option, Some, None, Result, Ok, Err, refl, ap, ◌∙◌, inl, inr, append-nil}
+use Rattle.connections.specs.declared.ending.Ending.{Ending}
+use Rattle.connections.specs.declared.ending.Ending.TheVariants.{Done, Fault, Idle, Stopped, Unsynced, Memory, Refused}
+use Rattle.connections.specs.declared.limits.TheConstants.{LAST_MILLISECONDS}
+use Rattle.connections.specs.declared.talk.Talk.{Talk}
+use Rattle.connections.specs.Fitting.{Fits, Has, IsJudged, IsOpeningFault, Judged, Keeps, KeepsTalk, Stays}
+use Rattle.connections.specs.Histories.{On, Comes, Opens, Ends, Closes, History, Course, Hearing, clock, course, done_at, of_connections, stage, stopped, taken_at}
+use Rattle.connections.specs.Soundness.{Here, IsDue, IsReason}
+use Rattle.connections.proofs.Steps.{here_at, here_of, here_one, here_so, stays_both, stays_one, went}
+
+-- ---- a place and its history
+
+pub fits_here : (talk : Talk) (there : Option Course) → Fits (Some talk) there → Here there (KeepsTalk talk)
+fits_here talk None fits = absurd fits
+fits_here talk (Some of) fits = fits
+
+pub here_fits : (talk : Talk) (there : Option Course) → Here there (KeepsTalk talk) → Fits (Some talk) there
+here_fits talk None here = absurd here
+here_fits talk (Some of) here = here
+
+pub none_fits : (there : Option Course) → there ≡ None → Fits None there
+none_fits there gone = rw gone tt
+
+pub fits_none : (there : Option Course) → Fits None there → there ≡ None
+fits_none None fits = refl
+fits_none (Some of) fits = absurd fits
+
+-- a reason to close stays one when the session is ended
+reason_kept : (idle : ℕ) (acts : History) (place : ℕ) (of : Course) (why : Ending) → IsReason idle acts why of → IsReason idle (On place Ends ∷ acts) why (record of { is_open = false })
+reason_kept idle acts place of Done reason = reason
+reason_kept idle acts place of Fault reason = reason
+reason_kept idle acts place of Idle reason = reason
+reason_kept idle acts place of Stopped reason = reason
+reason_kept idle acts place of Unsynced reason = reason
+reason_kept idle acts place of Memory reason = reason
+reason_kept idle acts place of Refused reason = reason
+
+-- the reasons of a connection that goes on well are reasons
+pub judged : (now idle : ℕ) (stop : Option ℕ) (acts : History) (place : ℕ) (talk : Talk) (result : Result ℕ Ending) → clock acts ≡ now → stopped acts ≡ stop
+    → Here (course acts place) (KeepsTalk talk) → IsJudged now idle stop talk result → Judged idle acts place result talk
+judged now idle stop acts place talk (Ok most) time order here is = here
+judged now idle stop acts place talk (Err Done) time order here is =
+    here_so (course acts place) (KeepsTalk talk) (λ (of : Course). (of.is_open ≡ true) × IsReason idle acts Done of)
+    (λ (of : Course) (keeps : KeepsTalk talk of). (
+      keeps.is_open,
+      (
+        keeps.end ∙ is.0,
+        keeps.input_rest ∙ ap (λ (t : List ℕ). of.heard ++ t) is.1 ∙ append-nil of.heard,
+        keeps.output_rest ∙ ap (λ (t : List ℕ). of.taken ++ t) is.2 ∙ append-nil of.taken,
+      ),
+    )) here
+judged now idle stop acts place talk (Err Fault) time order here is = absurd is
+judged now idle stop acts place talk (Err Idle) time order here is =
+    here_so (course acts place) (KeepsTalk talk) (λ (of : Course). (of.is_open ≡ true) × IsReason idle acts Idle of)
+    (λ (of : Course) (keeps : KeepsTalk talk of). (keeps.is_open, (is.0, rw (keeps.last, time) is.1))) here
+judged now idle stop acts place talk (Err Stopped) time order here is =
+    here_so (course acts place) (KeepsTalk talk) (λ (of : Course). (of.is_open ≡ true) × IsReason idle acts Stopped of)
+    (λ (of : Course) (keeps : KeepsTalk talk of). (keeps.is_open, (is.0, order ∙ is.1, told of keeps is.2))) here
+  where
+    told : (of : Course) → KeepsTalk talk of → (talk.output.items ≡ []) ⊎ (is.0 + LAST_MILLISECONDS ≤ now)
+        → (of.answered ≡ of.taken) ⊎ (is.0 + LAST_MILLISECONDS ≤ clock acts)
+    told of keeps (inl none) = inl (keeps.output_rest ∙ ap (λ (t : List ℕ). of.taken ++ t) none ∙ append-nil of.taken)
+    told of keeps (inr late) = inr (rw time late)
+judged now idle stop acts place talk (Err Unsynced) time order here is = absurd is
+judged now idle stop acts place talk (Err Memory) time order here is = absurd is
+judged now idle stop acts place talk (Err Refused) time order here is = absurd is
+
+opening_reason : (idle : ℕ) (acts : History) (now : ℕ) (why : Ending) → IsOpeningFault why → IsReason idle acts why (taken_at now)
+opening_reason idle acts now Done is = absurd is
+opening_reason idle acts now Fault is = absurd is
+opening_reason idle acts now Idle is = absurd is
+opening_reason idle acts now Stopped is = absurd is
+opening_reason idle acts now Unsynced is = absurd is
+opening_reason idle acts now Memory is = tt
+opening_reason idle acts now Refused is = refl
+
+module _ {S : Type 0} (opens : S → ℕ → S → Type 0) (hears : S → ℕ → List ℕ → List ℕ → S → Type 0) (wants ends : S → ℕ → S → Type 0) {C : Type 0} (has : C → History → Type 0) where
+  -- ---- the end of a connection
+
+  -- a connection is closed, whose session is ended before
+  abbrev pub ClosesAt : ℕ → Ending → C → S → C → S → Type 0
+  ClosesAt place why connections old connections_new new = (idle : ℕ) (start : S) (acts : History) → Has opens hears wants ends has idle start connections old acts
+      → Here (course acts place) (λ of. (of.is_open ≡ true) × IsReason idle acts why of)
+      → (after : History) × Stays place acts after × Has opens hears wants ends has idle start connections_new new after × (course after place ≡ None)
+
+  pub closed : (place : ℕ) (why : Ending) (connections connections_new : C) (old new : S) → ends old place new
+      → ((acts : History) → has connections acts → has connections_new (On place (Closes why) ∷ acts)) → ClosesAt place why connections old connections_new new
+  closed place why connections connections_new old new ended step = λ idle start acts known here.
+      let found = here_of (course acts place) (λ (of : Course). (of.is_open ≡ true) × IsReason idle acts why of) here in
+      let of : Course = found.0 in
+      let once : History = On place Ends ∷ acts in
+      let shut : Course = record of { is_open = false } in
+      let there : course once place ≡ Some shut = went place Ends acts of found.1 in
+      let due_end : IsDue idle acts Ends (course acts place) = here_at (course acts place) of (λ (of : Course). of.is_open ≡ true) found.1 found.2.0 in
+      let due_close : IsDue idle once (Closes why) (course once place) =
+      here_at (course once place) shut (λ (of : Course). (of.is_open ≡ false) × IsReason idle once why of) there (refl, reason_kept idle acts place of why found.2.1) in (
+        On place (Closes why) ∷ once,
+        stays_both place acts once (On place (Closes why) ∷ once) (stays_one place Ends acts) (stays_one place (Closes why) once),
+        (step (of_connections acts) known.0, (old, known.1, ended), (due_close, (due_end, known.2))),
+        went place (Closes why) once shut there,
+      )
+
+  -- ---- the beginning of one
+
+  module _ (idle : ℕ) (start : S) (acts : History) (place : ℕ) (connections connections_taken : C) (old : S) (known : Has opens hears wants ends has idle start connections old acts)
+      (hearing : stage acts ≡ Hearing) (goes : stopped acts ≡ None) (free : course acts place ≡ None)
+      (step : has connections (of_connections acts) → has connections_taken (On place Comes ∷ of_connections acts)) where
+    there : course (On place Comes ∷ acts) place ≡ Some (taken_at (clock acts))
+    there = here_one place Comes acts ∙ ap (done_at Comes (clock acts)) free
+
+    pub opened : (now : ℕ) → clock acts ≡ now → (new : S) → opens old place new
+        → (after : History) × Stays place acts after × Has opens hears wants ends has idle start connections_taken new after × Here (course after place) (Keeps [] [] now false)
+    opened now time new does =
+        let due : IsDue idle (On place Comes ∷ acts) Opens (course (On place Comes ∷ acts) place) =
+        here_at (course (On place Comes ∷ acts) place) (taken_at (clock acts)) (λ (of : Course). (of.is_open ≡ false) × (of.read ≡ [])) there (refl, refl) in (
+          On place Opens ∷ On place Comes ∷ acts,
+          stays_both place acts (On place Comes ∷ acts) (On place Opens ∷ On place Comes ∷ acts) (stays_one place Comes acts) (stays_one place Opens (On place Comes ∷ acts)),
+          (step known.0, (old, known.1, does), (due, ((free, hearing, goes), known.2))),
+          here_at (course (On place Opens ∷ On place Comes ∷ acts) place) (record (taken_at (clock acts)) { is_open = true }) (Keeps [] [] now false) (went place Opens (On place Comes ∷ acts) (taken_at (clock acts)) there)
+              (record { is_open = refl; input_rest = refl; output_rest = refl; last = time; end = refl }),
+        )
+
+    pub refused : (why : Ending) → IsOpeningFault why → (connections_new : C) → ((acts : History) → has connections_taken acts → has connections_new (On place (Closes why) ∷ acts))
+        → (after : History) × Stays place acts after × Has opens hears wants ends has idle start connections_new old after × (course after place ≡ None)
+    refused why is connections_new close =
+        let due : IsDue idle (On place Comes ∷ acts) (Closes why) (course (On place Comes ∷ acts) place) =
+        here_at (course (On place Comes ∷ acts) place) (taken_at (clock acts)) (λ (of : Course). (of.is_open ≡ false) × IsReason idle (On place Comes ∷ acts) why of) there
+        (refl, opening_reason idle (On place Comes ∷ acts) (clock acts) why is) in (
+          On place (Closes why) ∷ On place Comes ∷ acts,
+          stays_both place acts (On place Comes ∷ acts) (On place (Closes why) ∷ On place Comes ∷ acts) (stays_one place Comes acts) (stays_one place (Closes why) (On place Comes ∷ acts)),
+          (close (On place Comes ∷ of_connections acts) (step known.0), known.1, (due, ((free, hearing, goes), known.2))),
+          went place (Closes why) (On place Comes ∷ acts) (taken_at (clock acts)) there,
+        )

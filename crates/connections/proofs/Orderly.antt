@@ -1,0 +1,56 @@
+-- The bytes of each connection stay in order.
+use Rattle.std.proofs.Common.{◌≡◌, ℕ, List, [], ◌∷◌, ◌++◌, Bool, true, false, Option, Some, None, refl, sym, ap, subst, ◌∙◌, append_assoc}
+use Rattle.std.proofs.lemmas.Bool.{eqb-true}
+use Rattle.std.specs.Prelude.{◌==◌}
+use Rattle.connections.specs.declared.ending.Ending.TheVariants.{Done}
+use Rattle.connections.specs.Histories.{At, Ordered, Syncs, On, Deed, Comes, Opens, Reads, IsOver, Hears, Wants, Takes, Fails, Ends, Closes, History, Course, clock, course, done_at}
+use Rattle.connections.specs.Laws.{AreInOrder}
+use Rattle.connections.specs.Soundness.{Here, IsDue, IsHeard, IsSound, IsTold}
+
+stays_in_order : (idle : ℕ) (acts : History) (deed : Deed) (now : ℕ) (there : Option Course) → IsDue idle acts deed there → AreInOrder there → AreInOrder (done_at deed now there)
+stays_in_order idle acts Comes now None due order = ([], [], refl, refl)
+stays_in_order idle acts Comes now (Some of) due order = ([], [], refl, refl)
+stays_in_order idle acts Opens now None due order = tt
+stays_in_order idle acts Opens now (Some of) due order = order
+stays_in_order idle acts (Reads bytes) now None due order = tt
+stays_in_order idle acts (Reads bytes) now (Some of) (may, hearing, some, few) (untold, unheard, told, heard) = (untold, bytes, told, ap (λ (t : List ℕ). t ++ bytes) may.1)
+stays_in_order idle acts IsOver now None due order = tt
+stays_in_order idle acts IsOver now (Some of) due order = order
+stays_in_order idle acts (Hears part reply) now None due order = tt
+stays_in_order idle acts (Hears part reply) now (Some of) (opened, room, hearing, some, (rest, split)) (untold, unheard, told, heard) = (
+  untold ++ reply,
+  rest,
+  ap (λ (t : List ℕ). t ++ reply) told ∙ append_assoc of.taken untold reply,
+  split ∙ sym (append_assoc of.heard part rest),
+)
+stays_in_order idle acts Wants now None due order = tt
+stays_in_order idle acts Wants now (Some of) due order = order
+stays_in_order idle acts (Takes bytes) now None due order = tt
+stays_in_order idle acts (Takes bytes) now (Some of) (telling, some, (rest, split)) (untold, unheard, told, heard) = (rest, unheard, split ∙ sym (append_assoc of.taken bytes rest), heard)
+stays_in_order idle acts Fails now None due order = tt
+stays_in_order idle acts Fails now (Some of) due order = order
+stays_in_order idle acts Ends now None due order = tt
+stays_in_order idle acts Ends now (Some of) due order = order
+stays_in_order idle acts (Closes why) now None due order = tt
+stays_in_order idle acts (Closes why) now (Some of) due order = tt
+
+-- by whether the deed is at this place
+at_place : (idle : ℕ) (acts : History) (deed : Deed) (other place : ℕ) (here : Bool) → (other == place) ≡ here → IsDue idle acts deed (course acts other) → AreInOrder (course acts place)
+    → AreInOrder (course (On other deed ∷ acts) place)
+at_place idle acts deed other place true is due order =
+    rw is (stays_in_order idle acts deed (clock acts) (course acts place) (subst (λ (n : ℕ). IsDue idle acts deed (course acts n)) (eqb-true other place is) due) order)
+at_place idle acts deed other place false is due order = rw is order
+
+pub in_order : (idle : ℕ) (acts : History) (place : ℕ) → IsSound idle acts → AreInOrder (course acts place)
+in_order idle [] place sound = tt
+in_order idle (At now ∷ acts) place sound = in_order idle acts place sound
+in_order idle (Ordered ∷ acts) place sound = in_order idle acts place sound
+in_order idle (Syncs kept ∷ acts) place sound = in_order idle acts place sound.1
+in_order idle (On other deed ∷ acts) place sound = at_place idle acts deed other place (other == place) refl sound.0 (in_order idle acts place sound.1)
+
+whole : (idle : ℕ) (acts : History) (there : Option Course) → IsDue idle acts (Closes Done) there → Here there (λ of. IsHeard of × IsTold of)
+whole idle acts None due = due
+whole idle acts (Some of) (shut, (over, heard, told)) = (heard, told)
+
+pub done_whole : (idle : ℕ) (acts : History) (place : ℕ) → IsSound idle (On place (Closes Done) ∷ acts) → Here (course acts place) (λ of. IsHeard of × IsTold of)
+done_whole idle acts place sound = whole idle acts (course acts place) sound.0

@@ -1,0 +1,13 @@
+use Rattle.std.proofs.Common.{rules, ◌≡◌, ◌∷◌, ℕ, Option, Some, None, true, refl, ap, inr, ◌∙◌}
+use Rattle.connections.specs.Histories.{Ordered, clock, of_connections, or_now}
+use Rattle.connections.proofs.rounds.stop_by.Goals as goal
+
+pub returns-then-is_stopped : goal.returns-then-is_stopped
+returns-then-is_stopped g c = λ idle acts knows time order.
+    let none : c.args.known ≡ None = search rules in
+    let yes : c.is_stopped.result ≡ true = search rules in (
+      Ordered ∷ acts,
+      inr refl,
+      (c.is_stopped.ensures.yes yes (of_connections acts) knows.0, knows.1),
+      ap (λ (known : Option ℕ). or_now known (clock acts)) (order ∙ none) ∙ ap (λ (at : ℕ). Some at) time,
+    )

@@ -1,0 +1,17 @@
+use Rattle.std.proofs.Common.{◌≡◌, ◌∷◌, refl, ◌∙◌}
+use Rattle.connections.specs.Histories.{At, Syncs, Hearing, of_connections, stage}
+use Rattle.connections.proofs.Touring.{begun, fit_begun}
+use Rattle.connections.proofs.rounds.turn.Goals as goal
+
+pub returns-clause-turns : goal.returns-clause-turns
+returns-clause-turns g c = λ start acts known order fit.
+    let waited = c.wait-now.ensures (of_connections acts) known.0 in
+    let a = c.stop_by-stopped.ensures c.args.last.round.idle (At c.wait-now.result ∷ acts) (waited, known.2) refl order in
+    let b = begun g.S.Sessions.opens g.S.Sessions.hears g.S.Sessions.wants g.S.Sessions.ends start c.args.sessions.now acts c.wait-now.result a.0 a.1 known.1 in
+    let here = fit_begun g.S.Sessions.opens g.S.Sessions.hears g.S.Sessions.wants g.S.Sessions.ends start c.args.sessions.now acts c.wait-now.result a.0 c.args.places.now b fit in
+    let t = c.take_new-left.ensures start a.0 (a.2.0, b.0, a.2.1) b.1 b.2 a.3 here in
+    let h = c.hear_new.ensures start t.0 t.2 (t.1.same_stage ∙ b.1) (t.1.same_clock ∙ b.2) (t.1.same_stop ∙ a.3) t.3 in
+    let hearing : stage h.0 ≡ Hearing = h.1.same_stage ∙ t.1.same_stage ∙ b.1 in
+    let synced = c.sync.ensures (of_connections h.0) h.2.0 in
+    let w = c.tell_all.ensures start (Syncs c.sync.result ∷ h.0) (synced, h.2.1, (hearing, h.2.2)) refl (h.1.same_clock ∙ t.1.same_clock ∙ b.2) (h.1.same_stop ∙ t.1.same_stop ∙ a.3) h.3 in
+    (w.0, w.2, w.1.same_stop ∙ h.1.same_stop ∙ t.1.same_stop ∙ a.3, w.3)

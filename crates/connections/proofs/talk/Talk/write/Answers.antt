@@ -1,0 +1,27 @@
+use Rattle.std.proofs.Common.{◌≡◌, ◌≤◌, ◌++◌, List, ℕ, length, take, drop, arith, sym}
+use Rattle.std.proofs.lemmas.Grind.{common_steps}
+use Rattle.connections.specs.Fitting.{KeepsTalk}
+use Rattle.connections.specs.Histories.{Fails, Takes, Course, of_connections}
+use Rattle.connections.proofs.Steps.{come_to, here_so, next_fail, next_take}
+use Rattle.connections.proofs.talk.Talk.write.Goals as goal
+
+pub returns-in-Took : goal.returns-in-Took
+returns-in-Took g c = λ idle acts knows telling time here.
+    let output : List ℕ = c.args.self.now.output.items in
+    let seen : c.deref.result.now ≡ output = c.deref.ensures.value in
+    let bytes : List ℕ = take c.in-Took.count output in
+    let bounds : (1 ≤ c.in-Took.count) × (c.in-Took.count ≤ length c.deref.result.now) = c.write.ensures.count c.in-Took.count c.in-Took.is in
+    let least : 1 ≤ c.in-Took.count = bounds.0 in
+    let most : c.in-Took.count ≤ length output = rw (sym {A = List ℕ} seen) bounds.1 in
+    let some : 1 ≤ length bytes = grind (arith, common_steps) in
+    let rest : c.drop_front.new.bytes.items ≡ drop c.in-Took.count output = c.drop_front.ensures in
+    let split : output ≡ bytes ++ c.drop_front.new.bytes.items = rw rest (grind (arith, common_steps)) in
+    let next = next_take idle acts c.args.place bytes c.drop_front.new.bytes.items c.args.self.now.input.items output c.args.self.now.active c.args.self.now.is_over c.args.now time telling some split here in
+    come_to g.C.Connections.has idle c.args.place acts c.args.connections.now c.write.new.self (Takes bytes) _ tt
+    (rw seen at (c.write.ensures.bytes c.in-Took.count c.in-Took.is (of_connections acts))) knows next
+
+pub returns-in-Fault : goal.returns-in-Fault
+returns-in-Fault g c = λ idle acts knows telling time here.
+    come_to g.C.Connections.has idle c.args.place acts c.args.connections.now c.write.new.self Fails _ tt
+    (c.write.ensures.fault c.in-Fault.is (of_connections acts)) knows
+    (next_fail idle acts c.args.place (here_so _ _ _ (λ (of : Course) (keeps : KeepsTalk c.args.self.now of). keeps.is_open) here))

@@ -1,0 +1,151 @@
+-- What the loop keeps of a place, and the history that it stands for.
+use Rattle.std.specs.Prelude.{◌≡◌, ◌≢◌, ◌⊎◌, ◌+◌, ◌≤◌, ℕ, List, [], ◌∷◌, ◌++◌, Bool, true, Option, Some, None, Result, Ok, Err, get_or, ⊤}
+use Rattle.connections.specs.declared.ending.Ending.{Ending}
+use Rattle.connections.specs.declared.ending.Ending.TheVariants.{Done, Fault, Idle, Stopped, Unsynced, Memory, Refused}
+use Rattle.connections.specs.declared.limits.TheConstants.{LAST_MILLISECONDS}
+use Rattle.connections.specs.declared.places.Places.{Places}
+use Rattle.connections.specs.declared.talk.Talk.{Talk}
+use Rattle.connections.specs.Histories.{Stage, Hearing, Ordered, On, Deed, Comes, Opens, Reads, IsOver, Hears, Wants, Takes, Fails, Ends, Closes, History, Course, clock, course, of_connections, stage, stopped, Leads}
+use Rattle.connections.specs.Soundness.{Here, IsReason, IsSound}
+
+-- what was read and not heard, what was answered and not taken, and when the connection was last active
+pub record Keeps (input output : List ℕ) (active : ℕ) (over : Bool) (of : Course) : Type 0 where
+  pub is_open : of.is_open ≡ true
+  pub input_rest : of.read ≡ of.heard ++ input
+  pub output_rest : of.answered ≡ of.taken ++ output
+  pub last : of.active ≡ active
+  pub end : of.is_over ≡ over
+
+abbrev pub KeepsTalk : Talk → Course → Type 0
+KeepsTalk talk = Keeps talk.input.items talk.output.items talk.active talk.is_over
+
+-- the place has this connection, or is free
+abbrev pub Fits : Option Talk → Option Course → Type 0
+Fits None None = ⊤
+Fits None (Some of) = ⊥
+Fits (Some talk) None = ⊥
+Fits (Some talk) (Some of) = KeepsTalk talk of
+
+-- what happened meanwhile happened at this place
+pub record Stays (place : ℕ) (before after : History) : Type 0 where
+  pub others : (other : ℕ) → other ≢ place → course after other ≡ course before other
+  pub same_clock : clock after ≡ clock before
+  pub same_stage : stage after ≡ stage before
+  pub same_stop : stopped after ≡ stopped before
+
+-- the same of each place
+abbrev pub FitAll : List (Option Talk) → History → Type 0
+FitAll places acts = (place : ℕ) → Fits (get_or places place None) (course acts place)
+
+-- no place has a connection
+abbrev pub AreFree : Places → Type 0
+AreFree places = (place : ℕ) → get_or places.slots.items place None ≡ None
+
+-- the round stays where it is
+pub record Passes (before after : History) : Type 0 where
+  pub same_clock : clock after ≡ clock before
+  pub same_stage : stage after ≡ stage before
+  pub same_stop : stopped after ≡ stopped before
+
+-- a stop may be ordered
+abbrev pub MayOrder : History → History → Type 0
+MayOrder before after = (after ≡ before) ⊎ (after ≡ Ordered ∷ before)
+
+-- why a connection is closed whose session was not opened
+abbrev pub IsOpeningFault : Ending → Type 0
+IsOpeningFault Done = ⊥
+IsOpeningFault Fault = ⊥
+IsOpeningFault Idle = ⊥
+IsOpeningFault Stopped = ⊥
+IsOpeningFault Unsynced = ⊥
+IsOpeningFault Memory = ⊤
+IsOpeningFault Refused = ⊤
+
+-- ---- one step
+
+-- what happens to a connection, and not to its session
+abbrev pub IsOfConnection : Deed → Type 0
+IsOfConnection Comes = ⊤
+IsOfConnection Opens = ⊥
+IsOfConnection (Reads bytes) = ⊤
+IsOfConnection IsOver = ⊤
+IsOfConnection (Hears part reply) = ⊥
+IsOfConnection Wants = ⊥
+IsOfConnection (Takes bytes) = ⊤
+IsOfConnection Fails = ⊤
+IsOfConnection Ends = ⊥
+IsOfConnection (Closes why) = ⊤
+
+-- at most one such deed more, at this place
+abbrev pub Adds : ℕ → History → History → Type 0
+Adds place before after = (after ≡ before) ⊎ ((deed : Deed) × IsOfConnection deed × (after ≡ On place deed ∷ before))
+
+-- the connection goes on as it is kept, or there is a reason to close it
+abbrev pub Judged : {X : Type 0} → ℕ → History → ℕ → Result X Ending → Talk → Type 0
+Judged idle acts place (Ok done) talk = Here (course acts place) (KeepsTalk talk)
+Judged idle acts place (Err why) talk = Here (course acts place) (λ of. (of.is_open ≡ true) × IsReason idle acts why of)
+
+-- a stop was ordered, and all that was answered is taken, or the last time for it is over
+abbrev pub IsStopDue : ℕ → Option ℕ → Talk → Type 0
+IsStopDue now stop talk = (since : ℕ) × (stop ≡ Some since) × ((talk.output.items ≡ []) ⊎ (since + LAST_MILLISECONDS ≤ now))
+
+-- the connection may be idle for so long, and was
+abbrev pub IsIdleDue : ℕ → ℕ → Talk → Type 0
+IsIdleDue now idle talk = (1 ≤ idle) × (talk.active + idle ≤ now)
+
+-- why a connection is closed that goes on well, by what is kept of it
+abbrev pub IsJudged : ℕ → ℕ → Option ℕ → Talk → Result ℕ Ending → Type 0
+IsJudged now idle stop talk (Ok most) = ⊤
+IsJudged now idle stop talk (Err Done) = (talk.is_over ≡ true) × (talk.input.items ≡ []) × (talk.output.items ≡ [])
+IsJudged now idle stop talk (Err Fault) = ⊥
+IsJudged now idle stop talk (Err Idle) = IsIdleDue now idle talk
+IsJudged now idle stop talk (Err Stopped) = IsStopDue now stop talk
+IsJudged now idle stop talk (Err Unsynced) = ⊥
+IsJudged now idle stop talk (Err Memory) = ⊥
+IsJudged now idle stop talk (Err Refused) = ⊥
+
+-- the history of connections alone
+abbrev pub Knows : {C : Type 0} → (C → History → Type 0) → ℕ → C → History → Type 0
+Knows has idle connections acts = has connections (of_connections acts) × IsSound idle acts
+
+-- ---- sessions, and both
+
+module _ {S : Type 0} (opens : S → ℕ → S → Type 0) (hears : S → ℕ → List ℕ → List ℕ → S → Type 0) (wants ends : S → ℕ → S → Type 0) where
+  -- the history leads from these sessions to those, and is sound
+  abbrev pub Held : ℕ → S → S → History → Type 0
+  Held idle start sessions acts = Leads opens hears wants ends start acts sessions × IsSound idle acts
+
+  -- what happens to the session of a place while connections are heard, and what is then kept
+  abbrev pub Hearkens : {X : Type 0} → ℕ → ℕ → S → Talk → Result X Ending → S → Talk → Type 0
+  Hearkens place now old talk result new talk_new = (idle : ℕ) (start : S) (acts : History) → Held idle start old acts → stage acts ≡ Hearing → clock acts ≡ now
+      → Here (course acts place) (KeepsTalk talk)
+      → (after : History) × Stays place acts after × (of_connections after ≡ of_connections acts) × Held idle start new after × Judged idle after place result talk_new
+
+  module _ {C : Type 0} (has : C → History → Type 0) where
+    -- all that is known of connections and sessions
+    abbrev pub Has : ℕ → S → C → S → History → Type 0
+    Has idle start connections sessions acts = has connections (of_connections acts) × Leads opens hears wants ends start acts sessions × IsSound idle acts
+
+    -- what happens to a connection and its session, at this stage of a round, and what is then kept
+    abbrev pub Attends : {X : Type 0} → Stage → ℕ → ℕ → C → S → Talk → Result X Ending → C → S → Talk → Type 0
+    Attends when place now connections old talk result connections_new new talk_new = (idle : ℕ) (start : S) (acts : History) → Has idle start connections old acts
+        → stage acts ≡ when → clock acts ≡ now → Here (course acts place) (KeepsTalk talk)
+        → (after : History) × Stays place acts after × Has idle start connections_new new after × Judged idle after place result talk_new
+
+    -- what happens at a place at this stage of a round, whatever is there, and what is then kept
+    abbrev pub Serves : Stage → ℕ → ℕ → Option ℕ → ℕ → C → S → Option Talk → C → S → Option Talk → Type 0
+    Serves when idle now stop place connections old slot connections_new new slot_new = (start : S) (acts : History) → Has idle start connections old acts
+        → stage acts ≡ when → clock acts ≡ now → stopped acts ≡ stop → Fits slot (course acts place)
+        → (after : History) × Stays place acts after × Has idle start connections_new new after × Fits slot_new (course after place)
+
+    -- the same at all places
+    abbrev pub Tours : Stage → ℕ → ℕ → Option ℕ → C → S → List (Option Talk) → C → S → List (Option Talk) → Type 0
+    Tours when idle now stop connections old places connections_new new places_new = (start : S) (acts : History) → Has idle start connections old acts
+        → stage acts ≡ when → clock acts ≡ now → stopped acts ≡ stop → FitAll places acts
+        → (after : History) × Passes acts after × Has idle start connections_new new after × FitAll places_new after
+
+    -- one round
+    abbrev pub Turns : ℕ → Option ℕ → C → S → List (Option Talk) → Option ℕ → C → S → List (Option Talk) → Type 0
+    Turns idle stop connections old places stop_new connections_new new places_new = (start : S) (acts : History) → Has idle start connections old acts
+        → stopped acts ≡ stop → FitAll places acts
+        → (after : History) × Has idle start connections_new new after × (stopped after ≡ stop_new) × FitAll places_new after

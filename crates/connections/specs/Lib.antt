@@ -1,0 +1,5 @@
+pub mod Fitting
+pub mod Histories
+pub mod Laws
+pub mod Soundness
+pub mod Telling

@@ -1,0 +1,63 @@
+-- When a history is sound: each deed has its time.
+use Rattle.std.specs.Prelude.{◌≡◌, ◌≢◌, ◌⊎◌, ◌+◌, ◌≤◌, ℕ, List, [], ◌∷◌, ◌++◌, length, true, false, Option, Some, None, ⊤}
+use Rattle.connections.specs.declared.ending.Ending.{Ending}
+use Rattle.connections.specs.declared.ending.Ending.TheVariants.{Done, Fault, Idle, Stopped, Unsynced, Memory, Refused}
+use Rattle.connections.specs.declared.limits.TheConstants.{PIECE_SIZE, FULL_OUTPUT, LAST_MILLISECONDS}
+use Rattle.connections.specs.Histories.{At, Ordered, Syncs, On, Deed, Comes, Opens, Reads, IsOver, Hears, Wants, Takes, Fails, Ends, Closes, History, Course, Hearing, Telling, clock, course, stage, stopped}
+
+-- there is a connection, and this is so of it
+abbrev pub Here : Option Course → (Course → Type 0) → Type 0
+Here None P = ⊥
+Here (Some course) P = P course
+
+-- all that was read is heard
+abbrev pub IsHeard : Course → Type 0
+IsHeard course = course.read ≡ course.heard
+
+-- all that was answered is taken
+abbrev pub IsTold : Course → Type 0
+IsTold course = course.answered ≡ course.taken
+
+-- of what was answered no more waits for the connection than it may
+abbrev pub HasRoom : Course → Type 0
+HasRoom course = length course.answered ≤ length course.taken + FULL_OUTPUT
+
+-- these bytes are the next ones of those that go before the others
+abbrev pub AreNext : List ℕ → List ℕ → List ℕ → Type 0
+AreNext bytes all done = (rest : List ℕ) × (all ≡ done ++ (bytes ++ rest))
+
+-- a connection may be read from: nothing that was read waits, and its answers leave room
+abbrev pub MayRead : Course → Type 0
+MayRead course = (course.is_open ≡ true) × IsHeard course × HasRoom course × (course.is_over ≡ false)
+
+-- why a connection is closed, where a connection may be idle for so long
+abbrev pub IsReason : ℕ → History → Ending → Course → Type 0
+IsReason idle before Done course = (course.is_over ≡ true) × IsHeard course × IsTold course
+IsReason idle before Fault course = course.has_failed ≡ true
+IsReason idle before Idle course = (1 ≤ idle) × (course.active + idle ≤ clock before)
+IsReason idle before Stopped course = (since : ℕ) × (stopped before ≡ Some since) × (IsTold course ⊎ (since + LAST_MILLISECONDS ≤ clock before))
+IsReason idle before Unsynced course = (stage before ≡ Telling false) × (course.answered ≢ course.taken)
+IsReason idle before Memory course = ⊤
+IsReason idle before Refused course = course.heard ≡ []
+
+-- this is the time of a deed, at a place with this connection, after what happened
+abbrev pub IsDue : ℕ → History → Deed → Option Course → Type 0
+IsDue idle before Comes there = (there ≡ None) × (stage before ≡ Hearing) × (stopped before ≡ None)
+IsDue idle before Opens there = Here there (λ course. (course.is_open ≡ false) × (course.read ≡ []))
+IsDue idle before (Reads bytes) there = Here there (λ course. MayRead course × (stage before ≡ Hearing) × (1 ≤ length bytes) × (length bytes ≤ PIECE_SIZE))
+IsDue idle before IsOver there = Here there (λ course. MayRead course × (stage before ≡ Hearing))
+IsDue idle before (Hears part reply) there = Here there (λ course. (course.is_open ≡ true) × HasRoom course × (stage before ≡ Hearing)
+    × (1 ≤ length part) × AreNext part course.read course.heard)
+IsDue idle before Wants there = Here there (λ course. course.is_open ≡ true)
+IsDue idle before (Takes bytes) there = Here there (λ course. (stage before ≡ Telling true) × (1 ≤ length bytes) × AreNext bytes course.answered course.taken)
+IsDue idle before Fails there = Here there (λ course. ⊤)
+IsDue idle before Ends there = Here there (λ course. course.is_open ≡ true)
+IsDue idle before (Closes why) there = Here there (λ course. (course.is_open ≡ false) × IsReason idle before why course)
+
+-- Each deed had its time. What was answered is put on its disk at most once in a round, once all are heard.
+abbrev pub IsSound : ℕ → History → Type 0
+IsSound idle [] = ⊤
+IsSound idle (At now ∷ before) = IsSound idle before
+IsSound idle (Ordered ∷ before) = IsSound idle before
+IsSound idle (Syncs kept ∷ before) = (stage before ≡ Hearing) × IsSound idle before
+IsSound idle (On place deed ∷ before) = IsDue idle before deed (course before place) × IsSound idle before

@@ -1,0 +1,76 @@
+ghost use Rattle.std.specs.Prelude.{◌≡◌, ◌≢◌, ◌≤◌, ◌∷◌, ℕ, List, true, false, take, length};
+ghost use Rattle.connections.specs.Histories.{Act, At, Ordered, Syncs, On, Comes, Reads, IsOver, Takes, Fails, Closes};
+
+use crate::Ending;
+
+/// What a read of a connection gave.
+#[derive(Clone, Copy, Debug, PartialEq, Eq)]
+pub enum Reading {
+    /// So many bytes, at least one, at the front of the room.
+    Bytes(usize),
+    /// The peer sends no more.
+    End,
+    /// Nothing has come since the last read.
+    Wait,
+    /// The connection failed.
+    Fault,
+}
+
+/// What a write to a connection did.
+#[derive(Clone, Copy, Debug, PartialEq, Eq)]
+pub enum Writing {
+    /// It took so many of the first bytes, at least one.
+    Took(usize),
+    /// It takes nothing now.
+    Wait,
+    /// The connection failed.
+    Fault,
+}
+
+/// Connections, each in a place of its own, which is free until one is taken there. No call but `wait`
+/// waits.
+pub trait Connections {
+    // These acts have happened to the connections, the latest first.
+    ghost has: { Self → List Act → Type 0 };
+
+    /// Waits until a connection may be taken, read or written, or a stop may have been ordered, but for
+    /// at most so many milliseconds. Returns the time, in milliseconds since some start.
+    fn wait(&mut self, most: u64) -> u64
+        ensures { (acts : List Act) → has self.old acts → has self.new (At result ∷ acts) };
+
+    /// Whether a stop has been ordered.
+    fn is_stopped(&mut self) -> bool
+        ensures yes { result ≡ true → (acts : List Act) → has self.old acts → has self.new (Ordered ∷ acts) }
+        ensures no { result ≡ false → (acts : List Act) → has self.old acts → has self.new acts };
+
+    /// Takes the next connection, if one waits, into a free place.
+    fn take(&mut self, place: usize) -> bool
+        ensures yes { result ≡ true → (acts : List Act) → has self.old acts → has self.new (On place Comes ∷ acts) }
+        ensures no { result ≡ false → (acts : List Act) → has self.old acts → has self.new acts };
+
+    /// Reads some bytes from the connection at a place.
+    fn read(&mut self, place: usize, room: &mut [u8]) -> Reading
+        ensures room { length room.new ≡ length room.old }
+        ensures count { (count : ℕ) → result ≡ Reading.Bytes count → (1 ≤ count) × (count ≤ length room.new) }
+        ensures bytes { (count : ℕ) → result ≡ Reading.Bytes count
+            → (acts : List Act) → has self.old acts → has self.new (On place (Reads (take count room.new)) ∷ acts) }
+        ensures end { result ≡ Reading.End → (acts : List Act) → has self.old acts → has self.new (On place IsOver ∷ acts) }
+        ensures wait { result ≡ Reading.Wait → (acts : List Act) → has self.old acts → has self.new acts }
+        ensures fault { result ≡ Reading.Fault → (acts : List Act) → has self.old acts → has self.new (On place Fails ∷ acts) };
+
+    /// Writes some of the bytes to the connection at a place.
+    fn write(&mut self, place: usize, bytes: &[u8]) -> Writing
+        ensures count { (count : ℕ) → result ≡ Writing.Took count → (1 ≤ count) × (count ≤ length bytes.now) }
+        ensures bytes { (count : ℕ) → result ≡ Writing.Took count
+            → (acts : List Act) → has self.old acts → has self.new (On place (Takes (take count bytes.now)) ∷ acts) }
+        ensures wait { result ≡ Writing.Wait → (acts : List Act) → has self.old acts → has self.new acts }
+        ensures fault { result ≡ Writing.Fault → (acts : List Act) → has self.old acts → has self.new (On place Fails ∷ acts) };
+
+    /// Closes the connection at a place, which is free again.
+    fn close(&mut self, place: usize, why: Ending)
+        ensures { (acts : List Act) → has self.old acts → has self.new (On place (Closes why) ∷ acts) };
+
+    /// Puts on its disk what the answers so far tell of, and says whether it is there.
+    fn sync(&mut self) -> bool
+        ensures { (acts : List Act) → has self.old acts → has self.new (Syncs result ∷ acts) };
+}

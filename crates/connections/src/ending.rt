@@ -1,0 +1,27 @@
+/// Why a connection was closed.
+#[derive(Clone, Copy, Debug, PartialEq, Eq)]
+pub enum Ending {
+    /// The peer sends no more, and took all that its session was answered.
+    Done,
+    /// A read or a write failed.
+    Fault,
+    /// It completed no message and took no byte for as long as is allowed.
+    Idle,
+    /// A stop was ordered.
+    Stopped,
+    /// What its answers tell of is not on the disk.
+    Unsynced,
+    /// Memory ran out.
+    Memory,
+    /// Its session could not be opened.
+    Refused,
+}
+
+/// Why a session was not opened, or did not hear.
+#[derive(Clone, Copy, Debug, PartialEq, Eq)]
+pub enum SessionFault {
+    /// Memory ran out.
+    Memory,
+    /// Its number is in use, or too many sessions are open.
+    Refused,
+}

@@ -1,0 +1,26 @@
+//! Many connections at once, in one thread: a loop over a set of connections, each of which has a session of
+//! its own.
+//!
+//! Callers can rely on this, whatever the connections do: each session is opened, hears what was read of its
+//! connection, in order and each byte once, and is ended; a connection takes a beginning of what its session
+//! was answered, and the whole of it if it was closed as done; nothing is read or heard while a session is
+//! owed more than 64 KiB; and no answer of a round leaves before the sync of that round (`IsSound`).
+#![tactic(auto)]
+
+mod connections;
+mod ending;
+mod laws;
+mod limits;
+mod places;
+mod rounds;
+mod sessions;
+mod slots;
+mod talk;
+
+pub use connections::{Connections, Reading, Writing};
+pub use ending::{Ending, SessionFault};
+pub use laws::{bytes_stay_in_order, done_is_whole};
+pub use limits::Limits;
+pub use places::Places;
+pub use rounds::answer_all;
+pub use sessions::Sessions;

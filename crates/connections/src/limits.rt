@@ -1,0 +1,22 @@
+/// What a loop over connections allows.
+#[derive(Clone, Copy, Debug, PartialEq, Eq)]
+pub struct Limits {
+    /// How many connections are taken; 0 for no end.
+    pub count: u64,
+    /// For how many milliseconds a connection may complete no message and take no byte; 0 for ever.
+    pub idle: u64,
+}
+
+/// The most bytes that are read at once.
+pub(crate) const PIECE_SIZE: usize = 4096;
+
+/// Where more bytes than these wait for a connection, nothing is read from it, and its session hears
+/// nothing.
+pub(crate) const FULL_OUTPUT: usize = 65536;
+
+/// For how many milliseconds after an order to stop answers may still be taken.
+pub(crate) const LAST_MILLISECONDS: u64 = 5000;
+
+/// The most milliseconds that a round waits, so that a connection which could not be taken for want of file
+/// handles is tried again.
+pub(crate) const LONGEST_WAIT: u64 = 1000;

@@ -1,0 +1,136 @@
+//! All places, one after another, in each part of a round.
+
+ghost use Rattle.std.specs.Prelude.{◌≡◌, ℕ, None, IfOk, get_or};
+ghost use Rattle.connections.specs.Fitting.{AreFree, Tours};
+ghost use Rattle.connections.specs.Histories.{Hearing, Telling};
+
+use crate::Sessions;
+use crate::connections::Connections;
+use crate::slots::{Round, Work, hear_at, take_at, tell_at};
+use crate::talk::Talk;
+use std::alloc::{AllocError, Global};
+
+/// Places of connections.
+#[derive(Drop)]
+pub struct Places {
+    pub(crate) slots: Vec<Option<Talk>>,
+}
+
+impl Places {
+    /// So many places, all of them free.
+    ///
+    /// # Errors
+    ///
+    /// `AllocError`.
+    pub fn free(alloc: Global, count: usize) -> Result<Places, AllocError>
+        ensures { IfOk result AreFree }
+    {
+        Ok(Places {
+            slots: free_slots(alloc, count)?,
+        })
+    }
+}
+
+fn free_slots(alloc: Global, count: usize) -> Result<Vec<Option<Talk>>, AllocError>
+    ensures { IfOk result (λ slots. (place : ℕ) → get_or slots.items place None ≡ None) }
+{
+    let mut slots = Vec::with_capacity(alloc, count)?;
+    for _ in 0..count {
+        slots.push(None)?;
+    }
+    Ok(slots)
+}
+
+/// Whether no place has a connection.
+pub(crate) fn are_free(places: &[Option<Talk>]) -> bool {
+    for slot in places {
+        if slot.is_some() {
+            return false;
+        }
+    }
+    true
+}
+
+/// Takes connections that wait into the free places, at most so many. Returns how many more may be taken.
+pub(crate) fn take_all<S: Sessions, C: Connections>(
+    alloc: Global,
+    places: &mut [Option<Talk>],
+    sessions: &mut S,
+    connections: &mut C,
+    round: Round,
+    left: u64,
+    work: &mut Work,
+) -> u64
+    requires { round.stopped ≡ None }
+    ensures { Tours S.opens S.hears S.wants S.ends C.has Hearing round.idle round.now round.stopped connections.old sessions.old places.old connections.new sessions.new places.new }
+{
+    let mut left = left;
+    for place in 0..places.len() {
+        if left == 0 {
+            return left;
+        }
+        if places[place].is_none() {
+            if !take_at(
+                alloc,
+                &mut places[place],
+                sessions,
+                connections,
+                place,
+                round,
+                work,
+            ) {
+                return left;
+            }
+            left -= 1;
+        }
+    }
+    left
+}
+
+/// Reads and hears each connection.
+pub(crate) fn hear_all<S: Sessions, C: Connections>(
+    alloc: Global,
+    places: &mut [Option<Talk>],
+    sessions: &mut S,
+    connections: &mut C,
+    round: Round,
+    work: &mut Work,
+)
+    ensures { Tours S.opens S.hears S.wants S.ends C.has Hearing round.idle round.now round.stopped connections.old sessions.old places.old connections.new sessions.new places.new }
+{
+    for place in 0..places.len() {
+        hear_at(
+            alloc,
+            &mut places[place],
+            sessions,
+            connections,
+            place,
+            round,
+            work,
+        );
+    }
+}
+
+/// Tells each connection, and closes those whose time it is.
+pub(crate) fn tell_all<S: Sessions, C: Connections>(
+    alloc: Global,
+    places: &mut [Option<Talk>],
+    sessions: &mut S,
+    connections: &mut C,
+    round: Round,
+    work: &mut Work,
+)
+    ensures { Tours S.opens S.hears S.wants S.ends C.has (Telling round.is_synced) round.idle round.now round.stopped connections.old sessions.old places.old connections.new sessions.new places.new }
+{
+    for place in 0..places.len() {
+        tell_at(
+            alloc,
+            &mut places[place],
+            sessions,
+            connections,
+            place,
+            round,
+            work,
+        );
+    }
+}

@@ -1,0 +1,209 @@
+//! The loop. A round waits, takes connections into free places, reads and hears each, puts what was answered on
+//! its disk, and then tells each. A round that did anything is followed by one that does not wait: a place may
+//! have become free, and there may be more to read.
+
+ghost use Rattle.std.specs.Prelude.{◌≡◌, ℕ, [], ◌∷◌, None, get_or};
+ghost use Rattle.connections.specs.Fitting.{AreFree, Has, Knows, MayOrder, Tours, Turns};
+ghost use Rattle.connections.specs.Histories.{History, Hearing, clock, stopped};
+ghost use Rattle.connections.specs.Telling.{TellsMemory};
+
+use crate::connections::Connections;
+use crate::limits::LONGEST_WAIT;
+use crate::places::{Places, are_free, hear_all, take_all, tell_all};
+use crate::slots::{Round, Work};
+use crate::talk::Talk;
+use crate::{Limits, Sessions};
+use std::alloc::Global;
+use std::io::Write;
+use textio::write_text;
+
+/// When a stop was ordered, if one was by now, where this was known before.
+fn stop_by<C: Connections>(connections: &mut C, now: u64, known: Option<u64>) -> Option<u64>
+    ensures { (idle : ℕ) (acts : History) → Knows C.has idle connections.old acts → clock acts ≡ now → stopped acts ≡ known
+        → (after : History) × MayOrder acts after × Knows C.has idle connections.new after × (stopped after ≡ result) }
+{
+    if known.is_some() {
+        return known;
+    }
+    if connections.is_stopped() {
+        return Some(now);
+    }
+    None
+}
+
+/// Takes new connections, unless a stop was ordered. Returns how many more may be taken.
+fn take_new<S: Sessions, C: Connections>(
+    alloc: Global,
+    places: &mut [Option<Talk>],
+    sessions: &mut S,
+    connections: &mut C,
+    round: Round,
+    left: u64,
+    work: &mut Work,
+) -> u64
+    ensures { Tours S.opens S.hears S.wants S.ends C.has Hearing round.idle round.now round.stopped connections.old sessions.old places.old connections.new sessions.new places.new }
+{
+    if round.stopped.is_some() {
+        return left;
+    }
+    take_all(alloc, places, sessions, connections, round, left, work)
+}
+
+/// Reads and hears each connection, unless a stop was ordered.
+fn hear_new<S: Sessions, C: Connections>(
+    alloc: Global,
+    places: &mut [Option<Talk>],
+    sessions: &mut S,
+    connections: &mut C,
+    round: Round,
+    work: &mut Work,
+)
+    ensures { Tours S.opens S.hears S.wants S.ends C.has Hearing round.idle round.now round.stopped connections.old sessions.old places.old connections.new sessions.new places.new }
+{
+    if round.stopped.is_some() {
+        return;
+    }
+    hear_all(alloc, places, sessions, connections, round, work);
+}
+
+/// Writes a line for each connection that was closed for want of memory. One that cannot be written is
+/// passed over.
+fn tell_wanting<E: Write>(errors: &mut E, wanting: u64)
+    ensures { TellsMemory (E.contents errors.old) (E.contents errors.new) }
+{
+    for _ in 0..wanting {
+        let _told = write_text(errors, b"out of memory\n");
+    }
+}
+
+/// Where the loop stands between two rounds.
+#[derive(Clone, Copy, Debug, PartialEq, Eq)]
+struct State {
+    round: Round,
+    work: Work,
+    /// How many more connections may be taken.
+    left: u64,
+}
+
+impl State {
+    /// Before the first round.
+    fn new(limits: Limits) -> Self
+        ensures { (result.round.idle ≡ limits.idle) × (result.round.stopped ≡ None) }
+    {
+        State {
+            round: Round {
+                now: 0,
+                idle: limits.idle,
+                stopped: None,
+                is_synced: false,
+            },
+            work: Work::new(0),
+            left: if limits.count == 0 {
+                u64::MAX
+            } else {
+                limits.count
+            },
+        }
+    }
+
+    /// How many milliseconds the next round may wait.
+    fn pause(self) -> u64 {
+        if self.work.is_busy {
+            0
+        } else {
+            self.work.pause
+        }
+    }
+
+    /// Whether no more connections are taken.
+    fn is_closing(self) -> bool {
+        self.left == 0 || self.round.stopped.is_some()
+    }
+}
+
+/// One round.
+fn turn<S: Sessions, C: Connections>(
+    alloc: Global,
+    places: &mut [Option<Talk>],
+    sessions: &mut S,
+    connections: &mut C,
+    last: State,
+) -> State
+    ensures turns { Turns S.opens S.hears S.wants S.ends C.has last.round.idle last.round.stopped connections.old sessions.old places.old result.round.stopped connections.new sessions.new places.new }
+    ensures same { result.round.idle ≡ last.round.idle }
+{
+    let now = connections.wait(last.pause());
+    let stopped = stop_by(connections, now, last.round.stopped);
+    let mut round = Round {
+        now,
+        idle: last.round.idle,
+        stopped,
+        is_synced: false,
+    };
+    let mut work = Work::new(LONGEST_WAIT);
+    let left = take_new(
+        alloc,
+        places,
+        sessions,
+        connections,
+        round,
+        last.left,
+        &mut work,
+    );
+    hear_new(alloc, places, sessions, connections, round, &mut work);
+    round.is_synced = connections.sync();
+    tell_all(alloc, places, sessions, connections, round, &mut work);
+    State { round, work, left }
+}
+
+/// Round after round, over places that are free, until no more connections are taken and those that were
+/// taken have ended.
+fn turn_all<S: Sessions, C: Connections, E: Write>(
+    alloc: Global,
+    places: &mut [Option<Talk>],
+    sessions: &mut S,
+    connections: &mut C,
+    limits: Limits,
+    errors: &mut E,
+)
+    requires { (place : ℕ) → get_or places.old place None ≡ None }
+    ensures tells { TellsMemory (E.contents errors.old) (E.contents errors.new) }
+    ensures happens { C.has connections.old [] → (acts : History) × Has S.opens S.hears S.wants S.ends C.has limits.idle sessions.old connections.new sessions.new acts }
+{
+    let mut state = State::new(limits);
+    // Every loop of Rattle has an end: this one's is past any life of a server.
+    for _ in 0..u64::MAX {
+        state = turn(alloc, places, sessions, connections, state);
+        tell_wanting(errors, state.work.wanting);
+        if state.is_closing() && are_free(places) {
+            return;
+        }
+    }
+}
+
+/// Answers connections, each at a place and by a session of its own, until so many were taken and have ended,
+/// or until a stop is ordered and those that were open have ended. Whatever the connections do, what happens
+/// is sound: each connection takes a beginning of what its session was answered, in order, and is closed for
+/// a reason that holds. A connection that is closed for want of memory is told of in a line to the errors.
+pub fn answer_all<S: Sessions, C: Connections, E: Write>(
+    alloc: Global,
+    places: Places,
+    sessions: &mut S,
+    connections: &mut C,
+    limits: Limits,
+    errors: &mut E,
+)
+    requires { AreFree places }
+    ensures tells { TellsMemory (E.contents errors.old) (E.contents errors.new) }
+    ensures happens { C.has connections.old [] → (acts : History) × Has S.opens S.hears S.wants S.ends C.has limits.idle sessions.old connections.new sessions.new acts }
+{
+    let mut places = places;
+    turn_all(
+        alloc,
+        places.slots.as_mut_slice(),
+        sessions,
+        connections,
+        limits,
+        errors,
+    );
+}

@@ -1,0 +1,189 @@
+//! One place: what happens to the connection there, if there is one, in each part of a round.
+
+ghost use Rattle.std.specs.Prelude.{◌≡◌, ◌↔◌, ℕ, List, true, false, None, Some, IsTrue, IfErr};
+ghost use Rattle.connections.specs.Fitting.{Adds, Has, IsOpeningFault, Judged, KeepsTalk, Knows, Serves, Stays};
+ghost use Rattle.connections.specs.Histories.{History, Hearing, Telling, clock, course, stage, stopped};
+ghost use Rattle.connections.specs.Soundness.{Here, IsReason};
+
+use crate::connections::Connections;
+use crate::talk::Talk;
+use crate::{Ending, SessionFault, Sessions};
+use std::alloc::Global;
+
+/// What was done in a round.
+#[derive(Clone, Copy, Debug, PartialEq, Eq)]
+pub(crate) struct Work {
+    /// Whether anything was done, so that the next round does not wait.
+    pub(crate) is_busy: bool,
+    /// Otherwise, how many milliseconds it waits at most.
+    pub(crate) pause: u64,
+    /// How many connections were closed for want of memory.
+    pub(crate) wanting: u64,
+}
+
+/// Where a round stands, and what it goes by.
+#[derive(Clone, Copy, Debug, PartialEq, Eq)]
+pub(crate) struct Round {
+    pub(crate) now: u64,
+    pub(crate) idle: u64,
+    /// When a stop was ordered.
+    pub(crate) stopped: Option<u64>,
+    /// Whether the answers of this round may leave.
+    pub(crate) is_synced: bool,
+}
+
+impl Work {
+    pub(crate) fn new(pause: u64) -> Self {
+        Work {
+            is_busy: false,
+            pause,
+            wanting: 0,
+        }
+    }
+
+    /// A connection was closed, so its place is free for another.
+    fn close(&mut self, why: Ending)
+        ensures { self.new.is_busy ≡ true }
+    {
+        self.is_busy = true;
+        if why == Ending::Memory {
+            self.wanting = self.wanting.saturating_add(1);
+        }
+    }
+}
+
+/// Ends the session of a connection, and closes it.
+fn close<S: Sessions, C: Connections>(
+    sessions: &mut S,
+    connections: &mut C,
+    place: usize,
+    why: Ending,
+)
+    ensures { (idle : ℕ) (start : S) (acts : History) → Has S.opens S.hears S.wants S.ends C.has idle start connections.old sessions.old acts
+        → Here (course acts place) (λ of. (of.is_open ≡ true) × IsReason idle acts why of)
+        → (after : History) × Stays place acts after × Has S.opens S.hears S.wants S.ends C.has idle start connections.new sessions.new after × (course after place ≡ None) }
+{
+    sessions.end(place);
+    connections.close(place, why);
+}
+
+/// Why a connection is closed whose session was not opened.
+fn ending_of(fault: SessionFault) -> Ending
+    ensures { IsOpeningFault result }
+{
+    match fault {
+        SessionFault::Memory => Ending::Memory,
+        SessionFault::Refused => Ending::Refused,
+    }
+}
+
+/// Takes the next connection into a free place, if one waits, and says whether one did. If its session
+/// cannot be opened, it is closed.
+pub(crate) fn take_at<S: Sessions, C: Connections>(
+    alloc: Global,
+    slot: &mut Option<Talk>,
+    sessions: &mut S,
+    connections: &mut C,
+    place: usize,
+    round: Round,
+    work: &mut Work,
+) -> bool
+    requires free { slot.old ≡ None }
+    requires goes_on { round.stopped ≡ None }
+    ensures { Serves S.opens S.hears S.wants S.ends C.has Hearing round.idle round.now round.stopped place connections.old sessions.old slot.old connections.new sessions.new slot.new }
+{
+    if !connections.take(place) {
+        return false;
+    }
+    work.is_busy = true;
+    match sessions.open(place) {
+        Ok(()) => {
+            *slot = Some(Talk::new(alloc, round.now));
+            true
+        }
+        Err(fault) => {
+            let why = ending_of(fault);
+            work.close(why);
+            connections.close(place, why);
+            true
+        }
+    }
+}
+
+/// Reads and hears the connection at a place.
+pub(crate) fn hear_at<S: Sessions, C: Connections>(
+    alloc: Global,
+    slot: &mut Option<Talk>,
+    sessions: &mut S,
+    connections: &mut C,
+    place: usize,
+    round: Round,
+    work: &mut Work,
+)
+    ensures { Serves S.opens S.hears S.wants S.ends C.has Hearing round.idle round.now round.stopped place connections.old sessions.old slot.old connections.new sessions.new slot.new }
+{
+    let Some(talk) = slot else {
+        return;
+    };
+    match talk.attend(alloc, sessions, connections, place, round.now) {
+        Ok(has_done) => work.is_busy = work.is_busy || has_done,
+        Err(why) => {
+            work.close(why);
+            close(sessions, connections, place, why);
+            *slot = None;
+        }
+    }
+}
+
+/// Tells the connection at a place, and closes it if it is time.
+pub(crate) fn tell_at<S: Sessions, C: Connections>(
+    alloc: Global,
+    slot: &mut Option<Talk>,
+    sessions: &mut S,
+    connections: &mut C,
+    place: usize,
+    round: Round,
+    work: &mut Work,
+)
+    ensures { Serves S.opens S.hears S.wants S.ends C.has (Telling round.is_synced) round.idle round.now round.stopped place connections.old sessions.old slot.old connections.new sessions.new slot.new }
+{
+    let Some(talk) = slot else {
+        return;
+    };
+    match tell(alloc, talk, connections, place, round, work) {
+        Ok(()) => {}
+        Err(why) => {
+            work.close(why);
+            close(sessions, connections, place, why);
+            *slot = None; // The place is free.
+        }
+    }
+}
+
+/// Tells a connection, and says why it is to be closed, if it is.
+fn tell<C: Connections>(
+    alloc: Global,
+    talk: &mut Talk,
+    connections: &mut C,
+    place: usize,
+    round: Round,
+    work: &mut Work,
+) -> Result<(), Ending>
+    ensures { (acts : History) → Knows C.has round.idle connections.old acts → stage acts ≡ Telling round.is_synced → clock acts ≡ round.now → stopped acts ≡ round.stopped
+        → Here (course acts place) (KeepsTalk talk.old)
+        → (after : History) × Adds place acts after × Knows C.has round.idle connections.new after × Judged round.idle after place result talk.new }
+{
+    if talk.tell(alloc, connections, place, round.now, round.is_synced)? {
+        work.is_busy = true;
+    }
+    work.pause = judge(talk, round, work.pause)?;
+    Ok(())
+}
+
+/// For how many milliseconds a connection may stay as it is, or why it is closed now.
+fn judge(talk: &Talk, round: Round, most: u64) -> Result<u64, Ending>
+    ensures { (acts : History) (place : ℕ) → clock acts ≡ round.now → stopped acts ≡ round.stopped → Here (course acts place) (KeepsTalk talk.now)
+        → Judged round.idle acts place result talk.now }
+{
+    talk.patience(round.now, round.idle, round.stopped, most)
+}

@@ -1,0 +1,272 @@
+//! What is kept of an open connection. What was read is heard part by part, as long as the output is not full;
+//! the rest waits, and nothing is read before it is heard.
+
+ghost use Rattle.std.specs.Prelude.{◌≡◌, ◌≢◌, ◌↔◌, ◌<◌, ◌≤◌, ◌++◌, [], ℕ, List, length, drop, IsTrue, IfErr, OnOk, Some, true, false};
+ghost use Rattle.connections.specs.Fitting.{Adds, Attends, Hearkens, IsIdleDue, IsJudged, IsStopDue, Judged, KeepsTalk, Knows};
+ghost use Rattle.connections.specs.Histories.{History, Hearing, Telling, clock, course, stage, stopped};
+ghost use Rattle.connections.specs.Soundness.{Here, MayRead};
+ghost use Rattle.connections.specs.declared.limits.TheConstants.{FULL_OUTPUT};
+
+use crate::connections::{Connections, Reading, Writing};
+use crate::limits::{FULL_OUTPUT, LAST_MILLISECONDS, PIECE_SIZE};
+use crate::{Ending, Sessions};
+use std::alloc::Global;
+
+/// An open connection, whose session is open.
+#[derive(Drop)]
+pub(crate) struct Talk {
+    /// What was read and not yet heard.
+    input: Vec<u8>,
+    /// What was answered and not yet taken.
+    output: Vec<u8>,
+    /// When it last completed a message or took a byte, or else was taken.
+    active: u64,
+    /// The peer sends no more.
+    is_over: bool,
+}
+
+impl Talk {
+    /// A connection that was just taken.
+    pub(crate) fn new(alloc: Global, now: u64) -> Self
+        ensures empty { (result.input.items ≡ []) × (result.output.items ≡ []) }
+        ensures now { (result.active ≡ now) × (result.is_over ≡ false) }
+    {
+        Talk {
+            input: Vec::new(alloc),
+            output: Vec::new(alloc),
+            active: now,
+            is_over: false,
+        }
+    }
+
+    pub(crate) fn has_output(&self) -> bool
+        ensures { IsTrue result ↔ (self.now.output.items ≢ []) }
+    {
+        !self.output.is_empty()
+    }
+
+    fn has_room(&self) -> bool
+        ensures { IsTrue result ↔ (length self.now.output.items ≤ FULL_OUTPUT) }
+    {
+        self.output.len() <= FULL_OUTPUT
+    }
+
+    /// Whether nothing that was read waits to be heard, more may come, and its answers have room.
+    fn may_read(&self) -> bool
+        ensures { IsTrue result → (self.now.input.items ≡ []) × (self.now.is_over ≡ false) × (length self.now.output.items ≤ FULL_OUTPUT) }
+    {
+        self.input.is_empty() && !self.is_over && self.has_room()
+    }
+
+    /// Reads a piece, and says whether anything came.
+    fn read_piece<C: Connections>(
+        &mut self,
+        alloc: Global,
+        connections: &mut C,
+        place: usize,
+    ) -> Result<bool, Ending>
+        requires { self.old.input.items ≡ [] }
+        ensures { (idle : ℕ) (acts : History) → Knows C.has idle connections.old acts → stage acts ≡ Hearing
+            → Here (course acts place) (λ of. KeepsTalk self.old of × MayRead of)
+            → (after : History) × Adds place acts after × Knows C.has idle connections.new after × Judged idle after place result self.new }
+    {
+        let mut room = [0; PIECE_SIZE];
+        match connections.read(place, &mut room) {
+            Reading::Bytes(count) => match Vec::from_slice(alloc, &room[..count]) {
+                Ok(input) => {
+                    self.input = input;
+                    Ok(true)
+                }
+                Err(_) => Err(Ending::Memory),
+            },
+            Reading::End => {
+                self.is_over = true;
+                Ok(true)
+            }
+            Reading::Wait => Ok(false),
+            Reading::Fault => Err(Ending::Fault),
+        }
+    }
+
+    /// Has the session hear the next part of what was read.
+    fn hear_part<S: Sessions>(
+        &mut self,
+        alloc: Global,
+        sessions: &mut S,
+        place: usize,
+        now: u64,
+    ) -> Result<(), Ending>
+        requires some { self.old.input.items ≢ [] }
+        requires room { length self.old.output.items ≤ FULL_OUTPUT }
+        ensures hears { Hearkens S.opens S.hears S.wants S.ends place now sessions.old self.old result sessions.new self.new }
+        ensures shorter { OnOk result (length self.new.input.items < length self.old.input.items) }
+    {
+        let size = self.output.len();
+        let count = match sessions.hear(place, &self.input, &mut self.output) {
+            Ok(count) => count,
+            Err(_) => return Err(Ending::Memory),
+        };
+        self.active = active_after(size, self.output.len(), now, self.active);
+        drop_front(alloc, &mut self.input, count);
+        Ok(())
+    }
+
+    /// Has the session hear what was read, as long as its answers have room. Says whether it heard
+    /// anything.
+    fn hear<S: Sessions>(
+        &mut self,
+        alloc: Global,
+        sessions: &mut S,
+        place: usize,
+        now: u64,
+    ) -> Result<bool, Ending>
+        ensures { Hearkens S.opens S.hears S.wants S.ends place now sessions.old self.old result sessions.new self.new }
+    {
+        let mut has_heard = false;
+        while !self.input.is_empty() && self.has_room() {
+            self.hear_part(alloc, sessions, place, now)?;
+            has_heard = true;
+        }
+        Ok(has_heard)
+    }
+
+    /// Reads a piece, if none waits and its answers have room, and has the session hear it. Says whether
+    /// anything was done.
+    pub(crate) fn attend<S: Sessions, C: Connections>(
+        &mut self,
+        alloc: Global,
+        sessions: &mut S,
+        connections: &mut C,
+        place: usize,
+        now: u64,
+    ) -> Result<bool, Ending>
+        ensures { Attends S.opens S.hears S.wants S.ends C.has Hearing place now connections.old sessions.old self.old result connections.new sessions.new self.new }
+    {
+        if !self.may_read() {
+            return self.hear(alloc, sessions, place, now);
+        }
+        if !self.read_piece(alloc, connections, place)? {
+            return Ok(false);
+        }
+        self.hear(alloc, sessions, place, now)?;
+        Ok(true)
+    }
+
+    /// Writes what the connection takes of the output, and says whether it took any.
+    fn write<C: Connections>(
+        &mut self,
+        alloc: Global,
+        connections: &mut C,
+        place: usize,
+        now: u64,
+    ) -> Result<bool, Ending>
+        ensures { (idle : ℕ) (acts : History) → Knows C.has idle connections.old acts → stage acts ≡ Telling true → clock acts ≡ now
+            → Here (course acts place) (KeepsTalk self.old)
+            → (after : History) × Adds place acts after × Knows C.has idle connections.new after × Judged idle after place result self.new }
+    {
+        match connections.write(place, &self.output) {
+            Writing::Took(count) => {
+                drop_front(alloc, &mut self.output, count);
+                self.active = now;
+                Ok(true)
+            }
+            Writing::Wait => Ok(false),
+            Writing::Fault => Err(Ending::Fault),
+        }
+    }
+
+    /// Writes output, if there is any and it may leave. Says whether any left.
+    pub(crate) fn tell<C: Connections>(
+        &mut self,
+        alloc: Global,
+        connections: &mut C,
+        place: usize,
+        now: u64,
+        is_synced: bool,
+    ) -> Result<bool, Ending>
+        ensures { (idle : ℕ) (acts : History) → Knows C.has idle connections.old acts → stage acts ≡ Telling is_synced → clock acts ≡ now
+            → Here (course acts place) (KeepsTalk self.old)
+            → (after : History) × Adds place acts after × Knows C.has idle connections.new after × Judged idle after place result self.new }
+    {
+        if self.output.is_empty() {
+            return Ok(false);
+        }
+        if !is_synced {
+            return Err(Ending::Unsynced);
+        }
+        self.write(alloc, connections, place, now)
+    }
+
+    /// For how many milliseconds the connection may stay as it is, at most so many. It is closed now if it
+    /// is done, if it was idle for too long, or if a stop was ordered and it is told or its time is up.
+    pub(crate) fn patience(
+        &self,
+        now: u64,
+        idle: u64,
+        stopped: Option<u64>,
+        most: u64,
+    ) -> Result<u64, Ending>
+        ensures { IsJudged now idle stopped self.now result }
+    {
+        if self.wants_no_more() {
+            return Err(Ending::Done);
+        }
+        let most = self.patience_of_stop(now, stopped, most)?;
+        self.patience_of_idle(now, idle, most)
+    }
+
+    /// Whether the peer sends no more, and all is heard and told.
+    fn wants_no_more(&self) -> bool
+        ensures { IsTrue result → (self.now.is_over ≡ true) × (self.now.input.items ≡ []) × (self.now.output.items ≡ []) }
+    {
+        self.is_over && self.input.is_empty() && self.output.is_empty()
+    }
+
+    fn patience_of_stop(&self, now: u64, stopped: Option<u64>, most: u64) -> Result<u64, Ending>
+        ensures { IfErr result (λ why. (why ≡ Ending.Stopped) × IsStopDue now stopped self.now) }
+    {
+        let Some(then) = stopped else {
+            return Ok(most);
+        };
+        let passed = now.saturating_sub(then);
+        if self.output.is_empty() || passed >= LAST_MILLISECONDS {
+            return Err(Ending::Stopped);
+        }
+        Ok(most.min(LAST_MILLISECONDS - passed))
+    }
+
+    fn patience_of_idle(&self, now: u64, idle: u64, most: u64) -> Result<u64, Ending>
+        ensures { IfErr result (λ why. (why ≡ Ending.Idle) × IsIdleDue now idle self.now) }
+    {
+        if idle == 0 {
+            return Ok(most);
+        }
+        let passed = now.saturating_sub(self.active);
+        if passed >= idle {
+            return Err(Ending::Idle);
+        }
+        Ok(most.min(idle - passed))
+    }
+}
+
+/// When a connection was last active, whose output had and now has so many bytes.
+fn active_after(size: usize, grown: usize, now: u64, active: u64) -> u64
+    ensures longer { size < grown → result ≡ now }
+    ensures same { grown ≤ size → result ≡ active }
+{
+    if grown > size { now } else { active }
+}
+
+/// Drops the first bytes. Where none are left, their room is given back.
+fn drop_front(alloc: Global, bytes: &mut Vec<u8>, count: usize)
+    requires { count ≤ length bytes.old.items }
+    ensures { bytes.new.items ≡ drop count bytes.old.items }
+{
+    let left = bytes.len() - count;
+    if left == 0 {
+        *bytes = Vec::new(alloc);
+        return;
+    }
+    bytes.copy_within(count.., 0);
+    bytes.truncate(left);
+}

@@ -1,0 +1,19 @@
+use Rattle.std.proofs.Common.{List}
+use Rattle.nodehash.specs.Sha256.{sha256}
+use Rattle.vrfiface.specs.StandIns.{keyed_value, KeyedAccepts}
+use Rattle.sigiface.specs.StandIn.{keyed_signature, KeyedVerifies}
+use Rattle.hub.specs.Desks.{DeskAnswers}
+use Rattle.hub.proofs.DeskHonest.{lines_show_honest_run}
+use Rattle.server.specs.Directories.{salts}
+use Rattle.server.proofs.Crowds.{crowd_answered}
+use Rattle.server.proofs.listening.answer_crowd.Goals as goal
+
+pub returns-clause-shown : goal.returns-clause-shown
+returns-clause-shown g c = λ has.
+    let acts = c.answer_all.ensures.happens has in
+    let told = crowd_answered (DeskAnswers sha256 keyed_value keyed_signature salts g.K.Keeper.kept g.K.Keeper.failed) (λ sessions. sessions.hub) c.args.sessions.now acts.0 c.answer_all.new.sessions acts.1.1 in (
+      told.0,
+      told.1,
+      lines_show_honest_run sha256 keyed_value keyed_signature salts g.K.Keeper.kept g.K.Keeper.failed KeyedAccepts KeyedVerifies
+          c.args.sessions.now.hub.service told.0 c.answer_all.new.sessions.hub.service c.head.ensures.well c.head-2.ensures.well told.1,
+    )

@@ -1,0 +1,115 @@
+//! The sessions of a hub, for the loop over connections. Each hears its stream in parts that end no more than
+//! one message.
+ghost use Rattle.std.specs.Prelude.{◌≡◌, IfOk};
+ghost use Rattle.hub.specs.DeskRuns.{IsWell};
+ghost use Rattle.server.specs.Sessions.{session_fault};
+
+use crate::framing::Framing;
+use book::Keeper;
+use connections::{SessionFault, Sessions};
+use hub::{Desk, Event, Hub, HubRefusal, Service};
+use nodehash::NodeHash;
+use rand_core::Rng;
+use sigiface::Signer;
+use std::alloc::{AllocError, Global};
+use vrfiface::Vuf;
+
+/// A hub, and where the stream of each session stands, by its number.
+#[derive(Drop)]
+pub(crate) struct HubSessions<D: Service + Drop> {
+    alloc: Global,
+    hub: Hub<D>,
+    framings: Vec<Framing>,
+}
+
+impl<D: Service + Drop> HubSessions<D> {
+    /// The sessions of a hub, whose numbers are below `count`.
+    pub(crate) fn new(alloc: Global, hub: Hub<D>, count: usize) -> Result<Self, AllocError>
+        ensures { IfOk result (λ sessions. sessions.hub ≡ hub) }
+    {
+        Ok(HubSessions {
+            alloc,
+            hub,
+            framings: Vec::from_elem(alloc, Framing::new(), count)?,
+        })
+    }
+}
+
+impl<H, V, S, R, K> HubSessions<Desk<H, V, S, R, K>>
+where
+    H: NodeHash + Drop,
+    V: Vuf + Drop,
+    S: Signer + Drop,
+    R: Rng + Drop,
+    K: Keeper + Drop,
+{
+    /// What the types keep of the desk: its clause leads from what is answered to a run of the directory.
+    pub(crate) fn head(&self)
+        ensures well { IsWell H.digest_of V.value_of S.signature_of R.stream V.accepted S.verified self.now.hub.service }
+    {
+        self.hub.head();
+    }
+}
+
+/// Why a session was not opened, or did not hear.
+fn fault_of(refusal: HubRefusal) -> SessionFault
+    ensures { result ≡ session_fault refusal }
+{
+    match refusal {
+        HubRefusal::Memory { .. } => SessionFault::Memory,
+        HubRefusal::TooManySessions | HubRefusal::SessionOpen | HubRefusal::NoSession => {
+            SessionFault::Refused
+        }
+    }
+}
+
+impl<D: Service + Drop> Sessions for HubSessions<D> {
+    ghost use Rattle.server.specs.Sessions.{Ended, Heard, Opened, Wanted};
+
+    ghost opens = { λ before session after. Opened D.answers before.hub session after.hub };
+
+    ghost hears = { λ before session part reply after. Heard D.answers before.hub session part reply after.hub };
+
+    ghost wants = { λ before session after. Wanted D.answers before.hub session after.hub };
+
+    ghost ends = { λ before session after. Ended D.answers before.hub session after.hub };
+
+    fn open(&mut self, session: usize) -> Result<(), SessionFault> {
+        let Some(framing) = self.framings.get_mut(session) else {
+            return Err(SessionFault::Refused);
+        };
+        let mut nothing = Vec::new(self.alloc);
+        match self.hub.event(&Event::Open(session as u32), &mut nothing) {
+            Ok(()) => {
+                *framing = Framing::new();
+                Ok(())
+            }
+            Err(refusal) => Err(fault_of(refusal)),
+        }
+    }
+
+    fn hear(
+        &mut self,
+        session: usize,
+        bytes: &[u8],
+        output: &mut Vec<u8>,
+    ) -> Result<usize, SessionFault> {
+        let Some(framing) = self.framings.get_mut(session) else {
+            return Err(SessionFault::Refused);
+        };
+        let count = framing.part(bytes);
+        let part = &bytes[..count];
+        match self.hub.event(&Event::Bytes(session as u32, part), output) {
+            Ok(()) => {
+                *framing = framing.after(part);
+                Ok(count)
+            }
+            Err(refusal) => Err(fault_of(refusal)),
+        }
+    }
+
+    fn end(&mut self, session: usize) {
+        let mut nothing = Vec::new(self.alloc);
+        let _ended = self.hub.event(&Event::End(session as u32), &mut nothing);
+    }
+}

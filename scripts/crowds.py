@@ -1,0 +1,211 @@
+#!/usr/bin/env python3
+"""Asks a directory that listens over many connections at once, in one of these ways.
+
+    scripts/crowds.py HOST:PORT checked COUNT SILENT  COUNT clients register and look up names, all at once, beside so many
+                                                      that are silent; each reply is checked as a client checks it
+    scripts/crowds.py HOST:PORT slow                  a client that sends one byte at a time, and others beside it
+    scripts/crowds.py HOST:PORT deaf                  one that asks and takes no reply, and others beside it
+    scripts/crowds.py HOST:PORT resets COUNT          COUNT clients that reset their connections, and then one that does not
+    scripts/crowds.py HOST:PORT idle SECONDS          silent clients are closed after so long, and one that asks is not
+    scripts/crowds.py HOST:PORT full PLACES           a client waits for a place, and has it once another is gone
+    scripts/crowds.py HOST:PORT many COUNT            COUNT clients of a server with fewer file handles: each is answered
+
+The server has just begun with the keys of `scripts/formats.py --keys`, for `checked`. Prints what is not so. The status is
+0 where all is.
+"""
+
+import socket
+import struct
+import sys
+import time
+
+sys.dont_write_bytecode = True
+from formats import *
+from send_frames import connected, frames
+from sessions import Client
+from worked import SIGNING_KEY, TOKEN, VUF_KEY, one_reply
+
+HEAD = request_frame("head")
+PATIENCE = 0.3
+NAMES = 2
+
+
+def ask(client, *request):
+    """The value of the response to one request."""
+    client.sendall(request_frame(*request))
+    return response_of(one_reply(client))
+
+
+def response_of(reply):
+    (found,), rest, _ = split_frames(reply)
+    assert not rest
+    return read_response(*found)
+
+
+def answers(client, count):
+    """The values of the next responses, of which there are so many."""
+    found, rest = [], b""
+    while len(found) < count:
+        piece = client.recv(65536)
+        if not piece:
+            break
+        some, rest, _ = split_frames(rest + piece)
+        found += [read_response(*one) for one in some]
+    return found
+
+
+def is_answered(address):
+    with connected(address) as client:
+        client.sendall(HEAD)
+        return len(frames(one_reply(client))[0]) == 1
+
+
+def is_closed(client, seconds):
+    """The server closes the connection within so long."""
+    client.settimeout(seconds)
+    try:
+        while client.recv(65536):
+            pass
+    except TimeoutError:
+        return False
+    except ConnectionError:
+        pass
+    return True
+
+
+def checked(address, count, silent):
+    count = int(count)
+    still = [connected(address) for _ in range(int(silent))]
+    operator = connected(address)
+    first = ask(operator, "head")
+    clients = [connected(address) for _ in range(count)]
+    names = [[b"name %d of %d" % (k, n) for k in range(NAMES)] for n in range(count)]
+    users = [Client(SIGNING_KEY, first.write(), sha256, KeyedVuf(VUF_KEY)) for _ in range(count)]
+    for k in range(NAMES):
+        for n, client in enumerate(clients):
+            frame = request_frame("register", names[n][k], b"key of %d" % n)
+            client.sendall(frame[:7])
+        for n, client in enumerate(clients):
+            frame = request_frame("register", names[n][k], b"key of %d" % n)
+            client.sendall(frame[7:] + request_frame("lookup", 0, names[n][k]))
+    for n, client in enumerate(clients):
+        for k in range(NAMES):
+            promise, absent = answers(client, 2)
+            users[n].keep_promise(promise.write())
+            if users[n].look(names[n][k], 0, absent.write()) is not None:
+                yield f"client {n}: a name is there before its epoch"
+    ask(operator, "close", TOKEN, first.body.epoch + 1)
+    roots = ask(operator, "history", first.body.epoch + 1, 64)
+    for n, client in enumerate(clients):
+        other = (n + 1) % count
+        client.sendall(b"".join(request_frame("lookup", 0, name) for name in names[n] + names[other][:1]))
+    for n, client in enumerate(clients):
+        users[n].update(write_list(roots))
+        replies = answers(client, NAMES + 1)
+        for name, reply in zip(names[n], replies):
+            if users[n].due(name, reply.write()) != "kept":
+                yield f"client {n}: a promise is not kept"
+            if users[n].look(name, 0, reply.write()) != b"key of %d" % n:
+                yield f"client {n}: another key"
+        other = (n + 1) % count
+        if users[n].look(names[other][0], 0, replies[-1].write()) != b"key of %d" % other:
+            yield f"client {n}: another key of the next client"
+    for client in [operator, *clients, *still]:
+        client.close()
+
+
+def slow(address):
+    with connected(address) as client:
+        for byte in HEAD * 2:
+            client.sendall(bytes([byte]))
+            if not is_answered(address):
+                yield "no answer beside a slow client"
+            time.sleep(0.1)
+        if len(answers(client, 2)) != 2:
+            yield "the slow client was not answered"
+
+
+def deaf(address):
+    with connected(address) as client:
+        client.settimeout(PATIENCE)
+        try:
+            for _ in range(100):
+                client.sendall(HEAD * 1000)
+        except TimeoutError:
+            pass
+        for _ in range(5):
+            if not is_answered(address):
+                yield "no answer beside a client that takes no reply"
+
+
+def resets(address, count):
+    for number in range(int(count)):
+        with connected(address) as client:
+            client.sendall(HEAD[:3] if number % 2 else HEAD * 100)
+            # With no time to linger, closing resets the connection.
+            client.setsockopt(socket.SOL_SOCKET, socket.SO_LINGER, struct.pack("ii", 1, 0))
+    if not is_answered(address):
+        yield "no answer after resets"
+
+
+def idle(address, seconds):
+    seconds = float(seconds)
+    still, asking = [connected(address) for _ in range(10)], connected(address)
+    half = connected(address)
+    half.sendall(HEAD[:4])
+    end = time.monotonic() + 2 * seconds
+    while time.monotonic() < end:
+        ask(asking, "head")
+        time.sleep(seconds / 4)
+    for number, client in enumerate([*still, half]):
+        if not is_closed(client, PATIENCE):
+            yield f"silent client {number} was not closed"
+    ask(asking, "head")
+
+
+def full(address, places):
+    clients = [connected(address) for _ in range(int(places))]
+    for client in clients:
+        ask(client, "head")
+    with connected(address) as last:
+        last.sendall(HEAD)
+        last.settimeout(PATIENCE)
+        try:
+            yield f"answered {last.recv(65536).hex()} with no free place"
+        except TimeoutError:
+            pass
+        clients[0].close()
+        last.settimeout(60)
+        if len(answers(last, 1)) != 1:
+            yield "not answered once a place was free"
+    for client in clients[1:]:
+        ask(client, "head")
+
+
+def many(address, count):
+    """Those who were taken go one by one, and those who wait behind them come."""
+    clients = [connected(address) for _ in range(int(count))]
+    for number, client in enumerate(clients):
+        client.sendall(HEAD)
+        if len(answers(client, 1)) != 1:
+            yield f"client {number} was not answered"
+        client.close()
+
+
+WAYS = {"checked": checked, "slow": slow, "deaf": deaf, "resets": resets, "idle": idle, "full": full, "many": many}
+
+
+def main(address, way, *words):
+    wrong = list(WAYS[way](address, *words))
+    for line in wrong:
+        print(line)
+    return 1 if wrong else 0
+
+
+if __name__ == "__main__":
+    if len(sys.argv) < 3 or sys.argv[2] not in WAYS:
+        sys.exit(__doc__)
+    try:
+        sys.exit(main(*sys.argv[1:]))
+    except OSError as error:
+        sys.exit(f"{sys.argv[1]}: {error}")
