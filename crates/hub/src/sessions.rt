@@ -1,6 +1,6 @@
 //! A hub keeps a feed for each open session, by number. An event opens or ends a session, or hands it a
 //! piece. A run handles events in order, and appends what each brings to the output of its session.
-ghost use Rattle.std.specs.Prelude.{◌≡◌, ◌⊎◌, ◌∷◌, [], List, map, vec_len, vec_capacity, IfOk, OnErr, OnOk};
+ghost use Rattle.std.specs.Prelude.{◌≡◌, ◌≢◌, ◌≤◌, ◌⊎◌, ◌∷◌, [], List, length, map, take, vec_len, vec_capacity, IfOk, OnErr, OnOk, Some};
 ghost use Rattle.std.specs.List.Sorted.{IsStrictlySortedBy};
 ghost use Rattle.std.specs.Map.{keys_of};
 ghost use Rattle.std.specs.Ordering.{nat_cmp};
@@ -8,7 +8,8 @@ ghost use Rattle.book.specs.Shows.{IsRootOf};
 ghost use Rattle.epochs.specs.DirectoryStates.{book, provider};
 ghost use Rattle.hub.specs.DeskRuns.{IsWell, ShowHonestRun};
 ghost use Rattle.hub.specs.Desks.{DeskAnswers};
-ghost use Rattle.hub.specs.Events.{due, number, seen, Bytes as AreBytes, End as IsEnd, Open as IsOpen};
+ghost use Rattle.wire.specs.Streams.{Remainder, EndsOne};
+ghost use Rattle.hub.specs.Events.{at, due, number, seen, Bytes as AreBytes, End as IsEnd, Open as IsOpen};
 ghost use Rattle.hub.specs.Exchanges.{Exchange, LacksRoom, replies};
 ghost use Rattle.hub.specs.Happenings.{Happens, HearsAt, IsPart, Passes};
 ghost use Rattle.hub.specs.Outputs.{pair_seen, AppendsUnless};
@@ -128,6 +129,19 @@ impl<D: Service + Drop> Hub<D> {
             Event::Open(session) => self.open(*session, output),
             Event::Bytes(session, piece) => self.bytes(*session, piece, output),
             Event::End(session) => self.end(*session, output),
+        }
+    }
+
+    /// How many of these bytes, from the front on, are the next part of a session's stream. A part ends at most
+    /// one message. Of a session that is not open, it is all of them.
+    pub fn part(&self, session: u32, bytes: &[u8]) -> usize
+        ensures some { bytes.now ≢ [] → 1 ≤ result }
+        ensures most { result ≤ length bytes.now }
+        ensures one { (held : Remainder) → at (self.now).sessions session ≡ Some held → EndsOne held (take result bytes.now) }
+    {
+        match self.sessions.get(&session) {
+            Some(feed) => feed.part(bytes),
+            None => bytes.len(),
         }
     }
 

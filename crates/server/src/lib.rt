@@ -8,7 +8,6 @@
 
 mod disk;
 mod fault;
-mod framing;
 mod journal_file;
 mod keys;
 mod laws;

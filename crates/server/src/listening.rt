@@ -4,6 +4,8 @@
 // which contracts know it. `scripts/listen.sh` covers the rest.
 ghost use Rattle.std.specs.Prelude.{◌≡◌, ◌≢◌, ◌↔◌, List, [], Err, IfErr, None, OnOk};
 ghost use Rattle.connections.specs.Fitting.{AreFree};
+ghost use Rattle.connections.specs.Histories.{History, of_connections};
+ghost use Rattle.connections.specs.Soundness.{IsSound};
 ghost use Rattle.connections.specs.Telling.{TellsMemory};
 ghost use Rattle.hub.specs.Desks.{DeskState};
 ghost use Rattle.hub.specs.Runs.{Line};
@@ -13,6 +15,7 @@ ghost use Rattle.server.specs.DirectoryOptions.{values_of};
 ghost use Rattle.server.specs.Directories.{keys_of};
 ghost use Rattle.server.specs.Listening.{ListenTells, TellsAddress, TellsKept, TellsLine};
 ghost use Rattle.server.specs.Programs.{ShownBy};
+ghost use Rattle.server.specs.Sessions.{AreLines};
 
 use crate::ListenOrder;
 use crate::disk::Disk;
@@ -50,7 +53,8 @@ fn tell_address<E: Write>(
     Ok(())
 }
 
-/// Answers connections by the sessions of a hub, whose messages show one run of its directory.
+/// Answers connections by the sessions of a hub. Each connection takes a beginning of the replies to its own
+/// messages, and the messages of all show one run of the directory, as those of `Hub::run` do.
 fn answer_crowd<K, C, E>(
     alloc: Global,
     places: Places,
@@ -65,7 +69,8 @@ where
     E: Write,
     requires { AreFree places }
     ensures tells { TellsMemory (E.contents errors.old) (E.contents errors.new) }
-    ensures shown { C.has connections.old [] → (lines : List Line) × ShownBy K.kept K.failed sessions.old.hub.service lines sessions.new.hub.service }
+    ensures shown { C.has connections.old [] → (acts : History) × C.has connections.new (of_connections acts) × IsSound limits.idle acts
+        × ((lines : List Line) × AreLines acts lines × ShownBy K.kept K.failed sessions.old.hub.service lines sessions.new.hub.service) }
 {
     // What the two calls of `head` ensure: the book is sound before and after, and the provider's
     // functions keep their laws.
@@ -103,7 +108,7 @@ where
 {
     let count = order.sessions.clamp(1, MOST_SESSIONS) as usize;
     let places = Places::free(alloc, count)?;
-    let mut sessions = HubSessions::new(alloc, hub, count)?;
+    let mut sessions = HubSessions::new(alloc, hub);
     let input = if order.until_eof { Some(input) } else { None };
     let Ok(mut sockets) = Sockets::listen(alloc, system, order.address, count, disk, input) else {
         return Err(ProgramFault::CannotListen);

@@ -1,37 +1,30 @@
 //! The sessions of a hub, for the loop over connections. Each hears its stream in parts that end no more than
 //! one message.
-ghost use Rattle.std.specs.Prelude.{◌≡◌, IfOk};
+ghost use Rattle.std.specs.Prelude.{◌≡◌};
 ghost use Rattle.hub.specs.DeskRuns.{IsWell};
 ghost use Rattle.server.specs.Sessions.{session_fault};
 
-use crate::framing::Framing;
 use book::Keeper;
 use connections::{SessionFault, Sessions};
 use hub::{Desk, Event, Hub, HubRefusal, Service};
 use nodehash::NodeHash;
 use rand_core::Rng;
 use sigiface::Signer;
-use std::alloc::{AllocError, Global};
+use std::alloc::Global;
 use vrfiface::Vuf;
 
-/// A hub, and where the stream of each session stands, by its number.
+/// The sessions of a hub.
 #[derive(Drop)]
 pub(crate) struct HubSessions<D: Service + Drop> {
     alloc: Global,
     hub: Hub<D>,
-    framings: Vec<Framing>,
 }
 
 impl<D: Service + Drop> HubSessions<D> {
-    /// The sessions of a hub, whose numbers are below `count`.
-    pub(crate) fn new(alloc: Global, hub: Hub<D>, count: usize) -> Result<Self, AllocError>
-        ensures { IfOk result (λ sessions. sessions.hub ≡ hub) }
+    pub(crate) fn new(alloc: Global, hub: Hub<D>) -> Self
+        ensures { result.hub ≡ hub }
     {
-        Ok(HubSessions {
-            alloc,
-            hub,
-            framings: Vec::from_elem(alloc, Framing::new(), count)?,
-        })
+        HubSessions { alloc, hub }
     }
 }
 
@@ -75,15 +68,12 @@ impl<D: Service + Drop> Sessions for HubSessions<D> {
     ghost ends = { λ before session after. Ended D.answers before.hub session after.hub };
 
     fn open(&mut self, session: usize) -> Result<(), SessionFault> {
-        let Some(framing) = self.framings.get_mut(session) else {
+        let Ok(number) = u32::try_from(session) else {
             return Err(SessionFault::Refused);
         };
         let mut nothing = Vec::new(self.alloc);
-        match self.hub.event(&Event::Open(session as u32), &mut nothing) {
-            Ok(()) => {
-                *framing = Framing::new();
-                Ok(())
-            }
+        match self.hub.event(&Event::Open(number), &mut nothing) {
+            Ok(()) => Ok(()),
             Err(refusal) => Err(fault_of(refusal)),
         }
     }
@@ -94,22 +84,24 @@ impl<D: Service + Drop> Sessions for HubSessions<D> {
         bytes: &[u8],
         output: &mut Vec<u8>,
     ) -> Result<usize, SessionFault> {
-        let Some(framing) = self.framings.get_mut(session) else {
+        let Ok(number) = u32::try_from(session) else {
             return Err(SessionFault::Refused);
         };
-        let count = framing.part(bytes);
-        let part = &bytes[..count];
-        match self.hub.event(&Event::Bytes(session as u32, part), output) {
-            Ok(()) => {
-                *framing = framing.after(part);
-                Ok(count)
-            }
+        let count = self.hub.part(number, bytes);
+        match self
+            .hub
+            .event(&Event::Bytes(number, &bytes[..count]), output)
+        {
+            Ok(()) => Ok(count),
             Err(refusal) => Err(fault_of(refusal)),
         }
     }
 
     fn end(&mut self, session: usize) {
+        let Ok(number) = u32::try_from(session) else {
+            return;
+        };
         let mut nothing = Vec::new(self.alloc);
-        let _ended = self.hub.event(&Event::End(session as u32), &mut nothing);
+        let _ended = self.hub.event(&Event::End(number), &mut nothing);
     }
 }

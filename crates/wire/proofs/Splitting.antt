@@ -18,7 +18,7 @@ use Rattle.wire.specs.declared.frame.TheConstants.{MAX_FRAME_LEN}
 -- ---- less than a frame
 
 -- a kind and a body of so many bytes are there
-frame_there : (size : ℕ) (bytes : List ℕ) → 1 ≤ size → size ≤ length bytes → (x : Frame × List ℕ) × (read_framed size bytes ≡ Ok x)
+pub frame_there : (size : ℕ) (bytes : List ℕ) → 1 ≤ size → size ≤ length bytes → (x : Frame × List ℕ) × (read_framed size bytes ≡ Ok x)
 frame_there size [] some long = absurd (omega (arith, some, long))
 frame_there size (kind ∷ body) some long =
     ((frame_of (kind, take (size - 1) body), drop (size - 1) body), rw (le-ltb (length body) (size - 1) (omega (arith, some, long))) refl)
@@ -39,11 +39,11 @@ by_none : (bytes : List ℕ) → read_number 4 bytes ≡ Err Short → read_fram
 unfolding read_frame
 by_none bytes e = rw e refl
 
-by_size : (bytes : List ℕ) (size : ℕ) (rest : List ℕ) → read_number 4 bytes ≡ Ok (size, rest) → is_within 1 MAX_FRAME_LEN size ≡ true → read_frame bytes ≡ read_framed size rest
+pub by_size : (bytes : List ℕ) (size : ℕ) (rest : List ℕ) → read_number 4 bytes ≡ Ok (size, rest) → is_within 1 MAX_FRAME_LEN size ≡ true → read_frame bytes ≡ read_framed size rest
 unfolding read_frame
 by_size bytes size rest e within = rw (e, within) refl
 
-by_bad : (bytes : List ℕ) (size : ℕ) (rest : List ℕ) → read_number 4 bytes ≡ Ok (size, rest) → is_within 1 MAX_FRAME_LEN size ≡ false → read_frame bytes ≡ Err OutOfRange
+pub by_bad : (bytes : List ℕ) (size : ℕ) (rest : List ℕ) → read_number 4 bytes ≡ Ok (size, rest) → is_within 1 MAX_FRAME_LEN size ≡ false → read_frame bytes ≡ Err OutOfRange
 unfolding read_frame
 by_bad bytes size rest e within = rw (e, within) refl
 

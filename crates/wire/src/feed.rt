@@ -1,12 +1,17 @@
 //! A stream in pieces. The buffer keeps the bytes behind the last frame that was taken: taking a frame
 //! moves only the place where the next one begins, and the bytes before it fall when the next piece comes.
-ghost use Rattle.std.specs.Prelude.{◌≡◌, ◌≢◌, ◌↔◌, ◌++◌, ◌<◌, ◌≤◌, length, drop, IsTrue, IsOk, OnErr, OnOk, IsErrOf};
-ghost use Rattle.wire.specs.Streams.{Remainder, Rest, Failed, with_more, Waits};
+ghost use Rattle.std.specs.Prelude.{◌≡◌, ◌≢◌, ◌↔◌, ◌++◌, ◌<◌, ◌≤◌, [], ℕ, List, length, drop, take, IsTrue, IsOk, OnErr, OnOk, IsErrOf};
+ghost use Rattle.encoding.specs.Bytes.{IsBytes};
+ghost use Rattle.wire.specs.Streams.{Remainder, Rest, Failed, with_more, EndsOne, Waits};
 
 use crate::FeedRefusal;
 use crate::frame::{Front, front_of};
+use encoding::Cursor;
 use std::alloc::Global;
 use std::marker::Model;
+
+/// The number of bytes of a frame's length.
+const LENGTH_SIZE: usize = 4;
 
 /// What a feed has next.
 #[derive(Debug, Drop)]
@@ -91,6 +96,19 @@ impl Feed {
         !matches!(front_of(&self.buffer[self.from..]), Front::Short)
     }
 
+    /// How many of these bytes, from the front on, are the next part of the stream: the rest of a frame's
+    /// length, or the rest of its bytes, or as much of these as is there. A part ends at most one message.
+    pub fn part(&self, bytes: &[u8]) -> usize
+        ensures some { bytes.now ≢ [] → 1 ≤ result }
+        ensures most { result ≤ length bytes.now }
+        ensures one { EndsOne self.now (take result bytes.now) }
+    {
+        if self.failed {
+            return bytes.len();
+        }
+        bytes.len().min(missing(&self.buffer[self.from..]))
+    }
+
     /// Takes the next frame, if it is whole, and lends it.
     // The clause says that the answer, and the feed once the loan has ended, are as `Gives` has them.
     pub fn next(&mut self) -> Next<'_>
@@ -111,6 +129,19 @@ impl Feed {
             }
         }
     }
+}
+
+/// How many bytes are missing to the end of a frame's length, or of the frame, of which these have come. Where
+/// none are, it is one.
+fn missing(held: &[u8]) -> usize
+    ensures some { 1 ≤ result }
+    ensures one { (part : List ℕ) → IsBytes part → length part ≤ result → EndsOne (Rest held.now) part }
+{
+    let whole = match Cursor::new(held).u32() {
+        Ok(size) => LENGTH_SIZE + size as usize,
+        Err(_) => LENGTH_SIZE,
+    };
+    whole.saturating_sub(held.len()).max(1)
 }
 
 /// Drops the first `count` bytes and moves the others to the front. Moves nothing if `count` is 0.

@@ -1,4 +1,3 @@
-use Rattle.std.proofs.Common.{List}
 use Rattle.nodehash.specs.Sha256.{sha256}
 use Rattle.vrfiface.specs.StandIns.{keyed_value, KeyedAccepts}
 use Rattle.sigiface.specs.StandIn.{keyed_signature, KeyedVerifies}
@@ -10,10 +9,16 @@ use Rattle.server.proofs.listening.answer_crowd.Goals as goal
 
 pub returns-clause-shown : goal.returns-clause-shown
 returns-clause-shown g c = λ has.
-    let acts = c.answer_all.ensures.happens has in
-    let told = crowd_answered (DeskAnswers sha256 keyed_value keyed_signature salts g.K.Keeper.kept g.K.Keeper.failed) (λ sessions. sessions.hub) c.args.sessions.now acts.0 c.answer_all.new.sessions acts.1.1 in (
-      told.0,
-      told.1,
-      lines_show_honest_run sha256 keyed_value keyed_signature salts g.K.Keeper.kept g.K.Keeper.failed KeyedAccepts KeyedVerifies
-          c.args.sessions.now.hub.service told.0 c.answer_all.new.sessions.hub.service c.head.ensures.well c.head-2.ensures.well told.1,
+    let happened = c.answer_all.ensures.happens has in
+    let told = crowd_answered (DeskAnswers sha256 keyed_value keyed_signature salts g.K.Keeper.kept g.K.Keeper.failed) (λ sessions. sessions.hub) c.args.sessions.now happened.0 c.answer_all.new.sessions happened.1.1 in (
+      happened.0,
+      happened.1.0,
+      happened.1.2,
+      (
+        told.0,
+        told.1,
+        told.2,
+        lines_show_honest_run sha256 keyed_value keyed_signature salts g.K.Keeper.kept g.K.Keeper.failed KeyedAccepts KeyedVerifies
+            c.args.sessions.now.hub.service told.0 c.answer_all.new.sessions.hub.service c.head.ensures.well c.head-2.ensures.well told.2,
+      ),
     )
