@@ -87,6 +87,14 @@ impl<H: NodeHash, V: VufCheck, S: Verifier> Client<H, V, S> {
         self.chain.key()
     }
 
+    /// The promises that are kept, in the order in which they came.
+    pub fn promises(&self) -> &[SignedPromise]
+        ensures value { result.now ≡ self.now.promises }
+        ensures sound { IsSound H.digest_of V.accepted S.verified self.now }
+    {
+        &self.promises
+    }
+
     /// Checks a reply to a look-up of this name against the root of an epoch, where 0 asks for the latest
     /// root, and keeps it. Returns what the reply states of the name.
     ///

@@ -8,9 +8,10 @@ ghost use Rattle.audits.specs.Verdicts.{JudgesAt};
 ghost use Rattle.directoryd.specs.Orders.{values_in};
 ghost use Rattle.directoryd.specs.Programs.{verdict_outcome, EndsAs, Obeys, Runs, Starts};
 
+use crate::keyed::{ask_keyed, listen_keyed, serve_keyed};
 use crate::order::{Order, order};
 use crate::refusing::{refuse, refuse_bytes};
-use crate::{audit, judge_at, listen, play, prove, root, serve_directory};
+use crate::{audit, judge_at, play, prove, root};
 use audits::JudgeOrder;
 use std::alloc::Global;
 use std::convert::AsStr;
@@ -66,8 +67,13 @@ where
         Order::Audit(order) => audit(alloc, order, reader, writer)?,
         Order::Judge(order) => return judge(alloc, system, order, writer),
         Order::Play => play(alloc, reader, writer)?,
-        Order::Serve(order) => serve_directory(alloc, system, order, reader, writer, errors)?,
-        Order::Listen(order) => listen(alloc, system, order, errors)?,
+        Order::Serve(order, keys) => {
+            serve_keyed(alloc, system, order, keys, reader, writer, errors)?;
+        }
+        Order::Listen(order, keys) => listen_keyed(alloc, system, order, keys, errors)?,
+        Order::Ask(order, keys) => {
+            return ask_keyed(alloc, system, order, keys, reader, writer, errors);
+        }
     }
     Ok(0)
 }

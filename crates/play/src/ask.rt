@@ -18,7 +18,7 @@ pub(crate) fn token() -> Hash32
 
 /// What a line asks of the directory, through session 0.
 #[derive(Debug, Drop)]
-pub(crate) enum Ask {
+pub enum Ask {
     Put {
         verb: Verb,
         name: Vec<u8>,

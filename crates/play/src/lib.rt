@@ -20,11 +20,15 @@ mod playing;
 mod telling;
 mod worked;
 
+pub use ask::Ask;
 pub use laws::{
     answers_are_told, checks_are_told, honest, lines_are_plain, pages_go_on, promises_are_in_time,
     runs_are_heard, sessions_are_heard,
 };
+pub use line::{Line, read_line};
+pub use lines::next_line;
 pub use playing::play;
+pub use telling::{push_hex, push_number, tell_response, tell_statement, tell_step};
 pub use worked::{
     lines_that_stop, long_names, monitor_scripts, names_and_epochs, one_index_scripts,
     rotation_scripts, session_scripts, worked_scripts,

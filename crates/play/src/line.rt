@@ -20,7 +20,7 @@ use textio::hex32;
 
 /// What a line of a script says.
 #[derive(Debug, Drop)]
-pub(crate) enum Line {
+pub enum Line {
     /// Nothing: it is empty, or a note.
     Pass,
     /// Something is asked of the directory.
@@ -69,7 +69,7 @@ fn two_words(behind: Option<&[u8]>) -> Option<(&[u8], &[u8])>
 /// # Errors
 ///
 /// `AllocError` if memory runs out.
-pub(crate) fn read_line(alloc: Global, line: &[u8]) -> Result<Option<Line>, AllocError>
+pub fn read_line(alloc: Global, line: &[u8]) -> Result<Option<Line>, AllocError>
     ensures { IfOk result (λ read. option_map line_seen read ≡ line_of line.now) }
 {
     if line.is_empty() || line[0] == b'#' {

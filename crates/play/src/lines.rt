@@ -10,10 +10,7 @@ use textio::ProgramFault;
 /// # Errors
 ///
 /// `CannotRead`, and `OutOfMemory` if memory runs out.
-pub(crate) fn next_line<R: BufRead>(
-    reader: &mut R,
-    line: &mut Vec<u8>,
-) -> Result<bool, ProgramFault>
+pub fn next_line<R: BufRead>(reader: &mut R, line: &mut Vec<u8>) -> Result<bool, ProgramFault>
     ensures ok { IfOk result (λ more. TakesLine (R.remaining reader.old) (R.remaining reader.new) more line.new.items) }
     ensures err { IfErr result (λ fault. IsDeviceFault fault) }
 {

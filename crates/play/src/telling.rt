@@ -22,7 +22,7 @@ use std::alloc::AllocError;
 use wire::Response;
 
 /// Appends a number in decimal digits.
-pub(crate) fn push_number(text: &mut Vec<u8>, number: u64) -> Result<(), AllocError>
+pub fn push_number(text: &mut Vec<u8>, number: u64) -> Result<(), AllocError>
     ensures { OnOk result (text.new.items ≡ text.old.items ++ decimal number) }
 {
     let mut digits = Buffer::new();
@@ -31,7 +31,7 @@ pub(crate) fn push_number(text: &mut Vec<u8>, number: u64) -> Result<(), AllocEr
 
 /// Appends bytes in hexadecimal digits.
 #[tactic(auto, unfolding(hex::specs::Hex::encode_with))]
-pub(crate) fn push_hex(text: &mut Vec<u8>, bytes: &[u8]) -> Result<(), AllocError>
+pub fn push_hex(text: &mut Vec<u8>, bytes: &[u8]) -> Result<(), AllocError>
     ensures { OnOk result (text.new.items ≡ text.old.items ++ encode_lower bytes.now) }
 {
     for byte in bytes {
@@ -44,7 +44,7 @@ pub(crate) fn push_hex(text: &mut Vec<u8>, bytes: &[u8]) -> Result<(), AllocErro
 }
 
 /// Appends the line of a response.
-pub(crate) fn tell_response(text: &mut Vec<u8>, response: Response<'_>) -> Result<(), AllocError>
+pub fn tell_response(text: &mut Vec<u8>, response: Response<'_>) -> Result<(), AllocError>
     ensures { OnOk result (text.new.items ≡ text.old.items ++ response_text (response_seen response.entry) ++ 10 ∷ []) }
 {
     match response {
@@ -87,7 +87,7 @@ fn tell_roots(text: &mut Vec<u8>, roots: RootList<'_>) -> Result<(), AllocError>
 }
 
 /// Appends the line of what the client accepted at an epoch.
-pub(crate) fn tell_statement(
+pub fn tell_statement(
     text: &mut Vec<u8>,
     epoch: u64,
     statement: Statement<'_>,
@@ -111,7 +111,7 @@ pub(crate) fn tell_statement(
 }
 
 /// Appends the line of what a monitor of a name found at an epoch.
-pub(crate) fn tell_step(
+pub fn tell_step(
     text: &mut Vec<u8>,
     name: &[u8],
     epoch: u64,
