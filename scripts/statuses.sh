@@ -145,7 +145,7 @@ keys="--sign-key $zeros --vuf-key $zeros --salt-key $zeros --token $zeros"
 # What the program's help has to show: its commands, that it protects nobody, its statuses, and where the documents
 # are. And its version, behind which stands the kit that it was proved with.
 helps --help -- "A CONIKS key directory" "Usage: directoryd <COMMAND>" \
-    "  root " "  prove " "  audit " "  judge " "  play " "  serve " "  listen " "-V, --version" "protects
+    "  root " "  prove " "  audit " "  judge " "  play " "  serve " "  listen " "  ask " "-V, --version" "protects
 nobody yet" "Status 0: " "Status 1: " "Status 2: " "Status 3: " "README.md" "docs/OPERATING.md" "docs/FORMATS.md" \
     "Example: directoryd "
 for word in --version -V; do
@@ -164,7 +164,7 @@ helps judge --help -- "Usage: directoryd judge --key <HEX> <FILE>" "--key <HEX>"
     "Example: directoryd judge "
 helps play --help -- "Usage: directoryd play" "Example: directoryd play "
 for name in serve listen; do
-    helps $name --help -- "--sign-key <HEX>" "--vuf-key <HEX>" "--salt-key <HEX>" "--token <HEX>" "--epoch <E>" \
+    helps $name --help -- "--keys <FILE>" "--sign-key <HEX>" "--vuf-key <HEX>" "--salt-key <HEX>" "--token <HEX>" "--epoch <E>" \
         "The key that gives names their indices, 64 hexadecimal digits" \
         "The first epoch, a number from 1 on [default: 1]" "--nonce <HEX>" "Example: directoryd $name "
 done
@@ -173,6 +173,8 @@ helps listen --help -- "--count <N>" "How many connections are answered; 0 for n
     "--idle <SECONDS>" "After how many idle seconds a connection is closed; 0 for never [default: 60]" \
     "--until-eof" "Take the end of standard input as an order to stop" \
     "<ADDR>" "The address to listen on"
+helps ask --help -- "Usage: directoryd ask [OPTIONS] <ADDR> [COMMAND] [WORD] [WORD]" "--provider <HEX>" "--token <HEX>" \
+    "--keys <FILE>" "--state <FILE>" "register NAME KEY" "Example: directoryd ask "
 given "" root --help
 cp "$folder/out" "$folder/help"
 given "" root -h
@@ -218,7 +220,8 @@ for name in serve listen; do
     [ $name = serve ] || address=here:1
     for key in sign-key vuf-key salt-key token; do
         some=${keys/--$key $zeros/}
-        refused "the following required arguments were not provided:" $name $some $address
+        given "" $name $some $address
+        ends 1 "" "bad hex"
         refused "the argument '--$key <HEX>' cannot be used multiple times" $name $keys --$key $zeros $address
         refused "unexpected argument '--${key%?}' found" $name $some --${key%?} $zeros $address
     done
@@ -235,6 +238,9 @@ done
 refused "unexpected argument '--count' found" serve $keys --count 1
 refused "unexpected argument 'here:1' found" serve $keys here:1
 refused "the following required arguments were not provided:" listen $keys
+refused "the following required arguments were not provided:" ask --provider $ones
+refused "unexpected argument 'more' found" ask --provider $ones here:1 lookup 61 0 more
+refused "unexpected argument '--journal' found" ask --journal file here:1
 refused "unexpected argument 'here:2' found" listen $keys here:1 here:2
 refused "invalid value 'few' for '--count <N>': invalid digit found in string" listen $keys --count few here:1
 refused "invalid value '18446744073709551616' for '--count <N>': number too large to fit in target type" \
@@ -287,6 +293,38 @@ begins() {
 
 begins 0000000000000001
 begins 0000000000000005 --epoch 5
+
+# Keys that stand in a file, and one of them also on the command line. Before the address comes the file, and before
+# that the words.
+for key in sign-key vuf-key salt-key token nonce provider other; do echo $key $zeros; done >"$folder/keys"
+own=$keys keys="--keys $folder/keys"
+begins 0000000000000001
+begins 0000000000000001 --sign-key $ones
+keys=$own
+head -n 3 "$folder/keys" >"$folder/some"
+given "" serve --keys "$folder/some"
+ends 1 "" "bad hex"
+given "" ask --keys "$folder/some" nowhere
+ends 1 "" "bad hex"
+for line in "token $zeros " "token ${zeros%0}" "token  $zeros" "token" "" "token-$zeros"; do
+    { cat "$folder/keys"; echo "$line"; } >"$folder/others"
+    given "" serve --keys "$folder/others"
+    ends 1 "" "bad hex"
+    given "" ask --keys "$folder/others" nowhere
+    ends 1 "" "bad hex"
+done
+for words in "serve $keys --keys $folder/none" "ask --provider $ones --keys $folder nowhere"; do
+    given "" $words
+    ends 1 "" "cannot read"
+done
+given "" ask --provider 00 nowhere
+ends 1 "" "bad hex"
+given "" ask --provider $ones --token 00 nowhere
+ends 1 "" "bad hex"
+for address in nowhere 127.0.0.1:1; do
+    given "" ask --keys "$folder/keys" $address head
+    ends 1 "" "cannot connect"
+done
 begins 0000000000000005 --epoch +5
 begins 0000000000000005 --epoch 005 --nonce $ones
 begins 0000000000000005 --epoch=+05

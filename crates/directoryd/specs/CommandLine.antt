@@ -49,15 +49,19 @@ flag_rule name = record (new_rule name) { long = Some name; action = Some SetTru
 abbrev pub positional_rule : Text → Rule
 positional_rule name = record (new_rule name) { value_names = 1; required = true }
 
+-- a value that may be given, with no name before it
+abbrev pub word_rule : Text → Rule
+word_rule name = record (new_rule name) { value_names = 1 }
+
 -- a command, with the options of a tree
 abbrev pub with_tree : ValueParser → App → App
 with_tree names command = with_rule (with_rule command (hash_rule names)) nonce_rule
 
--- a command, with the keys of a directory and the token
+-- a command, with the keys of a directory and the token, and the file in which they may stand
 abbrev pub with_keys : App → App
 with_keys command =
-    with_rule (with_rule (with_rule (with_rule command
-    (required_rule (codes "sign-key"))) (required_rule (codes "vuf-key"))) (required_rule (codes "salt-key"))) (required_rule (codes "token"))
+    with_rule (with_rule (with_rule (with_rule (with_rule command
+    (text_rule (codes "sign-key"))) (text_rule (codes "vuf-key"))) (text_rule (codes "salt-key"))) (text_rule (codes "token"))) (text_rule (codes "keys"))
 
 -- `--journal`
 abbrev pub journal_rule : Rule
@@ -91,6 +95,11 @@ listen_app =
     (number_rule (codes "count") 0 (codes "0"))) (bounded_rule (codes "sessions") 1 1024 (codes "1000"))) (number_rule (codes "idle") 0 (codes "60")))
     (flag_rule (codes "until-eof"))) (positional_rule (codes "address"))
 
+abbrev pub ask_app : App
+ask_app = with_rule (with_rule (with_rule (with_rule (with_rule (with_rule (with_rule (with_rule (new_app (codes "ask"))
+    (text_rule (codes "provider"))) (text_rule (codes "token"))) (text_rule (codes "keys"))) (text_rule (codes "state")))
+    (positional_rule (codes "address"))) (word_rule (codes "command"))) (word_rule (codes "first"))) (word_rule (codes "second"))
+
 -- the program without its subcommands, of which one has to be there; it has a version
 abbrev pub bare_app : App
 bare_app =
@@ -99,8 +108,8 @@ bare_app =
 
 abbrev pub directory_app : ValueParser → App
 directory_app names =
-    with_subcommand (with_subcommand (with_subcommand (with_subcommand (with_subcommand (with_subcommand (with_subcommand bare_app
-    (root_app names).top) (prove_app names).top) audit_app.top) judge_app.top) play_app.top) serve_app.top) listen_app.top
+    with_subcommand (with_subcommand (with_subcommand (with_subcommand (with_subcommand (with_subcommand (with_subcommand (with_subcommand bare_app
+    (root_app names).top) (prove_app names).top) audit_app.top) judge_app.top) play_app.top) serve_app.top) listen_app.top) ask_app.top
 
 -- the words are refused, by a kind of fault that clap's function of the words gives
 abbrev pub Refuses : List Text → Error → Type 0

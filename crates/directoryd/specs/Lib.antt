@@ -1,3 +1,4 @@
 pub mod CommandLine
+pub mod KeyFiles
 pub mod Orders
 pub mod Programs

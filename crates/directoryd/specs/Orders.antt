@@ -1,5 +1,5 @@
 -- What a command line orders.
-use Rattle.std.specs.Prelude.{◌≡◌, ℕ, Bool, List, [], Option, Some, option_map, unwrap_or, codes, if◌then◌else◌}
+use Rattle.std.specs.Prelude.{◌≡◌, ℕ, Bool, List, [], ◌∷◌, Option, Some, option_map, unwrap_or, codes, if◌then◌else◌}
 use Rattle.std.specs.Option.{option_map_or}
 use Rattle.std.specs.Str.{bytes_eq}
 use Rattle.std.specs.Str.Parse.{digits_value, without_leading_plus}
@@ -10,8 +10,9 @@ use Rattle.items.specs.declared.orders.HashChoice.{HashChoice}
 use Rattle.items.specs.declared.orders.HashChoice.TheVariants.{Sha256, Sum}
 use Rattle.items.specs.TreeOptions.{TreeOptions, values_of}
 use Rattle.server.specs.DirectoryOptions.{DirectoryOptions, values_of as directory_values}
+use Rattle.asking.specs.AskOptions.{AskOptions, values_of as ask_values}
 use Rattle.directoryd.specs.declared.order.subcommands.Order.{Order}
-use Rattle.directoryd.specs.declared.order.subcommands.Order.TheVariants.{Root, Prove, Audit, Judge, Play, Serve, Listen}
+use Rattle.directoryd.specs.declared.order.subcommands.Order.TheVariants.{Root, Prove, Audit, Judge, Play, Serve, Listen, Ask}
 use Rattle.directoryd.specs.CommandLine.{directory_app, greatest, IsHashNames}
 
 -- how connections are taken: how many, and how many at once; for how many seconds one may be idle; whether the end
@@ -24,16 +25,17 @@ pub record ConnectionOptions : Type 0 where
   pub address : Text
 
 -- what is ordered: a root; the path of the index that a text gives; an audit under the key that a text
--- gives; the verdict, under such a key, on the file of this name; a script; a directory for one session; or
--- one for so many connections, at the address that a text gives
+-- gives; the verdict, under such a key, on the file of this name; a script; a directory for one session; one for
+-- so many connections, at the address that a text gives; or questions. The last three may have a file of keys
 pub data Task : Type 0 where
   the_root : TreeOptions → Task
   the_path : Text → TreeOptions → Task
   the_audit : Text → Task
   the_verdict : Text → Text → Task
   the_script : Task
-  the_session : DirectoryOptions → Task
-  the_connections : DirectoryOptions → ConnectionOptions → Task
+  the_session : DirectoryOptions → Option Text → Task
+  the_connections : DirectoryOptions → ConnectionOptions → Option Text → Task
+  the_questions : AskOptions → Option Text → Task
 
 abbrev pub values_in : Order → Task
 values_in (Root order) = the_root (values_of order)
@@ -41,9 +43,11 @@ values_in (Prove order) = the_path order.index.now (values_of order.root)
 values_in (Audit order) = the_audit order.key.now
 values_in (Judge order) = the_verdict order.key.now order.file.now
 values_in Play = the_script
-values_in (Serve order) = the_session (directory_values order)
-values_in (Listen order) = the_connections (directory_values order.directory)
+values_in (Serve order keys) = the_session (directory_values order) (option_map (λ path. path.now) keys)
+values_in (Listen order keys) = the_connections (directory_values order.directory)
     (record { count = order.count; sessions = order.sessions; idle = order.idle; until_eof = order.until_eof; address = order.address.now })
+    (option_map (λ path. path.now) keys)
+values_in (Ask order keys) = the_questions (ask_values order) (option_map (λ path. path.now) keys)
 
 -- the hash function of a name: the sum, or else SHA-256
 abbrev pub hash_named : Option Text → HashChoice
@@ -87,17 +91,28 @@ connections_in rows = record {
   address = text_in (codes "address") rows;
 }
 
--- what a subcommand orders by its name: a path, an audit, a verdict, a script, a session, connections, or else a root
+-- the values of what is asked of a directory
+abbrev pub asking_in : List Row → AskOptions
+asking_in rows = record {
+  provider = text_in (codes "provider") rows;
+  token = first_of (codes "token") rows;
+  state = first_of (codes "state") rows;
+  address = text_in (codes "address") rows;
+  words = first_of (codes "command") rows ∷ first_of (codes "first") rows ∷ first_of (codes "second") rows ∷ [];
+}
+
+-- what a subcommand orders by its name: a path, an audit, a verdict, a script, a session, connections, questions, or else a root
 abbrev pub task_in : Text → List Row → Task
 task_in name rows =
     if bytes_eq name (codes "prove") then the_path (text_in (codes "index") rows) (asked_in rows)
     else (if bytes_eq name (codes "audit") then the_audit (text_in (codes "key") rows)
     else (if bytes_eq name (codes "judge") then the_verdict (text_in (codes "key") rows) (text_in (codes "file") rows)
     else (if bytes_eq name (codes "play") then the_script
-    else (if bytes_eq name (codes "serve") then the_session (directory_in rows)
+    else (if bytes_eq name (codes "serve") then the_session (directory_in rows) (first_of (codes "keys") rows)
     else (if bytes_eq name (codes "listen")
-    then the_connections (directory_in rows) (connections_in rows)
-    else the_root (asked_in rows))))))
+    then the_connections (directory_in rows) (connections_in rows) (first_of (codes "keys") rows)
+    else (if bytes_eq name (codes "ask") then the_questions (asking_in rows) (first_of (codes "keys") rows)
+    else the_root (asked_in rows)))))))
 
 -- what the words order: the values that clap's function of the words gives to the options
 abbrev pub task : ValueParser → List Text → Option Task

@@ -24,7 +24,10 @@ use Rattle.server.specs.Listening.{ListenTells}
 use Rattle.server.specs.Programs.{DirectoryServes}
 use Rattle.directoryd.specs.declared.ending.Ending.{Ending}
 use Rattle.directoryd.specs.CommandLine.{status_of, Refuses}
-use Rattle.directoryd.specs.Orders.{IsTask, Task, the_root, the_path, the_audit, the_verdict, the_script, the_session, the_connections}
+use Rattle.directoryd.specs.Orders.{IsTask, Task, the_root, the_path, the_audit, the_verdict, the_script, the_session, the_connections, the_questions}
+use Rattle.directoryd.specs.KeyFiles.{AreAskKeys, AreDirectoryKeys, HasNoKeys, Uses}
+use Rattle.server.specs.DirectoryOptions.{DirectoryOptions}
+use Rattle.asking.specs.AskOptions.{AskOptions, ask_keys_of}
 
 -- a program gives a text for its input, and returns this status if the text was written
 abbrev pub EndsAt : ℕ → (List ℕ → Result (List ℕ) ProgramFault → Type 0) → Option (List ℕ) → Option (List ℕ) → Option (List ℕ) → Result ℕ ProgramFault → Type 0
@@ -45,9 +48,28 @@ abbrev pub verdict_outcome : Result Verdict ProgramFault → Result ℕ ProgramF
 verdict_outcome (Ok verdict) = Ok (verdict_status verdict)
 verdict_outcome (Err fault) = Err fault
 
+-- a session is served with the keys that are used, or they are not read
+abbrev pub ServesKeyed : DirectoryOptions → Option Text → Option (List ℕ) → Option (List ℕ) → Option (List ℕ) → Option (List ℕ) → Option (List ℕ) → Result (Unit {0}) ProgramFault → Type 0
+ServesKeyed asked keys input out out-new err err-new result =
+    (HasNoKeys keys result × Keeps out out-new × Keeps err err-new)
+    ⊎ ((used : DirectoryOptions) × (left : Option (List ℕ)) × Uses AreDirectoryKeys keys asked used × DirectoryServes used input out err result left out-new err-new)
+
+-- connections are answered with them
+abbrev pub ListensKeyed : DirectoryOptions → Option Text → Option (List ℕ) → Option (List ℕ) → Result (Unit {0}) ProgramFault → Type 0
+ListensKeyed asked keys err err-new result =
+    (HasNoKeys keys result × Keeps err err-new)
+    ⊎ ((used : DirectoryOptions) × Uses AreDirectoryKeys keys asked used × ((result ≡ Err BadHex) ↔ (keys_of used ≡ None)) × ListenTells used err result err-new)
+
+-- a directory is asked with them: a text that is no key is a fault before all else
+abbrev pub AsksKeyed : AskOptions → Option Text → Option (List ℕ) → Option (List ℕ) → Option (List ℕ) → Option (List ℕ) → Result ℕ ProgramFault → Type 0
+AsksKeyed asked keys out out-new err err-new outcome =
+    (HasNoKeys keys outcome × Keeps out out-new × Keeps err err-new)
+    ⊎ ((used : AskOptions) × Uses AreAskKeys keys asked used
+    × (ask_keys_of used ≡ None → (outcome ≡ Err BadHex) × Keeps out out-new × Keeps err err-new))
+
 -- What is ordered is done: a root is written, or the path of an index; an input is audited; a file is
--- judged; a script is played; a directory begins, or goes on from its journal, and serves one session; or one serves connections, and
--- writes its address to the errors. The line about a journal is on the errors too.
+-- judged; a script is played; a directory begins, or goes on from its journal, and serves one session; one serves connections, and
+-- writes its address to the errors; or a directory is asked. The line about a journal is on the errors too.
 abbrev pub Obeys : Task → Option (List ℕ) → Option (List ℕ) → Option (List ℕ) → Option (List ℕ) → Option (List ℕ) → Result ℕ ProgramFault → Type 0
 Obeys (the_root asked) input out out-new err err-new outcome = EndsAt 0 (λ input said. root_answer asked input ≡ said) input out out-new outcome × Keeps err err-new
 Obeys (the_path index asked) input out out-new err err-new outcome = EndsAt 0 (Proves asked.hash (nonce_of asked.nonce) (hex32 index)) input out out-new outcome × Keeps err err-new
@@ -56,10 +78,11 @@ Obeys (the_verdict key file) input out out-new err err-new outcome = Keeps err e
     × (verdict : Result Verdict ProgramFault) × (outcome ≡ verdict_outcome verdict) × JudgesAt key out verdict out-new
 Obeys the_script input out out-new err err-new outcome = IsZero outcome × Keeps err err-new
     × PlaysTo (printed script_index script_salts) input out out-new (without_status outcome)
-Obeys (the_session asked) input out out-new err err-new outcome = IsZero outcome
-    × (left : Option (List ℕ)) × DirectoryServes asked input out err (without_status outcome) left out-new err-new
-Obeys (the_connections asked taken) input out out-new err err-new outcome = IsZero outcome × Keeps out out-new
-    × ((outcome ≡ Err BadHex) ↔ (keys_of asked ≡ None)) × ListenTells asked err (without_status outcome) err-new
+Obeys (the_session asked keys) input out out-new err err-new outcome = IsZero outcome
+    × ServesKeyed asked keys input out out-new err err-new (without_status outcome)
+Obeys (the_connections asked taken keys) input out out-new err err-new outcome = IsZero outcome × Keeps out out-new
+    × ListensKeyed asked keys err err-new (without_status outcome)
+Obeys (the_questions asked keys) input out out-new err err-new outcome = AsksKeyed asked keys out out-new err err-new outcome
 
 -- a text is written whole, and this status returned; or less of it if a write failed, or nothing if
 -- memory ran out

@@ -8,15 +8,16 @@ ghost use Rattle.audits.specs.Verdicts.{JudgesAt};
 ghost use Rattle.directoryd.specs.Orders.{values_in};
 ghost use Rattle.directoryd.specs.Programs.{verdict_outcome, EndsAs, Obeys, Runs, Starts};
 
+use crate::keyed::{ask_keyed, listen_keyed, serve_keyed};
 use crate::order::{Order, order};
 use crate::refusing::{refuse, refuse_bytes};
-use crate::{audit, judge_at, listen, play, prove, root, serve_directory};
+use crate::{audit, judge_at, play, prove, root};
 use audits::JudgeOrder;
 use std::alloc::Global;
 use std::convert::AsStr;
 use std::fs::{File, Files};
 use std::io::{self, BufRead, Write};
-use std::net::Net;
+use std::net::{Net, TcpListener, TcpStream};
 use std::time::Clock;
 use textio::ProgramFault;
 
@@ -54,7 +55,7 @@ fn obey<N, R, W, E>(
     errors: &mut E,
 ) -> Result<u8, ProgramFault>
 where
-    N: Net + Clock + Files<File = File>,
+    N: Net<Listener = TcpListener, Stream = TcpStream> + Clock + Files<File = File>,
     R: BufRead,
     W: Write,
     E: Write,
@@ -67,8 +68,15 @@ where
         Order::Audit(order) => audit(alloc, order, reader, writer)?,
         Order::Judge(order) => return judge(alloc, system, order, writer),
         Order::Play => play(alloc, reader, writer)?,
-        Order::Serve(order) => serve_directory(alloc, system, order, reader, writer, errors)?,
-        Order::Listen(order) => listen(alloc, system, order, reader, errors)?,
+        Order::Serve(order, keys) => {
+            serve_keyed(alloc, system, order, keys, reader, writer, errors)?;
+        }
+        Order::Listen(order, keys) => {
+            listen_keyed(alloc, system, order, keys, reader, errors)?;
+        }
+        Order::Ask(order, keys) => {
+            return ask_keyed(alloc, system, order, keys, reader, writer, errors);
+        }
     }
     Ok(0)
 }
@@ -83,7 +91,7 @@ fn run<N, S, R, W, E>(
     errors: &mut E,
 ) -> Result<u8, ProgramFault>
 where
-    N: Net + Clock + Files<File = File>,
+    N: Net<Listener = TcpListener, Stream = TcpStream> + Clock + Files<File = File>,
     S: AsStr,
     R: BufRead,
     W: Write,
@@ -107,7 +115,7 @@ fn start<N, R, W, E>(
     errors: &mut E,
 ) -> Result<u8, ProgramFault>
 where
-    N: Net + Clock + Files<File = File>,
+    N: Net<Listener = TcpListener, Stream = TcpStream> + Clock + Files<File = File>,
     R: BufRead + Drop,
     W: Write,
     E: Write,
@@ -157,7 +165,7 @@ pub fn end<N, R, W, E>(
     errors: &mut E,
 ) -> Ending
 where
-    N: Net + Clock + Files<File = File>,
+    N: Net<Listener = TcpListener, Stream = TcpStream> + Clock + Files<File = File>,
     R: BufRead + Drop,
     W: Write,
     E: Write,

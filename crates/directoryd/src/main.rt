@@ -3,9 +3,12 @@
 #![tactic(auto)]
 
 mod ending;
+mod keyed;
+mod keys;
 mod order;
 mod refusing;
 
+pub use asking::ask;
 pub use audits::{audit, evidence_json, judge_at, judge_file, read_evidence};
 pub use ending::{Ending, end};
 pub use items::{prove, root};

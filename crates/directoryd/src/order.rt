@@ -3,13 +3,15 @@ ghost use Rattle.std.specs.NonZero.{non_zero_u64_get};
 ghost use Rattle.clap.specs.Words.{app_of, found_of, kind_of, rows_of, rule_of};
 ghost use Rattle.clap.specs.declared.builder.command.Command.TheViews.{out-Command};
 ghost use Rattle.clap.specs.declared.error.kind.ErrorKind.TheVariants.{OutOfMemory};
-ghost use Rattle.directoryd.specs.CommandLine.{audit_app, bounded_rule, directory_app, flag_rule, hash_rule, journal_rule, judge_app, listen_app, nonce_rule, number_rule, play_app, positional_rule, prove_app, required_rule, root_app, serve_app, text_rule, with_directory, with_keys, IsHashNames, Refuses};
+ghost use Rattle.directoryd.specs.CommandLine.{ask_app, audit_app, bounded_rule, directory_app, flag_rule, hash_rule, journal_rule, judge_app, listen_app, nonce_rule, number_rule, play_app, positional_rule, prove_app, required_rule, root_app, serve_app, text_rule, with_directory, with_keys, word_rule, IsHashNames, Refuses};
 ghost use Rattle.items.specs.TreeOptions.{values_of};
 ghost use Rattle.server.specs.DirectoryOptions.{values_of as directory_values};
-ghost use Rattle.directoryd.specs.Orders.{asked_in, connections_in, directory_in, flag_in, hash_named, number_from, task_in, text_in, the_connections, values_in, IsTask};
+ghost use Rattle.asking.specs.AskOptions.{values_of as ask_values};
+ghost use Rattle.directoryd.specs.Orders.{asked_in, asking_in, connections_in, directory_in, flag_in, hash_named, number_from, task_in, text_in, the_connections, values_in, IsTask};
 
 mod subcommands;
 
+use asking::AskOrder;
 use audits::{AuditOrder, JudgeOrder};
 use clap::builder::ValueParser;
 use clap::{Arg, ArgAction, ArgMatches, Command, Error};
@@ -33,7 +35,8 @@ The signatures and the verifiable function are stand-ins without any security: t
 nobody yet.
 
 Status 0: done, or help or the version was asked for. Status 1: a fault, which is one line on standard
-error. Status 2: the command line is wrong. Status 3: `judge` printed `no evidence`.
+error; or `ask` was refused something. Status 2: the command line is wrong. Status 3: `judge` printed
+`no evidence`, or a name that `ask` watches has another key.
 
 `directoryd COMMAND --help` shows the options of a command, and an example. In the repository, README.md
 says what this is, docs/OPERATING.md how to run a directory, and docs/FORMATS.md what each byte means.
@@ -117,6 +120,28 @@ is given: then it goes on as the file has it, and everything is kept there.
 
 Example: directoryd listen --sign-key $SIGN --vuf-key $VUF --salt-key $SALT --token $TOKEN 127.0.0.1:7000";
 
+/// What stands below the options of `ask`.
+static ASK_HELP: &str = "\
+Asks the directory that listens on ADDR what the words ask, or without words each line of standard input,
+checks each reply as a client, and prints the line that `play` prints:
+
+    register NAME KEY, change NAME KEY, promise NAME, lookup NAME EPOCH, history FROM COUNT, head,
+    close EPOCH, rotate EPOCH NONCE, watch NAME KEY
+
+`close` and `rotate` are the operator's, who gives --token. What is refused is also told on standard error,
+with status 1. An alarm of `watch` is status 3. FILE has the client's chain, one signed root a line, which
+`audit` reads too, and FILE.kept the promises that are to be tested; without them the client begins at the
+directory's latest root.
+
+Example: directoryd ask --provider $SIGN --state roots.txt 127.0.0.1:7000 lookup 616c696365 0";
+
+static PROVIDER_HELP: &str = "The provider's public key, 64 hexadecimal digits";
+
+static ASK_TOKEN_HELP: &str = "The token of the operator, 64 hexadecimal digits [default: zeros]";
+
+static KEYS_HELP: &str =
+    "A file of keys: lines of an option's name, a space and its 64 hexadecimal digits";
+
 static KEY_HELP: &str = "The provider's public key, 64 hexadecimal digits";
 
 static SIGNING_KEY_HELP: &str = "The key that signs roots and promises, 64 hexadecimal digits";
@@ -180,15 +205,23 @@ fn nonce_arg<'a>(alloc: Global) -> Arg<'a>
     )
 }
 
-/// `--journal FILE`.
-fn journal_arg<'a>(alloc: Global) -> Arg<'a>
-    ensures rule { rule_of result ≡ journal_rule }
+/// `--NAME FILE`.
+fn file_arg<'a>(alloc: Global, name: &'a str, help: &'a str) -> Arg<'a>
+    ensures rule { rule_of result ≡ text_rule name.entry.now }
     ensures local { result.global ≡ false }
 {
-    Arg::new(alloc, "journal")
-        .long("journal")
+    Arg::new(alloc, name)
+        .long(name)
         .value_name("FILE")
-        .help("The file in which the directory is kept [default: none]")
+        .help(help)
+}
+
+/// A value that may stand alone.
+fn word_arg<'a>(alloc: Global, name: &'a str, shown: &'a str, help: &'a str) -> Arg<'a>
+    ensures rule { rule_of result ≡ word_rule name.entry.now }
+    ensures local { result.global ≡ false }
+{
+    Arg::new(alloc, name).value_name(shown).help(help)
 }
 
 /// `--epoch E`.
@@ -266,16 +299,11 @@ fn positional_arg<'a>(alloc: Global, name: &'a str, shown: &'a str, help: &'a st
 }
 
 /// `ADDR`.
-fn address_arg<'a>(alloc: Global) -> Arg<'a>
+fn address_arg<'a>(alloc: Global, help: &'a str) -> Arg<'a>
     ensures rule { rule_of result ≡ positional_rule (codes "address") }
     ensures local { result.global ≡ false }
 {
-    positional_arg(
-        alloc,
-        "address",
-        "ADDR",
-        "The address to listen on, such as 127.0.0.1:7000",
-    )
+    positional_arg(alloc, "address", "ADDR", help)
 }
 
 /// `root`, with its options.
@@ -346,10 +374,11 @@ fn add_keys<'a>(alloc: Global, command: Command<'a>) -> Result<Command<'a>, Allo
     ensures local { IfOk result (λ c. (out-Command c).has_globals ≡ (out-Command command.entry).has_globals) }
 {
     let with_keys = command
-        .arg(required_arg(alloc, "sign-key", SIGNING_KEY_HELP))?
-        .arg(required_arg(alloc, "vuf-key", VUF_KEY_HELP))?
-        .arg(required_arg(alloc, "salt-key", SALT_KEY_HELP))?
-        .arg(required_arg(alloc, "token", TOKEN_HELP))?;
+        .arg(hex_arg(alloc, "sign-key", SIGNING_KEY_HELP))?
+        .arg(hex_arg(alloc, "vuf-key", VUF_KEY_HELP))?
+        .arg(hex_arg(alloc, "salt-key", SALT_KEY_HELP))?
+        .arg(hex_arg(alloc, "token", TOKEN_HELP))?
+        .arg(file_arg(alloc, "keys", KEYS_HELP))?;
     Ok(with_keys)
 }
 
@@ -361,7 +390,11 @@ fn add_directory<'a>(alloc: Global, command: Command<'a>) -> Result<Command<'a>,
     let with_directory = add_keys(alloc, command)?
         .arg(epoch_arg(alloc))?
         .arg(nonce_arg(alloc))?
-        .arg(journal_arg(alloc))?;
+        .arg(file_arg(
+            alloc,
+            "journal",
+            "The file in which the directory is kept [default: none]",
+        ))?;
     Ok(with_directory)
 }
 
@@ -389,8 +422,31 @@ fn listen_command<'a>(alloc: Global) -> Result<Command<'a>, AllocError>
         .arg(sessions_arg(alloc))?
         .arg(idle_arg(alloc))?
         .arg(until_eof_arg(alloc))?
-        .arg(address_arg(alloc))?;
+        .arg(address_arg(alloc, "The address to listen on, such as 127.0.0.1:7000"))?;
     Ok(listen)
+}
+
+/// `ask`, with its options and the words of its command.
+fn ask_command<'a>(alloc: Global) -> Result<Command<'a>, AllocError>
+    ensures app { IfOk result (λ c. app_of c ≡ ask_app) }
+    ensures local { IfOk result (λ c. (out-Command c).has_globals ≡ false) }
+{
+    let ask = Command::new(alloc, "ask")
+        .about("Asks a directory that listens, and checks its replies")
+        .after_help(ASK_HELP)
+        .arg(hex_arg(alloc, "provider", PROVIDER_HELP))?
+        .arg(hex_arg(alloc, "token", ASK_TOKEN_HELP))?
+        .arg(file_arg(alloc, "keys", KEYS_HELP))?
+        .arg(file_arg(
+            alloc,
+            "state",
+            "The file of the client's chain [default: none]",
+        ))?
+        .arg(address_arg(alloc, "The address of the directory"))?
+        .arg(word_arg(alloc, "command", "COMMAND", "What is asked"))?
+        .arg(word_arg(alloc, "first", "WORD", "Its first word"))?
+        .arg(word_arg(alloc, "second", "WORD", "Its second word"))?;
+    Ok(ask)
 }
 
 /// The subcommands, of which one has to be there.
@@ -409,7 +465,8 @@ fn command<'a>(alloc: Global) -> Result<Command<'a>, AllocError>
         .subcommand(judge_command(alloc)?)?
         .subcommand(play_command(alloc))?
         .subcommand(serve_command(alloc)?)?
-        .subcommand(listen_command(alloc)?)?;
+        .subcommand(listen_command(alloc)?)?
+        .subcommand(ask_command(alloc)?)?;
     Ok(directoryd)
 }
 
@@ -483,17 +540,35 @@ fn directory_order<'a>(found: &ArgMatches<'a>) -> DirectoryOrder<'a>
     }
 }
 
-/// The options of `listen`.
-fn listen_order<'a>(found: &ArgMatches<'a>) -> ListenOrder<'a>
-    ensures { values_in (Order.Listen result) ≡ the_connections (directory_in (rows_of (found_of found.now))) (connections_in (rows_of (found_of found.now))) }
+/// The options of `listen`, and its file of keys.
+fn listen_order<'a>(found: &ArgMatches<'a>) -> Order<'a>
+    ensures { values_in result ≡ task_in (codes "listen") (rows_of (found_of found.now)) }
 {
-    ListenOrder {
+    let order = ListenOrder {
         directory: directory_order(found),
         count: number(found, "count", 0),
         sessions: number(found, "sessions", 1),
         idle: number(found, "idle", 0),
         until_eof: flag(found, "until-eof"),
         address: text(found, "address"),
+    };
+    Order::Listen(order, found.get_str("keys"))
+}
+
+/// What is asked of a directory, as a subcommand has it.
+fn ask_order<'a>(found: &ArgMatches<'a>) -> AskOrder<'a>
+    ensures { ask_values result ≡ asking_in (rows_of (found_of found.now)) }
+{
+    AskOrder {
+        provider: text(found, "provider"),
+        token: found.get_str("token"),
+        state: found.get_str("state"),
+        address: text(found, "address"),
+        words: [
+            found.get_str("command"),
+            found.get_str("first"),
+            found.get_str("second"),
+        ],
     }
 }
 
@@ -514,8 +589,9 @@ fn named_order<'a>(name: &str, found: &ArgMatches<'a>) -> Order<'a>
             file: text(found, "file"),
         }),
         "play" => Order::Play,
-        "serve" => Order::Serve(directory_order(found)),
-        "listen" => Order::Listen(listen_order(found)),
+        "serve" => Order::Serve(directory_order(found), found.get_str("keys")),
+        "listen" => listen_order(found),
+        "ask" => Order::Ask(ask_order(found), found.get_str("keys")),
         _ => Order::Root(root_order(found)),
     }
 }

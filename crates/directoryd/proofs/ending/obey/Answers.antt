@@ -1,6 +1,5 @@
-use Rattle.std.proofs.Common.{rules, ◌≡◌, ℕ, Err, refl}
+use Rattle.std.proofs.Common.{rules, ◌≡◌, Err, refl}
 use Rattle.std.proofs.KnownBytes.{Keeps-refl}
-use Rattle.directoryd.proofs.Faults.{no_fault, same_fault}
 use Rattle.directoryd.proofs.ending.obey.Goals as goal
 
 pub returns-in_err-root-in-Root : goal.returns-in_err-root-in-Root
@@ -28,16 +27,18 @@ returns-in_err-play-in-Play g c =
     let passed : c.from_residual-in_err-play-in-Play.result ≡ Err c.in_err-play-in-Play.field-0.0 = search rules in
     rw (passed, c.in-Play.is) (tt, Keeps-refl _, c.in_err-play-in-Play.ensures)
 
-pub returns-in_err-serve_directory-in-Serve : goal.returns-in_err-serve_directory-in-Serve
-returns-in_err-serve_directory-in-Serve g c =
-    let passed : c.from_residual-in_err-serve_directory-in-Serve.result ≡ Err c.in_err-serve_directory-in-Serve.field-0.0 = search rules in
-    rw (passed, c.in-Serve.is) (tt, _, c.in_err-serve_directory-in-Serve.ensures.serves)
+pub returns-in_err-serve_keyed-in-Serve : goal.returns-in_err-serve_keyed-in-Serve
+returns-in_err-serve_keyed-in-Serve g c =
+    let passed : c.from_residual-in_err-serve_keyed-in-Serve.result ≡ Err c.in_err-serve_keyed-in-Serve.field-0.0 = search rules in
+    rw (passed, c.in-Serve.is) (tt, c.in_err-serve_keyed-in-Serve.ensures)
 
-pub returns-in_err-listen-in-Listen : goal.returns-in_err-listen-in-Listen
-returns-in_err-listen-in-Listen g c =
-    let passed : c.from_residual-in_err-listen-in-Listen.result ≡ Err c.in_err-listen-in-Listen.field-0.0 = search rules in
-    let hex = c.in_err-listen-in-Listen.ensures.bad_hex in
-    rw (passed, c.in-Listen.is) (tt, Keeps-refl _, (λ e. hex.0 (same_fault ℕ (Unit {0}) _ _ e), λ e. same_fault (Unit {0}) ℕ _ _ (hex.1 e)), c.in_err-listen-in-Listen.ensures.tells)
+pub returns-in_err-listen_keyed-in-Listen : goal.returns-in_err-listen_keyed-in-Listen
+returns-in_err-listen_keyed-in-Listen g c =
+    let passed : c.from_residual-in_err-listen_keyed-in-Listen.result ≡ Err c.in_err-listen_keyed-in-Listen.field-0.0 = search rules in
+    rw (passed, c.in-Listen.is) (tt, Keeps-refl _, c.in_err-listen_keyed-in-Listen.ensures)
+
+pub returns-in-Ask : goal.returns-in-Ask
+returns-in-Ask g c = rw c.in-Ask.is c.ask_keyed.ensures
 
 pub returns-in_ok-root-in-Root : goal.returns-in_ok-root-in-Root
 returns-in_ok-root-in-Root g c = rw c.in-Root.is ((refl, c.in_ok-root-in-Root.ensures.ends), Keeps-refl _)
@@ -51,10 +52,8 @@ returns-in_ok-audit-in-Audit g c = rw c.in-Audit.is (refl, Keeps-refl _, c.in_ok
 pub returns-in_ok-play-in-Play : goal.returns-in_ok-play-in-Play
 returns-in_ok-play-in-Play g c = rw c.in-Play.is (refl, Keeps-refl _, c.in_ok-play-in-Play.ensures)
 
-pub returns-in_ok-serve_directory-in-Serve : goal.returns-in_ok-serve_directory-in-Serve
-returns-in_ok-serve_directory-in-Serve g c = rw c.in-Serve.is (refl, _, c.in_ok-serve_directory-in-Serve.ensures.serves)
+pub returns-in_ok-serve_keyed-in-Serve : goal.returns-in_ok-serve_keyed-in-Serve
+returns-in_ok-serve_keyed-in-Serve g c = rw c.in-Serve.is (refl, c.in_ok-serve_keyed-in-Serve.ensures)
 
-pub returns-in_ok-listen-in-Listen : goal.returns-in_ok-listen-in-Listen
-returns-in_ok-listen-in-Listen g c =
-    let hex = c.in_ok-listen-in-Listen.ensures.bad_hex in
-    rw c.in-Listen.is (refl, Keeps-refl _, (λ e. hex.0 (no_fault ℕ (Unit {0}) _ _ _ _ e), λ e. no_fault (Unit {0}) ℕ _ _ _ _ (hex.1 e)), c.in_ok-listen-in-Listen.ensures.tells)
+pub returns-in_ok-listen_keyed-in-Listen : goal.returns-in_ok-listen_keyed-in-Listen
+returns-in_ok-listen_keyed-in-Listen g c = rw c.in-Listen.is (refl, Keeps-refl _, c.in_ok-listen_keyed-in-Listen.ensures)

@@ -27,9 +27,10 @@ returns c =
     let with_audit = c.in_ok-subcommand-3.ensures.shape c.in_ok-audit_command.ensures.local ∙ ap₂ with_subcommand with_prove (ap top_of c.in_ok-audit_command.ensures.app) in
     let with_judge = c.in_ok-subcommand-4.ensures.shape c.in_ok-judge_command.ensures.local ∙ ap₂ with_subcommand with_audit (ap top_of c.in_ok-judge_command.ensures.app) in
     let with_play = c.in_ok-subcommand-5.ensures.shape c.play_command.ensures.local ∙ ap₂ with_subcommand with_judge (ap top_of c.play_command.ensures.app) in
-    let with_serve = c.in_ok-subcommand-6.ensures.shape c.in_ok-serve_command.ensures.local ∙ ap₂ with_subcommand with_play (ap top_of c.in_ok-serve_command.ensures.app) in (
+    let with_serve = c.in_ok-subcommand-6.ensures.shape c.in_ok-serve_command.ensures.local ∙ ap₂ with_subcommand with_play (ap top_of c.in_ok-serve_command.ensures.app) in
+    let with_listen = c.in_ok-subcommand-7.ensures.shape c.in_ok-listen_command.ensures.local ∙ ap₂ with_subcommand with_serve (ap top_of c.in_ok-listen_command.ensures.app) in (
       names,
       c.hash_names-names.ensures,
-      c.in_ok-directoryd.ensures.shape c.in_ok-listen_command.ensures.local
-          ∙ ap₂ with_subcommand with_serve (ap top_of c.in_ok-listen_command.ensures.app),
+      c.in_ok-directoryd.ensures.shape c.in_ok-ask_command.ensures.local
+          ∙ ap₂ with_subcommand with_listen (ap top_of c.in_ok-ask_command.ensures.app),
     )

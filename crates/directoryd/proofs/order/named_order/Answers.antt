@@ -11,4 +11,5 @@ returns-in_default c =
     let play : bytes_eq c.args.name.now (codes "play") ≡ false = search rules in
     let serve : bytes_eq c.args.name.now (codes "serve") ≡ false = search rules in
     let listen : bytes_eq c.args.name.now (codes "listen") ≡ false = search rules in
-    rw (prove, audit, judge, play, serve, listen) (ap the_root c.root_order-in_default.ensures)
+    let ask : bytes_eq c.args.name.now (codes "ask") ≡ false = search rules in
+    rw (prove, audit, judge, play, serve, listen, ask) (ap the_root c.root_order-in_default.ensures)

@@ -1,0 +1,25 @@
+-- What is told after a call that may run out of memory.
+use Rattle.std.proofs.Common.{◌≡◌, ◌∙◌, ◌++◌, ◌∷◌, [], ℕ, List, Result, Ok, Err, ap, subst, append_assoc}
+use Rattle.std.specs.Prelude.{OnOk}
+use Rattle.client.specs.Refusals.{refusal_number}
+use Rattle.client.specs.declared.refusal.Refusal.{Refusal}
+use Rattle.asking.specs.declared.said.Said.{Said}
+use Rattle.asking.specs.Refused.{client_refuses, evidence_before, refuses_text}
+use Rattle.asking.specs.Told.{Told, Tells, refused, worse}
+
+-- the number of a refusal behind its evidence
+pub behind_evidence : {A E : Type 0} (what : List ℕ) (why : Refusal) (number : ℕ) (before middle after : Said) (result : Result A E) → number ≡ refusal_number why
+    → middle.text.items ≡ before.text.items ++ evidence_before why → middle.status ≡ before.status
+    → OnOk result (Tells middle (refused (refuses_text what number)) after) → OnOk result (Tells before (client_refuses what why) after)
+behind_evidence what why number before middle after (Ok done) numbered text status told = (
+  told.0 ∙ ap (λ (xs : List ℕ). xs ++ (refuses_text what number ++ 10 ∷ [])) text ∙ append_assoc before.text.items (evidence_before why) (refuses_text what number ++ 10 ∷ [])
+      ∙ ap (λ (n : ℕ). before.text.items ++ (evidence_before why ++ (refuses_text what n ++ 10 ∷ []))) numbered,
+  told.1 ∙ ap (λ (s : ℕ). worse s 1) status,
+)
+behind_evidence what why number before middle after (Err fault) numbered text status told = tt
+
+-- this is told, and it is so
+pub tells_so : {A E : Type 0} (result : Result A E) (P : Told → Type 0) (told : Told) (before same after : Said) → same ≡ before → P told
+    → OnOk result (Tells same told after) → OnOk result ((x : Told) × P x × Tells before x after)
+tells_so (Ok done) P told before same after is holds tells = (told, holds, subst (λ (s : Said). Tells s told after) is tells)
+tells_so (Err fault) P told before same after is holds tells = tt

@@ -1,0 +1,24 @@
+-- What is asked of a directory, by the texts of a command line.
+use Rattle.std.specs.Prelude.{ℕ, List, Option, map, option_and_then, option_map}
+use Rattle.textio.specs.Digits.{hex32, nonce_of}
+use Rattle.asking.specs.declared.order.AskOrder.{AskOrder}
+
+pub record AskOptions : Type 0 where
+  pub provider : List ℕ
+  pub token : Option (List ℕ)
+  pub state : Option (List ℕ)
+  pub address : List ℕ
+  pub words : List (Option (List ℕ))
+
+abbrev pub values_of : AskOrder → AskOptions
+values_of order = record {
+  provider = order.provider.now;
+  token = option_map (λ text. text.now) order.token;
+  state = option_map (λ text. text.now) order.state;
+  address = order.address.now;
+  words = map (λ word. option_map (λ text. text.now) word) order.words;
+}
+
+-- the key and the token, zeros if none is given; none if a text is not 64 hexadecimal digits
+abbrev pub ask_keys_of : AskOptions → Option (List ℕ × List ℕ)
+ask_keys_of asked = option_and_then (λ key. option_map (λ token. (key, token)) (nonce_of asked.token)) (hex32 asked.provider)

@@ -1,0 +1,102 @@
+-- What the client makes of the reply to what was asked, and the lines that tell it.
+use Rattle.std.specs.Prelude.{◌≡◌, ◌≤◌, ◌<◌, ◌⊎◌, ℕ, List, [], ◌∷◌, Option, None, Some, Result, Ok, Err, codes}
+use Rattle.commands.specs.Operations.{Question, Promise, Lookup, History, Head}
+use Rattle.rootchain.specs.Chains.{KeyedRoots, Verifies}
+use Rattle.rootchain.specs.Places.{IsPlace}
+use Rattle.rootchain.specs.declared.chain.placing.Place.{Place}
+use Rattle.rootchain.specs.declared.chain.placing.Place.TheVariants.{Known, Evidence, Next, Ahead, BeforeStart}
+use Rattle.rootchain.specs.declared.refusal.Refusal.{Refusal as RootRefusal}
+use Rattle.rootchain.specs.declared.refusal.Refusal.TheVariants as root
+use Rattle.rootchain.specs.declared.signed_root.SignedRoot.{SignedRoot}
+use Rattle.proofs.specs.Views.{key_stated}
+use Rattle.proofs.specs.declared.statement.Statement.{Statement}
+use Rattle.wire.specs.Frames.{Frame}
+use Rattle.wire.specs.Refusals.{read_refusal_number}
+use Rattle.wire.specs.Requests.{RequestContent, Query, Put, Turn}
+use Rattle.wire.specs.Responses.{ResponseContent, Proof, Roots, Root, Refused, Responds, ReadsResponse}
+use Rattle.wire.specs.Responses as response
+use Rattle.wire.specs.declared.refusals.ReadRefusal.{ReadRefusal}
+use Rattle.client.specs.Clients.{Client}
+use Rattle.client.specs.Looking.{Looks}
+use Rattle.client.specs.Promising.{Keeps}
+use Rattle.client.specs.Refusals.{of_root}
+use Rattle.client.specs.declared.refusal.Refusal.{Refusal}
+use Rattle.client.specs.declared.refusal.Refusal.TheVariants.{RootDiffers}
+use Rattle.play.specs.Hearing.{response_text}
+use Rattle.play.specs.Lines.{statement_text}
+use Rattle.asking.specs.Answering.{Answers}
+use Rattle.asking.specs.Refused.{client_refuses, other_reply, refuses_text}
+use Rattle.asking.specs.Told.{Told, fine, refused}
+
+-- what is told of a look at a reply that is of an epoch
+abbrev pub look_told : ℕ → Result Statement Refusal → Told
+look_told epoch (Ok statement) = fine (statement_text epoch (key_stated statement))
+look_told epoch (Err why) = client_refuses (codes "client refuses proof") why
+
+-- what is told of a response that the client accepts or refuses
+abbrev pub promise_told : {A : Type 0} → ResponseContent → Result A Refusal → Told
+promise_told responded (Ok _) = fine (response_text responded)
+promise_told responded (Err why) = client_refuses (codes "client refuses promise") why
+
+-- what is told of the latest root, by where it stands: the chain has to have it
+abbrev pub place_told : SignedRoot → Result Place RootRefusal → Told
+place_told told (Ok Known) = fine (response_text (Root told))
+place_told told (Ok Next) = client_refuses (codes "client refuses root") (of_root root.BadLink)
+place_told told (Ok Ahead) = client_refuses (codes "client refuses root") (of_root root.BadLink)
+place_told told (Ok BeforeStart) = client_refuses (codes "client refuses root") (of_root root.NotLater)
+place_told told (Ok (Evidence roots)) = client_refuses (codes "client refuses root") (RootDiffers roots)
+place_told told (Err why) = client_refuses (codes "client refuses root") (of_root why)
+
+-- why a root is refused that comes with others: it does not verify, or is evidence
+abbrev pub refusal_at : Result Place RootRefusal → Option Refusal
+refusal_at (Ok (Evidence roots)) = Some (RootDiffers roots)
+refusal_at (Ok Known) = None
+refusal_at (Ok Next) = None
+refusal_at (Ok Ahead) = None
+refusal_at (Ok BeforeStart) = None
+refusal_at (Err why) = Some (of_root why)
+
+-- behind a root that is not refused the others follow; one that is refused is told
+abbrev pub GoesOn : Type 0 → Option Refusal → Told → Type 0
+GoesOn later None told = later
+GoesOn later (Some why) told = told ≡ client_refuses (codes "client refuses root") why
+
+module _ (hash : List ℕ → List ℕ) (verified : List ℕ → List ℕ → List ℕ → Type 0) where
+  -- where a root stands to a chain, if it verifies
+  abbrev pub Places : KeyedRoots → SignedRoot → Result Place RootRefusal → Type 0
+  Places chain told (Ok place) = Verifies verified chain.key told × IsPlace hash chain told place
+  Places chain told (Err why) = (¬ Verifies verified chain.key told) × (why ≡ root.BadSignature)
+
+  -- what is told of roots that were asked for from an epoch on, of which these are left: the first that is refused, or
+  -- all of them
+  abbrev pub AreTold : KeyedRoots → ℕ → List SignedRoot → List SignedRoot → Told → Type 0
+  AreTold chain from all [] told = told ≡ fine (response_text (Roots all))
+  AreTold chain from all (first ∷ more) told =
+      ((first.body.epoch < from) × (told ≡ other_reply))
+      ⊎ ((from ≤ first.body.epoch) × (place : Result Place RootRefusal) × Places chain first place × GoesOn (AreTold chain from all more told) (refusal_at place) told)
+
+module _ (hash : List ℕ → List ℕ) (accepted verified : List ℕ → List ℕ → List ℕ → Type 0) where
+  module _ (before : Client) (body : List ℕ) where
+    -- a reply to a look-up, a promise, the latest root, or roots, and the client after it: it looks, or keeps the promise
+    abbrev pub IsCheckedAs : RequestContent → ResponseContent → Told → Client → Type 0
+    IsCheckedAs (Query (Lookup name epoch)) (Proof reply) told after =
+        (answer : Result Statement Refusal) × Looks hash accepted before name epoch body answer after × (told ≡ look_told reply.body.epoch answer)
+    IsCheckedAs asked (response.Promise signed) told after =
+        (answer : Result (Unit {0}) Refusal) × Keeps hash verified before body answer after × (told ≡ promise_told (response.Promise signed) answer)
+    IsCheckedAs asked (Root latest) told after = (after ≡ before)
+        × ((place : Result Place RootRefusal) × Places hash verified before.chain latest place × (told ≡ place_told latest place))
+    IsCheckedAs (Query (History from count)) (Roots roots) told after = (after ≡ before) × AreTold hash verified before.chain from roots roots told
+    IsCheckedAs _ _ told after = ⊥
+
+    -- a response to what was asked: a refusal of the directory is told, any other is checked if it answers
+    abbrev pub Hears : RequestContent → ResponseContent → Told → Client → Type 0
+    Hears asked (Refused code) told after = (told ≡ refused (response_text (Refused code))) × (after ≡ before)
+    Hears asked responded told after =
+        ((¬ Answers asked responded) × (told ≡ other_reply) × (after ≡ before))
+        ⊎ (Answers asked responded × IsCheckedAs asked responded told after)
+
+  -- A frame that comes back, whatever it has: a response, or none.
+  abbrev pub HearsFrame : Client → RequestContent → Frame → Told → Client → Type 0
+  HearsFrame before asked frame told after =
+      ((responded : ResponseContent) × Responds frame.kind frame.body responded × Hears before frame.body asked responded told after)
+      ⊎ ((why : ReadRefusal) × ReadsResponse frame.kind frame.body (Err why) × (told ≡ refused (refuses_text (codes "client refuses reply") (read_refusal_number why))) × (after ≡ before))

@@ -1,0 +1,27 @@
+-- What is told of an answer: its lines, and the status of a run in which it was the worst.
+use Rattle.std.specs.Prelude.{◌≡◌, ℕ, nat_lt, if◌then◌else◌, List, [], ◌∷◌, ◌++◌}
+use Rattle.asking.specs.declared.said.Said.{Said}
+
+pub record Told : Type 0 where
+  -- each with its LF
+  pub lines : List ℕ
+  pub status : ℕ
+
+-- one line, where all went well, and where something was refused
+abbrev pub fine : List ℕ → Told
+fine line = record { lines = line ++ 10 ∷ []; status = 0 }
+
+abbrev pub refused : List ℕ → Told
+refused line = record { lines = line ++ 10 ∷ []; status = 1 }
+
+-- nothing
+abbrev pub silent : Told
+silent = record { lines = []; status = 0 }
+
+-- the worse of two statuses
+abbrev pub worse : ℕ → ℕ → ℕ
+worse one other = if nat_lt one other then other else one
+
+-- this is told after what was said before
+abbrev pub Tells : Said → Told → Said → Type 0
+Tells before told after = (after.text.items ≡ before.text.items ++ told.lines) × (after.status ≡ worse before.status told.status)

@@ -1,0 +1,123 @@
+// Whether a reply answers what was asked. Only then it is checked.
+ghost use Rattle.std.specs.Prelude.{◌≡◌, ◌↔◌, IsTrue, OnOk, codes};
+ghost use Rattle.wire.specs.Refusals.{read_refusal_number};
+ghost use Rattle.wire.specs.Requests.{request_seen};
+ghost use Rattle.wire.specs.Responses.{response_seen, Refused};
+ghost use Rattle.play.specs.Hearing.{response_text};
+ghost use Rattle.play.specs.Spoken.{ask_seen};
+ghost use Rattle.asking.specs.Answering.{with_token, Answers};
+ghost use Rattle.asking.specs.Refused.{refuses_text};
+ghost use Rattle.asking.specs.Told.{refused, Tells};
+
+use crate::said::{Said, directory_words};
+use commands::{Put, Query};
+use encoding::{Hash32, Name};
+use play::{Ask, push_number, tell_response};
+use std::alloc::{AllocError, Global};
+use wire::{FrameView, ReadRefusal, Request, Response};
+
+/// The request that asks it, with this token of the operator.
+pub(crate) fn request_of<'a>(ask: &'a Ask, token: Hash32) -> Request<'a>
+    ensures { request_seen result ≡ with_token token (ask_seen ask.entry.now) }
+{
+    match ask {
+        Ask::Put { verb, name, key } => Request::Put(Put {
+            verb: *verb,
+            name,
+            key,
+        }),
+        Ask::Promise { name } => Request::Query(Query::Promise { name }),
+        Ask::Lookup { name, epoch } => Request::Query(Query::Lookup {
+            name,
+            epoch: *epoch,
+        }),
+        Ask::History { from, count } => Request::Query(Query::History {
+            from: *from,
+            count: *count,
+        }),
+        Ask::Head => Request::Query(Query::Head),
+        Ask::Close { epoch } => Request::Turn {
+            token,
+            epoch: *epoch,
+            nonce: None,
+        },
+        Ask::Rotate { epoch, nonce } => Request::Turn {
+            token,
+            epoch: *epoch,
+            nonce: Some(*nonce),
+        },
+    }
+}
+
+/// Whether a response is one to what was asked: of its kind, and about what it names.
+pub(crate) fn answers(ask: &Ask, response: &Response<'_>) -> bool
+    ensures { IsTrue result ↔ Answers (ask_seen ask.now) (response_seen response.now) }
+{
+    match (ask, response) {
+        (Ask::Put { name, key, .. }, Response::Promise(signed)) => {
+            signed.promise.name.bytes() == name.as_slice()
+                && signed.promise.key.bytes() == key.as_slice()
+        }
+        (Ask::Promise { name }, Response::Promise(signed)) => {
+            signed.promise.name.bytes() == name.as_slice()
+        }
+        (Ask::Lookup { name, epoch }, Response::Proof(found)) => {
+            Name::new(name).is_ok() && (*epoch == 0 || found.body().epoch == *epoch)
+        }
+        (Ask::History { count, .. }, Response::Roots(roots)) => roots.len() <= usize::from(*count),
+        (Ask::Head, Response::Root(_)) => true,
+        (Ask::Close { epoch }, Response::Root(root)) => root.body.epoch == *epoch,
+        (Ask::Rotate { epoch, nonce }, Response::Root(root)) => {
+            root.body.epoch == *epoch && root.body.nonce == *nonce
+        }
+        _ => false,
+    }
+}
+
+/// Tells a refusal of the directory.
+pub(crate) fn tell_refused(code: u8, said: &mut Said) -> Result<(), AllocError>
+    ensures { OnOk result (Tells said.old (refused (response_text (Refused code))) said.new) }
+{
+    tell_response(&mut said.text, Response::Refused(code))?;
+    said.words.extend_from_slice(b"refused ")?;
+    push_number(&mut said.words, u64::from(code))?;
+    said.explain(directory_words(code))
+}
+
+/// The body of a frame that answers what was asked; else tells why it does not.
+pub(crate) fn body_of<'a>(
+    alloc: Global,
+    ask: &Ask,
+    frame: &FrameView<'a>,
+    said: &mut Said,
+) -> Result<Option<&'a [u8]>, AllocError> {
+    match Response::read(frame.kind, frame.body) {
+        Ok(Response::Refused(code)) => {
+            tell_refused(code, said)?;
+            Ok(None)
+        }
+        Ok(response) => {
+            if answers(ask, &response) {
+                return Ok(Some(frame.body));
+            }
+            said.refuse_other()?;
+            Ok(None)
+        }
+        Err(why) => {
+            tell_unread(alloc, why, said)?;
+            Ok(None)
+        }
+    }
+}
+
+/// Tells that a frame is no response.
+pub(crate) fn tell_unread(
+    alloc: Global,
+    why: ReadRefusal,
+    said: &mut Said,
+) -> Result<(), AllocError>
+    ensures { OnOk result (Tells said.old (refused (refuses_text (codes "reply") (read_refusal_number why))) said.new) }
+{
+    let words = format!(in alloc; "{why}")?;
+    said.refuse(b"client refuses reply", why.number(), words.as_bytes())
+}

@@ -1,0 +1,90 @@
+ghost use Rattle.std.specs.Prelude.{◌≡◌};
+
+use client::{Client, Refusal};
+use encoding::{Hash32, Name};
+use monitor::Monitor;
+use nodehash::NodeHash;
+use rootchain::SignedPromise;
+use sigiface::Verifier;
+use std::alloc::Global;
+use vrfiface::VufCheck;
+
+/// The functions of those who check: their hash function, and what accepts values and signatures.
+#[derive(Drop)]
+pub struct Checks<H, V, S> {
+    pub hash: H,
+    pub vuf: V,
+    pub verifier: S,
+}
+
+/// How far a name was watched in earlier runs.
+#[derive(Drop)]
+pub(crate) struct Mark {
+    pub(crate) name: Name,
+    pub(crate) epoch: u64,
+}
+
+/// A client that asks a directory, with the monitors of the names that it watches.
+#[derive(Drop)]
+pub struct Asker<H, V, S>
+where
+    H: NodeHash + Drop,
+    V: VufCheck + Drop,
+    S: Verifier + Drop,
+{
+    pub(crate) alloc: Global,
+    pub(crate) checks: Checks<H, V, S>,
+    /// The provider's public key.
+    pub(crate) key: Hash32,
+    /// The operator's token, or zeros.
+    pub(crate) token: Hash32,
+    pub(crate) client: Client<H, V, S>,
+    pub(crate) monitors: Vec<Monitor<H, V, S>>,
+    pub(crate) marks: Vec<Mark>,
+    /// The promises that were kept in earlier runs, which a monitor that begins expects.
+    pub(crate) earlier: Vec<SignedPromise>,
+}
+
+impl<H, V, S> Asker<H, V, S>
+where
+    H: NodeHash + Drop,
+    V: VufCheck + Drop,
+    S: Verifier + Drop,
+{
+    /// One whose client starts with the signed root that these bytes spell.
+    ///
+    /// # Errors
+    ///
+    /// Those of `Client::start`.
+    pub fn start(
+        alloc: Global,
+        checks: Checks<H, V, S>,
+        key: Hash32,
+        token: Hash32,
+        root: &[u8],
+    ) -> Result<Self, Refusal> {
+        let client = Client::start(alloc, &checks.verifier, key, root)?;
+        Ok(Asker {
+            alloc,
+            checks,
+            key,
+            token,
+            client,
+            monitors: Vec::new(alloc),
+            marks: Vec::new(alloc),
+            earlier: Vec::new(alloc),
+        })
+    }
+
+    /// The client.
+    pub fn client(&self) -> &Client<H, V, S>
+        ensures { result.now ≡ (self.now).client }
+    {
+        &self.client
+    }
+
+    /// The epoch of the head of the client's chain.
+    pub(crate) fn head(&self) -> u64 {
+        self.client.chain().head().body.epoch
+    }
+}

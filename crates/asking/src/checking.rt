@@ -1,0 +1,297 @@
+// What the client makes of the reply to what was asked.
+ghost use Rattle.std.specs.Prelude.{◌≡◌, ◌++◌, ◌∷◌, [], OnOk, Result};
+ghost use Rattle.encoding.specs.Limits.{IsName};
+ghost use Rattle.wire.specs.FrameViews.{frame_seen};
+ghost use Rattle.wire.specs.Responses.{response_seen};
+ghost use Rattle.wire.specs.Responses as responds;
+ghost use Rattle.client.specs.Looking.{Looks};
+ghost use Rattle.client.specs.Promising.{Keeps};
+ghost use Rattle.client.specs.declared.refusal.Refusal.{Refusal};
+ghost use Rattle.proofs.specs.declared.statement.Statement.{Statement};
+ghost use Rattle.rootchain.specs.declared.chain.placing.Place.{Place};
+ghost use Rattle.rootchain.specs.declared.refusal.Refusal.{Refusal as RootRefusal};
+ghost use Rattle.audits.specs.Files.{evidence_text};
+ghost use Rattle.play.specs.Spoken.{ask_seen};
+ghost use Rattle.asking.specs.Checking.{look_told, place_told, promise_told, refusal_at, AreTold, Hears, HearsFrame, Places};
+ghost use Rattle.asking.specs.Refused.{client_refuses, evidence_before};
+ghost use Rattle.asking.specs.Told.{Told, Tells};
+
+use crate::answering::{answers, tell_refused, tell_unread};
+use crate::{Checks, Said};
+use auditor::Evidence;
+use audits::evidence_json;
+use client::{Client, Refusal};
+use encoding::Name;
+use nodehash::NodeHash;
+use play::{Ask, push_number, tell_response, tell_statement};
+use rootchain::{Place, RootList, SignedPromise, SignedRoot};
+use sigiface::Verifier;
+use std::alloc::{AllocError, Global};
+use vrfiface::VufCheck;
+use wire::{FrameView, Response};
+
+/// Tells evidence, as JSON.
+pub(crate) fn tell_evidence(
+    alloc: Global,
+    evidence: &Evidence,
+    said: &mut Said,
+) -> Result<(), AllocError>
+    ensures text { OnOk result ((said.new).text.items ≡ (said.old).text.items ++ evidence_text evidence.now ++ 10 ∷ []) }
+    ensures status { (said.new).status ≡ (said.old).status }
+{
+    let json = evidence_json(alloc, evidence)?;
+    said.text.extend_from_slice(json.as_bytes())?;
+    said.text.push(b'\n')?;
+    Ok(())
+}
+
+/// Tells the evidence of a refusal, if it has some.
+fn tell_roots(alloc: Global, why: Refusal, said: &mut Said) -> Result<(), AllocError>
+    ensures text { OnOk result ((said.new).text.items ≡ (said.old).text.items ++ evidence_before why) }
+    ensures status { (said.new).status ≡ (said.old).status }
+{
+    match why {
+        Refusal::RootDiffers(roots) => tell_evidence(alloc, &Evidence::Root(roots), said),
+        Refusal::Root(_)
+        | Refusal::Proof(_)
+        | Refusal::UnknownRoot
+        | Refusal::Memory
+        | Refusal::NoPromise => Ok(()),
+    }
+}
+
+/// Tells a refusal of the client, behind the evidence if there is some.
+pub(crate) fn tell_client(
+    alloc: Global,
+    what: &[u8],
+    why: Refusal,
+    said: &mut Said,
+) -> Result<(), AllocError>
+    ensures { OnOk result (Tells said.old (client_refuses what.now why) said.new) }
+{
+    if why == Refusal::Memory {
+        return Err(AllocError);
+    }
+    let words = format!(in alloc; "{why}")?;
+    let number = why.number();
+    tell_roots(alloc, why, said)?;
+    said.refuse(what, number, words.as_bytes())
+}
+
+/// What the client makes of the frame that came back for what was asked. A promise is kept.
+///
+/// # Errors
+///
+/// `AllocError` if memory runs out.
+pub fn hear<H, V, S>(
+    alloc: Global,
+    client: &mut Client<H, V, S>,
+    checks: &mut Checks<H, V, S>,
+    ask: &Ask,
+    frame: &FrameView<'_>,
+    said: &mut Said,
+) -> Result<(), AllocError>
+where
+    H: NodeHash + Drop,
+    V: VufCheck + Drop,
+    S: Verifier + Drop,
+    ensures { OnOk result ((told : Told) × HearsFrame H.digest_of V.accepted S.verified client.old (ask_seen ask.now) (frame_seen frame.now) told client.new × Tells said.old told said.new) }
+{
+    match Response::read(frame.kind, frame.body) {
+        Ok(response) => hear_response(alloc, client, checks, ask, response, frame.body, said),
+        Err(why) => tell_unread(alloc, why, said),
+    }
+}
+
+/// What the client makes of a response. One that does not answer what was asked is not checked.
+fn hear_response<H, V, S>(
+    alloc: Global,
+    client: &mut Client<H, V, S>,
+    checks: &mut Checks<H, V, S>,
+    ask: &Ask,
+    response: Response<'_>,
+    body: &[u8],
+    said: &mut Said,
+) -> Result<(), AllocError>
+where
+    H: NodeHash + Drop,
+    V: VufCheck + Drop,
+    S: Verifier + Drop,
+    ensures { OnOk result ((told : Told) × Hears H.digest_of V.accepted S.verified client.old body.now (ask_seen ask.now) (response_seen response.entry) told client.new × Tells said.old told said.new) }
+{
+    let is_answer = answers(ask, &response);
+    match response {
+        Response::Refused(code) => tell_refused(code, said),
+        Response::Promise(signed) => {
+            if !is_answer {
+                return said.refuse_other();
+            }
+            keep(alloc, client, checks, signed, body, said)
+        }
+        Response::Root(root) => {
+            if !is_answer {
+                return said.refuse_other();
+            }
+            place_latest(alloc, client, checks, root, said)
+        }
+        Response::Proof(found) => {
+            if !is_answer {
+                return said.refuse_other();
+            }
+            let Ask::Lookup { name, epoch } = ask else {
+                unreachable!()
+            };
+            let found_at = found.body().epoch;
+            look(alloc, client, checks, name, *epoch, found_at, body, said)
+        }
+        Response::Roots(roots) => {
+            if !is_answer {
+                return said.refuse_other();
+            }
+            let Ask::History { from, .. } = ask else {
+                unreachable!()
+            };
+            place_all(alloc, client, checks, *from, roots, said)
+        }
+    }
+}
+
+/// Looks at a reply to a look-up, which is of an epoch.
+fn look<H, V, S>(
+    alloc: Global,
+    client: &mut Client<H, V, S>,
+    checks: &mut Checks<H, V, S>,
+    name: &[u8],
+    epoch: u64,
+    found_at: u64,
+    reply: &[u8],
+    said: &mut Said,
+) -> Result<(), AllocError>
+where
+    H: NodeHash + Drop,
+    V: VufCheck + Drop,
+    S: Verifier + Drop,
+    requires named { IsName name.now }
+    ensures { OnOk result ((answer : Result Statement Refusal) × Looks H.digest_of V.accepted client.old name.now epoch reply.now answer client.new × Tells said.old (look_told found_at answer) said.new) }
+{
+    let Ok(name) = Name::new(name) else {
+        unreachable!()
+    };
+    match client.look(&mut checks.hash, &checks.vuf, &name, epoch, reply) {
+        Ok(statement) => tell_statement(&mut said.text, found_at, statement),
+        Err(why) => tell_client(alloc, b"client refuses proof", why, said),
+    }
+}
+
+/// Keeps a promise, if it is one of the client's provider over a root of the chain.
+fn keep<H, V, S>(
+    alloc: Global,
+    client: &mut Client<H, V, S>,
+    checks: &mut Checks<H, V, S>,
+    signed: SignedPromise,
+    promise: &[u8],
+    said: &mut Said,
+) -> Result<(), AllocError>
+where
+    H: NodeHash + Drop,
+    V: VufCheck + Drop,
+    S: Verifier + Drop,
+    ensures { OnOk result ((answer : Result (Unit {0}) Refusal) × Keeps H.digest_of S.verified client.old promise.now answer client.new × Tells said.old (promise_told (responds.Promise signed) answer) said.new) }
+{
+    match client.keep_promise(&mut checks.hash, &checks.verifier, promise) {
+        Ok(()) => tell_response(&mut said.text, Response::Promise(signed)),
+        Err(why) => tell_client(alloc, b"client refuses promise", why, said),
+    }
+}
+
+/// Where a root stands to the chain of a client.
+fn place<H, V, S>(
+    client: &Client<H, V, S>,
+    checks: &mut Checks<H, V, S>,
+    root: &SignedRoot,
+) -> Result<Place, rootchain::Refusal>
+where
+    H: NodeHash + Drop,
+    V: VufCheck + Drop,
+    S: Verifier + Drop,
+    ensures { Places H.digest_of S.verified client.now.chain root.now result }
+{
+    client
+        .chain()
+        .place(&mut checks.hash, &checks.verifier, root)
+}
+
+/// Tells the latest root, which the chain has to have.
+fn place_latest<H, V, S>(
+    alloc: Global,
+    client: &Client<H, V, S>,
+    checks: &mut Checks<H, V, S>,
+    root: SignedRoot,
+    said: &mut Said,
+) -> Result<(), AllocError>
+where
+    H: NodeHash + Drop,
+    V: VufCheck + Drop,
+    S: Verifier + Drop,
+    ensures { OnOk result ((place : Result Place RootRefusal) × Places H.digest_of S.verified client.now.chain root place × Tells said.old (place_told root place) said.new) }
+{
+    let why = match place(client, checks, &root) {
+        Ok(Place::Known) => return tell_response(&mut said.text, Response::Root(root)),
+        Ok(Place::Next) => Refusal::from(rootchain::Refusal::BadLink),
+        Ok(Place::Ahead) => Refusal::from(rootchain::Refusal::BadLink),
+        Ok(Place::BeforeStart) => Refusal::from(rootchain::Refusal::NotLater),
+        Ok(Place::Evidence(roots)) => Refusal::RootDiffers(roots),
+        Err(why) => Refusal::from(why),
+    };
+    tell_client(alloc, b"client refuses root", why, said)
+}
+
+/// Why a root is refused that comes with others, by where it stands.
+fn refusal_of(place: Result<Place, rootchain::Refusal>) -> Option<Refusal>
+    ensures { result ≡ refusal_at place }
+{
+    match place {
+        Ok(Place::Evidence(roots)) => Some(Refusal::RootDiffers(roots)),
+        Ok(Place::Known) => None,
+        Ok(Place::Next) => None,
+        Ok(Place::Ahead) => None,
+        Ok(Place::BeforeStart) => None,
+        Err(why) => Some(Refusal::from(why)),
+    }
+}
+
+/// Tells roots that were asked for from an epoch on. Each verifies, and is no evidence with the chain.
+fn place_all<H, V, S>(
+    alloc: Global,
+    client: &Client<H, V, S>,
+    checks: &mut Checks<H, V, S>,
+    from: u64,
+    roots: RootList<'_>,
+    said: &mut Said,
+) -> Result<(), AllocError>
+where
+    H: NodeHash + Drop,
+    V: VufCheck + Drop,
+    S: Verifier + Drop,
+    ensures { OnOk result ((told : Told) × AreTold H.digest_of S.verified client.now.chain from roots.entry roots.entry told × Tells said.old told said.new) }
+{
+    let mut rest = roots;
+    let mut line = Vec::from_slice(alloc, b"roots")?;
+    for _ in 0..rest.len() {
+        let Some(root) = rest.next() else {
+            unreachable!()
+        };
+        if root.body.epoch < from {
+            return said.refuse_other();
+        }
+        let placed = place(client, checks, &root);
+        if let Some(why) = refusal_of(placed) {
+            return tell_client(alloc, b"client refuses root", why, said);
+        }
+        line.push(b' ')?;
+        push_number(&mut line, root.body.epoch)?;
+    }
+    line.push(b'\n')?;
+    said.text.extend_from_slice(&line)?;
+    Ok(())
+}

@@ -1,0 +1,74 @@
+// A request goes out as one frame, and the next frame of the stream is its reply. Not a byte behind it is
+// read.
+ghost use Rattle.std.specs.Prelude.{◌≡◌, ◌≤◌, IfOk, OnOk};
+ghost use Rattle.std.specs.Io.KnownBytes.{Appends, Consumes};
+ghost use Rattle.wire.specs.Frames.{frame_bytes, frame_size};
+ghost use Rattle.wire.specs.FrameViews.{frame_seen};
+ghost use Rattle.wire.specs.Requests.{request_frame, request_seen};
+ghost use Rattle.asking.specs.Exchanges.{HoldsFrame};
+
+use crate::AskFault;
+use std::alloc::Global;
+use std::io::{Read, Write};
+use textio::write_text;
+use wire::{FrameView, Front, MAX_FRAME_LEN, Request, front_of};
+
+/// How many bytes tell the length of a frame.
+const LENGTH: usize = 4;
+
+/// The frame that begins the bytes that came.
+pub(crate) fn frame_in(bytes: &[u8]) -> Result<FrameView<'_>, AskFault>
+    ensures { IfOk result (λ frame. HoldsFrame bytes.entry.now (frame_seen frame)) }
+{
+    match front_of(bytes) {
+        Front::Whole(frame) => Ok(frame),
+        Front::Short | Front::Bad => Err(AskFault::NoReply),
+    }
+}
+
+/// Reads as many bytes as the next frame has, by its length.
+///
+/// # Errors
+///
+/// `NoReply` if the stream ends or fails before, or has a length that no frame has; `OutOfMemory`.
+pub(crate) fn read_reply<R: Read>(alloc: Global, reader: &mut R) -> Result<Vec<u8>, AskFault>
+    ensures { IfOk result (λ bytes. Consumes (R.remaining reader.old) (R.remaining reader.new) bytes.items) }
+{
+    let mut length = [0; LENGTH];
+    if reader.read_exact(&mut length).is_err() {
+        return Err(AskFault::NoReply);
+    }
+    let size = u32::from_be_bytes(length) as usize;
+    if size < 1 || MAX_FRAME_LEN < size {
+        return Err(AskFault::NoReply);
+    }
+    let mut body = Vec::new(alloc);
+    body.resize(size, 0)?;
+    if reader.read_exact(&mut body).is_err() {
+        return Err(AskFault::NoReply);
+    }
+    let mut bytes = Vec::from_slice(alloc, &length)?;
+    bytes.extend_from_slice(&body)?;
+    Ok(bytes)
+}
+
+/// Sends a request, and reads its reply.
+///
+/// # Errors
+///
+/// Those of `read_reply`, and `NoReply` if the request cannot be sent.
+pub(crate) fn exchange<T: Read + Write>(
+    alloc: Global,
+    stream: &mut T,
+    request: &Request<'_>,
+) -> Result<Vec<u8>, AskFault> {
+    if !request.fits() {
+        return Err(AskFault::NoReply);
+    }
+    let mut frame = Vec::new(alloc);
+    request.write(&mut frame)?;
+    if write_text(stream, &frame).is_err() {
+        return Err(AskFault::NoReply);
+    }
+    read_reply(alloc, stream)
+}

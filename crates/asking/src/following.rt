@@ -1,0 +1,82 @@
+// The client and its monitors take the roots that are new.
+use crate::answering::body_of;
+use crate::checking::tell_client;
+use crate::exchange::frame_in;
+use crate::{AskFault, Asker, Said};
+use nodehash::NodeHash;
+use play::Ask;
+use rootchain::MAX_ROOTS;
+use sigiface::Verifier;
+use std::io::{Read, Write};
+use vrfiface::VufCheck;
+
+/// The bytes of a list of no root.
+const EMPTY_LIST: [u8; 2] = [0, 0];
+
+impl<H, V, S> Asker<H, V, S>
+where
+    H: NodeHash + Drop,
+    V: VufCheck + Drop,
+    S: Verifier + Drop,
+{
+    /// Lets the client and the monitors take all roots that are new.
+    ///
+    /// # Errors
+    ///
+    /// `NoReply`; `Stopped` if a root is refused, or no roots come; `OutOfMemory`.
+    pub fn follow<T: Read + Write>(
+        &mut self,
+        stream: &mut T,
+        said: &mut Said,
+    ) -> Result<(), AskFault> {
+        // Every loop of Rattle has an end: this one's is past any chain.
+        for _ in 0..u64::MAX {
+            if !self.take_list(stream, said)? {
+                return Ok(());
+            }
+        }
+        Err(AskFault::NoReply)
+    }
+
+    /// Takes the next roots, as many as a list has. Returns whether there were any.
+    fn take_list<T: Read + Write>(
+        &mut self,
+        stream: &mut T,
+        said: &mut Said,
+    ) -> Result<bool, AskFault> {
+        let Some(from) = self.head().checked_add(1) else {
+            return Ok(false);
+        };
+        let count = MAX_ROOTS as u16;
+        let ask = Ask::History { from, count };
+        let reply = self.request(stream, &ask)?;
+        let Some(list) = body_of(self.alloc, &ask, &frame_in(&reply)?, said)? else {
+            return Err(AskFault::Stopped);
+        };
+        if list == EMPTY_LIST.as_slice() {
+            return Ok(false);
+        }
+        self.take(list, said)?;
+        if self.head() < from {
+            said.refuse_other()?;
+            return Err(AskFault::Stopped);
+        }
+        Ok(true)
+    }
+
+    /// Hands a list of new roots to the client and the monitors.
+    fn take(&mut self, list: &[u8], said: &mut Said) -> Result<(), AskFault> {
+        let checks = &mut self.checks;
+        if let Err(why) = self.client.update(&mut checks.hash, &checks.verifier, list) {
+            tell_client(self.alloc, b"client refuses root", why, said)?;
+            return Err(AskFault::Stopped);
+        }
+        for monitor in self.monitors.iter_mut() {
+            if let Err(why) = monitor.update(&mut checks.hash, &checks.verifier, list) {
+                tell_client(self.alloc, b"client refuses root", why, said)?;
+                return Err(AskFault::Stopped);
+            }
+        }
+        Ok(())
+    }
+}

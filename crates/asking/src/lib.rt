@@ -1,0 +1,35 @@
+//! What asks a running directory: the lines of a script go out as frames over a stream, and each reply is
+//! checked as a client checks it (after CONIKS, section 4), and told in the line that `play` prints.
+//!
+//! Callers can rely on this: whatever bytes come back, a reply is told only as the client's own calls
+//! decide: a proof that the client refuses, a root that does not stand in its chain, a promise that its
+//! provider did not sign, and a reply to another request are told as refused, by the number of the refusal.
+//! Contracts do not know what a socket or a file has; `scripts/asking.sh` shows those.
+//!
+//! ```text
+//! let mut asker = Asker::start(alloc, checks, key, token, root_bytes)?;
+//! asker.ask(&mut stream, &Ask::Head, &mut said)?;
+//! write_text(&mut writer, &said.text)?;
+//! ```
+#![tactic(auto)]
+
+mod answering;
+mod asker;
+mod asking;
+mod checking;
+mod exchange;
+mod fault;
+mod following;
+mod order;
+mod promises;
+mod running;
+mod said;
+mod state;
+mod watching;
+
+pub use asker::{Asker, Checks};
+pub use checking::hear;
+pub use fault::AskFault;
+pub use order::AskOrder;
+pub use running::ask;
+pub use said::Said;

@@ -1,0 +1,14 @@
+/// What is asked of a directory that listens.
+#[derive(Clone, Copy, Debug)]
+pub struct AskOrder<'a> {
+    /// The text of the provider's public key, 64 hexadecimal digits.
+    pub provider: &'a str,
+    /// The text of the operator's token, 64 hexadecimal digits; zeros if none is given.
+    pub token: Option<&'a str>,
+    /// The path of the file in which the chain is kept.
+    pub state: Option<&'a str>,
+    /// The address of the directory, such as `127.0.0.1:7000`.
+    pub address: &'a str,
+    /// The words of one command; without them the lines of the input are asked.
+    pub words: [Option<&'a str>; 3],
+}

@@ -1,0 +1,117 @@
+// The promises that the client keeps are tested once the chain has the next root.
+ghost use Rattle.std.specs.Prelude.{IfOk};
+ghost use Rattle.asking.specs.Testing.{TellsDue};
+
+use crate::answering::body_of;
+use crate::checking::{tell_client, tell_evidence};
+use crate::exchange::frame_in;
+use crate::said::OTHER_INDEX;
+use crate::{AskFault, Asker, Checks, Said};
+use auditor::Evidence;
+use client::{Client, Due};
+use encoding::Name;
+use nodehash::NodeHash;
+use play::{Ask, push_hex};
+use sigiface::Verifier;
+use std::alloc::{AllocError, Global};
+use std::io::{Read, Write};
+use vrfiface::VufCheck;
+
+impl<H, V, S> Asker<H, V, S>
+where
+    H: NodeHash + Drop,
+    V: VufCheck + Drop,
+    S: Verifier + Drop,
+{
+    /// Tests each promise that is due. One of a name that has a mark waits for its monitor, which needs it.
+    ///
+    /// # Errors
+    ///
+    /// `NoReply`; `OutOfMemory`.
+    pub fn test_promises<T: Read + Write>(
+        &mut self,
+        stream: &mut T,
+        said: &mut Said,
+    ) -> Result<(), AskFault> {
+        let mut place = 0;
+        // Every loop of Rattle has an end: this one's is past any list.
+        for _ in 0..u64::MAX {
+            let Some(signed) = self.client.promises().get(place) else {
+                return Ok(());
+            };
+            let name = signed.promise.name.copied();
+            if self.waits_for_monitor(&name) || !self.test(stream, &name, said)? {
+                place = place.saturating_add(1);
+            }
+        }
+        Ok(())
+    }
+
+    /// Whether a name was watched in an earlier run, and not in this one.
+    fn waits_for_monitor(&self, name: &Name) -> bool {
+        self.marks.iter().any(|mark| mark.name == *name)
+            && !self.monitors.iter().any(|monitor| monitor.name() == name)
+    }
+
+    /// Tests the promise of a name that is due, if there is one. Returns whether it was found kept.
+    fn test<T: Read + Write>(
+        &mut self,
+        stream: &mut T,
+        name: &Name,
+        said: &mut Said,
+    ) -> Result<bool, AskFault> {
+        let Some(epoch) = self.client.due_epoch(name) else {
+            return Ok(false);
+        };
+        let ask = Ask::Lookup {
+            name: Vec::from_slice(self.alloc, name.bytes())?,
+            epoch,
+        };
+        let reply = self.request(stream, &ask)?;
+        let Some(found) = body_of(self.alloc, &ask, &frame_in(&reply)?, said)? else {
+            return Ok(false);
+        };
+        let checks = &mut self.checks;
+        Ok(tell_due(self.alloc, &mut self.client, checks, name, found, said)?)
+    }
+}
+
+/// Tells what a reply shows of the promise that is tested for a name: nothing where it was kept. Returns whether it
+/// was.
+fn tell_due<H, V, S>(
+    alloc: Global,
+    client: &mut Client<H, V, S>,
+    checks: &mut Checks<H, V, S>,
+    name: &Name,
+    reply: &[u8],
+    said: &mut Said,
+) -> Result<bool, AllocError>
+where
+    H: NodeHash + Drop,
+    V: VufCheck + Drop,
+    S: Verifier + Drop,
+    ensures { IfOk result (λ kept. TellsDue H.digest_of V.accepted client.old name.now reply.now said.old kept said.new client.new) }
+{
+    match client.due(&mut checks.hash, &checks.vuf, name, reply) {
+        Ok(Due::Kept) => Ok(true),
+        Ok(Due::Broken(broken)) => {
+            tell_evidence(alloc, &Evidence::Broken(broken), said)?;
+            said.words.extend_from_slice(b"promise for ")?;
+            push_hex(&mut said.words, name.bytes())?;
+            said.explain(b"it was not kept")?;
+            Ok(false)
+        }
+        Ok(Due::OtherIndex) => {
+            said.refuse(
+                b"client refuses promise",
+                OTHER_INDEX,
+                b"the name has another index",
+            )?;
+            Ok(false)
+        }
+        Err(why) => {
+            tell_client(alloc, b"client refuses proof", why, said)?;
+            Ok(false)
+        }
+    }
+}

@@ -1,0 +1,306 @@
+// What a client keeps between runs. In the file of the state stand the signed roots of its chain, one a line
+// in hexadecimal digits; in a second one beside it the promises that it keeps, and how far names were watched.
+use crate::asker::Mark;
+use crate::{AskFault, Asker, Checks};
+use encoding::{Hash32, Name};
+use hex::FromHexError;
+use nodehash::NodeHash;
+use play::{push_hex, push_number};
+use sigiface::Verifier;
+use std::alloc::{AllocError, Global};
+use std::fs::{self, File, Files, OpenOptions};
+use std::io::{ErrorKind, Write};
+use textio::{ProgramFault, file_fault, read_whole, write_text};
+use vrfiface::VufCheck;
+
+/// The files of a state.
+#[derive(Drop)]
+pub(crate) struct State<'a> {
+    path: &'a str,
+    beside: String,
+    /// The epoch of the last root in the file, or 0.
+    epoch: u64,
+    /// What the second file has.
+    kept: Vec<u8>,
+}
+
+/// The bytes of a file, or `None` if there is none of this name.
+fn file_bytes<F: Files<File = File>>(
+    alloc: Global,
+    files: &F,
+    path: &str,
+) -> Result<Option<Vec<u8>>, ProgramFault> {
+    match fs::open(files, path) {
+        Ok(mut file) => Ok(Some(read_whole(alloc, &mut file)?)),
+        Err(error) => match error.kind() {
+            ErrorKind::NotFound => Ok(None),
+            _ => Err(file_fault(&error)),
+        },
+    }
+}
+
+/// The bytes that a line of a file gives in hexadecimal digits.
+fn line_bytes(alloc: Global, line: &[u8], number: u64) -> Result<Vec<u8>, ProgramFault> {
+    match hex::decode(alloc, line) {
+        Ok(bytes) => Ok(bytes),
+        Err(FromHexError::OutOfMemory) => Err(ProgramFault::OutOfMemory),
+        Err(_) => Err(ProgramFault::BadItem(number)),
+    }
+}
+
+/// The fault for a line of a file that the client refuses.
+fn fault_of(why: &client::Refusal, number: u64) -> ProgramFault {
+    match why {
+        client::Refusal::Memory => ProgramFault::OutOfMemory,
+        _ => ProgramFault::BadItem(number),
+    }
+}
+
+/// Appends the list of one root, which these bytes are.
+fn push_list(list: &mut Vec<u8>, root: &[u8]) -> Result<(), AllocError> {
+    list.extend_from_slice(&[0, 1])?;
+    list.extend_from_slice(root)
+}
+
+impl<'a> State<'a> {
+    /// The state in the file of this path.
+    pub(crate) fn new(alloc: Global, path: &'a str) -> Result<Self, ProgramFault> {
+        Ok(State {
+            path,
+            beside: format!(in alloc; "{path}.kept")?,
+            epoch: 0,
+            kept: Vec::new(alloc),
+        })
+    }
+
+    /// What asks with the chain and the promises of the state, or `None` if its file is not there.
+    ///
+    /// # Errors
+    ///
+    /// `CannotRead`; `BadItem` at the first line that is not as a run wrote it; `OutOfMemory`.
+    pub(crate) fn load<F, H, V, S>(
+        &mut self,
+        alloc: Global,
+        files: &F,
+        checks: Checks<H, V, S>,
+        key: Hash32,
+        token: Hash32,
+    ) -> Result<Result<Asker<H, V, S>, Checks<H, V, S>>, ProgramFault>
+    where
+        F: Files<File = File>,
+        H: NodeHash + Drop,
+        V: VufCheck + Drop,
+        S: Verifier + Drop,
+    {
+        let Some(roots) = file_bytes(alloc, files, self.path)? else {
+            return Ok(Err(checks));
+        };
+        let mut lines = roots.split(|byte| *byte == b'\n');
+        let first = line_bytes(alloc, lines.next().unwrap_or(b""), 1)?;
+        let mut asker = match Asker::start(alloc, checks, key, token, &first) {
+            Ok(asker) => asker,
+            Err(why) => return Err(fault_of(&why, 1)),
+        };
+        let mut number: u64 = 1;
+        for line in lines {
+            number = number.saturating_add(1);
+            if !line.is_empty() {
+                asker.take_line(line, number)?;
+            }
+        }
+        self.epoch = asker.head();
+        if let Some(kept) = file_bytes(alloc, files, self.beside.as_str())? {
+            let mut number: u64 = 0;
+            for line in kept.split(|byte| *byte == b'\n') {
+                number = number.saturating_add(1);
+                if !line.is_empty() {
+                    asker.keep_line(line, number)?;
+                }
+            }
+            self.kept = kept;
+        }
+        Ok(Ok(asker))
+    }
+
+    /// Writes what is new of the chain and of what is kept.
+    ///
+    /// # Errors
+    ///
+    /// `CannotWrite`; `OutOfMemory`.
+    pub(crate) fn save<F, H, V, S>(
+        &mut self,
+        alloc: Global,
+        files: &F,
+        asker: &Asker<H, V, S>,
+    ) -> Result<(), ProgramFault>
+    where
+        F: Files<File = File>,
+        H: NodeHash + Drop,
+        V: VufCheck + Drop,
+        S: Verifier + Drop,
+    {
+        let text = asker.lines_after(self.epoch)?;
+        if !text.is_empty() {
+            let mut options = OpenOptions::new();
+            options.append(true).create(true);
+            let Ok(mut file) = options.open(files, self.path) else {
+                return Err(ProgramFault::CannotWrite);
+            };
+            write_text(&mut file, &text)?;
+            self.epoch = asker.head();
+        }
+        let kept = asker.kept_lines()?;
+        if kept != self.kept {
+            let beside = self.beside.as_str();
+            let written = format!(in alloc; "{beside}.new")?;
+            let Ok(mut file) = fs::create(files, written.as_str()) else {
+                return Err(ProgramFault::CannotWrite);
+            };
+            write_text(&mut file, &kept)?;
+            if fs::rename(files, written.as_str(), beside).is_err() {
+                return Err(ProgramFault::CannotWrite);
+            }
+            self.kept = kept;
+        }
+        Ok(())
+    }
+}
+
+impl<H, V, S> Asker<H, V, S>
+where
+    H: NodeHash + Drop,
+    V: VufCheck + Drop,
+    S: Verifier + Drop,
+{
+    /// Takes the root of a line.
+    fn take_line(&mut self, line: &[u8], number: u64) -> Result<(), ProgramFault> {
+        let root = line_bytes(self.alloc, line, number)?;
+        let mut list = Vec::new(self.alloc);
+        push_list(&mut list, &root)?;
+        let checks = &mut self.checks;
+        match self
+            .client
+            .update(&mut checks.hash, &checks.verifier, &list)
+        {
+            Ok(()) => Ok(()),
+            Err(why) => Err(fault_of(&why, number)),
+        }
+    }
+
+    /// Keeps what a line of the second file has: `promise HEX`, or `watched NAME EPOCH`.
+    fn keep_line(&mut self, line: &[u8], number: u64) -> Result<(), ProgramFault> {
+        if let Some(promise) = line.strip_prefix(b"promise ".as_slice()) {
+            let promise = line_bytes(self.alloc, promise, number)?;
+            return self.keep_earlier(&promise, number);
+        }
+        let Some(mark) = line.strip_prefix(b"watched ".as_slice()) else {
+            return Err(ProgramFault::BadItem(number));
+        };
+        self.keep_mark(mark, number)
+    }
+
+    /// Keeps a promise of an earlier run.
+    fn keep_earlier(&mut self, promise: &[u8], number: u64) -> Result<(), ProgramFault> {
+        let checks = &mut self.checks;
+        let read = self
+            .client
+            .read_promise(&mut checks.hash, &checks.verifier, promise);
+        let signed = match read {
+            Ok(signed) => signed,
+            Err(why) => return Err(fault_of(&why, number)),
+        };
+        self.earlier.push(signed.copied())?;
+        match self.client.keep_read(signed) {
+            Ok(()) => Ok(()),
+            Err(why) => Err(fault_of(&why, number)),
+        }
+    }
+
+    /// Keeps how far a name was watched: `NAME EPOCH`.
+    fn keep_mark(&mut self, mark: &[u8], number: u64) -> Result<(), ProgramFault> {
+        let mut words = mark.split(|byte| *byte == b' ');
+        let (Some(name), Some(epoch), None) = (words.next(), words.next(), words.next()) else {
+            return Err(ProgramFault::BadItem(number));
+        };
+        let name = line_bytes(self.alloc, name, number)?;
+        let Ok(name) = Name::new(&name) else {
+            return Err(ProgramFault::BadItem(number));
+        };
+        let Ok(epoch) = str::from_utf8(epoch) else {
+            return Err(ProgramFault::BadItem(number));
+        };
+        let Ok(epoch) = epoch.parse::<u64>() else {
+            return Err(ProgramFault::BadItem(number));
+        };
+        self.marks.push(Mark { name, epoch })?;
+        Ok(())
+    }
+
+    /// The lines of the roots above an epoch.
+    fn lines_after(&self, epoch: u64) -> Result<Vec<u8>, AllocError> {
+        let mut text = Vec::new(self.alloc);
+        let mut last = epoch;
+        // Every loop of Rattle has an end: this one's is past any chain.
+        for _ in 0..u64::MAX {
+            let Some(root) = self.client.chain().after(last) else {
+                break;
+            };
+            push_hex(&mut text, root.write().bytes())?;
+            text.push(b'\n')?;
+            last = root.body.epoch;
+        }
+        Ok(text)
+    }
+
+    /// How far the name of a monitor was watched by all of its monitors, if this is the first of them.
+    fn new_mark(&self, place: usize) -> Option<(&Name, u64)> {
+        let name = self.monitors.get(place)?.name();
+        let mut least = self.head();
+        for (other, monitor) in self.monitors.iter().enumerate() {
+            if monitor.name() == name {
+                if other < place {
+                    return None;
+                }
+                if let Some(next) = monitor.next_epoch() {
+                    let root = self.client.chain().at(next)?;
+                    least = least.min(root.body.previous_epoch);
+                }
+            }
+        }
+        Some((name, least))
+    }
+
+    /// The lines of the promises that are kept, and of how far names were watched.
+    fn kept_lines(&self) -> Result<Vec<u8>, AllocError> {
+        let mut text = Vec::new(self.alloc);
+        for signed in self.client.promises() {
+            text.extend_from_slice(b"promise ")?;
+            push_hex(&mut text, signed.write().bytes())?;
+            text.push(b'\n')?;
+        }
+        for place in 0..self.monitors.len() {
+            if let Some((name, epoch)) = self.new_mark(place) {
+                push_mark(&mut text, name, epoch)?;
+            }
+        }
+        for mark in self.marks.iter() {
+            if !self
+                .monitors
+                .iter()
+                .any(|monitor| *monitor.name() == mark.name)
+            {
+                push_mark(&mut text, &mark.name, mark.epoch)?;
+            }
+        }
+        Ok(text)
+    }
+}
+
+fn push_mark(text: &mut Vec<u8>, name: &Name, epoch: u64) -> Result<(), AllocError> {
+    text.extend_from_slice(b"watched ")?;
+    push_hex(text, name.bytes())?;
+    text.push(b' ')?;
+    push_number(text, epoch)?;
+    text.push(b'\n')?;
+    Ok(())
+}

@@ -1,0 +1,249 @@
+// The monitors of names.
+ghost use Rattle.std.specs.Prelude.{IfOk};
+ghost use Rattle.asking.specs.Watching.{WatchesEpoch};
+
+use crate::answering::body_of;
+use crate::checking::tell_client;
+use crate::exchange::frame_in;
+use crate::said::ALARM;
+use crate::{AskFault, Asker, Checks, Said};
+use client::Client;
+use encoding::{KeyData, Name};
+use monitor::{Monitor, Refusal, Step};
+use nodehash::NodeHash;
+use play::{Ask, tell_step};
+use rootchain::{SignedPromise, SignedRoot, write_list};
+use sigiface::Verifier;
+use std::alloc::{AllocError, Global};
+use std::io::{Read, Write};
+use vrfiface::VufCheck;
+
+impl<H, V, S> Asker<H, V, S>
+where
+    H: NodeHash + Drop,
+    V: VufCheck + Drop,
+    S: Verifier + Drop,
+{
+    /// Adds a monitor of a name that expects this key, or none, and lets it watch each epoch that is new: those
+    /// behind the mark of the name, or the latest one if there is no mark.
+    ///
+    /// # Errors
+    ///
+    /// `NoReply`; `OutOfMemory`.
+    pub fn watch<T: Read + Write>(
+        &mut self,
+        stream: &mut T,
+        name: &Name,
+        key: Option<&KeyData>,
+        said: &mut Said,
+    ) -> Result<(), AskFault> {
+        let place = self.monitors.len();
+        let Some(first) = self.first_unwatched(name) else {
+            return Ok(());
+        };
+        self.add_monitor(&first, name, key, said)?;
+        if place < self.monitors.len() {
+            self.step_through(stream, place, said)?;
+        }
+        self.test_promises(stream, said)
+    }
+
+    /// Lets each monitor watch the epochs that are new, and tests the promises that are due.
+    pub fn go_on<T: Read + Write>(
+        &mut self,
+        stream: &mut T,
+        said: &mut Said,
+    ) -> Result<(), AskFault> {
+        for place in 0..self.monitors.len() {
+            self.step_through(stream, place, said)?;
+        }
+        self.test_promises(stream, said)
+    }
+
+    /// The first root whose epoch was not watched for a name in an earlier run.
+    fn first_unwatched(&self, name: &Name) -> Option<SignedRoot> {
+        for mark in self.marks.iter() {
+            if mark.name == *name {
+                return match self.client.chain().after(mark.epoch) {
+                    Some(root) => Some(root.copied()),
+                    None => None,
+                };
+            }
+        }
+        Some(self.client.chain().head().copied())
+    }
+
+    /// Adds a monitor whose chain is that of the client from this root on. What earlier runs were promised for the
+    /// name before that root is expected at first, and what they were promised there changes it.
+    fn add_monitor(
+        &mut self,
+        first: &SignedRoot,
+        name: &Name,
+        key: Option<&KeyData>,
+        said: &mut Said,
+    ) -> Result<(), AllocError> {
+        let client = match self.client_from(first) {
+            Ok(client) => client,
+            Err(why) => return tell_client(self.alloc, b"client refuses root", why, said),
+        };
+        let key = match self.promised_before(name, first.body.epoch) {
+            Some(promised) => Some(promised),
+            None => match key {
+                Some(key) => Some(key.copied()),
+                None => None,
+            },
+        };
+        let mut monitor = Monitor::new(self.alloc, client, name.copied(), key);
+        let checks = &mut self.checks;
+        for signed in self.earlier.iter() {
+            if signed.promise.name == *name {
+                // A promise from before the first root, or one that is kept twice, is refused.
+                let _taken = monitor.expect_change(
+                    &mut checks.hash,
+                    &checks.verifier,
+                    &signed.promise.key,
+                    signed.write().bytes(),
+                );
+            }
+        }
+        self.monitors.push(monitor)?;
+        Ok(())
+    }
+
+    /// A client whose chain is that of the client from this root on.
+    fn client_from(&mut self, first: &SignedRoot) -> Result<Client<H, V, S>, client::Refusal> {
+        let checks = &mut self.checks;
+        let root = first.write();
+        let mut client = Client::start(self.alloc, &checks.verifier, self.key, root.bytes())?;
+        let mut epoch = first.body.epoch;
+        let mut list = Vec::new(self.alloc);
+        // Every loop of Rattle has an end: this one's is past any chain.
+        for _ in 0..u64::MAX {
+            let Some(root) = self.client.chain().after(epoch) else {
+                break;
+            };
+            epoch = root.body.epoch;
+            list.clear();
+            if write_list(&[root.copied()], &mut list).is_err() {
+                return Err(client::Refusal::Memory);
+            }
+            client.update(&mut checks.hash, &checks.verifier, &list)?;
+        }
+        Ok(client)
+    }
+
+    /// The key of the last promise for a name from before this epoch.
+    fn promised_before(&self, name: &Name, epoch: u64) -> Option<KeyData> {
+        let mut last: Option<&SignedPromise> = None;
+        for signed in self.earlier.iter() {
+            let is_later = match last {
+                Some(other) => other.promise.epoch < signed.promise.epoch,
+                None => true,
+            };
+            if signed.promise.name == *name && signed.promise.epoch < epoch && is_later {
+                last = Some(signed);
+            }
+        }
+        match last {
+            Some(signed) => Some(signed.promise.key.copied()),
+            None => None,
+        }
+    }
+
+    /// Gives the last promise that the client kept, of which these are the bytes, to each monitor of its name.
+    pub(crate) fn hand_out(&mut self, promise: &[u8]) -> Result<(), AllocError> {
+        let Some(signed) = self.client.promises().last() else {
+            return Ok(());
+        };
+        let checks = &mut self.checks;
+        for monitor in self.monitors.iter_mut() {
+            if *monitor.name() == signed.promise.name {
+                let key = &signed.promise.key;
+                let handed = monitor.expect_change(
+                    &mut checks.hash,
+                    &checks.verifier,
+                    key,
+                    promise,
+                );
+                if handed == Err(Refusal::Client(client::Refusal::Memory)) {
+                    return Err(AllocError);
+                }
+            }
+        }
+        Ok(())
+    }
+
+    /// Lets a monitor watch each epoch of its chain that it has not watched, up to one whose proof is refused.
+    fn step_through<T: Read + Write>(
+        &mut self,
+        stream: &mut T,
+        place: usize,
+        said: &mut Said,
+    ) -> Result<(), AskFault> {
+        // Every loop of Rattle has an end: this one's is past any chain.
+        for _ in 0..u64::MAX {
+            if !self.step(stream, place, said)? {
+                return Ok(());
+            }
+        }
+        Ok(())
+    }
+
+    /// Lets a monitor watch its next epoch. Returns whether it had one, and its client accepted the proof.
+    fn step<T: Read + Write>(
+        &mut self,
+        stream: &mut T,
+        place: usize,
+        said: &mut Said,
+    ) -> Result<bool, AskFault> {
+        let Some(monitor) = self.monitors.get(place) else {
+            return Ok(false);
+        };
+        let Some(epoch) = monitor.next_epoch() else {
+            return Ok(false);
+        };
+        let name = Vec::from_slice(self.alloc, monitor.name().bytes())?;
+        let ask = Ask::Lookup { name, epoch };
+        let reply = self.request(stream, &ask)?;
+        let Some(found) = body_of(self.alloc, &ask, &frame_in(&reply)?, said)? else {
+            return Ok(false);
+        };
+        let checks = &mut self.checks;
+        match self.monitors.get_mut(place) {
+            Some(monitor) => Ok(watch_epoch(self.alloc, monitor, checks, epoch, found, said)?),
+            None => Ok(false),
+        }
+    }
+}
+
+/// Lets a monitor watch its next epoch by a reply, and tells its step. Returns whether its client accepted the
+/// proof.
+fn watch_epoch<H, V, S>(
+    alloc: Global,
+    monitor: &mut Monitor<H, V, S>,
+    checks: &mut Checks<H, V, S>,
+    epoch: u64,
+    reply: &[u8],
+    said: &mut Said,
+) -> Result<bool, AllocError>
+where
+    H: NodeHash + Drop,
+    V: VufCheck + Drop,
+    S: Verifier + Drop,
+    ensures { IfOk result (λ went. WatchesEpoch H.digest_of V.accepted monitor.old epoch reply.now said.old went said.new monitor.new) }
+{
+    match monitor.step(&mut checks.hash, &checks.vuf, reply) {
+        Ok(step) => {
+            tell_step(&mut said.text, monitor.name().bytes(), epoch, step)?;
+            if let Step::Alarm { .. } = step {
+                said.raise(ALARM);
+            }
+            Ok(true)
+        }
+        Err(Refusal::Client(why)) => {
+            tell_client(alloc, b"client refuses proof", why, said)?;
+            Ok(false)
+        }
+        Err(Refusal::OtherPromise) => unreachable!(),
+    }
+}

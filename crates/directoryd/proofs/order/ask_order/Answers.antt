@@ -1,0 +1,20 @@
+use Rattle.std.proofs.Common.{ap₂, ◌≡◌, ◌∙◌, ◌∷◌, [], codes, Option, option_map}
+use Rattle.clap.specs.Words.{Text, first_of, found_of, rows_of}
+use Rattle.clap.proofs.WalkLemmas.{first_value-rows}
+use Rattle.directoryd.proofs.order.ask_order.Goals as goal
+
+pub returns : goal.returns
+returns c =
+    let found = found_of c.args.found.now in
+    let token : option_map (λ s. s.now) c.get_str.result ≡ first_of (codes "token") (rows_of found) = c.get_str.ensures ∙ first_value-rows found (codes "token") in
+    let state : option_map (λ s. s.now) c.get_str-2.result ≡ first_of (codes "state") (rows_of found) = c.get_str-2.ensures ∙ first_value-rows found (codes "state") in
+    let command : option_map (λ s. s.now) c.get_str-3.result ≡ first_of (codes "command") (rows_of found) = c.get_str-3.ensures ∙ first_value-rows found (codes "command") in
+    let first : option_map (λ s. s.now) c.get_str-4.result ≡ first_of (codes "first") (rows_of found) = c.get_str-4.ensures ∙ first_value-rows found (codes "first") in
+    let second : option_map (λ s. s.now) c.get_str-5.result ≡ first_of (codes "second") (rows_of found) = c.get_str-5.ensures ∙ first_value-rows found (codes "second") in
+    λ i. record {
+      provider = c.text.ensures i;
+      token = token i;
+      state = state i;
+      address = c.text-2.ensures i;
+      words = command i ∷ first i ∷ second i ∷ [];
+    }

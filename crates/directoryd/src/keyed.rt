@@ -1,0 +1,104 @@
+// Servers, and questions, with keys of which some may stand in a file.
+ghost use Rattle.std.specs.Prelude.{option_map};
+ghost use Rattle.asking.specs.AskOptions.{values_of as ask_values};
+ghost use Rattle.server.specs.DirectoryOptions.{values_of as directory_values};
+ghost use Rattle.directoryd.specs.Programs.{AsksKeyed, ListensKeyed, ServesKeyed};
+
+use crate::keys::{ask_with, directory_with, keys_at};
+use crate::{ask, listen, serve_directory};
+use asking::AskOrder;
+use server::{DirectoryOrder, ListenOrder};
+use std::alloc::Global;
+use std::fs::{File, Files};
+use std::io::{BufRead, Read, Write};
+use std::net::{Net, TcpListener, TcpStream};
+use std::time::Clock;
+use textio::ProgramFault;
+
+/// Serves one session of a directory.
+pub(crate) fn serve_keyed<F, R, W, E>(
+    alloc: Global,
+    files: &F,
+    order: DirectoryOrder<'_>,
+    keys: Option<&str>,
+    reader: &mut R,
+    writer: &mut W,
+    errors: &mut E,
+) -> Result<(), ProgramFault>
+where
+    F: Files<File = File>,
+    R: Read,
+    W: Write,
+    E: Write,
+    ensures { ServesKeyed (directory_values order.entry) (option_map (λ path. path.now) keys.entry) (R.remaining reader.old) (W.contents writer.old) (W.contents writer.new)
+        (E.contents errors.old) (E.contents errors.new) result }
+{
+    match keys {
+        None => serve_directory(alloc, files, order, reader, writer, errors),
+        Some(path) => {
+            let file = keys_at(alloc, files, path)?;
+            let order = directory_with(order, file.as_str());
+            serve_directory(alloc, files, order, reader, writer, errors)
+        }
+    }
+}
+
+/// Answers connections of a directory.
+pub(crate) fn listen_keyed<N, R, E>(
+    alloc: Global,
+    system: &N,
+    order: ListenOrder<'_>,
+    keys: Option<&str>,
+    input: &mut R,
+    errors: &mut E,
+) -> Result<(), ProgramFault>
+where
+    N: Net + Clock + Files<File = File>,
+    R: BufRead,
+    E: Write,
+    ensures { ListensKeyed (directory_values order.entry.directory) (option_map (λ path. path.now) keys.entry) (E.contents errors.old) (E.contents errors.new) result }
+{
+    match keys {
+        None => listen(alloc, system, order, input, errors),
+        Some(path) => {
+            let file = keys_at(alloc, system, path)?;
+            let order = ListenOrder {
+                directory: directory_with(order.directory, file.as_str()),
+                count: order.count,
+                sessions: order.sessions,
+                idle: order.idle,
+                until_eof: order.until_eof,
+                address: order.address,
+            };
+            listen(alloc, system, order, input, errors)
+        }
+    }
+}
+
+/// Asks a directory that listens.
+pub(crate) fn ask_keyed<N, R, W, E>(
+    alloc: Global,
+    system: &N,
+    order: AskOrder<'_>,
+    keys: Option<&str>,
+    reader: &mut R,
+    writer: &mut W,
+    errors: &mut E,
+) -> Result<u8, ProgramFault>
+where
+    N: Net<Listener = TcpListener, Stream = TcpStream> + Files<File = File>,
+    R: BufRead,
+    W: Write,
+    E: Write,
+    ensures { AsksKeyed (ask_values order.entry) (option_map (λ path. path.now) keys.entry) (W.contents writer.old) (W.contents writer.new)
+        (E.contents errors.old) (E.contents errors.new) result }
+{
+    match keys {
+        None => ask(alloc, system, order, reader, writer, errors),
+        Some(path) => {
+            let file = keys_at(alloc, system, path)?;
+            let order = ask_with(order, file.as_str());
+            ask(alloc, system, order, reader, writer, errors)
+        }
+    }
+}
