@@ -82,7 +82,7 @@ module _ {S : Type 0} (opens : S → ℕ → S → Type 0) (hears : S → ℕ �
   abbrev pub ClosesAt : ℕ → Ending → C → S → C → S → Type 0
   ClosesAt place why connections old connections_new new = (idle : ℕ) (start : S) (acts : History) → Has opens hears wants ends has idle start connections old acts
       → Here (course acts place) (λ of. (of.is_open ≡ true) × IsReason idle acts why of)
-      → (after : History) × Stays place acts after × Has opens hears wants ends has idle start connections_new new after × (course after place ≡ None)
+      → (after : History) × Stays place 0 acts after × Has opens hears wants ends has idle start connections_new new after × (course after place ≡ None)
 
   pub closed : (place : ℕ) (why : Ending) (connections connections_new : C) (old new : S) → ends old place new
       → ((acts : History) → has connections acts → has connections_new (On place (Closes why) ∷ acts)) → ClosesAt place why connections old connections_new new
@@ -96,7 +96,7 @@ module _ {S : Type 0} (opens : S → ℕ → S → Type 0) (hears : S → ℕ �
       let due_close : IsDue idle once (Closes why) (course once place) =
       here_at (course once place) shut (λ (of : Course). (of.is_open ≡ false) × IsReason idle once why of) there (refl, reason_kept idle acts place of why found.2.1) in (
         On place (Closes why) ∷ once,
-        stays_both place acts once (On place (Closes why) ∷ once) (stays_one place Ends acts) (stays_one place (Closes why) once),
+        stays_both place 0 0 acts once (On place (Closes why) ∷ once) (stays_one place Ends acts) (stays_one place (Closes why) once),
         (step (of_connections acts) known.0, (old, known.1, ended), (due_close, (due_end, known.2))),
         went place (Closes why) once shut there,
       )
@@ -110,25 +110,25 @@ module _ {S : Type 0} (opens : S → ℕ → S → Type 0) (hears : S → ℕ �
     there = here_one place Comes acts ∙ ap (done_at Comes (clock acts)) free
 
     pub opened : (now : ℕ) → clock acts ≡ now → (new : S) → opens old place new
-        → (after : History) × Stays place acts after × Has opens hears wants ends has idle start connections_taken new after × Here (course after place) (Keeps [] [] now false)
+        → (after : History) × Stays place 1 acts after × Has opens hears wants ends has idle start connections_taken new after × Here (course after place) (Keeps [] [] now false)
     opened now time new does =
         let due : IsDue idle (On place Comes ∷ acts) Opens (course (On place Comes ∷ acts) place) =
         here_at (course (On place Comes ∷ acts) place) (taken_at (clock acts)) (λ (of : Course). (of.is_open ≡ false) × (of.read ≡ [])) there (refl, refl) in (
           On place Opens ∷ On place Comes ∷ acts,
-          stays_both place acts (On place Comes ∷ acts) (On place Opens ∷ On place Comes ∷ acts) (stays_one place Comes acts) (stays_one place Opens (On place Comes ∷ acts)),
+          stays_both place 1 0 acts (On place Comes ∷ acts) (On place Opens ∷ On place Comes ∷ acts) (stays_one place Comes acts) (stays_one place Opens (On place Comes ∷ acts)),
           (step known.0, (old, known.1, does), (due, ((free, hearing, goes), known.2))),
           here_at (course (On place Opens ∷ On place Comes ∷ acts) place) (record (taken_at (clock acts)) { is_open = true }) (Keeps [] [] now false) (went place Opens (On place Comes ∷ acts) (taken_at (clock acts)) there)
               (record { is_open = refl; input_rest = refl; output_rest = refl; last = time; end = refl }),
         )
 
     pub refused : (why : Ending) → IsOpeningFault why → (connections_new : C) → ((acts : History) → has connections_taken acts → has connections_new (On place (Closes why) ∷ acts))
-        → (after : History) × Stays place acts after × Has opens hears wants ends has idle start connections_new old after × (course after place ≡ None)
+        → (after : History) × Stays place 1 acts after × Has opens hears wants ends has idle start connections_new old after × (course after place ≡ None)
     refused why is connections_new close =
         let due : IsDue idle (On place Comes ∷ acts) (Closes why) (course (On place Comes ∷ acts) place) =
         here_at (course (On place Comes ∷ acts) place) (taken_at (clock acts)) (λ (of : Course). (of.is_open ≡ false) × IsReason idle (On place Comes ∷ acts) why of) there
         (refl, opening_reason idle (On place Comes ∷ acts) (clock acts) why is) in (
           On place (Closes why) ∷ On place Comes ∷ acts,
-          stays_both place acts (On place Comes ∷ acts) (On place (Closes why) ∷ On place Comes ∷ acts) (stays_one place Comes acts) (stays_one place (Closes why) (On place Comes ∷ acts)),
+          stays_both place 1 0 acts (On place Comes ∷ acts) (On place (Closes why) ∷ On place Comes ∷ acts) (stays_one place Comes acts) (stays_one place (Closes why) (On place Comes ∷ acts)),
           (close (On place Comes ∷ of_connections acts) (step known.0), known.1, (due, ((free, hearing, goes), known.2))),
           went place (Closes why) (On place Comes ∷ acts) (taken_at (clock acts)) there,
         )

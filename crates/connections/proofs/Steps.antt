@@ -4,6 +4,7 @@ use Rattle.std.proofs.lemmas.Bool.{eq-eqb, ne_eqb}
 use Rattle.std.proofs.lemmas.List.{append-nil, length-append}
 use Rattle.std.specs.Prelude.{◌==◌, ⊤}
 use Rattle.connections.specs.declared.limits.TheConstants.{PIECE_SIZE, FULL_OUTPUT}
+use Rattle.connections.specs.Endings.{comers, newcomers}
 use Rattle.connections.specs.Fitting.{Adds, IsOfConnection, Keeps, Knows, Stays}
 use Rattle.connections.specs.Histories.{On, Deed, Reads, IsOver, Hears, Wants, Takes, Fails, History, Course, Hearing, Telling, clock, course, done_at, if_answered, of_connections, stage, went_on}
 use Rattle.connections.specs.Soundness.{Here, AreNext, HasRoom, IsDue, MayRead}
@@ -32,12 +33,14 @@ pub went : (place : ℕ) (deed : Deed) (acts : History) (of : Course) → course
 went place deed acts of is = here_one place deed acts ∙ ap (done_at deed (clock acts)) is
 
 -- all others stay
-pub stays_one : (place : ℕ) (deed : Deed) (acts : History) → Stays place acts (On place deed ∷ acts)
+pub stays_one : (place : ℕ) (deed : Deed) (acts : History) → Stays place (newcomers deed) acts (On place deed ∷ acts)
 stays_one place deed acts = record {
   others = λ other differs. rw (ne_eqb place other (λ (same : place ≡ other). differs (sym same))) refl;
   same_clock = refl;
   same_stage = refl;
   same_stop = refl;
+  same_rounds = refl;
+  more_came = refl;
 }
 
 -- ---- a deed that leaves a connection
@@ -166,15 +169,17 @@ next_want idle acts place here =
 
 -- ---- several deeds
 
-pub stays_none : (place : ℕ) (acts : History) → Stays place acts acts
-stays_none place acts = record { others = λ other differs. refl; same_clock = refl; same_stage = refl; same_stop = refl }
+pub stays_none : (place : ℕ) (acts : History) → Stays place 0 acts acts
+stays_none place acts = record { others = λ other differs. refl; same_clock = refl; same_stage = refl; same_stop = refl; same_rounds = refl; more_came = omega arith }
 
-pub stays_both : (place : ℕ) (acts between after : History) → Stays place acts between → Stays place between after → Stays place acts after
-stays_both place acts between after one two = record {
+pub stays_both : (place came more : ℕ) (acts between after : History) → Stays place came acts between → Stays place more between after → Stays place (came + more) acts after
+stays_both place came more acts between after one two = record {
   others = λ other differs. two.others other differs ∙ one.others other differs;
   same_clock = two.same_clock ∙ one.same_clock;
   same_stage = two.same_stage ∙ one.same_stage;
   same_stop = two.same_stop ∙ one.same_stop;
+  same_rounds = two.same_rounds ∙ one.same_rounds;
+  more_came = let a : comers between ≡ comers acts + came = one.more_came in let b : comers after ≡ comers between + more = two.more_came in omega arith;
 }
 
 -- ---- what may be read, and told

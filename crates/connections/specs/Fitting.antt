@@ -1,10 +1,11 @@
 -- What the loop keeps of a place, and the history that it stands for.
-use Rattle.std.specs.Prelude.{◌≡◌, ◌≢◌, ◌⊎◌, ◌+◌, ◌≤◌, ℕ, List, [], ◌∷◌, ◌++◌, Bool, true, Option, Some, None, Result, Ok, Err, get_or, ⊤}
+use Rattle.std.specs.Prelude.{◌≡◌, ◌≢◌, ◌⊎◌, ◌+◌, ◌≤◌, ℕ, List, [], ◌∷◌, ◌++◌, Bool, true, false, Option, Some, None, Result, Ok, Err, get_or, ⊤}
 use Rattle.connections.specs.declared.ending.Ending.{Ending}
 use Rattle.connections.specs.declared.ending.Ending.TheVariants.{Done, Fault, Idle, Stopped, Unsynced, Memory, Refused}
 use Rattle.connections.specs.declared.limits.TheConstants.{LAST_MILLISECONDS}
 use Rattle.connections.specs.declared.places.Places.{Places}
 use Rattle.connections.specs.declared.talk.Talk.{Talk}
+use Rattle.connections.specs.Endings.{comers, rounds}
 use Rattle.connections.specs.Histories.{Stage, Hearing, Ordered, On, Deed, Comes, Opens, Reads, IsOver, Hears, Wants, Takes, Fails, Ends, Closes, History, Course, clock, course, of_connections, stage, stopped, Leads}
 use Rattle.connections.specs.Soundness.{Here, IsReason, IsSound}
 
@@ -26,12 +27,19 @@ Fits None (Some of) = ⊥
 Fits (Some talk) None = ⊥
 Fits (Some talk) (Some of) = KeepsTalk talk of
 
--- what happened meanwhile happened at this place
-pub record Stays (place : ℕ) (before after : History) : Type 0 where
+-- what happened meanwhile happened at this place, and so many connections came
+pub record Stays (place came : ℕ) (before after : History) : Type 0 where
   pub others : (other : ℕ) → other ≢ place → course after other ≡ course before other
   pub same_clock : clock after ≡ clock before
   pub same_stage : stage after ≡ stage before
   pub same_stop : stopped after ≡ stopped before
+  pub same_rounds : rounds after ≡ rounds before
+  pub more_came : comers after ≡ comers before + came
+
+-- how many connections a call took that says whether it took one
+abbrev pub came_by : Bool → ℕ
+came_by true = 1
+came_by false = 0
 
 -- the same of each place
 abbrev pub FitAll : List (Option Talk) → History → Type 0
@@ -41,11 +49,13 @@ FitAll places acts = (place : ℕ) → Fits (get_or places place None) (course a
 abbrev pub AreFree : Places → Type 0
 AreFree places = (place : ℕ) → get_or places.slots.items place None ≡ None
 
--- the round stays where it is
-pub record Passes (before after : History) : Type 0 where
+-- the round stays where it is; so many more connections may be taken before, and so many after
+pub record Passes (left left_new : ℕ) (before after : History) : Type 0 where
   pub same_clock : clock after ≡ clock before
   pub same_stage : stage after ≡ stage before
   pub same_stop : stopped after ≡ stopped before
+  pub same_rounds : rounds after ≡ rounds before
+  pub fewer_left : comers after + left_new ≡ comers before + left
 
 -- a stop may be ordered
 abbrev pub MayOrder : History → History → Type 0
@@ -63,9 +73,9 @@ IsOpeningFault Refused = ⊤
 
 -- ---- one step
 
--- what happens to a connection, and not to its session
+-- what happens to a connection that is there, and not to its session
 abbrev pub IsOfConnection : Deed → Type 0
-IsOfConnection Comes = ⊤
+IsOfConnection Comes = ⊥
 IsOfConnection Opens = ⊥
 IsOfConnection (Reads bytes) = ⊤
 IsOfConnection IsOver = ⊤
@@ -119,7 +129,7 @@ module _ {S : Type 0} (opens : S → ℕ → S → Type 0) (hears : S → ℕ �
   abbrev pub Hearkens : {X : Type 0} → ℕ → ℕ → S → Talk → Result X Ending → S → Talk → Type 0
   Hearkens place now old talk result new talk_new = (idle : ℕ) (start : S) (acts : History) → Held idle start old acts → stage acts ≡ Hearing → clock acts ≡ now
       → Here (course acts place) (KeepsTalk talk)
-      → (after : History) × Stays place acts after × (of_connections after ≡ of_connections acts) × Held idle start new after × Judged idle after place result talk_new
+      → (after : History) × Stays place 0 acts after × (of_connections after ≡ of_connections acts) × Held idle start new after × Judged idle after place result talk_new
 
   module _ {C : Type 0} (has : C → History → Type 0) where
     -- all that is known of connections and sessions
@@ -130,22 +140,24 @@ module _ {S : Type 0} (opens : S → ℕ → S → Type 0) (hears : S → ℕ �
     abbrev pub Attends : {X : Type 0} → Stage → ℕ → ℕ → C → S → Talk → Result X Ending → C → S → Talk → Type 0
     Attends when place now connections old talk result connections_new new talk_new = (idle : ℕ) (start : S) (acts : History) → Has idle start connections old acts
         → stage acts ≡ when → clock acts ≡ now → Here (course acts place) (KeepsTalk talk)
-        → (after : History) × Stays place acts after × Has idle start connections_new new after × Judged idle after place result talk_new
+        → (after : History) × Stays place 0 acts after × Has idle start connections_new new after × Judged idle after place result talk_new
 
-    -- what happens at a place at this stage of a round, whatever is there, and what is then kept
-    abbrev pub Serves : Stage → ℕ → ℕ → Option ℕ → ℕ → C → S → Option Talk → C → S → Option Talk → Type 0
-    Serves when idle now stop place connections old slot connections_new new slot_new = (start : S) (acts : History) → Has idle start connections old acts
+    -- what happens at a place at this stage of a round, whatever is there, where so many connections come, and
+    -- what is then kept
+    abbrev pub Serves : Stage → ℕ → ℕ → Option ℕ → ℕ → ℕ → C → S → Option Talk → C → S → Option Talk → Type 0
+    Serves when idle now stop place came connections old slot connections_new new slot_new = (start : S) (acts : History) → Has idle start connections old acts
         → stage acts ≡ when → clock acts ≡ now → stopped acts ≡ stop → Fits slot (course acts place)
-        → (after : History) × Stays place acts after × Has idle start connections_new new after × Fits slot_new (course after place)
+        → (after : History) × Stays place came acts after × Has idle start connections_new new after × Fits slot_new (course after place)
 
-    -- the same at all places
-    abbrev pub Tours : Stage → ℕ → ℕ → Option ℕ → C → S → List (Option Talk) → C → S → List (Option Talk) → Type 0
-    Tours when idle now stop connections old places connections_new new places_new = (start : S) (acts : History) → Has idle start connections old acts
+    -- the same at all places; so many more connections may be taken before, and so many after
+    abbrev pub Tours : Stage → ℕ → ℕ → Option ℕ → ℕ → ℕ → C → S → List (Option Talk) → C → S → List (Option Talk) → Type 0
+    Tours when idle now stop left left_new connections old places connections_new new places_new = (start : S) (acts : History) → Has idle start connections old acts
         → stage acts ≡ when → clock acts ≡ now → stopped acts ≡ stop → FitAll places acts
-        → (after : History) × Passes acts after × Has idle start connections_new new after × FitAll places_new after
+        → (after : History) × Passes left left_new acts after × Has idle start connections_new new after × FitAll places_new after
 
     -- one round
-    abbrev pub Turns : ℕ → Option ℕ → C → S → List (Option Talk) → Option ℕ → C → S → List (Option Talk) → Type 0
-    Turns idle stop connections old places stop_new connections_new new places_new = (start : S) (acts : History) → Has idle start connections old acts
+    abbrev pub Turns : ℕ → Option ℕ → ℕ → C → S → List (Option Talk) → Option ℕ → ℕ → C → S → List (Option Talk) → Type 0
+    Turns idle stop left connections old places stop_new left_new connections_new new places_new = (start : S) (acts : History) → Has idle start connections old acts
         → stopped acts ≡ stop → FitAll places acts
         → (after : History) × Has idle start connections_new new after × (stopped after ≡ stop_new) × FitAll places_new after
+        × (comers after + left_new ≡ comers acts + left) × (rounds after ≡ rounds acts + 1)

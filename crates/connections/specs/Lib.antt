@@ -1,3 +1,4 @@
+pub mod Endings
 pub mod Fitting
 pub mod Histories
 pub mod Laws

@@ -1,6 +1,6 @@
 //! All places, one after another, in each part of a round.
 
-ghost use Rattle.std.specs.Prelude.{◌≡◌, ℕ, None, IfOk, get_or};
+ghost use Rattle.std.specs.Prelude.{◌≡◌, ℕ, None, IsTrue, IfOk, get_or};
 ghost use Rattle.connections.specs.Fitting.{AreFree, Tours};
 ghost use Rattle.connections.specs.Histories.{Hearing, Telling};
 
@@ -42,7 +42,9 @@ fn free_slots(alloc: Global, count: usize) -> Result<Vec<Option<Talk>>, AllocErr
 }
 
 /// Whether no place has a connection.
-pub(crate) fn are_free(places: &[Option<Talk>]) -> bool {
+pub(crate) fn are_free(places: &[Option<Talk>]) -> bool
+    ensures { IsTrue result → (place : ℕ) → get_or places.now place None ≡ None }
+{
     for slot in places {
         if slot.is_some() {
             return false;
@@ -62,7 +64,7 @@ pub(crate) fn take_all<S: Sessions, C: Connections>(
     work: &mut Work,
 ) -> u64
     requires { round.stopped ≡ None }
-    ensures { Tours S.opens S.hears S.wants S.ends C.has Hearing round.idle round.now round.stopped connections.old sessions.old places.old connections.new sessions.new places.new }
+    ensures { Tours S.opens S.hears S.wants S.ends C.has Hearing round.idle round.now round.stopped left result connections.old sessions.old places.old connections.new sessions.new places.new }
 {
     let mut left = left;
     for place in 0..places.len() {
@@ -96,7 +98,7 @@ pub(crate) fn hear_all<S: Sessions, C: Connections>(
     round: Round,
     work: &mut Work,
 )
-    ensures { Tours S.opens S.hears S.wants S.ends C.has Hearing round.idle round.now round.stopped connections.old sessions.old places.old connections.new sessions.new places.new }
+    ensures { Tours S.opens S.hears S.wants S.ends C.has Hearing round.idle round.now round.stopped 0 0 connections.old sessions.old places.old connections.new sessions.new places.new }
 {
     for place in 0..places.len() {
         hear_at(
@@ -120,7 +122,7 @@ pub(crate) fn tell_all<S: Sessions, C: Connections>(
     round: Round,
     work: &mut Work,
 )
-    ensures { Tours S.opens S.hears S.wants S.ends C.has (Telling round.is_synced) round.idle round.now round.stopped connections.old sessions.old places.old connections.new sessions.new places.new }
+    ensures { Tours S.opens S.hears S.wants S.ends C.has (Telling round.is_synced) round.idle round.now round.stopped 0 0 connections.old sessions.old places.old connections.new sessions.new places.new }
 {
     for place in 0..places.len() {
         tell_at(

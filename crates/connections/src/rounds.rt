@@ -2,7 +2,8 @@
 //! its disk, and then tells each. A round that did anything is followed by one that does not wait: a place may
 //! have become free, and there may be more to read.
 
-ghost use Rattle.std.specs.Prelude.{◌≡◌, ℕ, [], ◌∷◌, None, get_or};
+ghost use Rattle.std.specs.Prelude.{◌≡◌, ◌≢◌, ◌⊎◌, ℕ, [], ◌∷◌, None, IsTrue, get_or};
+ghost use Rattle.connections.specs.Endings.{AreWithin, HasEnded, most_comers};
 ghost use Rattle.connections.specs.Fitting.{AreFree, Has, Knows, MayOrder, Tours, Turns};
 ghost use Rattle.connections.specs.Histories.{History, Hearing, clock, stopped};
 ghost use Rattle.connections.specs.Telling.{TellsMemory};
@@ -41,7 +42,7 @@ fn take_new<S: Sessions, C: Connections>(
     left: u64,
     work: &mut Work,
 ) -> u64
-    ensures { Tours S.opens S.hears S.wants S.ends C.has Hearing round.idle round.now round.stopped connections.old sessions.old places.old connections.new sessions.new places.new }
+    ensures { Tours S.opens S.hears S.wants S.ends C.has Hearing round.idle round.now round.stopped left result connections.old sessions.old places.old connections.new sessions.new places.new }
 {
     if round.stopped.is_some() {
         return left;
@@ -58,7 +59,7 @@ fn hear_new<S: Sessions, C: Connections>(
     round: Round,
     work: &mut Work,
 )
-    ensures { Tours S.opens S.hears S.wants S.ends C.has Hearing round.idle round.now round.stopped connections.old sessions.old places.old connections.new sessions.new places.new }
+    ensures { Tours S.opens S.hears S.wants S.ends C.has Hearing round.idle round.now round.stopped 0 0 connections.old sessions.old places.old connections.new sessions.new places.new }
 {
     if round.stopped.is_some() {
         return;
@@ -88,7 +89,8 @@ struct State {
 impl State {
     /// Before the first round.
     fn new(limits: Limits) -> Self
-        ensures { (result.round.idle ≡ limits.idle) × (result.round.stopped ≡ None) }
+        ensures round { (result.round.idle ≡ limits.idle) × (result.round.stopped ≡ None) }
+        ensures left { result.left ≡ most_comers limits.count }
     {
         State {
             round: Round {
@@ -116,7 +118,9 @@ impl State {
     }
 
     /// Whether no more connections are taken.
-    fn is_closing(self) -> bool {
+    fn is_closing(self) -> bool
+        ensures { IsTrue result → (self.left ≡ 0) ⊎ (self.round.stopped ≢ None) }
+    {
         self.left == 0 || self.round.stopped.is_some()
     }
 }
@@ -129,7 +133,7 @@ fn turn<S: Sessions, C: Connections>(
     connections: &mut C,
     last: State,
 ) -> State
-    ensures turns { Turns S.opens S.hears S.wants S.ends C.has last.round.idle last.round.stopped connections.old sessions.old places.old result.round.stopped connections.new sessions.new places.new }
+    ensures turns { Turns S.opens S.hears S.wants S.ends C.has last.round.idle last.round.stopped last.left connections.old sessions.old places.old result.round.stopped result.left connections.new sessions.new places.new }
     ensures same { result.round.idle ≡ last.round.idle }
 {
     let now = connections.wait(last.pause());
@@ -168,11 +172,11 @@ fn turn_all<S: Sessions, C: Connections, E: Write>(
 )
     requires { (place : ℕ) → get_or places.old place None ≡ None }
     ensures tells { TellsMemory (E.contents errors.old) (E.contents errors.new) }
-    ensures happens { C.has connections.old [] → (acts : History) × Has S.opens S.hears S.wants S.ends C.has limits.idle sessions.old connections.new sessions.new acts }
+    ensures happens { C.has connections.old [] → (acts : History) × Has S.opens S.hears S.wants S.ends C.has limits.idle sessions.old connections.new sessions.new acts × AreWithin limits.count acts × HasEnded limits.count acts }
 {
     let mut state = State::new(limits);
     // Every loop of Rattle has an end: this one's is past any life of a server.
-    for _ in 0..u64::MAX {
+    for _round in 0..u64::MAX {
         state = turn(alloc, places, sessions, connections, state);
         tell_wanting(errors, state.work.wanting);
         if state.is_closing() && are_free(places) {
@@ -195,7 +199,7 @@ pub fn answer_all<S: Sessions, C: Connections, E: Write>(
 )
     requires { AreFree places }
     ensures tells { TellsMemory (E.contents errors.old) (E.contents errors.new) }
-    ensures happens { C.has connections.old [] → (acts : History) × Has S.opens S.hears S.wants S.ends C.has limits.idle sessions.old connections.new sessions.new acts }
+    ensures happens { C.has connections.old [] → (acts : History) × Has S.opens S.hears S.wants S.ends C.has limits.idle sessions.old connections.new sessions.new acts × AreWithin limits.count acts × HasEnded limits.count acts }
 {
     let mut places = places;
     turn_all(

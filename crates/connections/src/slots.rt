@@ -1,7 +1,7 @@
 //! One place: what happens to the connection there, if there is one, in each part of a round.
 
 ghost use Rattle.std.specs.Prelude.{◌≡◌, ◌↔◌, ℕ, List, true, false, None, Some, IsTrue, IfErr};
-ghost use Rattle.connections.specs.Fitting.{Adds, Has, IsOpeningFault, Judged, KeepsTalk, Knows, Serves, Stays};
+ghost use Rattle.connections.specs.Fitting.{Adds, Has, IsOpeningFault, Judged, KeepsTalk, Knows, Serves, Stays, came_by};
 ghost use Rattle.connections.specs.Histories.{History, Hearing, Telling, clock, course, stage, stopped};
 ghost use Rattle.connections.specs.Soundness.{Here, IsReason};
 
@@ -61,7 +61,7 @@ fn close<S: Sessions, C: Connections>(
 )
     ensures { (idle : ℕ) (start : S) (acts : History) → Has S.opens S.hears S.wants S.ends C.has idle start connections.old sessions.old acts
         → Here (course acts place) (λ of. (of.is_open ≡ true) × IsReason idle acts why of)
-        → (after : History) × Stays place acts after × Has S.opens S.hears S.wants S.ends C.has idle start connections.new sessions.new after × (course after place ≡ None) }
+        → (after : History) × Stays place 0 acts after × Has S.opens S.hears S.wants S.ends C.has idle start connections.new sessions.new after × (course after place ≡ None) }
 {
     sessions.end(place);
     connections.close(place, why);
@@ -90,7 +90,7 @@ pub(crate) fn take_at<S: Sessions, C: Connections>(
 ) -> bool
     requires free { slot.old ≡ None }
     requires goes_on { round.stopped ≡ None }
-    ensures { Serves S.opens S.hears S.wants S.ends C.has Hearing round.idle round.now round.stopped place connections.old sessions.old slot.old connections.new sessions.new slot.new }
+    ensures { Serves S.opens S.hears S.wants S.ends C.has Hearing round.idle round.now round.stopped place (came_by result) connections.old sessions.old slot.old connections.new sessions.new slot.new }
 {
     if !connections.take(place) {
         return false;
@@ -120,7 +120,7 @@ pub(crate) fn hear_at<S: Sessions, C: Connections>(
     round: Round,
     work: &mut Work,
 )
-    ensures { Serves S.opens S.hears S.wants S.ends C.has Hearing round.idle round.now round.stopped place connections.old sessions.old slot.old connections.new sessions.new slot.new }
+    ensures { Serves S.opens S.hears S.wants S.ends C.has Hearing round.idle round.now round.stopped place 0 connections.old sessions.old slot.old connections.new sessions.new slot.new }
 {
     let Some(talk) = slot else {
         return;
@@ -145,7 +145,7 @@ pub(crate) fn tell_at<S: Sessions, C: Connections>(
     round: Round,
     work: &mut Work,
 )
-    ensures { Serves S.opens S.hears S.wants S.ends C.has (Telling round.is_synced) round.idle round.now round.stopped place connections.old sessions.old slot.old connections.new sessions.new slot.new }
+    ensures { Serves S.opens S.hears S.wants S.ends C.has (Telling round.is_synced) round.idle round.now round.stopped place 0 connections.old sessions.old slot.old connections.new sessions.new slot.new }
 {
     let Some(talk) = slot else {
         return;

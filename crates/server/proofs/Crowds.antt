@@ -1,11 +1,11 @@
 -- What is answered to many connections at once is answered one message after another.
-use Rattle.std.proofs.Common.{◌≡◌, ◌⊎◌, ℕ, List, [], ◌∷◌, ◌++◌, true, false, Result, Ok, Err, refl, sym, ap, subst, ◌∙◌, inl, inr}
+use Rattle.std.proofs.Common.{ℕ, List, [], ◌∷◌, ◌++◌, true, false, Result, Ok, Err, refl, sym, ap, subst, inl, inr}
 use Rattle.wire.specs.Frames.{Frame}
 use Rattle.hub.specs.Events.{Happening, Open, Bytes, End, HubState, number}
 use Rattle.hub.specs.Exchanges.{Exchange}
 use Rattle.hub.specs.declared.hub_refusal.HubRefusal.{HubRefusal}
 use Rattle.hub.specs.declared.hub_refusal.HubRefusal.TheVariants.{TooManySessions, SessionOpen, NoSession, Memory}
-use Rattle.hub.specs.Happenings.{Answered, Happens, Passes}
+use Rattle.hub.specs.Happenings.{Happens, Passes}
 use Rattle.hub.specs.Runs.{lines, AllAnswered, Line}
 use Rattle.hub.proofs.Running.{answered_append}
 use Rattle.connections.specs.Histories.{At, Ordered, Syncs, On, Comes, Opens, Reads, IsOver, Hears, Wants, Takes, Fails, Ends, Closes, History, Leads}
@@ -17,17 +17,17 @@ module _ {S : Type 0} (answers : S → Frame → List ℕ → S → Type 0) wher
       → AllAnswered answers before.service (lines (number it) xs) after.service
   passes_answered before it xs after (inl (refusal, is, none, stays)) =
       subst (λ (ys : List Exchange). AllAnswered answers before.service (lines (number it) ys) after.service) (sym none) (ap (λ (h : HubState S). h.service) stays)
-  passes_answered before (Open session) xs after (inr (is, none, does)) =
+  passes_answered before (Open session) xs after (inr (is, (none, does))) =
       subst (λ (ys : List Exchange). AllAnswered answers before.service (lines session ys) after.service) (sym none) (ap (λ (h : HubState S). h.service) does)
-  passes_answered before (Bytes session piece) xs after (inr (is, held, left, here, set, exchanged, leaves)) =
+  passes_answered before (Bytes session piece) xs after (inr (is, (held, left, here, set, exchanged, leaves))) =
       all_replied answers session before.service _ xs after.service left exchanged
-  passes_answered before (End session) xs after (inr (is, none, does)) =
+  passes_answered before (End session) xs after (inr (is, (none, does))) =
       subst (λ (ys : List Exchange). AllAnswered answers before.service (lines session ys) after.service) (sym none) (ap (λ (h : HubState S). h.service) does)
 
   wanted_answered : (before : HubState S) (session : ℕ) (after : HubState S) → Wanted answers before session after
       → (xs : List Exchange) × AllAnswered answers before.service (lines session xs) after.service
   wanted_answered before session after (inl same) = ([], ap (λ (h : HubState S). h.service) same)
-  wanted_answered before session after (inr (part, xs, held, left, here, set, exchanged, leaves)) =
+  wanted_answered before session after (inr (part, xs, (held, left, here, set, exchanged, leaves))) =
       (xs, all_replied answers session before.service _ xs after.service left exchanged)
 
   -- ---- one event
@@ -80,7 +80,7 @@ module _ {S : Type 0} (answers : S → Frame → List ℕ → S → Type 0) wher
         still start middle after acts (crowd_answered start acts middle leads) (passes_answered (hub_of middle) (Open place) [] (hub_of after) does)
     crowd_answered start (On place (Reads bytes) ∷ acts) after leads = crowd_answered start acts after leads
     crowd_answered start (On place IsOver ∷ acts) after leads = crowd_answered start acts after leads
-    crowd_answered start (On place (Hears part reply) ∷ acts) after (middle, leads, xs, does, is) =
+    crowd_answered start (On place (Hears part reply) ∷ acts) after (middle, leads, (xs, does, is)) =
         let earlier = crowd_answered start acts middle leads in (
           earlier.0 ++ lines place xs,
           (earlier.0, xs, earlier.1, refl, is),

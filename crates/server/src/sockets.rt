@@ -2,6 +2,9 @@
 //! through; it is set by a report, and cleared by a read or a write that gets no further. Contracts know nothing
 //! of the bytes of a socket: `scripts/listen.sh` shows what these calls do.
 
+ghost use Rattle.std.specs.Prelude.{◌≡◌, ◌≤◌, ℕ, length, IfOk};
+ghost use Rattle.std.specs.Io.{ReadsAtMost};
+
 use crate::disk::Disk;
 use crate::stopping::StopInput;
 use connections::{Connections, Ending, Reading, Writing};
@@ -60,7 +63,10 @@ fn bind<N: Net>(net: &N, address: &str) -> io::Result<TcpListener> {
 }
 
 /// Tries again as long as a call is interrupted.
-fn read_some<R: Read>(reader: &mut R, room: &mut [u8]) -> io::Result<usize> {
+fn read_some<R: Read>(reader: &mut R, room: &mut [u8]) -> io::Result<usize>
+    ensures room { length room.new ≡ length room.old }
+    ensures bound { ReadsAtMost result room.new }
+{
     for _ in 0..u64::MAX {
         match reader.read(room) {
             Err(error) if error.kind() == ErrorKind::Interrupted => {}
@@ -71,7 +77,9 @@ fn read_some<R: Read>(reader: &mut R, room: &mut [u8]) -> io::Result<usize> {
 }
 
 /// Tries again as long as a call is interrupted.
-fn write_some<W: Write>(writer: &mut W, bytes: &[u8]) -> io::Result<usize> {
+fn write_some<W: Write>(writer: &mut W, bytes: &[u8]) -> io::Result<usize>
+    ensures bound { IfOk result (λ count. count ≤ length bytes.now) }
+{
     for _ in 0..u64::MAX {
         match writer.write(bytes) {
             Err(error) if error.kind() == ErrorKind::Interrupted => {}
@@ -105,7 +113,10 @@ impl Socket {
         }
     }
 
-    fn read(&mut self, room: &mut [u8]) -> Reading {
+    fn read(&mut self, room: &mut [u8]) -> Reading
+        ensures room { length room.new ≡ length room.old }
+        ensures count { (count : ℕ) → result ≡ Reading.Bytes count → (1 ≤ count) × (count ≤ length room.new) }
+    {
         if !self.may_read {
             return Reading::Wait;
         }
@@ -126,7 +137,9 @@ impl Socket {
         }
     }
 
-    fn write(&mut self, bytes: &[u8]) -> Writing {
+    fn write(&mut self, bytes: &[u8]) -> Writing
+        ensures count { (count : ℕ) → result ≡ Writing.Took count → (1 ≤ count) × (count ≤ length bytes.now) }
+    {
         if !self.may_write {
             return Writing::Wait;
         }

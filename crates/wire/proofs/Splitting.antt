@@ -28,10 +28,13 @@ frame_missing : (size : ℕ) (bytes : List ℕ) → length bytes < size → read
 frame_missing size [] short = refl
 frame_missing size (kind ∷ body) short = rw (lt-ltb (length body) (size - 1) (omega (arith, short))) refl
 
-four_there : (bytes : List ℕ) → 4 ≤ length bytes → (x : ℕ × List ℕ) × (read_number 4 bytes ≡ Ok x)
-four_there bytes long = ((big_number 4 (take 4 bytes), drop 4 bytes), rw (le-ltb (length bytes) 4 long) refl)
+pub four_read : (bytes : List ℕ) → 4 ≤ length bytes → read_number 4 bytes ≡ Ok (big_number 4 (take 4 bytes), drop 4 bytes)
+four_read bytes long = rw (le-ltb (length bytes) 4 long) refl
 
-four_missing : (bytes : List ℕ) → length bytes < 4 → read_number 4 bytes ≡ Err Short
+four_there : (bytes : List ℕ) → 4 ≤ length bytes → (x : ℕ × List ℕ) × (read_number 4 bytes ≡ Ok x)
+four_there bytes long = ((big_number 4 (take 4 bytes), drop 4 bytes), four_read bytes long)
+
+pub four_missing : (bytes : List ℕ) → length bytes < 4 → read_number 4 bytes ≡ Err Short
 four_missing bytes short = rw (lt-ltb (length bytes) 4 short) refl
 
 -- the reader, by what the first four bytes are

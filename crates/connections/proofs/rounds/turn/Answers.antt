@@ -1,4 +1,5 @@
-use Rattle.std.proofs.Common.{◌≡◌, ◌∷◌, refl, ◌∙◌}
+use Rattle.std.proofs.Common.{◌≡◌, ◌+◌, ◌∷◌, refl, ◌∙◌, arith}
+use Rattle.connections.specs.Endings.{comers}
 use Rattle.connections.specs.Histories.{At, Syncs, Hearing, of_connections, stage}
 use Rattle.connections.proofs.Touring.{begun, fit_begun}
 use Rattle.connections.proofs.rounds.turn.Goals as goal
@@ -14,4 +15,14 @@ returns-clause-turns g c = λ start acts known order fit.
     let hearing : stage h.0 ≡ Hearing = h.1.same_stage ∙ t.1.same_stage ∙ b.1 in
     let synced = c.sync.ensures (of_connections h.0) h.2.0 in
     let w = c.tell_all.ensures start (Syncs c.sync.result ∷ h.0) (synced, h.2.1, (hearing, h.2.2)) refl (h.1.same_clock ∙ t.1.same_clock ∙ b.2) (h.1.same_stop ∙ t.1.same_stop ∙ a.3) h.3 in
-    (w.0, w.2, w.1.same_stop ∙ h.1.same_stop ∙ t.1.same_stop ∙ a.3, w.3)
+    let same_h : comers h.0 + 0 ≡ comers t.0 + 0 = h.1.fewer_left in
+    let same_w : comers w.0 + 0 ≡ comers h.0 + 0 = w.1.fewer_left in
+    let fewer : comers t.0 + c.take_new-left.result ≡ comers a.0 + c.args.last.left = t.1.fewer_left in
+    let same_a : comers a.0 ≡ comers acts = b.4 in (
+      w.0,
+      w.2,
+      w.1.same_stop ∙ h.1.same_stop ∙ t.1.same_stop ∙ a.3,
+      w.3,
+      omega arith,
+      w.1.same_rounds ∙ h.1.same_rounds ∙ t.1.same_rounds ∙ b.5,
+    )

@@ -14,11 +14,15 @@ returns-clause-shown g c = λ has.
       happened.0,
       happened.1.0,
       happened.1.2,
+      happened.2,
+      happened.3,
       (
         told.0,
         told.1,
-        told.2,
-        lines_show_honest_run sha256 keyed_value keyed_signature salts g.K.Keeper.kept g.K.Keeper.failed KeyedAccepts KeyedVerifies
-            c.args.sessions.now.hub.service told.0 c.answer_all.new.sessions.hub.service c.head.ensures.well c.head-2.ensures.well told.2,
+        (
+          told.2,
+          lines_show_honest_run sha256 keyed_value keyed_signature salts g.K.Keeper.kept g.K.Keeper.failed KeyedAccepts KeyedVerifies
+              c.args.sessions.now.hub.service told.0 c.answer_all.new.sessions.hub.service c.head.ensures.well c.head-2.ensures.well told.2,
+        ),
       ),
     )

@@ -1,0 +1,53 @@
+-- When the loop over connections has ended.
+use Rattle.std.specs.Prelude.{◌≡◌, ◌⊎◌, ◌+◌, ◌-◌, ◌^◌, ◌≤◌, ℕ, zero, suc, [], ◌∷◌, Some, None}
+use Rattle.connections.specs.Histories.{At, Ordered, Syncs, On, Deed, Comes, Opens, Reads, IsOver, Hears, Wants, Takes, Fails, Ends, Closes, History, course, stopped}
+
+-- how many connections come by a deed
+abbrev pub newcomers : Deed → ℕ
+newcomers Comes = 1
+newcomers Opens = 0
+newcomers (Reads bytes) = 0
+newcomers IsOver = 0
+newcomers (Hears part reply) = 0
+newcomers Wants = 0
+newcomers (Takes bytes) = 0
+newcomers Fails = 0
+newcomers Ends = 0
+newcomers (Closes why) = 0
+
+-- how many connections were taken
+abbrev pub comers : History → ℕ
+comers [] = 0
+comers (At now ∷ before) = comers before
+comers (Ordered ∷ before) = comers before
+comers (Syncs kept ∷ before) = comers before
+comers (On place deed ∷ before) = comers before + newcomers deed
+
+-- how many rounds began
+abbrev pub rounds : History → ℕ
+rounds [] = 0
+rounds (At now ∷ before) = rounds before + 1
+rounds (Ordered ∷ before) = rounds before
+rounds (Syncs kept ∷ before) = rounds before
+rounds (On place deed ∷ before) = rounds before
+
+-- how many connections may be taken; 0 stands for the most that can be counted
+abbrev pub most_comers : ℕ → ℕ
+most_comers zero = 2 ^ 64 - 1
+most_comers (suc count) = suc count
+
+-- no more than may be taken were taken
+abbrev pub AreWithin : ℕ → History → Type 0
+AreWithin count acts = comers acts ≤ most_comers count
+
+-- no place has a connection
+abbrev pub AreGone : History → Type 0
+AreGone acts = (place : ℕ) → course acts place ≡ None
+
+-- no more connections are taken: a stop was ordered, or as many were taken as may be
+abbrev pub IsClosing : ℕ → History → Type 0
+IsClosing count acts = ((since : ℕ) × (stopped acts ≡ Some since)) ⊎ (comers acts ≡ most_comers count)
+
+-- No more connections are taken, and those that were taken are gone; or the loop had all its rounds.
+abbrev pub HasEnded : ℕ → History → Type 0
+HasEnded count acts = (AreGone acts × IsClosing count acts) ⊎ (rounds acts ≡ 2 ^ 64 - 1)
