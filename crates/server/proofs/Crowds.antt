@@ -6,7 +6,7 @@ use Rattle.hub.specs.Exchanges.{Exchange}
 use Rattle.hub.specs.Happenings.{Answered, Passes}
 use Rattle.hub.specs.Runs.{lines, AllAnswered, Line}
 use Rattle.hub.proofs.Running.{answered_append}
-use Rattle.connections.specs.Histories.{At, Ordered, Syncs, On, Comes, Opens, Reads, IsOver, Hears, Wants, Takes, Fails, Ends, Closes, History, Leads}
+use Rattle.connections.specs.Histories.{At, Ordered, Syncs, NoneWaits, On, Comes, Opens, Reads, IsOver, IsSilent, Hears, Wants, Takes, TakesNone, Fails, Ends, Closes, History, Leads}
 use Rattle.server.specs.Sessions.{Ended, Heard, Opened, Wanted}
 use Rattle.server.proofs.Conversing.{all_replied}
 
@@ -46,16 +46,19 @@ module _ {S : Type 0} (answers : S → Frame → List ℕ → S → Type 0) wher
     crowd_answered start (At now ∷ acts) after leads = crowd_answered start acts after leads
     crowd_answered start (Ordered ∷ acts) after leads = crowd_answered start acts after leads
     crowd_answered start (Syncs kept ∷ acts) after leads = crowd_answered start acts after leads
+    crowd_answered start (NoneWaits ∷ acts) after leads = crowd_answered start acts after leads
     crowd_answered start (On place Comes ∷ acts) after leads = crowd_answered start acts after leads
     crowd_answered start (On place Opens ∷ acts) after (middle, leads, does) =
         and_then start middle after (crowd_answered start acts middle leads) (lines place [], passes_answered (hub_of middle) (Open place) [] (hub_of after) does)
     crowd_answered start (On place (Reads bytes) ∷ acts) after leads = crowd_answered start acts after leads
     crowd_answered start (On place IsOver ∷ acts) after leads = crowd_answered start acts after leads
+    crowd_answered start (On place IsSilent ∷ acts) after leads = crowd_answered start acts after leads
     crowd_answered start (On place (Hears part reply) ∷ acts) after (middle, leads, xs, does, is) =
         and_then start middle after (crowd_answered start acts middle leads) (lines place xs, passes_answered (hub_of middle) (Bytes place part) xs (hub_of after) does)
     crowd_answered start (On place Wants ∷ acts) after (middle, leads, does) =
         and_then start middle after (crowd_answered start acts middle leads) (wanted_answered (hub_of middle) place (hub_of after) does)
     crowd_answered start (On place (Takes bytes) ∷ acts) after leads = crowd_answered start acts after leads
+    crowd_answered start (On place TakesNone ∷ acts) after leads = crowd_answered start acts after leads
     crowd_answered start (On place Fails ∷ acts) after leads = crowd_answered start acts after leads
     crowd_answered start (On place Ends ∷ acts) after (middle, leads, does) =
         and_then start middle after (crowd_answered start acts middle leads) (lines place [], passes_answered (hub_of middle) (End place) [] (hub_of after) does)
