@@ -3,7 +3,7 @@ use Rattle.std.proofs.Common.{◌≡◌, ℕ, List, [], ◌∷◌, ◌++◌, Boo
 use Rattle.std.proofs.lemmas.Bool.{eqb-true}
 use Rattle.std.specs.Prelude.{◌==◌}
 use Rattle.connections.specs.declared.ending.Ending.TheVariants.{Done}
-use Rattle.connections.specs.Histories.{At, Ordered, Syncs, NoneWaits, On, Deed, Comes, Opens, Reads, IsOver, IsSilent, Hears, Wants, Takes, TakesNone, Fails, Ends, Closes, History, Course, clock, course, done_at}
+use Rattle.connections.specs.Histories.{At, Ordered, GoesOn, Syncs, NoneWaits, On, Deed, Comes, Opens, Reads, IsOver, IsSilent, Hears, Wants, Takes, TakesNone, Fails, Ends, Closes, History, Course, clock, course, done_at}
 use Rattle.connections.specs.Laws.{AreInOrder}
 use Rattle.connections.specs.Soundness.{Here, IsDue, IsHeard, IsSound, IsTold}
 
@@ -50,6 +50,7 @@ in_order idle [] place sound = tt
 in_order idle (At now ∷ acts) place sound = in_order idle acts place sound
 in_order idle (Ordered ∷ acts) place sound = in_order idle acts place sound
 in_order idle (Syncs kept ∷ acts) place sound = in_order idle acts place sound.1
+in_order idle (GoesOn ∷ acts) place sound = in_order idle acts place sound.1
 in_order idle (NoneWaits ∷ acts) place sound = in_order idle acts place sound.2
 in_order idle (On other deed ∷ acts) place sound = at_place idle acts deed other place (other == place) refl sound.0 (in_order idle acts place sound.1)
 

@@ -72,6 +72,7 @@ lasts_one : (place : ℕ) (deed : Deed) (acts : History) → Lasts acts (On plac
 lasts_one place deed acts = record {
   turns = λ is other found. inr found;
   none_waited = λ none. none;
+  none_ordered = λ none. none;
   used = used_one place deed acts;
   fair = λ idle count size fair. fair;
 }
@@ -80,6 +81,7 @@ pub lasts_none : (acts : History) → Lasts acts acts
 lasts_none acts = record {
   turns = λ is other found. found;
   none_waited = λ none. none;
+  none_ordered = λ none. none;
   used = λ other used. used;
   fair = λ idle count size fair. fair;
 }
@@ -88,6 +90,7 @@ pub lasts_both : (acts between after : History) → Lasts acts between → Lasts
 lasts_both acts between after one two = record {
   turns = λ is other found. two.turns is other (one.turns is other found);
   none_waited = λ none. two.none_waited (one.none_waited none);
+  none_ordered = λ none. two.none_ordered (one.none_ordered none);
   used = λ other used. two.used other (one.used other used);
   fair = λ idle count size fair. two.fair idle count size (one.fair idle count size fair);
 }
@@ -103,6 +106,7 @@ stays_waits place acts = record {
   lasts = record {
     turns = λ is other found. found;
     none_waited = λ none. tt;
+    none_ordered = λ none. none;
     used = λ other used. used;
     fair = λ idle count size fair. fair;
   };

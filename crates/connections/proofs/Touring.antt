@@ -7,7 +7,7 @@ use Rattle.connections.specs.declared.ending.Ending.TheVariants.{Idle, Stopped}
 use Rattle.connections.specs.declared.limits.TheConstants.{LAST_MILLISECONDS}
 use Rattle.connections.specs.declared.talk.Talk.{Talk}
 use Rattle.connections.specs.Endings.{AreWithin, HasEnded, IsClosing, IsStopped, comers, most_comers, rounds}
-use Rattle.connections.specs.Fairness.{asks, offers, AreAttended, AreHeard, AreUsed, InRound, IfThere, IsAttended, IsFair, IsServed, IsUsed, IsWhole, NoneWaited}
+use Rattle.connections.specs.Fairness.{asks, offers, AreAttended, AreHeard, AreUsed, InRound, IfThere, IsAttended, IsFair, IsServed, IsUsed, IsWhole, NoneOrdered, NoneWaited}
 use Rattle.connections.specs.Fitting.{Fits, FitAll, Has, HasWholeRounds, MayOrder, Passes, Serves, Stays, Tours, Turns}
 use Rattle.connections.specs.Histories.{At, History, Course, Hearing, Telling, Stage, clock, course, stage, stopped, Leads}
 use Rattle.connections.specs.Soundness.{IsReason, IsTold}
@@ -96,9 +96,14 @@ used_here places place acts some fit below = below_more (λ other. IsUsed acts o
 
 -- the connections of a round are heard, once none more are taken and each had its turn
 pub are_heard : (count size left : ℕ) (taken heard : History) → Passes 0 0 taken heard → comers taken + left ≡ most_comers count
-    → IsStopped taken ⊎ (left ≡ 0) ⊎ NoneWaited taken ⊎ AreUsed size taken → IsStopped heard ⊎ AreAttended heard → AreHeard count size heard
-are_heard count size left taken heard passes most took turns = (may_come took, turns)
+    → IsStopped taken ⊎ NoneOrdered taken → IsStopped taken ⊎ (left ≡ 0) ⊎ NoneWaited taken ⊎ AreUsed size taken → IsStopped heard ⊎ AreAttended heard → AreHeard count size heard
+are_heard count size left taken heard passes most asked took turns = (may_come took, may_hear asked turns)
   where
+    may_hear : IsStopped taken ⊎ NoneOrdered taken → IsStopped heard ⊎ AreAttended heard → IsStopped heard ⊎ (NoneOrdered heard × AreAttended heard)
+    may_hear asked (inl stop) = inl stop
+    may_hear (inl (since, order)) (inr all) = inl (since, passes.same_stop ∙ order)
+    may_hear (inr none) (inr all) = inr (passes.lasts.none_ordered none, all)
+
     may_come : IsStopped taken ⊎ (left ≡ 0) ⊎ NoneWaited taken ⊎ AreUsed size taken → IsClosing count heard ⊎ NoneWaited heard ⊎ AreUsed size heard
     may_come (inl (since, order)) = inl (inl (since, passes.same_stop ∙ order))
     may_come (inr (inl none)) =
@@ -107,6 +112,11 @@ are_heard count size left taken heard passes most took turns = (may_come took, t
         inl (inr (omega arith))
     may_come (inr (inr (inl none))) = inr (inl (passes.lasts.none_waited none))
     may_come (inr (inr (inr used))) = inr (inr (λ place less. passes.lasts.used place (used place less)))
+
+-- whether to stop stays asked
+pub asked_on : (left left_new : ℕ) (before after : History) → Passes left left_new before after → IsStopped before ⊎ NoneOrdered before → IsStopped after ⊎ NoneOrdered after
+asked_on left left_new before after passes (inl (since, order)) = inl (since, passes.same_stop ∙ order)
+asked_on left left_new before after passes (inr none) = inr (passes.lasts.none_ordered none)
 
 pub telling : (kept : Bool) → Telling kept ≢ Hearing
 telling kept same = cc
@@ -131,7 +141,8 @@ module _ {S : Type 0} (opens : S → ℕ → S → Type 0) (hears : S → ℕ �
 
   pub begun : (start sessions : S) (acts : History) (now : ℕ) (after : History) → MayOrder (At now ∷ acts) after → Leads opens hears wants ends start acts sessions → Begun start sessions acts now after
   begun start sessions acts now after (inl same) leads = subst (Begun start sessions acts now) (sym same) (leads, refl, refl, λ place. refl, refl, refl, λ idle count size fair whole. (whole, fair))
-  begun start sessions acts now after (inr same) leads = subst (Begun start sessions acts now) (sym same) (leads, refl, refl, λ place. refl, refl, refl, λ idle count size fair whole. (whole, fair))
+  begun start sessions acts now after (inr (inl same)) leads = subst (Begun start sessions acts now) (sym same) (leads, refl, refl, λ place. refl, refl, refl, λ idle count size fair whole. (whole, fair))
+  begun start sessions acts now after (inr (inr same)) leads = subst (Begun start sessions acts now) (sym same) (leads, refl, refl, λ place. refl, refl, refl, λ idle count size fair whole. (whole, fair))
 
   pub fit_begun : (start sessions : S) (acts : History) (now : ℕ) (after : History) (places : List (Option Talk)) → Begun start sessions acts now after → FitAll places acts → FitAll places after
   fit_begun start sessions acts now after places begun fit = λ place. subst (λ (there : Option Course). Fits (get_or places place None) there) (sym (begun.3 place)) (fit place)

@@ -1,6 +1,6 @@
 -- When the loop over connections has ended.
 use Rattle.std.specs.Prelude.{◌≡◌, ◌⊎◌, ◌+◌, ◌-◌, ◌^◌, ◌≤◌, ℕ, zero, suc, [], ◌∷◌, Some, None}
-use Rattle.connections.specs.Histories.{At, Ordered, Syncs, NoneWaits, On, Deed, Comes, Opens, Reads, IsOver, IsSilent, Hears, Wants, Takes, TakesNone, Fails, Ends, Closes, History, course, stopped}
+use Rattle.connections.specs.Histories.{At, Ordered, GoesOn, Syncs, NoneWaits, On, Deed, Comes, Opens, Reads, IsOver, IsSilent, Hears, Wants, Takes, TakesNone, Fails, Ends, Closes, History, course, stopped}
 
 -- how many connections come by a deed
 abbrev pub newcomers : Deed → ℕ
@@ -23,6 +23,7 @@ comers [] = 0
 comers (At now ∷ before) = comers before
 comers (Ordered ∷ before) = comers before
 comers (Syncs kept ∷ before) = comers before
+comers (GoesOn ∷ before) = comers before
 comers (NoneWaits ∷ before) = comers before
 comers (On place deed ∷ before) = comers before + newcomers deed
 
@@ -32,6 +33,7 @@ rounds [] = 0
 rounds (At now ∷ before) = rounds before + 1
 rounds (Ordered ∷ before) = rounds before
 rounds (Syncs kept ∷ before) = rounds before
+rounds (GoesOn ∷ before) = rounds before
 rounds (NoneWaits ∷ before) = rounds before
 rounds (On place deed ∷ before) = rounds before
 

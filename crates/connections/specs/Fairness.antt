@@ -3,7 +3,7 @@ use Rattle.std.specs.Prelude.{◌≡◌, ◌≢◌, ◌⊎◌, ◌+◌, ◌<◌,
 use Rattle.connections.specs.declared.ending.Ending.TheVariants.{Done, Idle, Stopped}
 use Rattle.connections.specs.declared.limits.TheConstants.{FULL_OUTPUT}
 use Rattle.connections.specs.Endings.{IsClosing, IsStopped}
-use Rattle.connections.specs.Histories.{At, Ordered, Syncs, NoneWaits, On, Deed, Comes, Opens, Reads, IsOver, IsSilent, Hears, Wants, Takes, TakesNone, Fails, Ends, Closes, History, Course, Hearing, course, stage}
+use Rattle.connections.specs.Histories.{At, Ordered, GoesOn, Syncs, NoneWaits, On, Deed, Comes, Opens, Reads, IsOver, IsSilent, Hears, Wants, Takes, TakesNone, Fails, Ends, Closes, History, Course, Hearing, course, stage}
 use Rattle.connections.specs.Soundness.{IsHeard, IsReason, IsTold}
 
 -- ---- what happened in a round
@@ -59,6 +59,7 @@ InRound is [] place = ⊥
 InRound is (At now ∷ before) place = ⊥
 InRound is (Ordered ∷ before) place = InRound is before place
 InRound is (Syncs kept ∷ before) place = InRound is before place
+InRound is (GoesOn ∷ before) place = InRound is before place
 InRound is (NoneWaits ∷ before) place = InRound is before place
 InRound is (On other deed ∷ before) place = ((other ≡ place) × (is deed ≡ true)) ⊎ InRound is before place
 
@@ -68,8 +69,19 @@ NoneWaited [] = ⊥
 NoneWaited (At now ∷ before) = ⊥
 NoneWaited (Ordered ∷ before) = NoneWaited before
 NoneWaited (Syncs kept ∷ before) = NoneWaited before
+NoneWaited (GoesOn ∷ before) = NoneWaited before
 NoneWaited (NoneWaits ∷ before) = ⊤
 NoneWaited (On place deed ∷ before) = NoneWaited before
+
+-- in this round, no stop was ordered so far
+abbrev pub NoneOrdered : History → Type 0
+NoneOrdered [] = ⊥
+NoneOrdered (At now ∷ before) = ⊥
+NoneOrdered (Ordered ∷ before) = NoneOrdered before
+NoneOrdered (GoesOn ∷ before) = ⊤
+NoneOrdered (Syncs kept ∷ before) = NoneOrdered before
+NoneOrdered (NoneWaits ∷ before) = NoneOrdered before
+NoneOrdered (On place deed ∷ before) = NoneOrdered before
 
 -- ---- the turn of one connection
 
@@ -115,7 +127,7 @@ AreUsed size acts = (place : ℕ) → place < size → IsUsed acts place
 -- the connections of a round are heard: none is left waiting for a free place, and each had its turn to send, unless
 -- a stop was ordered
 abbrev pub AreHeard : ℕ → ℕ → History → Type 0
-AreHeard count size acts = (IsClosing count acts ⊎ NoneWaited acts ⊎ AreUsed size acts) × (IsStopped acts ⊎ AreAttended acts)
+AreHeard count size acts = (IsClosing count acts ⊎ NoneWaited acts ⊎ AreUsed size acts) × (IsStopped acts ⊎ (NoneOrdered acts × AreAttended acts))
 
 -- the round is over: what was answered was put on its disk, and each connection had its turn to take
 abbrev pub IsWhole : ℕ → History → Type 0
@@ -128,5 +140,6 @@ IsFair idle count size [] = ⊤
 IsFair idle count size (At now ∷ before) = IsWhole idle before × IsFair idle count size before
 IsFair idle count size (Ordered ∷ before) = IsFair idle count size before
 IsFair idle count size (Syncs kept ∷ before) = AreHeard count size before × IsFair idle count size before
+IsFair idle count size (GoesOn ∷ before) = IsFair idle count size before
 IsFair idle count size (NoneWaits ∷ before) = IsFair idle count size before
 IsFair idle count size (On place deed ∷ before) = IsFair idle count size before

@@ -6,8 +6,8 @@ use Rattle.connections.specs.declared.limits.TheConstants.{LAST_MILLISECONDS}
 use Rattle.connections.specs.declared.places.Places.{Places}
 use Rattle.connections.specs.declared.talk.Talk.{Talk}
 use Rattle.connections.specs.Endings.{comers, most_comers, rounds}
-use Rattle.connections.specs.Fairness.{asks, InRound, IsAttended, IsFair, IsUsed, IsWhole, NoneWaited}
-use Rattle.connections.specs.Histories.{Stage, Hearing, Ordered, On, Deed, Comes, Opens, Reads, IsOver, IsSilent, Hears, Wants, Takes, TakesNone, Fails, Ends, Closes, History, Course, clock, course, of_connections, stage, stopped, Leads}
+use Rattle.connections.specs.Fairness.{asks, InRound, IsAttended, IsFair, IsUsed, IsWhole, NoneOrdered, NoneWaited}
+use Rattle.connections.specs.Histories.{Stage, Hearing, Ordered, GoesOn, On, Deed, Comes, Opens, Reads, IsOver, IsSilent, Hears, Wants, Takes, TakesNone, Fails, Ends, Closes, History, Course, clock, course, of_connections, stage, stopped, Leads}
 use Rattle.connections.specs.Soundness.{Here, IsReason, IsSound}
 
 -- what was read and not heard, what was answered and not taken, and when the connection was last active
@@ -32,6 +32,7 @@ Fits (Some talk) (Some of) = KeepsTalk talk of
 pub record Lasts (before after : History) : Type 0 where
   pub turns : (is : Deed → Bool) (place : ℕ) → InRound is before place → InRound is after place
   pub none_waited : NoneWaited before → NoneWaited after
+  pub none_ordered : NoneOrdered before → NoneOrdered after
   pub used : (place : ℕ) → IsUsed before place → IsUsed after place
   pub fair : (idle count size : ℕ) → IsFair idle count size before → IsFair idle count size after
 
@@ -76,9 +77,9 @@ pub record Passes (left left_new : ℕ) (before after : History) : Type 0 where
   pub lasts : Lasts before after
   pub fewer_left : comers after + left_new ≡ comers before + left
 
--- a stop may be ordered
+-- a stop may be ordered, or none is so far
 abbrev pub MayOrder : History → History → Type 0
-MayOrder before after = (after ≡ before) ⊎ (after ≡ Ordered ∷ before)
+MayOrder before after = (after ≡ before) ⊎ (after ≡ Ordered ∷ before) ⊎ (after ≡ GoesOn ∷ before)
 
 -- why a connection is closed whose session was not opened
 abbrev pub IsOpeningFault : Ending → Type 0

@@ -29,11 +29,12 @@ pub data Deed : Type 0 where
   -- the connection is closed
   Closes : Ending → Deed
 
--- what happens: a round begins, at a time; a stop is ordered; what was answered is put on its disk, or is not; no
--- connection waits to be taken; or something happens at a place
+-- what happens: a round begins, at a time; a stop is ordered, or none is so far; what was answered is put on its disk,
+-- or is not; no connection waits to be taken; or something happens at a place
 pub data Act : Type 0 where
   At : ℕ → Act
   Ordered : Act
+  GoesOn : Act
   Syncs : Bool → Act
   NoneWaits : Act
   On : ℕ → Deed → Act
@@ -105,6 +106,7 @@ clock [] = 0
 clock (At now ∷ before) = now
 clock (Ordered ∷ before) = clock before
 clock (Syncs kept ∷ before) = clock before
+clock (GoesOn ∷ before) = clock before
 clock (NoneWaits ∷ before) = clock before
 clock (On place deed ∷ before) = clock before
 
@@ -118,6 +120,7 @@ stage [] = Telling false
 stage (At now ∷ before) = Hearing
 stage (Ordered ∷ before) = stage before
 stage (Syncs kept ∷ before) = Telling kept
+stage (GoesOn ∷ before) = stage before
 stage (NoneWaits ∷ before) = stage before
 stage (On place deed ∷ before) = stage before
 
@@ -131,6 +134,7 @@ stopped [] = None
 stopped (At now ∷ before) = stopped before
 stopped (Ordered ∷ before) = or_now (stopped before) (clock before)
 stopped (Syncs kept ∷ before) = stopped before
+stopped (GoesOn ∷ before) = stopped before
 stopped (NoneWaits ∷ before) = stopped before
 stopped (On place deed ∷ before) = stopped before
 
@@ -140,6 +144,7 @@ course [] place = None
 course (At now ∷ before) place = course before place
 course (Ordered ∷ before) place = course before place
 course (Syncs kept ∷ before) place = course before place
+course (GoesOn ∷ before) place = course before place
 course (NoneWaits ∷ before) place = course before place
 course (On other deed ∷ before) place = if other == place then done_at deed (clock before) (course before place) else course before place
 
@@ -151,6 +156,7 @@ of_connections [] = []
 of_connections (At now ∷ before) = At now ∷ of_connections before
 of_connections (Ordered ∷ before) = Ordered ∷ of_connections before
 of_connections (Syncs kept ∷ before) = Syncs kept ∷ of_connections before
+of_connections (GoesOn ∷ before) = GoesOn ∷ of_connections before
 of_connections (NoneWaits ∷ before) = NoneWaits ∷ of_connections before
 of_connections (On place Comes ∷ before) = On place Comes ∷ of_connections before
 of_connections (On place Opens ∷ before) = of_connections before
@@ -172,6 +178,7 @@ module _ {S : Type 0} (opens : S → ℕ → S → Type 0) (hears : S → ℕ �
   Leads start (At now ∷ before) after = Leads start before after
   Leads start (Ordered ∷ before) after = Leads start before after
   Leads start (Syncs kept ∷ before) after = Leads start before after
+  Leads start (GoesOn ∷ before) after = Leads start before after
   Leads start (NoneWaits ∷ before) after = Leads start before after
   Leads start (On place Comes ∷ before) after = Leads start before after
   Leads start (On place Opens ∷ before) after = (middle : S) × Leads start before middle × opens middle place after

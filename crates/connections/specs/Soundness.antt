@@ -3,7 +3,7 @@ use Rattle.std.specs.Prelude.{◌≡◌, ◌≢◌, ◌⊎◌, ◌+◌, ◌≤�
 use Rattle.connections.specs.declared.ending.Ending.{Ending}
 use Rattle.connections.specs.declared.ending.Ending.TheVariants.{Done, Fault, Idle, Stopped, Unsynced, Memory, Refused}
 use Rattle.connections.specs.declared.limits.TheConstants.{PIECE_SIZE, FULL_OUTPUT, LAST_MILLISECONDS}
-use Rattle.connections.specs.Histories.{At, Ordered, Syncs, NoneWaits, On, Deed, Comes, Opens, Reads, IsOver, IsSilent, Hears, Wants, Takes, TakesNone, Fails, Ends, Closes, History, Course, Hearing, Telling, clock, course, stage, stopped}
+use Rattle.connections.specs.Histories.{At, Ordered, GoesOn, Syncs, NoneWaits, On, Deed, Comes, Opens, Reads, IsOver, IsSilent, Hears, Wants, Takes, TakesNone, Fails, Ends, Closes, History, Course, Hearing, Telling, clock, course, stage, stopped}
 
 -- there is a connection, and this is so of it
 abbrev pub Here : Option Course → (Course → Type 0) → Type 0
@@ -62,5 +62,6 @@ IsSound idle [] = ⊤
 IsSound idle (At now ∷ before) = IsSound idle before
 IsSound idle (Ordered ∷ before) = IsSound idle before
 IsSound idle (Syncs kept ∷ before) = (stage before ≡ Hearing) × IsSound idle before
+IsSound idle (GoesOn ∷ before) = (stopped before ≡ None) × IsSound idle before
 IsSound idle (NoneWaits ∷ before) = (stage before ≡ Hearing) × (stopped before ≡ None) × IsSound idle before
 IsSound idle (On place deed ∷ before) = IsDue idle before deed (course before place) × IsSound idle before

@@ -1,5 +1,5 @@
 ghost use Rattle.std.specs.Prelude.{◌≡◌, ◌≢◌, ◌≤◌, ◌∷◌, ℕ, List, true, false, take, length};
-ghost use Rattle.connections.specs.Histories.{Act, At, Ordered, Syncs, NoneWaits, On, Comes, Reads, IsOver, IsSilent, Takes, TakesNone, Fails, Closes};
+ghost use Rattle.connections.specs.Histories.{Act, At, Ordered, GoesOn, Syncs, NoneWaits, On, Comes, Reads, IsOver, IsSilent, Takes, TakesNone, Fails, Closes};
 
 use crate::Ending;
 
@@ -41,7 +41,7 @@ pub trait Connections {
     /// Whether a stop has been ordered.
     fn is_stopped(&mut self) -> bool
         ensures yes { result ≡ true → (acts : List Act) → has self.old acts → has self.new (Ordered ∷ acts) }
-        ensures no { result ≡ false → (acts : List Act) → has self.old acts → has self.new acts };
+        ensures no { result ≡ false → (acts : List Act) → has self.old acts → has self.new (GoesOn ∷ acts) };
 
     /// Takes the next connection, if one waits, into a free place.
     fn take(&mut self, place: usize) -> bool

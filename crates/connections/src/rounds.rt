@@ -4,7 +4,7 @@
 
 ghost use Rattle.std.specs.Prelude.{◌≡◌, ◌≢◌, ◌⊎◌, ℕ, [], ◌∷◌, None, IsTrue, get_or, length};
 ghost use Rattle.connections.specs.Endings.{AreWithin, HasEnded, IsStopped, most_comers};
-ghost use Rattle.connections.specs.Fairness.{AreAttended, AreUsed, IsFair, IsWhole, NoneWaited};
+ghost use Rattle.connections.specs.Fairness.{AreAttended, AreUsed, IsFair, IsWhole, NoneOrdered, NoneWaited};
 ghost use Rattle.connections.specs.Fitting.{AreFree, Has, Knows, MayOrder, Tours, Turns, size_of};
 ghost use Rattle.connections.specs.Histories.{History, Hearing, clock, stopped};
 ghost use Rattle.connections.specs.Telling.{TellsMemory};
@@ -22,7 +22,8 @@ use textio::write_text;
 /// When a stop was ordered, if one was by now, where this was known before.
 fn stop_by<C: Connections>(connections: &mut C, now: u64, known: Option<u64>) -> Option<u64>
     ensures { (idle : ℕ) (acts : History) → Knows C.has idle connections.old acts → clock acts ≡ now → stopped acts ≡ known
-        → (after : History) × MayOrder acts after × Knows C.has idle connections.new after × (stopped after ≡ result) }
+        → (after : History) × MayOrder acts after × Knows C.has idle connections.new after × (stopped after ≡ result)
+        × (IsStopped after ⊎ NoneOrdered after) }
 {
     if known.is_some() {
         return known;

@@ -6,7 +6,7 @@ use Rattle.hub.specs.Exchanges.{Exchange}
 use Rattle.hub.specs.Happenings.{Answered, Passes}
 use Rattle.hub.specs.Runs.{lines, AllAnswered, Line}
 use Rattle.hub.proofs.Running.{answered_append}
-use Rattle.connections.specs.Histories.{At, Ordered, Syncs, NoneWaits, On, Comes, Opens, Reads, IsOver, IsSilent, Hears, Wants, Takes, TakesNone, Fails, Ends, Closes, History, Leads}
+use Rattle.connections.specs.Histories.{At, Ordered, GoesOn, Syncs, NoneWaits, On, Comes, Opens, Reads, IsOver, IsSilent, Hears, Wants, Takes, TakesNone, Fails, Ends, Closes, History, Leads}
 use Rattle.server.specs.Sessions.{Ended, Heard, Opened, Wanted}
 use Rattle.server.proofs.Conversing.{all_replied}
 
@@ -46,6 +46,7 @@ module _ {S : Type 0} (answers : S → Frame → List ℕ → S → Type 0) wher
     crowd_answered start (At now ∷ acts) after leads = crowd_answered start acts after leads
     crowd_answered start (Ordered ∷ acts) after leads = crowd_answered start acts after leads
     crowd_answered start (Syncs kept ∷ acts) after leads = crowd_answered start acts after leads
+    crowd_answered start (GoesOn ∷ acts) after leads = crowd_answered start acts after leads
     crowd_answered start (NoneWaits ∷ acts) after leads = crowd_answered start acts after leads
     crowd_answered start (On place Comes ∷ acts) after leads = crowd_answered start acts after leads
     crowd_answered start (On place Opens ∷ acts) after (middle, leads, does) =

@@ -2,7 +2,7 @@ use Rattle.std.proofs.Common.{◌≡◌, ◌≢◌, ◌+◌, ◌∷◌, length, 
 use Rattle.connections.specs.Endings.{comers, most_comers}
 use Rattle.connections.specs.Fairness.{AreHeard, IsFair}
 use Rattle.connections.specs.Histories.{At, Syncs, Hearing, of_connections, stage}
-use Rattle.connections.proofs.Touring.{are_heard, begun, fit_begun, telling}
+use Rattle.connections.proofs.Touring.{are_heard, asked_on, begun, fit_begun, telling}
 use Rattle.connections.proofs.rounds.turn.Goals as goal
 
 pub returns-clause-turns : goal.returns-clause-turns
@@ -24,7 +24,7 @@ returns-clause-turns g c = λ count start acts known order fit whole.
     let size = length c.args.places.now in
     let idle = c.args.last.round.idle in
     let fair : IsFair idle count size h.0 = h.1.lasts.fair idle count size (t.1.lasts.fair idle count size (b.6 idle count size whole.1 whole.2)) in
-    let heard : AreHeard count size h.0 = are_heard count size c.take_new-left.result t.0 h.0 h.1 (omega arith) t.4 h.4 in
+    let heard : AreHeard count size h.0 = are_heard count size c.take_new-left.result t.0 h.0 h.1 (omega arith) (asked_on c.args.last.left c.take_new-left.result a.0 t.0 t.1 a.4) t.4 h.4 in
     let last : stage w.0 ≢ Hearing = λ same. telling c.sync.result (sym w.1.same_stage ∙ same) in (
       w.0,
       w.2,
