@@ -1,13 +1,14 @@
 -- A connection is taken and its session opened; a session is ended and its connection closed.
-use Rattle.std.proofs.Common.{◌≡◌, ◌⊎◌, ℕ, ◌+◌, ◌≤◌, List, [], ◌∷◌, ◌++◌, true, false, Option, Some, None, Result, Ok, Err, refl, ap, ◌∙◌, inl, inr, append-nil}
+use Rattle.std.proofs.Common.{◌≡◌, ◌≢◌, ◌⊎◌, ℕ, ◌+◌, ◌≤◌, List, [], ◌∷◌, ◌++◌, true, false, Option, Some, None, Result, Ok, Err, IfOk, refl, sym, ap, ◌∙◌, arith, inl, inr, append-nil}
 use Rattle.connections.specs.declared.ending.Ending.{Ending}
 use Rattle.connections.specs.declared.ending.Ending.TheVariants.{Done, Fault, Idle, Stopped, Unsynced, Memory, Refused}
 use Rattle.connections.specs.declared.limits.TheConstants.{LAST_MILLISECONDS}
 use Rattle.connections.specs.declared.talk.Talk.{Talk}
-use Rattle.connections.specs.Fitting.{Fits, Has, IsJudged, IsOpeningFault, Judged, Keeps, KeepsTalk, Stays}
+use Rattle.connections.specs.Fairness.{IsNotDue, IsUsed}
+use Rattle.connections.specs.Fitting.{Fits, Has, IsDone, IsIdleDue, IsJudged, IsStopDue, IsOpeningFault, Judged, Keeps, KeepsTalk, Stays}
 use Rattle.connections.specs.Histories.{On, Comes, Opens, Ends, Closes, History, Course, Hearing, clock, course, done_at, of_connections, stage, stopped, taken_at}
 use Rattle.connections.specs.Soundness.{Here, IsDue, IsReason}
-use Rattle.connections.proofs.Steps.{here_at, here_of, here_one, here_so, stays_both, stays_one, went}
+use Rattle.connections.proofs.Steps.{here_at, here_of, here_one, here_so, none_left, some_there, stays_both, stays_one, went}
 
 -- ---- a place and its history
 
@@ -26,6 +27,11 @@ pub fits_none : (there : Option Course) → Fits None there → there ≡ None
 fits_none None fits = refl
 fits_none (Some of) fits = absurd fits
 
+pub fits_used : (slot : Option Talk) (there : Option Course) → Fits slot there → slot ≢ None → there ≢ None
+fits_used None there fits some = absurd (some refl)
+fits_used (Some talk) None fits some = absurd fits
+fits_used (Some talk) (Some of) fits some = some_there of
+
 -- a reason to close stays one when the session is ended
 reason_kept : (idle : ℕ) (acts : History) (place : ℕ) (of : Course) (why : Ending) → IsReason idle acts why of → IsReason idle (On place Ends ∷ acts) why (record of { is_open = false })
 reason_kept idle acts place of Done reason = reason
@@ -36,27 +42,54 @@ reason_kept idle acts place of Unsynced reason = reason
 reason_kept idle acts place of Memory reason = reason
 reason_kept idle acts place of Refused reason = reason
 
+-- what is not due by what is kept is not due
+not_due : (now idle : ℕ) (stop : Option ℕ) (acts : History) (talk : Talk) → clock acts ≡ now → stopped acts ≡ stop → ¬ IsDone talk → ¬ IsIdleDue now idle talk → ¬ IsStopDue now stop talk
+    → (of : Course) → KeepsTalk talk of → IsNotDue idle acts of
+not_due now idle stop acts talk time order not_done not_idle not_stop of keeps = (
+  λ (reason : IsReason idle acts Done of). not_done (
+    sym keeps.end ∙ reason.0,
+    none_left of.read of.heard talk.input.items keeps.input_rest reason.1,
+    none_left of.answered of.taken talk.output.items keeps.output_rest reason.2,
+  ),
+  λ (reason : IsReason idle acts Idle of).
+      let last : of.active ≡ talk.active = keeps.last in
+      let late : of.active + idle ≤ clock acts = reason.1 in
+      not_idle (reason.0, omega arith),
+  λ (reason : IsReason idle acts Stopped of). not_stop (reason.0, sym order ∙ reason.1, told reason.0 reason.2),
+)
+  where
+    told : (since : ℕ) → (of.answered ≡ of.taken) ⊎ (since + LAST_MILLISECONDS ≤ clock acts) → (talk.output.items ≡ []) ⊎ (since + LAST_MILLISECONDS ≤ now)
+    told since (inl all) = inl (none_left of.answered of.taken talk.output.items keeps.output_rest all)
+    told since (inr late) = inr (let l : since + LAST_MILLISECONDS ≤ clock acts = late in omega arith)
+
 -- the reasons of a connection that goes on well are reasons
 pub judged : (now idle : ℕ) (stop : Option ℕ) (acts : History) (place : ℕ) (talk : Talk) (result : Result ℕ Ending) → clock acts ≡ now → stopped acts ≡ stop
-    → Here (course acts place) (KeepsTalk talk) → IsJudged now idle stop talk result → Judged idle acts place result talk
-judged now idle stop acts place talk (Ok most) time order here is = here
-judged now idle stop acts place talk (Err Done) time order here is =
-    here_so (course acts place) (KeepsTalk talk) (λ (of : Course). (of.is_open ≡ true) × IsReason idle acts Done of)
-    (λ (of : Course) (keeps : KeepsTalk talk of). (
-      keeps.is_open,
-      (
-        keeps.end ∙ is.0,
-        keeps.input_rest ∙ ap (λ (t : List ℕ). of.heard ++ t) is.1 ∙ append-nil of.heard,
-        keeps.output_rest ∙ ap (λ (t : List ℕ). of.taken ++ t) is.2 ∙ append-nil of.taken,
-      ),
-    )) here
+    → Here (course acts place) (KeepsTalk talk) → IsJudged now idle stop talk result
+    → Judged idle acts place result talk × IfOk result (λ most. Here (course acts place) (IsNotDue idle acts))
+judged now idle stop acts place talk (Ok most) time order here is = (here, here_so (course acts place) (KeepsTalk talk) (IsNotDue idle acts) (not_due now idle stop acts talk time order is.0 is.1 is.2) here)
+judged now idle stop acts place talk (Err Done) time order here is = (
+  here_so (course acts place) (KeepsTalk talk) (λ (of : Course). (of.is_open ≡ true) × IsReason idle acts Done of)
+      (λ (of : Course) (keeps : KeepsTalk talk of). (
+        keeps.is_open,
+        (
+          keeps.end ∙ is.0,
+          keeps.input_rest ∙ ap (λ (t : List ℕ). of.heard ++ t) is.1 ∙ append-nil of.heard,
+          keeps.output_rest ∙ ap (λ (t : List ℕ). of.taken ++ t) is.2 ∙ append-nil of.taken,
+        ),
+      )) here,
+  tt,
+)
 judged now idle stop acts place talk (Err Fault) time order here is = absurd is
-judged now idle stop acts place talk (Err Idle) time order here is =
-    here_so (course acts place) (KeepsTalk talk) (λ (of : Course). (of.is_open ≡ true) × IsReason idle acts Idle of)
-    (λ (of : Course) (keeps : KeepsTalk talk of). (keeps.is_open, (is.0, rw (keeps.last, time) is.1))) here
-judged now idle stop acts place talk (Err Stopped) time order here is =
-    here_so (course acts place) (KeepsTalk talk) (λ (of : Course). (of.is_open ≡ true) × IsReason idle acts Stopped of)
-    (λ (of : Course) (keeps : KeepsTalk talk of). (keeps.is_open, (is.0, order ∙ is.1, told of keeps is.2))) here
+judged now idle stop acts place talk (Err Idle) time order here is = (
+  here_so (course acts place) (KeepsTalk talk) (λ (of : Course). (of.is_open ≡ true) × IsReason idle acts Idle of)
+      (λ (of : Course) (keeps : KeepsTalk talk of). (keeps.is_open, (is.0, rw (keeps.last, time) is.1))) here,
+  tt,
+)
+judged now idle stop acts place talk (Err Stopped) time order here is = (
+  here_so (course acts place) (KeepsTalk talk) (λ (of : Course). (of.is_open ≡ true) × IsReason idle acts Stopped of)
+      (λ (of : Course) (keeps : KeepsTalk talk of). (keeps.is_open, (is.0, order ∙ is.1, told of keeps is.2))) here,
+  tt,
+)
   where
     told : (of : Course) → KeepsTalk talk of → (talk.output.items ≡ []) ⊎ (is.0 + LAST_MILLISECONDS ≤ now)
         → (of.answered ≡ of.taken) ⊎ (is.0 + LAST_MILLISECONDS ≤ clock acts)
@@ -110,7 +143,7 @@ module _ {S : Type 0} (opens : S → ℕ → S → Type 0) (hears : S → ℕ �
     there = here_one place Comes acts ∙ ap (done_at Comes (clock acts)) free
 
     pub opened : (now : ℕ) → clock acts ≡ now → (new : S) → opens old place new
-        → (after : History) × Stays place 1 acts after × Has opens hears wants ends has idle start connections_taken new after × Here (course after place) (Keeps [] [] now false)
+        → (after : History) × Stays place 1 acts after × Has opens hears wants ends has idle start connections_taken new after × Here (course after place) (Keeps [] [] now false) × IsUsed after place
     opened now time new does =
         let due : IsDue idle (On place Comes ∷ acts) Opens (course (On place Comes ∷ acts) place) =
         here_at (course (On place Comes ∷ acts) place) (taken_at (clock acts)) (λ (of : Course). (of.is_open ≡ false) × (of.read ≡ [])) there (refl, refl) in (
@@ -119,10 +152,11 @@ module _ {S : Type 0} (opens : S → ℕ → S → Type 0) (hears : S → ℕ �
           (step known.0, (old, known.1, does), (due, ((free, hearing, goes), known.2))),
           here_at (course (On place Opens ∷ On place Comes ∷ acts) place) (record (taken_at (clock acts)) { is_open = true }) (Keeps [] [] now false) (went place Opens (On place Comes ∷ acts) (taken_at (clock acts)) there)
               (record { is_open = refl; input_rest = refl; output_rest = refl; last = time; end = refl }),
+          inl (λ (none : course (On place Opens ∷ On place Comes ∷ acts) place ≡ None). some_there _ (sym (went place Opens (On place Comes ∷ acts) (taken_at (clock acts)) there) ∙ none)),
         )
 
     pub refused : (why : Ending) → IsOpeningFault why → (connections_new : C) → ((acts : History) → has connections_taken acts → has connections_new (On place (Closes why) ∷ acts))
-        → (after : History) × Stays place 1 acts after × Has opens hears wants ends has idle start connections_new old after × (course after place ≡ None)
+        → (after : History) × Stays place 1 acts after × Has opens hears wants ends has idle start connections_new old after × (course after place ≡ None) × IsUsed after place
     refused why is connections_new close =
         let due : IsDue idle (On place Comes ∷ acts) (Closes why) (course (On place Comes ∷ acts) place) =
         here_at (course (On place Comes ∷ acts) place) (taken_at (clock acts)) (λ (of : Course). (of.is_open ≡ false) × IsReason idle (On place Comes ∷ acts) why of) there
@@ -131,4 +165,5 @@ module _ {S : Type 0} (opens : S → ℕ → S → Type 0) (hears : S → ℕ �
           stays_both place 1 0 acts (On place Comes ∷ acts) (On place (Closes why) ∷ On place Comes ∷ acts) (stays_one place Comes acts) (stays_one place (Closes why) (On place Comes ∷ acts)),
           (close (On place Comes ∷ of_connections acts) (step known.0), known.1, (due, ((free, hearing, goes), known.2))),
           went place (Closes why) (On place Comes ∷ acts) (taken_at (clock acts)) there,
+          inr (inl (refl, refl)),
         )

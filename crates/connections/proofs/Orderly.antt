@@ -3,7 +3,7 @@ use Rattle.std.proofs.Common.{◌≡◌, ℕ, List, [], ◌∷◌, ◌++◌, Boo
 use Rattle.std.proofs.lemmas.Bool.{eqb-true}
 use Rattle.std.specs.Prelude.{◌==◌}
 use Rattle.connections.specs.declared.ending.Ending.TheVariants.{Done}
-use Rattle.connections.specs.Histories.{At, Ordered, Syncs, On, Deed, Comes, Opens, Reads, IsOver, Hears, Wants, Takes, Fails, Ends, Closes, History, Course, clock, course, done_at}
+use Rattle.connections.specs.Histories.{At, Ordered, GoesOn, Syncs, NoneWaits, On, Deed, Comes, Opens, Reads, IsOver, IsSilent, Hears, Wants, Takes, TakesNone, Fails, Ends, Closes, History, Course, clock, course, done_at}
 use Rattle.connections.specs.Laws.{AreInOrder}
 use Rattle.connections.specs.Soundness.{Here, IsDue, IsHeard, IsSound, IsTold}
 
@@ -16,6 +16,8 @@ stays_in_order idle acts (Reads bytes) now None due order = tt
 stays_in_order idle acts (Reads bytes) now (Some of) (may, hearing, some, few) (untold, unheard, told, heard) = (untold, bytes, told, ap (λ (t : List ℕ). t ++ bytes) may.1)
 stays_in_order idle acts IsOver now None due order = tt
 stays_in_order idle acts IsOver now (Some of) due order = order
+stays_in_order idle acts IsSilent now None due order = tt
+stays_in_order idle acts IsSilent now (Some of) due order = order
 stays_in_order idle acts (Hears part reply) now None due order = tt
 stays_in_order idle acts (Hears part reply) now (Some of) (opened, room, hearing, some, (rest, split)) (untold, unheard, told, heard) = (
   untold ++ reply,
@@ -27,6 +29,8 @@ stays_in_order idle acts Wants now None due order = tt
 stays_in_order idle acts Wants now (Some of) due order = order
 stays_in_order idle acts (Takes bytes) now None due order = tt
 stays_in_order idle acts (Takes bytes) now (Some of) (telling, some, (rest, split)) (untold, unheard, told, heard) = (rest, unheard, split ∙ sym (append_assoc of.taken bytes rest), heard)
+stays_in_order idle acts TakesNone now None due order = tt
+stays_in_order idle acts TakesNone now (Some of) due order = order
 stays_in_order idle acts Fails now None due order = tt
 stays_in_order idle acts Fails now (Some of) due order = order
 stays_in_order idle acts Ends now None due order = tt
@@ -46,6 +50,8 @@ in_order idle [] place sound = tt
 in_order idle (At now ∷ acts) place sound = in_order idle acts place sound
 in_order idle (Ordered ∷ acts) place sound = in_order idle acts place sound
 in_order idle (Syncs kept ∷ acts) place sound = in_order idle acts place sound.1
+in_order idle (GoesOn ∷ acts) place sound = in_order idle acts place sound.1
+in_order idle (NoneWaits ∷ acts) place sound = in_order idle acts place sound.2
 in_order idle (On other deed ∷ acts) place sound = at_place idle acts deed other place (other == place) refl sound.0 (in_order idle acts place sound.1)
 
 whole : (idle : ℕ) (acts : History) (there : Option Course) → IsDue idle acts (Closes Done) there → Here there (λ of. IsHeard of × IsTold of)

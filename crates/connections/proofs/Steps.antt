@@ -1,12 +1,15 @@
 -- One deed more at a place.
-use Rattle.std.proofs.Common.{◌≡◌, ◌≢◌, ℕ, ◌+◌, ◌<◌, ◌≤◌, List, [], ◌∷◌, ◌++◌, length, Bool, true, false, Option, Some, None, refl, sym, ap, ◌∙◌, append_assoc, arith, inr}
-use Rattle.std.proofs.lemmas.Bool.{eq-eqb, ne_eqb}
+use Rattle.std.proofs.Common.{◌≡◌, ◌≢◌, ℕ, ◌+◌, ◌<◌, ◌≤◌, List, [], ◌∷◌, ◌++◌, ◌⊎◌, length, Bool, true, false, Option, Some, None, Result, Ok, Err, IfOk, refl, sym, ap, ◌∙◌, append_assoc, arith, inl, inr}
+use Rattle.std.proofs.lemmas.Bool.{cases_lt, eq-eqb, eqb-true, ne_eqb}
 use Rattle.std.proofs.lemmas.List.{append-nil, length-append}
 use Rattle.std.specs.Prelude.{◌==◌, ⊤}
+use Rattle.connections.specs.declared.ending.Ending.{Ending}
 use Rattle.connections.specs.declared.limits.TheConstants.{PIECE_SIZE, FULL_OUTPUT}
+use Rattle.connections.specs.declared.talk.Talk.{Talk}
 use Rattle.connections.specs.Endings.{comers, newcomers}
-use Rattle.connections.specs.Fitting.{Adds, IsOfConnection, Keeps, Knows, Stays}
-use Rattle.connections.specs.Histories.{On, Deed, Reads, IsOver, Hears, Wants, Takes, Fails, History, Course, Hearing, Telling, clock, course, done_at, if_answered, of_connections, stage, went_on}
+use Rattle.connections.specs.Fairness.{asks, closes, offers, IfThere, InRound, IsAttended, IsFull, IsNotDue, IsServed, IsUsed}
+use Rattle.connections.specs.Fitting.{Adds, IsOfConnection, Keeps, KeepsTalk, Knows, Lasts, Stays}
+use Rattle.connections.specs.Histories.{NoneWaits, On, Deed, Comes, Opens, Reads, IsOver, IsSilent, Hears, Wants, Takes, TakesNone, Fails, Ends, Closes, History, Course, Hearing, Telling, clock, course, done_at, if_answered, of_connections, stage, went_on}
 use Rattle.connections.specs.Soundness.{Here, AreNext, HasRoom, IsDue, MayRead}
 
 -- ---- where a connection is
@@ -32,6 +35,84 @@ here_one place deed acts = rw (test place) refl
 pub went : (place : ℕ) (deed : Deed) (acts : History) (of : Course) → course acts place ≡ Some of → course (On place deed ∷ acts) place ≡ went_on deed (clock acts) of
 went place deed acts of is = here_one place deed acts ∙ ap (done_at deed (clock acts)) is
 
+-- ---- a round goes on
+
+pub some_there : (of : Course) → Some of ≢ None
+some_there of same = cc
+
+done_used : (deed : Deed) (now : ℕ) (there : Option Course) → there ≢ None → (done_at deed now there ≢ None) ⊎ (closes deed ≡ true)
+done_used deed now None some = absurd (some refl)
+done_used Comes now (Some of) some = inl (some_there _)
+done_used Opens now (Some of) some = inl (some_there _)
+done_used (Reads bytes) now (Some of) some = inl (some_there _)
+done_used IsOver now (Some of) some = inl (some_there _)
+done_used IsSilent now (Some of) some = inl (some_there _)
+done_used (Hears part reply) now (Some of) some = inl (some_there _)
+done_used Wants now (Some of) some = inl (some_there _)
+done_used (Takes bytes) now (Some of) some = inl (some_there _)
+done_used TakesNone now (Some of) some = inl (some_there _)
+done_used Fails now (Some of) some = inl (some_there _)
+done_used Ends now (Some of) some = inl (some_there _)
+done_used (Closes why) now (Some of) some = inr refl
+
+-- by whether the deed is at this place
+used_at : (place : ℕ) (deed : Deed) (acts : History) (other : ℕ) (here : Bool) → (place == other) ≡ here → course acts other ≢ None → IsUsed (On place deed ∷ acts) other
+used_at place deed acts other true is some = by_deed (done_used deed (clock acts) (course acts other) some)
+  where
+    by_deed : (done_at deed (clock acts) (course acts other) ≢ None) ⊎ (closes deed ≡ true) → IsUsed (On place deed ∷ acts) other
+    by_deed (inl there) = inl (rw is there)
+    by_deed (inr shut) = inr (inl (eqb-true place other is, shut))
+used_at place deed acts other false is some = inl (rw is some)
+
+used_one : (place : ℕ) (deed : Deed) (acts : History) (other : ℕ) → IsUsed acts other → IsUsed (On place deed ∷ acts) other
+used_one place deed acts other (inl some) = used_at place deed acts other (place == other) refl some
+used_one place deed acts other (inr shut) = inr (inr shut)
+
+lasts_one : (place : ℕ) (deed : Deed) (acts : History) → Lasts acts (On place deed ∷ acts)
+lasts_one place deed acts = record {
+  turns = λ is other found. inr found;
+  none_waited = λ none. none;
+  none_ordered = λ none. none;
+  used = used_one place deed acts;
+  fair = λ idle count size fair. fair;
+}
+
+pub lasts_none : (acts : History) → Lasts acts acts
+lasts_none acts = record {
+  turns = λ is other found. found;
+  none_waited = λ none. none;
+  none_ordered = λ none. none;
+  used = λ other used. used;
+  fair = λ idle count size fair. fair;
+}
+
+pub lasts_both : (acts between after : History) → Lasts acts between → Lasts between after → Lasts acts after
+lasts_both acts between after one two = record {
+  turns = λ is other found. two.turns is other (one.turns is other found);
+  none_waited = λ none. two.none_waited (one.none_waited none);
+  none_ordered = λ none. two.none_ordered (one.none_ordered none);
+  used = λ other used. two.used other (one.used other used);
+  fair = λ idle count size fair. two.fair idle count size (one.fair idle count size fair);
+}
+
+-- nothing happens at a place, where no connection waits
+pub stays_waits : (place : ℕ) (acts : History) → Stays place 0 acts (NoneWaits ∷ acts)
+stays_waits place acts = record {
+  others = λ other differs. refl;
+  same_clock = refl;
+  same_stage = refl;
+  same_stop = refl;
+  same_rounds = refl;
+  lasts = record {
+    turns = λ is other found. found;
+    none_waited = λ none. tt;
+    none_ordered = λ none. none;
+    used = λ other used. used;
+    fair = λ idle count size fair. fair;
+  };
+  more_came = omega arith;
+}
+
 -- all others stay
 pub stays_one : (place : ℕ) (deed : Deed) (acts : History) → Stays place (newcomers deed) acts (On place deed ∷ acts)
 stays_one place deed acts = record {
@@ -40,8 +121,21 @@ stays_one place deed acts = record {
   same_stage = refl;
   same_stop = refl;
   same_rounds = refl;
+  lasts = lasts_one place deed acts;
   more_came = refl;
 }
+
+-- nothing is left of a list that was the whole
+pub none_left : (xs ys rest : List ℕ) → xs ≡ ys ++ rest → xs ≡ ys → rest ≡ []
+none_left xs ys [] split same = refl
+none_left xs ys (x ∷ rest) split same =
+    let size : length xs ≡ length ys + length (x ∷ rest) = ap length split ∙ length-append ys (x ∷ rest) in
+    let equal : length xs ≡ length ys = ap length same in
+    absurd (omega arith)
+
+-- output waits, so less is taken than answered
+pub not_told : (of : Course) (input output : List ℕ) (active : ℕ) (over : Bool) → output ≢ [] → Keeps input output active over of → of.answered ≢ of.taken
+not_told of input output active over some keeps same = some (none_left of.answered of.taken output keeps.output_rest same)
 
 -- ---- a deed that leaves a connection
 
@@ -84,6 +178,15 @@ next_over idle acts place input output active over hearing here =
           }),
     )
 
+pub next_silent : (idle : ℕ) (acts : History) (place : ℕ) (input output : List ℕ) (active : ℕ) (over : Bool) → stage acts ≡ Hearing
+    → Here (course acts place) (λ of. Keeps input output active over of × MayRead of) → Next idle acts place IsSilent (Keeps input output active over)
+next_silent idle acts place input output active over hearing here =
+    let found = here_of (course acts place) (λ (of : Course). Keeps input output active over of × MayRead of) here in
+    let of : Course = found.0 in (
+      here_at (course acts place) of (λ (of : Course). MayRead of × (stage acts ≡ Hearing)) found.1 (found.2.1, hearing),
+      here_at (course (On place IsSilent ∷ acts) place) of (Keeps input output active over) (went place IsSilent acts of found.1) found.2.0,
+    )
+
 pub next_fail : (idle : ℕ) (acts : History) (place : ℕ) → Here (course acts place) (λ of. of.is_open ≡ true)
     → Next idle acts place Fails (λ of. (of.is_open ≡ true) × (of.has_failed ≡ true))
 next_fail idle acts place here =
@@ -111,17 +214,27 @@ next_take idle acts place bytes rest input output active over now time telling s
           }),
     )
 
+pub next_take_none : (idle : ℕ) (acts : History) (place : ℕ) (input output : List ℕ) (active : ℕ) (over : Bool) → stage acts ≡ Telling true → output ≢ []
+    → Here (course acts place) (Keeps input output active over) → Next idle acts place TakesNone (Keeps input output active over)
+next_take_none idle acts place input output active over telling some here =
+    let found = here_of (course acts place) (Keeps input output active over) here in
+    let of : Course = found.0 in (
+      here_at (course acts place) of (λ (of : Course). (stage acts ≡ Telling true) × (of.answered ≢ of.taken)) found.1 (telling, not_told of input output active over some found.2),
+      here_at (course (On place TakesNone ∷ acts) place) of (Keeps input output active over) (went place TakesNone acts of found.1) found.2,
+    )
+
 -- ---- a deed of a connection
 
 module _ {C : Type 0} (has : C → History → Type 0) where
   -- what comes of a deed of a connection
-  abbrev pub Comes-to : ℕ → ℕ → History → C → (Course → Type 0) → Type 0
-  Comes-to idle place acts new P = (after : History) × Adds place acts after × Knows has idle new after × Here (course after place) P
+  abbrev pub Comes-to : ℕ → ℕ → History → Deed → C → (Course → Type 0) → Type 0
+  Comes-to idle place acts deed new P = (after : History) × Adds place acts after × Knows has idle new after × Here (course after place) P
+      × ((is : Deed → Bool) → is deed ≡ true → InRound is after place)
 
   pub come_to : (idle place : ℕ) (acts : History) (old new : C) (deed : Deed) (P : Course → Type 0) → IsOfConnection deed
       → (has old (of_connections acts) → has new (of_connections (On place deed ∷ acts))) → Knows has idle old acts → Next idle acts place deed P
-      → Comes-to idle place acts new P
-  come_to idle place acts old new deed P is step knows next = (On place deed ∷ acts, inr (deed, is, refl), (step knows.0, (next.0, knows.1)), next.1)
+      → Comes-to idle place acts deed new P
+  come_to idle place acts old new deed P is step knows next = (On place deed ∷ acts, inr (deed, is, refl), (step knows.0, (next.0, knows.1)), next.1, λ test so. inl (refl, so))
 
 -- ---- a part that is heard
 
@@ -170,7 +283,7 @@ next_want idle acts place here =
 -- ---- several deeds
 
 pub stays_none : (place : ℕ) (acts : History) → Stays place 0 acts acts
-stays_none place acts = record { others = λ other differs. refl; same_clock = refl; same_stage = refl; same_stop = refl; same_rounds = refl; more_came = omega arith }
+stays_none place acts = record { others = λ other differs. refl; same_clock = refl; same_stage = refl; same_stop = refl; same_rounds = refl; lasts = lasts_none acts; more_came = omega arith }
 
 pub stays_both : (place came more : ℕ) (acts between after : History) → Stays place came acts between → Stays place more between after → Stays place (came + more) acts after
 stays_both place came more acts between after one two = record {
@@ -179,6 +292,7 @@ stays_both place came more acts between after one two = record {
   same_stage = two.same_stage ∙ one.same_stage;
   same_stop = two.same_stop ∙ one.same_stop;
   same_rounds = two.same_rounds ∙ one.same_rounds;
+  lasts = lasts_both acts between after one.lasts two.lasts;
   more_came = let a : comers between ≡ comers acts + came = one.more_came in let b : comers after ≡ comers between + more = two.more_came in omega arith;
 }
 
@@ -194,13 +308,54 @@ may_read there input output active over none more few here =
     (keeps, (keeps.is_open, keeps.input_rest ∙ ap (λ (t : List ℕ). of.heard ++ t) none ∙ append-nil of.heard, room, keeps.end ∙ more)))
     here
 
--- output waits, so less is taken than answered
-pub not_told : (of : Course) (input output : List ℕ) (active : ℕ) (over : Bool) → output ≢ [] → Keeps input output active over of → of.answered ≢ of.taken
-not_told of input output active over some keeps same =
-    let size : length of.answered ≡ length of.taken + length output = ap length keeps.output_rest ∙ length-append of.taken output in
-    let equal : length of.answered ≡ length of.taken = ap length same in
-    some (length-none output (omega arith))
+-- ---- the turn to send
+
+-- nothing is left to be heard, or the output is full
+pub attended : (there : Option Course) (acts : History) (place : ℕ) (input output : List ℕ) (active : ℕ) (over : Bool) → (input ≡ []) ⊎ (FULL_OUTPUT < length output)
+    → (over ≡ true) ⊎ InRound asks acts place ⊎ (FULL_OUTPUT < length output) → Here there (Keeps input output active over) → Here there (IsAttended acts place)
+attended there acts place input output active over all asked here =
+    here_so there (Keeps input output active over) (IsAttended acts place) (λ (of : Course) (keeps : Keeps input output active over of). by_case of keeps all asked) here
   where
-    length-none : (xs : List ℕ) → length xs ≡ 0 → xs ≡ []
-    length-none [] e = refl
-    length-none (x ∷ xs) e = absurd (omega arith)
+    full : (of : Course) → Keeps input output active over of → FULL_OUTPUT < length output → IsFull of
+    full of keeps more =
+        let size : length of.answered ≡ length of.taken + length output = ap length keeps.output_rest ∙ length-append of.taken output in omega arith
+
+    by_case : (of : Course) → Keeps input output active over of → (input ≡ []) ⊎ (FULL_OUTPUT < length output) → (over ≡ true) ⊎ InRound asks acts place ⊎ (FULL_OUTPUT < length output)
+        → IsAttended acts place of
+    by_case of keeps (inr more) asked = inl (full of keeps more)
+    by_case of keeps (inl none) (inl gone) = inr (keeps.input_rest ∙ ap (λ (t : List ℕ). of.heard ++ t) none ∙ append-nil of.heard, inl (keeps.end ∙ gone))
+    by_case of keeps (inl none) (inr (inl found)) = inr (keeps.input_rest ∙ ap (λ (t : List ℕ). of.heard ++ t) none ∙ append-nil of.heard, inr found)
+    by_case of keeps (inl none) (inr (inr more)) = inl (full of keeps more)
+
+-- nothing may be read, and nothing was heard
+pub not_read : (input output : List ℕ) (over : Bool) → ¬ ((input ≡ []) × (over ≡ false) × (length output ≤ FULL_OUTPUT)) → (input ≡ []) ⊎ (FULL_OUTPUT < length output)
+    → (over ≡ true) ⊎ (FULL_OUTPUT < length output)
+not_read input output true not all = inl refl
+not_read input output false not (inr more) = inr more
+not_read input output false not (inl none) = by_size (cases_lt FULL_OUTPUT (length output))
+  where
+    by_size : (FULL_OUTPUT < length output) ⊎ (length output ≤ FULL_OUTPUT) → (false ≡ true) ⊎ (FULL_OUTPUT < length output)
+    by_size (inl more) = inr more
+    by_size (inr less) = absurd (not (none, refl, less))
+
+-- ---- the turn to take
+
+pub offered : (result : Result Bool Ending) (acts : History) (place : ℕ) (output : List ℕ) → IfOk result (λ done. InRound offers acts place)
+    → IfOk result (λ done. (output ≡ []) ⊎ InRound offers acts place)
+offered (Ok done) acts place output found = inr found
+offered (Err why) acts place output none = tt
+
+pub served : (idle : ℕ) (acts : History) (place : ℕ) (there : Option Course) (talk : Talk) → Here there (KeepsTalk talk) → (talk.output.items ≡ []) ⊎ InRound offers acts place
+    → Here there (IsNotDue idle acts) → Here there (IsServed idle acts place)
+served idle acts place None talk here told not_due = here
+served idle acts place (Some of) talk keeps (inl none) not_due = (inl (keeps.output_rest ∙ ap (λ (t : List ℕ). of.taken ++ t) none ∙ append-nil of.taken), not_due)
+served idle acts place (Some of) talk keeps (inr found) not_due = (inr found, not_due)
+
+-- ---- what is so of a place
+
+pub there_here : (there : Option Course) (P : Course → Type 0) → Here there P → IfThere there P
+there_here None P here = tt
+there_here (Some of) P here = here
+
+pub there_none : (there : Option Course) (P : Course → Type 0) → there ≡ None → IfThere there P
+there_none there P none = rw none tt

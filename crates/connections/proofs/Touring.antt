@@ -1,69 +1,250 @@
 -- How a round begins, and what comes of rounds.
-use Rattle.std.proofs.Common.{◌≡◌, ◌≢◌, ◌⊎◌, ℕ, ◌+◌, ◌-◌, ◌^◌, ◌≤◌, List, [], ◌∷◌, get_or, Option, None, Some, refl, sym, ap, subst, ◌∙◌, arith, inl, inr}
+use Rattle.std.proofs.Common.{◌≡◌, ◌≢◌, ◌⊎◌, ℕ, ◌+◌, ◌-◌, ◌^◌, ◌<◌, ◌≤◌, List, [], ◌∷◌, length, get_or, set, Bool, true, false, Option, None, Some, refl, sym, ap, subst, ◌∙◌, arith, inl, inr, below_more, get_or-set_same, get_or-set_other}
+use Rattle.std.proofs.lemmas.Bool.{cases_lt, eqb-true, eqb-false}
+use Rattle.std.proofs.lemmas.List.{get_or_past, get_or_read}
+use Rattle.std.specs.Prelude.{◌==◌}
+use Rattle.connections.specs.declared.ending.Ending.TheVariants.{Idle, Stopped}
+use Rattle.connections.specs.declared.limits.TheConstants.{LAST_MILLISECONDS}
 use Rattle.connections.specs.declared.talk.Talk.{Talk}
-use Rattle.connections.specs.Endings.{AreWithin, HasEnded, IsClosing, comers, most_comers, rounds}
-use Rattle.connections.specs.Fitting.{Fits, FitAll, Has, MayOrder, Turns}
-use Rattle.connections.specs.Histories.{At, History, Course, Hearing, clock, course, stage, stopped, Leads}
-use Rattle.connections.proofs.Closing.{fits_none}
+use Rattle.connections.specs.Endings.{AreWithin, HasEnded, IsClosing, IsStopped, comers, most_comers, rounds}
+use Rattle.connections.specs.Fairness.{asks, offers, AreAttended, AreHeard, AreUsed, InRound, IfThere, IsAttended, IsFair, IsServed, IsUsed, IsWhole, NoneOrdered, NoneWaited}
+use Rattle.connections.specs.Fitting.{Fits, FitAll, Has, HasWholeRounds, MayOrder, Passes, Serves, Stays, Tours, Turns}
+use Rattle.connections.specs.Histories.{At, History, Course, Hearing, Telling, Stage, clock, course, stage, stopped, Leads}
+use Rattle.connections.specs.Soundness.{IsReason, IsTold}
+use Rattle.connections.proofs.Closing.{fits_none, fits_used}
+use Rattle.connections.proofs.Steps.{lasts_both, lasts_none}
 
 -- nothing happened yet
 pub all_free : (places : List (Option Talk)) → ((place : ℕ) → get_or places place None ≡ None) → FitAll places []
 all_free places free = λ place. subst (λ (slot : Option Talk). Fits slot None) (sym (free place)) tt
+
+-- ---- a place that has had its turn
+
+-- all places still fit, of which one has changed
+set_fits : (places : List (Option Talk)) (place : ℕ) (slot : Option Talk) (before after : History) (came : ℕ) → place < length places → Stays place came before after → FitAll places before
+    → Fits slot (course after place) → FitAll (set places place slot) after
+set_fits places place slot before after came inside stays fit fits = λ other. by_place other (other == place) refl
+  where
+    by_place : (other : ℕ) (here : Bool) → (other == place) ≡ here → Fits (get_or (set places place slot) other None) (course after other)
+    by_place other true is =
+        let same : other ≡ place = eqb-true other place is in
+        subst (λ (n : ℕ). Fits (get_or (set places place slot) n None) (course after n)) (sym same)
+        (subst (λ (kept : Option Talk). Fits kept (course after place)) (sym (get_or-set_same places place slot None inside)) fits)
+    by_place other false is =
+        let differs : other ≢ place = eqb-false other place is in
+        subst (λ (kept : Option Talk). Fits kept (course after other)) (sym (get_or-set_other places place other slot None differs))
+        (subst (λ (there : Option Course). Fits (get_or places other None) there) (sym (stays.others other differs)) (fit other))
+
+-- what is so of a connection and of what happened at its place stays so, while another has its turn
+there_stays : (before after : History) (other : ℕ) (P Q : Course → Type 0) → course after other ≡ course before other → ((of : Course) → P of → Q of) → IfThere (course before other) P
+    → IfThere (course after other) Q
+there_stays before after other P Q same so is = subst (λ (there : Option Course). IfThere there Q) (sym same) (over (course before other) is)
+  where
+    over : (there : Option Course) → IfThere there P → IfThere there Q
+    over None is = tt
+    over (Some of) is = so of is
+
+abbrev pub Attended : ℕ → History → Type 0
+Attended place acts = IfThere (course acts place) (IsAttended acts place)
+
+abbrev pub Served : ℕ → ℕ → History → Type 0
+Served idle place acts = IfThere (course acts place) (IsServed idle acts place)
+
+-- the places below have had their turn
+abbrev pub Below : (ℕ → History → Type 0) → ℕ → History → Type 0
+Below P size acts = (place : ℕ) → place < size → P place acts
+
+pub more_attended : (place came : ℕ) (before after : History) → Stays place came before after → Below Attended place before → Attended place after → Below Attended (place + 1) after
+more_attended place came before after stays below here =
+    below_more (λ other. Attended other after) place
+    (λ other less. there_stays before after other (IsAttended before other) (IsAttended after other) (stays.others other (λ same. absurd (omega arith))) (on other) (below other less)) here
+  where
+    on : (other : ℕ) (of : Course) → IsAttended before other of → IsAttended after other of
+    on other of (inl full) = inl full
+    on other of (inr (heard, inl gone)) = inr (heard, inl gone)
+    on other of (inr (heard, inr found)) = inr (heard, inr (stays.lasts.turns asks other found))
+
+pub more_served : (idle place came : ℕ) (before after : History) → Stays place came before after → Below (Served idle) place before → Served idle place after → Below (Served idle) (place + 1) after
+more_served idle place came before after stays below here =
+    below_more (λ other. Served idle other after) place
+    (λ other less. there_stays before after other (IsServed idle before other) (IsServed idle after other) (stays.others other (λ same. absurd (omega arith))) (on other) (below other less)) here
+  where
+    told : (other : ℕ) (of : Course) → IsTold of ⊎ InRound offers before other → IsTold of ⊎ InRound offers after other
+    told other of (inl all) = inl all
+    told other of (inr found) = inr (stays.lasts.turns offers other found)
+
+    on : (other : ℕ) (of : Course) → IsServed idle before other of → IsServed idle after other of
+    on other of (is, (not_done, not_idle, not_stopped)) = (
+      told other of is,
+      (
+        not_done,
+        λ (reason : IsReason idle after Idle of). not_idle (reason.0, subst (λ (now : ℕ). of.active + idle ≤ now) stays.same_clock reason.1),
+        λ (reason : IsReason idle after Stopped of). not_stopped (
+          reason.0,
+          sym stays.same_stop ∙ reason.1,
+          subst (λ (now : ℕ). IsTold of ⊎ (reason.0 + LAST_MILLISECONDS ≤ now)) stays.same_clock reason.2,
+        ),
+      ),
+    )
+
+pub more_used : (place came : ℕ) (before after : History) → Stays place came before after → AreUsed place before → IsUsed after place → AreUsed (place + 1) after
+more_used place came before after stays below here = below_more (λ other. IsUsed after other) place (λ other less. stays.lasts.used other (below other less)) here
+
+-- a place that has a connection is used
+pub used_here : (places : List (Option Talk)) (place : ℕ) (acts : History) → get_or places place None ≢ None → FitAll places acts → AreUsed place acts → AreUsed (place + 1) acts
+used_here places place acts some fit below = below_more (λ other. IsUsed acts other) place below (inl (fits_used (get_or places place None) (course acts place) (fit place) some))
+
+-- the connections of a round are heard, once none more are taken and each had its turn
+pub are_heard : (count size left : ℕ) (taken heard : History) → Passes 0 0 taken heard → comers taken + left ≡ most_comers count
+    → IsStopped taken ⊎ NoneOrdered taken → IsStopped taken ⊎ (left ≡ 0) ⊎ NoneWaited taken ⊎ AreUsed size taken → IsStopped heard ⊎ AreAttended heard → AreHeard count size heard
+are_heard count size left taken heard passes most asked took turns = (may_come took, may_hear asked turns)
+  where
+    may_hear : IsStopped taken ⊎ NoneOrdered taken → IsStopped heard ⊎ AreAttended heard → IsStopped heard ⊎ (NoneOrdered heard × AreAttended heard)
+    may_hear asked (inl stop) = inl stop
+    may_hear (inl (since, order)) (inr all) = inl (since, passes.same_stop ∙ order)
+    may_hear (inr none) (inr all) = inr (passes.lasts.none_ordered none, all)
+
+    may_come : IsStopped taken ⊎ (left ≡ 0) ⊎ NoneWaited taken ⊎ AreUsed size taken → IsClosing count heard ⊎ NoneWaited heard ⊎ AreUsed size heard
+    may_come (inl (since, order)) = inl (inl (since, passes.same_stop ∙ order))
+    may_come (inr (inl none)) =
+        let same : comers heard + 0 ≡ comers taken + 0 = passes.fewer_left in
+        let m : comers taken + left ≡ most_comers count = most in
+        inl (inr (omega arith))
+    may_come (inr (inr (inl none))) = inr (inl (passes.lasts.none_waited none))
+    may_come (inr (inr (inr used))) = inr (inr (λ place less. passes.lasts.used place (used place less)))
+
+-- whether to stop stays asked
+pub asked_on : (left left_new : ℕ) (before after : History) → Passes left left_new before after → IsStopped before ⊎ NoneOrdered before → IsStopped after ⊎ NoneOrdered after
+asked_on left left_new before after passes (inl (since, order)) = inl (since, passes.same_stop ∙ order)
+asked_on left left_new before after passes (inr none) = inr (passes.lasts.none_ordered none)
+
+pub telling : (kept : Bool) → Telling kept ≢ Hearing
+telling kept same = cc
+
+-- behind the last place there is no connection
+pub all_there : (places : List (Option Talk)) (acts : History) (P : ℕ → Course → Type 0) → FitAll places acts → ((place : ℕ) → place < length places → IfThere (course acts place) (P place))
+    → (place : ℕ) → IfThere (course acts place) (P place)
+all_there places acts P fit below place = by_size (cases_lt place (length places))
+  where
+    by_size : (place < length places) ⊎ (length places ≤ place) → IfThere (course acts place) (P place)
+    by_size (inl less) = below place less
+    by_size (inr past) =
+        let none : course acts place ≡ None = fits_none (course acts place) (subst (λ (slot : Option Talk). Fits slot (course acts place)) (get_or_past places place None past) (fit place)) in
+        subst (λ (there : Option Course). IfThere there (P place)) (sym none) tt
 
 module _ {S : Type 0} (opens : S → ℕ → S → Type 0) (hears : S → ℕ → List ℕ → List ℕ → S → Type 0) (wants ends : S → ℕ → S → Type 0) where
   -- what is so when a round has begun
   abbrev pub Begun : S → S → History → ℕ → History → Type 0
   Begun start sessions acts now after = Leads opens hears wants ends start after sessions × (stage after ≡ Hearing) × (clock after ≡ now) × ((place : ℕ) → course after place ≡ course acts place)
       × (comers after ≡ comers acts) × (rounds after ≡ rounds acts + 1)
+      × ((idle count size : ℕ) → IsFair idle count size acts → IsWhole idle acts → IsFair idle count size after)
 
   pub begun : (start sessions : S) (acts : History) (now : ℕ) (after : History) → MayOrder (At now ∷ acts) after → Leads opens hears wants ends start acts sessions → Begun start sessions acts now after
-  begun start sessions acts now after (inl same) leads = subst (Begun start sessions acts now) (sym same) (leads, refl, refl, λ place. refl, refl, refl)
-  begun start sessions acts now after (inr same) leads = subst (Begun start sessions acts now) (sym same) (leads, refl, refl, λ place. refl, refl, refl)
+  begun start sessions acts now after (inl same) leads = subst (Begun start sessions acts now) (sym same) (leads, refl, refl, λ place. refl, refl, refl, λ idle count size fair whole. (whole, fair))
+  begun start sessions acts now after (inr (inl same)) leads = subst (Begun start sessions acts now) (sym same) (leads, refl, refl, λ place. refl, refl, refl, λ idle count size fair whole. (whole, fair))
+  begun start sessions acts now after (inr (inr same)) leads = subst (Begun start sessions acts now) (sym same) (leads, refl, refl, λ place. refl, refl, refl, λ idle count size fair whole. (whole, fair))
 
   pub fit_begun : (start sessions : S) (acts : History) (now : ℕ) (after : History) (places : List (Option Talk)) → Begun start sessions acts now after → FitAll places acts → FitAll places after
   fit_begun start sessions acts now after places begun fit = λ place. subst (λ (there : Option Course). Fits (get_or places place None) there) (sym (begun.3 place)) (fit place)
 
   module _ {C : Type 0} (has : C → History → Type 0) where
+    -- ---- places, one after another
+
+    module _ (when : Stage) (idle now : ℕ) (stop : Option ℕ) where
+      -- one place more; what was so of the round, and is so of this place, leads to what is then so
+      pub toured : (left middle left_new came place : ℕ) (Before There After : History → Type 0) (connections between connections_new : C) (old new latest : S)
+          (places places_new : List (Option Talk)) (item slot : Option Talk) → middle ≡ left_new + came → place < length places_new → item ≡ get_or places_new place item
+          → ((before after : History) → Stays place came before after → Before before → There after → After after)
+          → Tours opens hears wants ends has when idle now stop left middle Before connections old places between new places_new
+          → Serves opens hears wants ends has when idle now stop place came There between new (get_or places_new place item) connections_new latest slot
+          → Tours opens hears wants ends has when idle now stop left left_new After connections old places connections_new latest (set places_new place slot)
+      toured left middle left_new came place Before There After connections between connections_new old new latest places places_new item slot fewer inside is leads tours serves =
+          λ start acts known at time order fit.
+          let a = tours start acts known at time order fit in
+          let b = serves start a.0 a.2 (a.1.same_stage ∙ at) (a.1.same_clock ∙ time) (a.1.same_stop ∙ order)
+          (subst (λ (kept : Option Talk). Fits kept (course a.0 place)) (sym (get_or_read places_new place item inside is None) ∙ is) (a.3 place)) in
+          let one : comers a.0 + middle ≡ comers acts + left = a.1.fewer_left in
+          let two : comers b.0 ≡ comers a.0 + came = b.1.more_came in (
+            b.0,
+            record {
+              same_clock = b.1.same_clock ∙ a.1.same_clock;
+              same_stage = b.1.same_stage ∙ a.1.same_stage;
+              same_stop = b.1.same_stop ∙ a.1.same_stop;
+              same_rounds = b.1.same_rounds ∙ a.1.same_rounds;
+              lasts = lasts_both acts a.0 b.0 a.1.lasts b.1.lasts;
+              fewer_left = omega arith;
+            },
+            b.2,
+            set_fits places_new place slot a.0 b.0 came inside b.1 a.3 b.3,
+            leads a.0 b.0 b.1 a.4 b.4,
+          )
+
+      -- the same tour, of which less or other things are said
+      pub toured_so : (left left_new : ℕ) (Before After : History → Type 0) (connections connections_new : C) (old new : S) (places places_new : List (Option Talk))
+          → ((acts : History) → FitAll places_new acts → Before acts → After acts)
+          → Tours opens hears wants ends has when idle now stop left left_new Before connections old places connections_new new places_new
+          → Tours opens hears wants ends has when idle now stop left left_new After connections old places connections_new new places_new
+      toured_so left left_new Before After connections connections_new old new places places_new so tours = λ start acts known at time order fit.
+          let a = tours start acts known at time order fit in (a.0, a.1, a.2, a.3, so a.0 a.3 a.4)
+
+      -- no place yet
+      pub toured_none : (left : ℕ) (None_yet : History → Type 0) (connections : C) (old : S) (places : List (Option Talk)) → ((acts : History) → None_yet acts)
+          → Tours opens hears wants ends has when idle now stop left left None_yet connections old places connections old places
+      toured_none left None_yet connections old places so = λ start acts known at time order fit. (
+        acts,
+        record { same_clock = refl; same_stage = refl; same_stop = refl; same_rounds = refl; lasts = lasts_none acts; fewer_left = refl },
+        known,
+        fit,
+        so acts,
+      )
+
+    -- ---- rounds, one after another
+
     -- how the loop stands after so many rounds, when so many more connections may be taken
-    abbrev pub Stands : ℕ → ℕ → S → C → S → List (Option Talk) → Option ℕ → ℕ → ℕ → Type 0
-    Stands idle count start connections sessions places stop left turns = (acts : History) × Has opens hears wants ends has idle start connections sessions acts
-        × (stopped acts ≡ stop) × FitAll places acts × (comers acts + left ≡ most_comers count) × (rounds acts ≡ turns)
+    abbrev pub Stands : ℕ → ℕ → ℕ → S → C → S → List (Option Talk) → Option ℕ → ℕ → ℕ → Type 0
+    Stands idle count size start connections sessions places stop left turns = (acts : History) × Has opens hears wants ends has idle start connections sessions acts
+        × (stopped acts ≡ stop) × FitAll places acts × (rounds acts ≡ turns) × HasWholeRounds idle count size left acts
 
     -- one round more
-    pub turned : (idle idle_now count left left_new turns : ℕ) (stop stop_new : Option ℕ) (connections connections_new : C) (sessions new : S) (places places_new : List (Option Talk)) → idle_now ≡ idle → (start : S)
-        → Stands idle count start connections sessions places stop left turns
+    pub turned : (idle idle_now count size left left_new turns : ℕ) (stop stop_new : Option ℕ) (connections connections_new : C) (sessions new : S) (places places_new : List (Option Talk))
+        → idle_now ≡ idle → length places ≡ size → (start : S) → Stands idle count size start connections sessions places stop left turns
         → Turns opens hears wants ends has idle_now stop left connections sessions places stop_new left_new connections_new new places_new
-        → Stands idle count start connections_new new places_new stop_new left_new (turns + 1)
-    turned idle idle_now count left left_new turns stop stop_new connections connections_new sessions new places places_new same start (acts, known, order, fit, most, begun) one =
-        let t = (subst (λ (i : ℕ). Turns opens hears wants ends has i stop left connections sessions places stop_new left_new connections_new new places_new) same one) start acts known order fit in
-        let fewer : comers t.0 + left_new ≡ comers acts + left = t.4 in
-        let round : rounds t.0 ≡ rounds acts + 1 = t.5 in
-        (t.0, t.1, t.2, t.3, fewer ∙ most, round ∙ ap (λ (n : ℕ). n + 1) begun)
+        → Stands idle count size start connections_new new places_new stop_new left_new (turns + 1)
+    turned idle idle_now count size left left_new turns stop stop_new connections connections_new sessions new places places_new same_idle same_size start (acts, known, order, fit, began, whole) one =
+        let turns_now = subst (λ (i : ℕ). Turns opens hears wants ends has i stop left connections sessions places stop_new left_new connections_new new places_new) same_idle one in
+        let t = turns_now count start acts known order fit (subst (λ (n : ℕ). HasWholeRounds idle count n left acts) (sym same_size) whole) in
+        let round : rounds t.0 ≡ rounds acts + 1 = t.4 in
+        (t.0, t.1, t.2, t.3, round ∙ ap (λ (n : ℕ). n + 1) began, subst (λ (n : ℕ). HasWholeRounds idle count n left_new t.0) same_size t.5)
 
     -- what is so when the loop ends
-    abbrev pub Ends-well : ℕ → ℕ → S → C → S → Type 0
-    Ends-well idle count start connections sessions = (acts : History) × Has opens hears wants ends has idle start connections sessions acts × AreWithin count acts × HasEnded count acts
+    abbrev pub EndsWell : ℕ → ℕ → ℕ → S → C → S → Type 0
+    EndsWell idle count size start connections sessions = (acts : History) × Has opens hears wants ends has idle start connections sessions acts × AreWithin count acts × HasEnded count acts
+        × IsFair idle count size acts × IsWhole idle acts
 
     closing : (count left : ℕ) (stop : Option ℕ) (acts : History) → stopped acts ≡ stop → comers acts + left ≡ most_comers count → (left ≡ 0) ⊎ (stop ≢ None) → IsClosing count acts
     closing count left stop acts order most (inl none) = inr (let m : comers acts + left ≡ most_comers count = most in omega arith)
     closing count left None acts order most (inr some) = absurd (some refl)
     closing count left (Some since) acts order most (inr some) = inl (since, order)
 
-    pub ended : (idle count left turns : ℕ) (stop : Option ℕ) (start : S) (connections : C) (sessions : S) (places : List (Option Talk))
-        → Stands idle count start connections sessions places stop left turns → (left ≡ 0) ⊎ (stop ≢ None) → ((place : ℕ) → get_or places place None ≡ None)
-        → Ends-well idle count start connections sessions
-    ended idle count left turns stop start connections sessions places (acts, known, order, fit, most, begun) closes free = (
+    pub ended : (idle count size left turns : ℕ) (stop : Option ℕ) (start : S) (connections : C) (sessions : S) (places : List (Option Talk))
+        → Stands idle count size start connections sessions places stop left turns → (left ≡ 0) ⊎ (stop ≢ None) → ((place : ℕ) → get_or places place None ≡ None)
+        → EndsWell idle count size start connections sessions
+    ended idle count size left turns stop start connections sessions places (acts, known, order, fit, began, whole) closes free = (
       acts,
       known,
-      let m : comers acts + left ≡ most_comers count = most in omega arith,
-      inl ((λ place. fits_none (course acts place) (subst (λ (slot : Option Talk). Fits slot (course acts place)) (free place) (fit place))), closing count left stop acts order most closes),
+      let m : comers acts + left ≡ most_comers count = whole.0 in omega arith,
+      inl ((λ place. fits_none (course acts place) (subst (λ (slot : Option Talk). Fits slot (course acts place)) (free place) (fit place))), closing count left stop acts order whole.0 closes),
+      whole.1,
+      whole.2,
     )
 
-    pub ended_late : (idle count left turns : ℕ) (stop : Option ℕ) (start : S) (connections : C) (sessions : S) (places : List (Option Talk))
-        → Stands idle count start connections sessions places stop left turns → turns ≡ 2 ^ 64 - 1 → Ends-well idle count start connections sessions
-    ended_late idle count left turns stop start connections sessions places (acts, known, order, fit, most, begun) last = (
+    pub ended_late : (idle count size left turns : ℕ) (stop : Option ℕ) (start : S) (connections : C) (sessions : S) (places : List (Option Talk))
+        → Stands idle count size start connections sessions places stop left turns → turns ≡ 2 ^ 64 - 1 → EndsWell idle count size start connections sessions
+    ended_late idle count size left turns stop start connections sessions places (acts, known, order, fit, began, whole) last = (
       acts,
       known,
-      let m : comers acts + left ≡ most_comers count = most in omega arith,
-      inr (begun ∙ last),
+      let m : comers acts + left ≡ most_comers count = whole.0 in omega arith,
+      inr (began ∙ last),
+      whole.1,
+      whole.2,
     )

@@ -1,6 +1,6 @@
 -- When the loop over connections has ended.
 use Rattle.std.specs.Prelude.{◌≡◌, ◌⊎◌, ◌+◌, ◌-◌, ◌^◌, ◌≤◌, ℕ, zero, suc, [], ◌∷◌, Some, None}
-use Rattle.connections.specs.Histories.{At, Ordered, Syncs, On, Deed, Comes, Opens, Reads, IsOver, Hears, Wants, Takes, Fails, Ends, Closes, History, course, stopped}
+use Rattle.connections.specs.Histories.{At, Ordered, GoesOn, Syncs, NoneWaits, On, Deed, Comes, Opens, Reads, IsOver, IsSilent, Hears, Wants, Takes, TakesNone, Fails, Ends, Closes, History, course, stopped}
 
 -- how many connections come by a deed
 abbrev pub newcomers : Deed → ℕ
@@ -8,9 +8,11 @@ newcomers Comes = 1
 newcomers Opens = 0
 newcomers (Reads bytes) = 0
 newcomers IsOver = 0
+newcomers IsSilent = 0
 newcomers (Hears part reply) = 0
 newcomers Wants = 0
 newcomers (Takes bytes) = 0
+newcomers TakesNone = 0
 newcomers Fails = 0
 newcomers Ends = 0
 newcomers (Closes why) = 0
@@ -21,6 +23,8 @@ comers [] = 0
 comers (At now ∷ before) = comers before
 comers (Ordered ∷ before) = comers before
 comers (Syncs kept ∷ before) = comers before
+comers (GoesOn ∷ before) = comers before
+comers (NoneWaits ∷ before) = comers before
 comers (On place deed ∷ before) = comers before + newcomers deed
 
 -- how many rounds began
@@ -29,6 +33,8 @@ rounds [] = 0
 rounds (At now ∷ before) = rounds before + 1
 rounds (Ordered ∷ before) = rounds before
 rounds (Syncs kept ∷ before) = rounds before
+rounds (GoesOn ∷ before) = rounds before
+rounds (NoneWaits ∷ before) = rounds before
 rounds (On place deed ∷ before) = rounds before
 
 -- how many connections may be taken; 0 stands for the most that can be counted
@@ -44,9 +50,13 @@ AreWithin count acts = comers acts ≤ most_comers count
 abbrev pub AreGone : History → Type 0
 AreGone acts = (place : ℕ) → course acts place ≡ None
 
+-- a stop was ordered
+abbrev pub IsStopped : History → Type 0
+IsStopped acts = (since : ℕ) × (stopped acts ≡ Some since)
+
 -- no more connections are taken: a stop was ordered, or as many were taken as may be
 abbrev pub IsClosing : ℕ → History → Type 0
-IsClosing count acts = ((since : ℕ) × (stopped acts ≡ Some since)) ⊎ (comers acts ≡ most_comers count)
+IsClosing count acts = IsStopped acts ⊎ (comers acts ≡ most_comers count)
 
 -- No more connections are taken, and those that were taken are gone; or the loop had all its rounds.
 abbrev pub HasEnded : ℕ → History → Type 0

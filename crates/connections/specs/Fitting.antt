@@ -1,12 +1,13 @@
 -- What the loop keeps of a place, and the history that it stands for.
-use Rattle.std.specs.Prelude.{◌≡◌, ◌≢◌, ◌⊎◌, ◌+◌, ◌≤◌, ℕ, List, [], ◌∷◌, ◌++◌, Bool, true, false, Option, Some, None, Result, Ok, Err, get_or, ⊤}
+use Rattle.std.specs.Prelude.{◌≡◌, ◌≢◌, ◌⊎◌, ◌+◌, ◌≤◌, ℕ, List, [], ◌∷◌, ◌++◌, Bool, true, false, Option, Some, None, Result, Ok, Err, IfOk, get_or, length, ⊤}
 use Rattle.connections.specs.declared.ending.Ending.{Ending}
 use Rattle.connections.specs.declared.ending.Ending.TheVariants.{Done, Fault, Idle, Stopped, Unsynced, Memory, Refused}
 use Rattle.connections.specs.declared.limits.TheConstants.{LAST_MILLISECONDS}
 use Rattle.connections.specs.declared.places.Places.{Places}
 use Rattle.connections.specs.declared.talk.Talk.{Talk}
-use Rattle.connections.specs.Endings.{comers, rounds}
-use Rattle.connections.specs.Histories.{Stage, Hearing, Ordered, On, Deed, Comes, Opens, Reads, IsOver, Hears, Wants, Takes, Fails, Ends, Closes, History, Course, clock, course, of_connections, stage, stopped, Leads}
+use Rattle.connections.specs.Endings.{comers, most_comers, rounds}
+use Rattle.connections.specs.Fairness.{asks, InRound, IsAttended, IsFair, IsUsed, IsWhole, NoneOrdered, NoneWaited}
+use Rattle.connections.specs.Histories.{Stage, Hearing, Ordered, GoesOn, On, Deed, Comes, Opens, Reads, IsOver, IsSilent, Hears, Wants, Takes, TakesNone, Fails, Ends, Closes, History, Course, clock, course, of_connections, stage, stopped, Leads}
 use Rattle.connections.specs.Soundness.{Here, IsReason, IsSound}
 
 -- what was read and not heard, what was answered and not taken, and when the connection was last active
@@ -27,6 +28,14 @@ Fits None (Some of) = ⊥
 Fits (Some talk) None = ⊥
 Fits (Some talk) (Some of) = KeepsTalk talk of
 
+-- what is so of a round and goes on to be so in it
+pub record Lasts (before after : History) : Type 0 where
+  pub turns : (is : Deed → Bool) (place : ℕ) → InRound is before place → InRound is after place
+  pub none_waited : NoneWaited before → NoneWaited after
+  pub none_ordered : NoneOrdered before → NoneOrdered after
+  pub used : (place : ℕ) → IsUsed before place → IsUsed after place
+  pub fair : (idle count size : ℕ) → IsFair idle count size before → IsFair idle count size after
+
 -- what happened meanwhile happened at this place, and so many connections came
 pub record Stays (place came : ℕ) (before after : History) : Type 0 where
   pub others : (other : ℕ) → other ≢ place → course after other ≡ course before other
@@ -34,12 +43,18 @@ pub record Stays (place came : ℕ) (before after : History) : Type 0 where
   pub same_stage : stage after ≡ stage before
   pub same_stop : stopped after ≡ stopped before
   pub same_rounds : rounds after ≡ rounds before
+  pub lasts : Lasts before after
   pub more_came : comers after ≡ comers before + came
 
 -- how many connections a call took that says whether it took one
 abbrev pub came_by : Bool → ℕ
 came_by true = 1
 came_by false = 0
+
+-- what is then so of the round: the place is in use, or no connection waited
+abbrev pub HasTried : Bool → ℕ → History → Type 0
+HasTried true place acts = IsUsed acts place
+HasTried false place acts = NoneWaited acts
 
 -- the same of each place
 abbrev pub FitAll : List (Option Talk) → History → Type 0
@@ -49,17 +64,22 @@ FitAll places acts = (place : ℕ) → Fits (get_or places place None) (course a
 abbrev pub AreFree : Places → Type 0
 AreFree places = (place : ℕ) → get_or places.slots.items place None ≡ None
 
+-- how many places there are
+abbrev pub size_of : Places → ℕ
+size_of places = length places.slots.items
+
 -- the round stays where it is; so many more connections may be taken before, and so many after
 pub record Passes (left left_new : ℕ) (before after : History) : Type 0 where
   pub same_clock : clock after ≡ clock before
   pub same_stage : stage after ≡ stage before
   pub same_stop : stopped after ≡ stopped before
   pub same_rounds : rounds after ≡ rounds before
+  pub lasts : Lasts before after
   pub fewer_left : comers after + left_new ≡ comers before + left
 
--- a stop may be ordered
+-- a stop may be ordered, or none is so far
 abbrev pub MayOrder : History → History → Type 0
-MayOrder before after = (after ≡ before) ⊎ (after ≡ Ordered ∷ before)
+MayOrder before after = (after ≡ before) ⊎ (after ≡ Ordered ∷ before) ⊎ (after ≡ GoesOn ∷ before)
 
 -- why a connection is closed whose session was not opened
 abbrev pub IsOpeningFault : Ending → Type 0
@@ -79,9 +99,11 @@ IsOfConnection Comes = ⊥
 IsOfConnection Opens = ⊥
 IsOfConnection (Reads bytes) = ⊤
 IsOfConnection IsOver = ⊤
+IsOfConnection IsSilent = ⊤
 IsOfConnection (Hears part reply) = ⊥
 IsOfConnection Wants = ⊥
 IsOfConnection (Takes bytes) = ⊤
+IsOfConnection TakesNone = ⊤
 IsOfConnection Fails = ⊤
 IsOfConnection Ends = ⊥
 IsOfConnection (Closes why) = ⊤
@@ -95,6 +117,10 @@ abbrev pub Judged : {X : Type 0} → ℕ → History → ℕ → Result X Ending
 Judged idle acts place (Ok done) talk = Here (course acts place) (KeepsTalk talk)
 Judged idle acts place (Err why) talk = Here (course acts place) (λ of. (of.is_open ≡ true) × IsReason idle acts why of)
 
+-- the peer sends no more, and all is heard and told
+abbrev pub IsDone : Talk → Type 0
+IsDone talk = (talk.is_over ≡ true) × (talk.input.items ≡ []) × (talk.output.items ≡ [])
+
 -- a stop was ordered, and all that was answered is taken, or the last time for it is over
 abbrev pub IsStopDue : ℕ → Option ℕ → Talk → Type 0
 IsStopDue now stop talk = (since : ℕ) × (stop ≡ Some since) × ((talk.output.items ≡ []) ⊎ (since + LAST_MILLISECONDS ≤ now))
@@ -103,10 +129,10 @@ IsStopDue now stop talk = (since : ℕ) × (stop ≡ Some since) × ((talk.outpu
 abbrev pub IsIdleDue : ℕ → ℕ → Talk → Type 0
 IsIdleDue now idle talk = (1 ≤ idle) × (talk.active + idle ≤ now)
 
--- why a connection is closed that goes on well, by what is kept of it
+-- why a connection is closed that goes on well, by what is kept of it, if it is
 abbrev pub IsJudged : ℕ → ℕ → Option ℕ → Talk → Result ℕ Ending → Type 0
-IsJudged now idle stop talk (Ok most) = ⊤
-IsJudged now idle stop talk (Err Done) = (talk.is_over ≡ true) × (talk.input.items ≡ []) × (talk.output.items ≡ [])
+IsJudged now idle stop talk (Ok most) = (¬ IsDone talk) × (¬ IsIdleDue now idle talk) × (¬ IsStopDue now stop talk)
+IsJudged now idle stop talk (Err Done) = IsDone talk
 IsJudged now idle stop talk (Err Fault) = ⊥
 IsJudged now idle stop talk (Err Idle) = IsIdleDue now idle talk
 IsJudged now idle stop talk (Err Stopped) = IsStopDue now stop talk
@@ -118,6 +144,10 @@ IsJudged now idle stop talk (Err Refused) = ⊥
 abbrev pub Knows : {C : Type 0} → (C → History → Type 0) → ℕ → C → History → Type 0
 Knows has idle connections acts = has connections (of_connections acts) × IsSound idle acts
 
+-- the rounds so far are whole, and of so many connections so many more may be taken
+abbrev pub HasWholeRounds : ℕ → ℕ → ℕ → ℕ → History → Type 0
+HasWholeRounds idle count size left acts = (comers acts + left ≡ most_comers count) × IsFair idle count size acts × IsWhole idle acts
+
 -- ---- sessions, and both
 
 module _ {S : Type 0} (opens : S → ℕ → S → Type 0) (hears : S → ℕ → List ℕ → List ℕ → S → Type 0) (wants ends : S → ℕ → S → Type 0) where
@@ -125,11 +155,13 @@ module _ {S : Type 0} (opens : S → ℕ → S → Type 0) (hears : S → ℕ �
   abbrev pub Held : ℕ → S → S → History → Type 0
   Held idle start sessions acts = Leads opens hears wants ends start acts sessions × IsSound idle acts
 
-  -- what happens to the session of a place while connections are heard, and what is then kept
-  abbrev pub Hearkens : {X : Type 0} → ℕ → ℕ → S → Talk → Result X Ending → S → Talk → Type 0
-  Hearkens place now old talk result new talk_new = (idle : ℕ) (start : S) (acts : History) → Held idle start old acts → stage acts ≡ Hearing → clock acts ≡ now
+  -- what happens to the session of a place while connections are heard, and what is then kept; by the test,
+  -- whether it heard anything
+  abbrev pub Hearkens : {X : Type 0} → (X → Bool) → ℕ → ℕ → S → Talk → Result X Ending → S → Talk → Type 0
+  Hearkens hears_some place now old talk result new talk_new = (idle : ℕ) (start : S) (acts : History) → Held idle start old acts → stage acts ≡ Hearing → clock acts ≡ now
       → Here (course acts place) (KeepsTalk talk)
       → (after : History) × Stays place 0 acts after × (of_connections after ≡ of_connections acts) × Held idle start new after × Judged idle after place result talk_new
+      × IfOk result (λ done. hears_some done ≡ true → InRound asks after place)
 
   module _ {C : Type 0} (has : C → History → Type 0) where
     -- all that is known of connections and sessions
@@ -141,23 +173,24 @@ module _ {S : Type 0} (opens : S → ℕ → S → Type 0) (hears : S → ℕ �
     Attends when place now connections old talk result connections_new new talk_new = (idle : ℕ) (start : S) (acts : History) → Has idle start connections old acts
         → stage acts ≡ when → clock acts ≡ now → Here (course acts place) (KeepsTalk talk)
         → (after : History) × Stays place 0 acts after × Has idle start connections_new new after × Judged idle after place result talk_new
+        × IfOk result (λ done. Here (course after place) (IsAttended after place))
 
     -- what happens at a place at this stage of a round, whatever is there, where so many connections come, and
-    -- what is then kept
-    abbrev pub Serves : Stage → ℕ → ℕ → Option ℕ → ℕ → ℕ → C → S → Option Talk → C → S → Option Talk → Type 0
-    Serves when idle now stop place came connections old slot connections_new new slot_new = (start : S) (acts : History) → Has idle start connections old acts
+    -- what is then kept, and so of the round
+    abbrev pub Serves : Stage → ℕ → ℕ → Option ℕ → ℕ → ℕ → (History → Type 0) → C → S → Option Talk → C → S → Option Talk → Type 0
+    Serves when idle now stop place came Turn connections old slot connections_new new slot_new = (start : S) (acts : History) → Has idle start connections old acts
         → stage acts ≡ when → clock acts ≡ now → stopped acts ≡ stop → Fits slot (course acts place)
-        → (after : History) × Stays place came acts after × Has idle start connections_new new after × Fits slot_new (course after place)
+        → (after : History) × Stays place came acts after × Has idle start connections_new new after × Fits slot_new (course after place) × Turn after
 
     -- the same at all places; so many more connections may be taken before, and so many after
-    abbrev pub Tours : Stage → ℕ → ℕ → Option ℕ → ℕ → ℕ → C → S → List (Option Talk) → C → S → List (Option Talk) → Type 0
-    Tours when idle now stop left left_new connections old places connections_new new places_new = (start : S) (acts : History) → Has idle start connections old acts
+    abbrev pub Tours : Stage → ℕ → ℕ → Option ℕ → ℕ → ℕ → (History → Type 0) → C → S → List (Option Talk) → C → S → List (Option Talk) → Type 0
+    Tours when idle now stop left left_new Turn connections old places connections_new new places_new = (start : S) (acts : History) → Has idle start connections old acts
         → stage acts ≡ when → clock acts ≡ now → stopped acts ≡ stop → FitAll places acts
-        → (after : History) × Passes left left_new acts after × Has idle start connections_new new after × FitAll places_new after
+        → (after : History) × Passes left left_new acts after × Has idle start connections_new new after × FitAll places_new after × Turn after
 
     -- one round
     abbrev pub Turns : ℕ → Option ℕ → ℕ → C → S → List (Option Talk) → Option ℕ → ℕ → C → S → List (Option Talk) → Type 0
-    Turns idle stop left connections old places stop_new left_new connections_new new places_new = (start : S) (acts : History) → Has idle start connections old acts
-        → stopped acts ≡ stop → FitAll places acts
+    Turns idle stop left connections old places stop_new left_new connections_new new places_new = (count : ℕ) (start : S) (acts : History) → Has idle start connections old acts
+        → stopped acts ≡ stop → FitAll places acts → HasWholeRounds idle count (length places) left acts
         → (after : History) × Has idle start connections_new new after × (stopped after ≡ stop_new) × FitAll places_new after
-        × (comers after + left_new ≡ comers acts + left) × (rounds after ≡ rounds acts + 1)
+        × (rounds after ≡ rounds acts + 1) × HasWholeRounds idle count (length places) left_new after

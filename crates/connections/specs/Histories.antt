@@ -12,12 +12,16 @@ pub data Deed : Type 0 where
   Reads : List ℕ → Deed
   -- the peer sends no more
   IsOver : Deed
+  -- a read finds that nothing has come
+  IsSilent : Deed
   -- the session hears this part, and is answered so
   Hears : List ℕ → List ℕ → Deed
   -- memory is wanting for a part
   Wants : Deed
   -- the connection takes these bytes
   Takes : List ℕ → Deed
+  -- the connection takes nothing now
+  TakesNone : Deed
   -- a read or a write fails
   Fails : Deed
   -- the session is ended
@@ -25,12 +29,14 @@ pub data Deed : Type 0 where
   -- the connection is closed
   Closes : Ending → Deed
 
--- what happens: a round begins, at a time; a stop is ordered; what was answered is put on its disk, or is not;
--- or something happens at a place
+-- what happens: a round begins, at a time; a stop is ordered, or none is so far; what was answered is put on its disk,
+-- or is not; no connection waits to be taken; or something happens at a place
 pub data Act : Type 0 where
   At : ℕ → Act
   Ordered : Act
+  GoesOn : Act
   Syncs : Bool → Act
+  NoneWaits : Act
   On : ℕ → Deed → Act
 
 -- what happened, the latest first
@@ -67,9 +73,11 @@ went_on Comes now course = Some (taken_at now)
 went_on Opens now course = Some (record course { is_open = true })
 went_on (Reads bytes) now course = Some (record course { read = course.read ++ bytes })
 went_on IsOver now course = Some (record course { is_over = true })
+went_on IsSilent now course = Some course
 went_on (Hears part reply) now course = Some (record course { heard = course.heard ++ part; answered = course.answered ++ reply; active = if_answered reply now course.active })
 went_on Wants now course = Some (record course { is_wanting = true })
 went_on (Takes bytes) now course = Some (record course { taken = course.taken ++ bytes; active = now })
+went_on TakesNone now course = Some course
 went_on Fails now course = Some (record course { has_failed = true })
 went_on Ends now course = Some (record course { is_open = false })
 went_on (Closes why) now course = None
@@ -81,9 +89,11 @@ done_at Comes now None = Some (taken_at now)
 done_at Opens now None = None
 done_at (Reads bytes) now None = None
 done_at IsOver now None = None
+done_at IsSilent now None = None
 done_at (Hears part reply) now None = None
 done_at Wants now None = None
 done_at (Takes bytes) now None = None
+done_at TakesNone now None = None
 done_at Fails now None = None
 done_at Ends now None = None
 done_at (Closes why) now None = None
@@ -96,6 +106,8 @@ clock [] = 0
 clock (At now ∷ before) = now
 clock (Ordered ∷ before) = clock before
 clock (Syncs kept ∷ before) = clock before
+clock (GoesOn ∷ before) = clock before
+clock (NoneWaits ∷ before) = clock before
 clock (On place deed ∷ before) = clock before
 
 -- where a round stands: connections are heard, until what was answered is put on its disk; then they are told
@@ -108,6 +120,8 @@ stage [] = Telling false
 stage (At now ∷ before) = Hearing
 stage (Ordered ∷ before) = stage before
 stage (Syncs kept ∷ before) = Telling kept
+stage (GoesOn ∷ before) = stage before
+stage (NoneWaits ∷ before) = stage before
 stage (On place deed ∷ before) = stage before
 
 -- when a stop was first known to be ordered
@@ -120,6 +134,8 @@ stopped [] = None
 stopped (At now ∷ before) = stopped before
 stopped (Ordered ∷ before) = or_now (stopped before) (clock before)
 stopped (Syncs kept ∷ before) = stopped before
+stopped (GoesOn ∷ before) = stopped before
+stopped (NoneWaits ∷ before) = stopped before
 stopped (On place deed ∷ before) = stopped before
 
 -- the connection at a place, if one is there
@@ -128,6 +144,8 @@ course [] place = None
 course (At now ∷ before) place = course before place
 course (Ordered ∷ before) place = course before place
 course (Syncs kept ∷ before) place = course before place
+course (GoesOn ∷ before) place = course before place
+course (NoneWaits ∷ before) place = course before place
 course (On other deed ∷ before) place = if other == place then done_at deed (clock before) (course before place) else course before place
 
 -- ---- whose acts these are
@@ -138,13 +156,17 @@ of_connections [] = []
 of_connections (At now ∷ before) = At now ∷ of_connections before
 of_connections (Ordered ∷ before) = Ordered ∷ of_connections before
 of_connections (Syncs kept ∷ before) = Syncs kept ∷ of_connections before
+of_connections (GoesOn ∷ before) = GoesOn ∷ of_connections before
+of_connections (NoneWaits ∷ before) = NoneWaits ∷ of_connections before
 of_connections (On place Comes ∷ before) = On place Comes ∷ of_connections before
 of_connections (On place Opens ∷ before) = of_connections before
 of_connections (On place (Reads bytes) ∷ before) = On place (Reads bytes) ∷ of_connections before
 of_connections (On place IsOver ∷ before) = On place IsOver ∷ of_connections before
+of_connections (On place IsSilent ∷ before) = On place IsSilent ∷ of_connections before
 of_connections (On place (Hears part reply) ∷ before) = of_connections before
 of_connections (On place Wants ∷ before) = of_connections before
 of_connections (On place (Takes bytes) ∷ before) = On place (Takes bytes) ∷ of_connections before
+of_connections (On place TakesNone ∷ before) = On place TakesNone ∷ of_connections before
 of_connections (On place Fails ∷ before) = On place Fails ∷ of_connections before
 of_connections (On place Ends ∷ before) = of_connections before
 of_connections (On place (Closes why) ∷ before) = On place (Closes why) ∷ of_connections before
@@ -156,13 +178,17 @@ module _ {S : Type 0} (opens : S → ℕ → S → Type 0) (hears : S → ℕ �
   Leads start (At now ∷ before) after = Leads start before after
   Leads start (Ordered ∷ before) after = Leads start before after
   Leads start (Syncs kept ∷ before) after = Leads start before after
+  Leads start (GoesOn ∷ before) after = Leads start before after
+  Leads start (NoneWaits ∷ before) after = Leads start before after
   Leads start (On place Comes ∷ before) after = Leads start before after
   Leads start (On place Opens ∷ before) after = (middle : S) × Leads start before middle × opens middle place after
   Leads start (On place (Reads bytes) ∷ before) after = Leads start before after
   Leads start (On place IsOver ∷ before) after = Leads start before after
+  Leads start (On place IsSilent ∷ before) after = Leads start before after
   Leads start (On place (Hears part reply) ∷ before) after = (middle : S) × Leads start before middle × hears middle place part reply after
   Leads start (On place Wants ∷ before) after = (middle : S) × Leads start before middle × wants middle place after
   Leads start (On place (Takes bytes) ∷ before) after = Leads start before after
+  Leads start (On place TakesNone ∷ before) after = Leads start before after
   Leads start (On place Fails ∷ before) after = Leads start before after
   Leads start (On place Ends ∷ before) after = (middle : S) × Leads start before middle × ends middle place after
   Leads start (On place (Closes why) ∷ before) after = Leads start before after

@@ -1,4 +1,5 @@
 pub mod Endings
+pub mod Fairness
 pub mod Fitting
 pub mod Histories
 pub mod Laws

@@ -3,7 +3,7 @@ use Rattle.std.specs.Prelude.{◌≡◌, ◌≢◌, ◌⊎◌, ◌+◌, ◌≤�
 use Rattle.connections.specs.declared.ending.Ending.{Ending}
 use Rattle.connections.specs.declared.ending.Ending.TheVariants.{Done, Fault, Idle, Stopped, Unsynced, Memory, Refused}
 use Rattle.connections.specs.declared.limits.TheConstants.{PIECE_SIZE, FULL_OUTPUT, LAST_MILLISECONDS}
-use Rattle.connections.specs.Histories.{At, Ordered, Syncs, On, Deed, Comes, Opens, Reads, IsOver, Hears, Wants, Takes, Fails, Ends, Closes, History, Course, Hearing, Telling, clock, course, stage, stopped}
+use Rattle.connections.specs.Histories.{At, Ordered, GoesOn, Syncs, NoneWaits, On, Deed, Comes, Opens, Reads, IsOver, IsSilent, Hears, Wants, Takes, TakesNone, Fails, Ends, Closes, History, Course, Hearing, Telling, clock, course, stage, stopped}
 
 -- there is a connection, and this is so of it
 abbrev pub Here : Option Course → (Course → Type 0) → Type 0
@@ -46,10 +46,12 @@ IsDue idle before Comes there = (there ≡ None) × (stage before ≡ Hearing) �
 IsDue idle before Opens there = Here there (λ course. (course.is_open ≡ false) × (course.read ≡ []))
 IsDue idle before (Reads bytes) there = Here there (λ course. MayRead course × (stage before ≡ Hearing) × (1 ≤ length bytes) × (length bytes ≤ PIECE_SIZE))
 IsDue idle before IsOver there = Here there (λ course. MayRead course × (stage before ≡ Hearing))
+IsDue idle before IsSilent there = Here there (λ course. MayRead course × (stage before ≡ Hearing))
 IsDue idle before (Hears part reply) there = Here there (λ course. (course.is_open ≡ true) × HasRoom course × (stage before ≡ Hearing)
     × (1 ≤ length part) × AreNext part course.read course.heard)
 IsDue idle before Wants there = Here there (λ course. course.is_open ≡ true)
 IsDue idle before (Takes bytes) there = Here there (λ course. (stage before ≡ Telling true) × (1 ≤ length bytes) × AreNext bytes course.answered course.taken)
+IsDue idle before TakesNone there = Here there (λ course. (stage before ≡ Telling true) × (course.answered ≢ course.taken))
 IsDue idle before Fails there = Here there (λ course. ⊤)
 IsDue idle before Ends there = Here there (λ course. course.is_open ≡ true)
 IsDue idle before (Closes why) there = Here there (λ course. (course.is_open ≡ false) × IsReason idle before why course)
@@ -60,4 +62,6 @@ IsSound idle [] = ⊤
 IsSound idle (At now ∷ before) = IsSound idle before
 IsSound idle (Ordered ∷ before) = IsSound idle before
 IsSound idle (Syncs kept ∷ before) = (stage before ≡ Hearing) × IsSound idle before
+IsSound idle (GoesOn ∷ before) = (stopped before ≡ None) × IsSound idle before
+IsSound idle (NoneWaits ∷ before) = (stage before ≡ Hearing) × (stopped before ≡ None) × IsSound idle before
 IsSound idle (On place deed ∷ before) = IsDue idle before deed (course before place) × IsSound idle before

@@ -1,5 +1,5 @@
 ghost use Rattle.std.specs.Prelude.{◌≡◌, ◌≢◌, ◌≤◌, ◌∷◌, ℕ, List, true, false, take, length};
-ghost use Rattle.connections.specs.Histories.{Act, At, Ordered, Syncs, On, Comes, Reads, IsOver, Takes, Fails, Closes};
+ghost use Rattle.connections.specs.Histories.{Act, At, Ordered, GoesOn, Syncs, NoneWaits, On, Comes, Reads, IsOver, IsSilent, Takes, TakesNone, Fails, Closes};
 
 use crate::Ending;
 
@@ -41,12 +41,12 @@ pub trait Connections {
     /// Whether a stop has been ordered.
     fn is_stopped(&mut self) -> bool
         ensures yes { result ≡ true → (acts : List Act) → has self.old acts → has self.new (Ordered ∷ acts) }
-        ensures no { result ≡ false → (acts : List Act) → has self.old acts → has self.new acts };
+        ensures no { result ≡ false → (acts : List Act) → has self.old acts → has self.new (GoesOn ∷ acts) };
 
     /// Takes the next connection, if one waits, into a free place.
     fn take(&mut self, place: usize) -> bool
         ensures yes { result ≡ true → (acts : List Act) → has self.old acts → has self.new (On place Comes ∷ acts) }
-        ensures no { result ≡ false → (acts : List Act) → has self.old acts → has self.new acts };
+        ensures no { result ≡ false → (acts : List Act) → has self.old acts → has self.new (NoneWaits ∷ acts) };
 
     /// Reads some bytes from the connection at a place.
     fn read(&mut self, place: usize, room: &mut [u8]) -> Reading
@@ -55,7 +55,7 @@ pub trait Connections {
         ensures bytes { (count : ℕ) → result ≡ Reading.Bytes count
             → (acts : List Act) → has self.old acts → has self.new (On place (Reads (take count room.new)) ∷ acts) }
         ensures end { result ≡ Reading.End → (acts : List Act) → has self.old acts → has self.new (On place IsOver ∷ acts) }
-        ensures wait { result ≡ Reading.Wait → (acts : List Act) → has self.old acts → has self.new acts }
+        ensures wait { result ≡ Reading.Wait → (acts : List Act) → has self.old acts → has self.new (On place IsSilent ∷ acts) }
         ensures fault { result ≡ Reading.Fault → (acts : List Act) → has self.old acts → has self.new (On place Fails ∷ acts) };
 
     /// Writes some of the bytes to the connection at a place.
@@ -63,7 +63,7 @@ pub trait Connections {
         ensures count { (count : ℕ) → result ≡ Writing.Took count → (1 ≤ count) × (count ≤ length bytes.now) }
         ensures bytes { (count : ℕ) → result ≡ Writing.Took count
             → (acts : List Act) → has self.old acts → has self.new (On place (Takes (take count bytes.now)) ∷ acts) }
-        ensures wait { result ≡ Writing.Wait → (acts : List Act) → has self.old acts → has self.new acts }
+        ensures wait { result ≡ Writing.Wait → (acts : List Act) → has self.old acts → has self.new (On place TakesNone ∷ acts) }
         ensures fault { result ≡ Writing.Fault → (acts : List Act) → has self.old acts → has self.new (On place Fails ∷ acts) };
 
     /// Closes the connection at a place, which is free again.

@@ -1,7 +1,8 @@
 //! All places, one after another, in each part of a round.
 
-ghost use Rattle.std.specs.Prelude.{◌≡◌, ℕ, None, IsTrue, IfOk, get_or};
-ghost use Rattle.connections.specs.Fitting.{AreFree, Tours};
+ghost use Rattle.std.specs.Prelude.{◌≡◌, ◌⊎◌, ℕ, None, IsTrue, IfOk, get_or, length};
+ghost use Rattle.connections.specs.Fairness.{AreAttended, AreServed, AreUsed, NoneWaited};
+ghost use Rattle.connections.specs.Fitting.{AreFree, Tours, size_of};
 ghost use Rattle.connections.specs.Histories.{Hearing, Telling};
 
 use crate::Sessions;
@@ -23,7 +24,8 @@ impl Places {
     ///
     /// `AllocError`.
     pub fn free(alloc: Global, count: usize) -> Result<Places, AllocError>
-        ensures { IfOk result AreFree }
+        ensures free { IfOk result AreFree }
+        ensures size { IfOk result (λ places. size_of places ≡ count) }
     {
         Ok(Places {
             slots: free_slots(alloc, count)?,
@@ -32,10 +34,11 @@ impl Places {
 }
 
 fn free_slots(alloc: Global, count: usize) -> Result<Vec<Option<Talk>>, AllocError>
-    ensures { IfOk result (λ slots. (place : ℕ) → get_or slots.items place None ≡ None) }
+    ensures free { IfOk result (λ slots. (place : ℕ) → get_or slots.items place None ≡ None) }
+    ensures size { IfOk result (λ slots. length slots.items ≡ count) }
 {
     let mut slots = Vec::with_capacity(alloc, count)?;
-    for _ in 0..count {
+    for _place in 0..count {
         slots.push(None)?;
     }
     Ok(slots)
@@ -64,27 +67,28 @@ pub(crate) fn take_all<S: Sessions, C: Connections>(
     work: &mut Work,
 ) -> u64
     requires { round.stopped ≡ None }
-    ensures { Tours S.opens S.hears S.wants S.ends C.has Hearing round.idle round.now round.stopped left result connections.old sessions.old places.old connections.new sessions.new places.new }
+    ensures { Tours S.opens S.hears S.wants S.ends C.has Hearing round.idle round.now round.stopped left result (λ after. (result ≡ 0) ⊎ NoneWaited after ⊎ AreUsed (length places.old) after) connections.old sessions.old places.old connections.new sessions.new places.new }
 {
     let mut left = left;
     for place in 0..places.len() {
         if left == 0 {
             return left;
         }
-        if places[place].is_none() {
-            if !take_at(
-                alloc,
-                &mut places[place],
-                sessions,
-                connections,
-                place,
-                round,
-                work,
-            ) {
-                return left;
-            }
-            left -= 1;
+        if places[place].is_some() {
+            continue;
         }
+        if !take_at(
+            alloc,
+            &mut places[place],
+            sessions,
+            connections,
+            place,
+            round,
+            work,
+        ) {
+            return left;
+        }
+        left -= 1;
     }
     left
 }
@@ -98,7 +102,7 @@ pub(crate) fn hear_all<S: Sessions, C: Connections>(
     round: Round,
     work: &mut Work,
 )
-    ensures { Tours S.opens S.hears S.wants S.ends C.has Hearing round.idle round.now round.stopped 0 0 connections.old sessions.old places.old connections.new sessions.new places.new }
+    ensures { Tours S.opens S.hears S.wants S.ends C.has Hearing round.idle round.now round.stopped 0 0 AreAttended connections.old sessions.old places.old connections.new sessions.new places.new }
 {
     for place in 0..places.len() {
         hear_at(
@@ -122,7 +126,7 @@ pub(crate) fn tell_all<S: Sessions, C: Connections>(
     round: Round,
     work: &mut Work,
 )
-    ensures { Tours S.opens S.hears S.wants S.ends C.has (Telling round.is_synced) round.idle round.now round.stopped 0 0 connections.old sessions.old places.old connections.new sessions.new places.new }
+    ensures { Tours S.opens S.hears S.wants S.ends C.has (Telling round.is_synced) round.idle round.now round.stopped 0 0 (AreServed round.idle) connections.old sessions.old places.old connections.new sessions.new places.new }
 {
     for place in 0..places.len() {
         tell_at(

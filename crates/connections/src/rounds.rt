@@ -2,9 +2,10 @@
 //! its disk, and then tells each. A round that did anything is followed by one that does not wait: a place may
 //! have become free, and there may be more to read.
 
-ghost use Rattle.std.specs.Prelude.{◌≡◌, ◌≢◌, ◌⊎◌, ℕ, [], ◌∷◌, None, IsTrue, get_or};
-ghost use Rattle.connections.specs.Endings.{AreWithin, HasEnded, most_comers};
-ghost use Rattle.connections.specs.Fitting.{AreFree, Has, Knows, MayOrder, Tours, Turns};
+ghost use Rattle.std.specs.Prelude.{◌≡◌, ◌≢◌, ◌⊎◌, ℕ, [], ◌∷◌, None, IsTrue, get_or, length};
+ghost use Rattle.connections.specs.Endings.{AreWithin, HasEnded, IsStopped, most_comers};
+ghost use Rattle.connections.specs.Fairness.{AreAttended, AreUsed, IsFair, IsWhole, NoneOrdered, NoneWaited};
+ghost use Rattle.connections.specs.Fitting.{AreFree, Has, Knows, MayOrder, Tours, Turns, size_of};
 ghost use Rattle.connections.specs.Histories.{History, Hearing, clock, stopped};
 ghost use Rattle.connections.specs.Telling.{TellsMemory};
 
@@ -21,7 +22,8 @@ use textio::write_text;
 /// When a stop was ordered, if one was by now, where this was known before.
 fn stop_by<C: Connections>(connections: &mut C, now: u64, known: Option<u64>) -> Option<u64>
     ensures { (idle : ℕ) (acts : History) → Knows C.has idle connections.old acts → clock acts ≡ now → stopped acts ≡ known
-        → (after : History) × MayOrder acts after × Knows C.has idle connections.new after × (stopped after ≡ result) }
+        → (after : History) × MayOrder acts after × Knows C.has idle connections.new after × (stopped after ≡ result)
+        × (IsStopped after ⊎ NoneOrdered after) }
 {
     if known.is_some() {
         return known;
@@ -42,7 +44,7 @@ fn take_new<S: Sessions, C: Connections>(
     left: u64,
     work: &mut Work,
 ) -> u64
-    ensures { Tours S.opens S.hears S.wants S.ends C.has Hearing round.idle round.now round.stopped left result connections.old sessions.old places.old connections.new sessions.new places.new }
+    ensures { Tours S.opens S.hears S.wants S.ends C.has Hearing round.idle round.now round.stopped left result (λ after. IsStopped after ⊎ (result ≡ 0) ⊎ NoneWaited after ⊎ AreUsed (length places.old) after) connections.old sessions.old places.old connections.new sessions.new places.new }
 {
     if round.stopped.is_some() {
         return left;
@@ -59,7 +61,7 @@ fn hear_new<S: Sessions, C: Connections>(
     round: Round,
     work: &mut Work,
 )
-    ensures { Tours S.opens S.hears S.wants S.ends C.has Hearing round.idle round.now round.stopped 0 0 connections.old sessions.old places.old connections.new sessions.new places.new }
+    ensures { Tours S.opens S.hears S.wants S.ends C.has Hearing round.idle round.now round.stopped 0 0 (λ after. IsStopped after ⊎ AreAttended after) connections.old sessions.old places.old connections.new sessions.new places.new }
 {
     if round.stopped.is_some() {
         return;
@@ -172,7 +174,8 @@ fn turn_all<S: Sessions, C: Connections, E: Write>(
 )
     requires { (place : ℕ) → get_or places.old place None ≡ None }
     ensures tells { TellsMemory (E.contents errors.old) (E.contents errors.new) }
-    ensures happens { C.has connections.old [] → (acts : History) × Has S.opens S.hears S.wants S.ends C.has limits.idle sessions.old connections.new sessions.new acts × AreWithin limits.count acts × HasEnded limits.count acts }
+    ensures happens { C.has connections.old [] → (acts : History) × Has S.opens S.hears S.wants S.ends C.has limits.idle sessions.old connections.new sessions.new acts × AreWithin limits.count acts × HasEnded limits.count acts
+        × IsFair limits.idle limits.count (length places.old) acts × IsWhole limits.idle acts }
 {
     let mut state = State::new(limits);
     // Every loop of Rattle has an end: this one's is past any life of a server.
@@ -199,7 +202,8 @@ pub fn answer_all<S: Sessions, C: Connections, E: Write>(
 )
     requires { AreFree places }
     ensures tells { TellsMemory (E.contents errors.old) (E.contents errors.new) }
-    ensures happens { C.has connections.old [] → (acts : History) × Has S.opens S.hears S.wants S.ends C.has limits.idle sessions.old connections.new sessions.new acts × AreWithin limits.count acts × HasEnded limits.count acts }
+    ensures happens { C.has connections.old [] → (acts : History) × Has S.opens S.hears S.wants S.ends C.has limits.idle sessions.old connections.new sessions.new acts × AreWithin limits.count acts × HasEnded limits.count acts
+        × IsFair limits.idle limits.count (size_of places) acts × IsWhole limits.idle acts }
 {
     let mut places = places;
     turn_all(

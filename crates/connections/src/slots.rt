@@ -1,7 +1,8 @@
 //! One place: what happens to the connection there, if there is one, in each part of a round.
 
-ghost use Rattle.std.specs.Prelude.{◌≡◌, ◌↔◌, ℕ, List, true, false, None, Some, IsTrue, IfErr};
-ghost use Rattle.connections.specs.Fitting.{Adds, Has, IsOpeningFault, Judged, KeepsTalk, Knows, Serves, Stays, came_by};
+ghost use Rattle.std.specs.Prelude.{◌≡◌, ◌↔◌, ℕ, List, true, false, None, Some, IsTrue, IfOk, IfErr};
+ghost use Rattle.connections.specs.Fairness.{IfThere, IsAttended, IsNotDue, IsServed};
+ghost use Rattle.connections.specs.Fitting.{Adds, Has, IsOpeningFault, HasTried, Judged, KeepsTalk, Knows, Serves, Stays, came_by};
 ghost use Rattle.connections.specs.Histories.{History, Hearing, Telling, clock, course, stage, stopped};
 ghost use Rattle.connections.specs.Soundness.{Here, IsReason};
 
@@ -90,7 +91,7 @@ pub(crate) fn take_at<S: Sessions, C: Connections>(
 ) -> bool
     requires free { slot.old ≡ None }
     requires goes_on { round.stopped ≡ None }
-    ensures { Serves S.opens S.hears S.wants S.ends C.has Hearing round.idle round.now round.stopped place (came_by result) connections.old sessions.old slot.old connections.new sessions.new slot.new }
+    ensures { Serves S.opens S.hears S.wants S.ends C.has Hearing round.idle round.now round.stopped place (came_by result) (HasTried result place) connections.old sessions.old slot.old connections.new sessions.new slot.new }
 {
     if !connections.take(place) {
         return false;
@@ -120,7 +121,7 @@ pub(crate) fn hear_at<S: Sessions, C: Connections>(
     round: Round,
     work: &mut Work,
 )
-    ensures { Serves S.opens S.hears S.wants S.ends C.has Hearing round.idle round.now round.stopped place 0 connections.old sessions.old slot.old connections.new sessions.new slot.new }
+    ensures { Serves S.opens S.hears S.wants S.ends C.has Hearing round.idle round.now round.stopped place 0 (λ after. IfThere (course after place) (IsAttended after place)) connections.old sessions.old slot.old connections.new sessions.new slot.new }
 {
     let Some(talk) = slot else {
         return;
@@ -145,7 +146,7 @@ pub(crate) fn tell_at<S: Sessions, C: Connections>(
     round: Round,
     work: &mut Work,
 )
-    ensures { Serves S.opens S.hears S.wants S.ends C.has (Telling round.is_synced) round.idle round.now round.stopped place 0 connections.old sessions.old slot.old connections.new sessions.new slot.new }
+    ensures { Serves S.opens S.hears S.wants S.ends C.has (Telling round.is_synced) round.idle round.now round.stopped place 0 (λ after. IfThere (course after place) (IsServed round.idle after place)) connections.old sessions.old slot.old connections.new sessions.new slot.new }
 {
     let Some(talk) = slot else {
         return;
@@ -171,7 +172,8 @@ fn tell<C: Connections>(
 ) -> Result<(), Ending>
     ensures { (acts : History) → Knows C.has round.idle connections.old acts → stage acts ≡ Telling round.is_synced → clock acts ≡ round.now → stopped acts ≡ round.stopped
         → Here (course acts place) (KeepsTalk talk.old)
-        → (after : History) × Adds place acts after × Knows C.has round.idle connections.new after × Judged round.idle after place result talk.new }
+        → (after : History) × Adds place acts after × Knows C.has round.idle connections.new after × Judged round.idle after place result talk.new
+        × IfOk result (λ _. Here (course after place) (IsServed round.idle after place)) }
 {
     if talk.tell(alloc, connections, place, round.now, round.is_synced)? {
         work.is_busy = true;
@@ -183,7 +185,7 @@ fn tell<C: Connections>(
 /// For how many milliseconds a connection may stay as it is, or why it is closed now.
 fn judge(talk: &Talk, round: Round, most: u64) -> Result<u64, Ending>
     ensures { (acts : History) (place : ℕ) → clock acts ≡ round.now → stopped acts ≡ round.stopped → Here (course acts place) (KeepsTalk talk.now)
-        → Judged round.idle acts place result talk.now }
+        → Judged round.idle acts place result talk.now × IfOk result (λ _. Here (course acts place) (IsNotDue round.idle acts)) }
 {
     talk.patience(round.now, round.idle, round.stopped, most)
 }

@@ -1,8 +1,9 @@
 //! What is kept of an open connection. What was read is heard part by part, as long as the output is not full;
 //! the rest waits, and nothing is read before it is heard.
 
-ghost use Rattle.std.specs.Prelude.{◌≡◌, ◌≢◌, ◌↔◌, ◌<◌, ◌≤◌, ◌++◌, [], ℕ, List, length, drop, IsTrue, IfErr, OnOk, Some, true, false};
-ghost use Rattle.connections.specs.Fitting.{Adds, Attends, Hearkens, IsIdleDue, IsJudged, IsStopDue, Judged, KeepsTalk, Knows};
+ghost use Rattle.std.specs.Prelude.{◌≡◌, ◌≢◌, ◌⊎◌, ◌↔◌, ◌<◌, ◌≤◌, ◌++◌, [], ℕ, List, length, drop, IsTrue, IfOk, IfErr, OnOk, Some, true, false};
+ghost use Rattle.connections.specs.Fairness.{InRound, asks, offers};
+ghost use Rattle.connections.specs.Fitting.{Adds, Attends, Hearkens, IsDone, IsIdleDue, IsJudged, IsStopDue, Judged, KeepsTalk, Knows};
 ghost use Rattle.connections.specs.Histories.{History, Hearing, Telling, clock, course, stage, stopped};
 ghost use Rattle.connections.specs.Soundness.{Here, MayRead};
 ghost use Rattle.connections.specs.declared.limits.TheConstants.{FULL_OUTPUT};
@@ -53,7 +54,7 @@ impl Talk {
 
     /// Whether nothing that was read waits to be heard, more may come, and its answers have room.
     fn may_read(&self) -> bool
-        ensures { IsTrue result → (self.now.input.items ≡ []) × (self.now.is_over ≡ false) × (length self.now.output.items ≤ FULL_OUTPUT) }
+        ensures { IsTrue result ↔ ((self.now.input.items ≡ []) × (self.now.is_over ≡ false) × (length self.now.output.items ≤ FULL_OUTPUT)) }
     {
         self.input.is_empty() && !self.is_over && self.has_room()
     }
@@ -66,9 +67,11 @@ impl Talk {
         place: usize,
     ) -> Result<bool, Ending>
         requires { self.old.input.items ≡ [] }
-        ensures { (idle : ℕ) (acts : History) → Knows C.has idle connections.old acts → stage acts ≡ Hearing
+        ensures reads { (idle : ℕ) (acts : History) → Knows C.has idle connections.old acts → stage acts ≡ Hearing
             → Here (course acts place) (λ of. KeepsTalk self.old of × MayRead of)
-            → (after : History) × Adds place acts after × Knows C.has idle connections.new after × Judged idle after place result self.new }
+            → (after : History) × Adds place acts after × Knows C.has idle connections.new after × Judged idle after place result self.new
+            × IfOk result (λ _. InRound asks after place) }
+        ensures nothing { result ≡ Ok false → self.new ≡ self.old }
     {
         let mut room = [0; PIECE_SIZE];
         match connections.read(place, &mut room) {
@@ -98,7 +101,7 @@ impl Talk {
     ) -> Result<(), Ending>
         requires some { self.old.input.items ≢ [] }
         requires room { length self.old.output.items ≤ FULL_OUTPUT }
-        ensures hears { Hearkens S.opens S.hears S.wants S.ends place now sessions.old self.old result sessions.new self.new }
+        ensures hears { Hearkens S.opens S.hears S.wants S.ends (λ _. true) place now sessions.old self.old result sessions.new self.new }
         ensures shorter { OnOk result (length self.new.input.items < length self.old.input.items) }
     {
         let size = self.output.len();
@@ -120,7 +123,9 @@ impl Talk {
         place: usize,
         now: u64,
     ) -> Result<bool, Ending>
-        ensures { Hearkens S.opens S.hears S.wants S.ends place now sessions.old self.old result sessions.new self.new }
+        ensures hears { Hearkens S.opens S.hears S.wants S.ends (λ done. done) place now sessions.old self.old result sessions.new self.new }
+        ensures all { IfOk result (λ _. (self.new.input.items ≡ []) ⊎ (FULL_OUTPUT < length self.new.output.items)) }
+        ensures nothing { result ≡ Ok false → self.new ≡ self.old }
     {
         let mut has_heard = false;
         while !self.input.is_empty() && self.has_room() {
@@ -160,9 +165,11 @@ impl Talk {
         place: usize,
         now: u64,
     ) -> Result<bool, Ending>
+        requires { self.old.output.items ≢ [] }
         ensures { (idle : ℕ) (acts : History) → Knows C.has idle connections.old acts → stage acts ≡ Telling true → clock acts ≡ now
             → Here (course acts place) (KeepsTalk self.old)
-            → (after : History) × Adds place acts after × Knows C.has idle connections.new after × Judged idle after place result self.new }
+            → (after : History) × Adds place acts after × Knows C.has idle connections.new after × Judged idle after place result self.new
+            × IfOk result (λ _. InRound offers after place) }
     {
         match connections.write(place, &self.output) {
             Writing::Took(count) => {
@@ -186,7 +193,8 @@ impl Talk {
     ) -> Result<bool, Ending>
         ensures { (idle : ℕ) (acts : History) → Knows C.has idle connections.old acts → stage acts ≡ Telling is_synced → clock acts ≡ now
             → Here (course acts place) (KeepsTalk self.old)
-            → (after : History) × Adds place acts after × Knows C.has idle connections.new after × Judged idle after place result self.new }
+            → (after : History) × Adds place acts after × Knows C.has idle connections.new after × Judged idle after place result self.new
+            × IfOk result (λ _. (self.new.output.items ≡ []) ⊎ InRound offers after place) }
     {
         if self.output.is_empty() {
             return Ok(false);
@@ -217,13 +225,14 @@ impl Talk {
 
     /// Whether the peer sends no more, and all is heard and told.
     fn wants_no_more(&self) -> bool
-        ensures { IsTrue result → (self.now.is_over ≡ true) × (self.now.input.items ≡ []) × (self.now.output.items ≡ []) }
+        ensures { IsTrue result ↔ IsDone self.now }
     {
         self.is_over && self.input.is_empty() && self.output.is_empty()
     }
 
     fn patience_of_stop(&self, now: u64, stopped: Option<u64>, most: u64) -> Result<u64, Ending>
-        ensures { IfErr result (λ why. (why ≡ Ending.Stopped) × IsStopDue now stopped self.now) }
+        ensures due { IfErr result (λ why. (why ≡ Ending.Stopped) × IsStopDue now stopped self.now) }
+        ensures not_due { IfOk result (λ _. ¬ IsStopDue now stopped self.now) }
     {
         let Some(then) = stopped else {
             return Ok(most);
@@ -236,7 +245,8 @@ impl Talk {
     }
 
     fn patience_of_idle(&self, now: u64, idle: u64, most: u64) -> Result<u64, Ending>
-        ensures { IfErr result (λ why. (why ≡ Ending.Idle) × IsIdleDue now idle self.now) }
+        ensures due { IfErr result (λ why. (why ≡ Ending.Idle) × IsIdleDue now idle self.now) }
+        ensures not_due { IfOk result (λ _. ¬ IsIdleDue now idle self.now) }
     {
         if idle == 0 {
             return Ok(most);

@@ -8,7 +8,7 @@ use Rattle.hub.specs.declared.hub_refusal.HubRefusal.TheVariants.{TooManySession
 use Rattle.hub.specs.Happenings.{Happens, Passes}
 use Rattle.hub.specs.Runs.{lines, AllAnswered, Line}
 use Rattle.hub.proofs.Running.{answered_append}
-use Rattle.connections.specs.Histories.{At, Ordered, Syncs, On, Comes, Opens, Reads, IsOver, Hears, Wants, Takes, Fails, Ends, Closes, History, Leads}
+use Rattle.connections.specs.Histories.{At, Ordered, GoesOn, Syncs, NoneWaits, On, Comes, Opens, Reads, IsOver, IsSilent, Hears, Wants, Takes, TakesNone, Fails, Ends, Closes, History, Leads}
 use Rattle.server.specs.Sessions.{AreLines, Ended, Heard, Opened, Wanted}
 use Rattle.server.proofs.Conversing.{all_replied}
 
@@ -75,11 +75,14 @@ module _ {S : Type 0} (answers : S → Frame → List ℕ → S → Type 0) wher
     crowd_answered start (At now ∷ acts) after leads = crowd_answered start acts after leads
     crowd_answered start (Ordered ∷ acts) after leads = crowd_answered start acts after leads
     crowd_answered start (Syncs kept ∷ acts) after leads = crowd_answered start acts after leads
+    crowd_answered start (GoesOn ∷ acts) after leads = crowd_answered start acts after leads
+    crowd_answered start (NoneWaits ∷ acts) after leads = crowd_answered start acts after leads
     crowd_answered start (On place Comes ∷ acts) after leads = crowd_answered start acts after leads
     crowd_answered start (On place Opens ∷ acts) after (middle, leads, does) =
         still start middle after acts (crowd_answered start acts middle leads) (passes_answered (hub_of middle) (Open place) [] (hub_of after) does)
     crowd_answered start (On place (Reads bytes) ∷ acts) after leads = crowd_answered start acts after leads
     crowd_answered start (On place IsOver ∷ acts) after leads = crowd_answered start acts after leads
+    crowd_answered start (On place IsSilent ∷ acts) after leads = crowd_answered start acts after leads
     crowd_answered start (On place (Hears part reply) ∷ acts) after (middle, leads, (xs, does, is)) =
         let earlier = crowd_answered start acts middle leads in (
           earlier.0 ++ lines place xs,
@@ -94,6 +97,7 @@ module _ {S : Type 0} (answers : S → Frame → List ℕ → S → Type 0) wher
           both start middle after earlier.0 (lines place lost.0) earlier.2 lost.1,
         )
     crowd_answered start (On place (Takes bytes) ∷ acts) after leads = crowd_answered start acts after leads
+    crowd_answered start (On place TakesNone ∷ acts) after leads = crowd_answered start acts after leads
     crowd_answered start (On place Fails ∷ acts) after leads = crowd_answered start acts after leads
     crowd_answered start (On place Ends ∷ acts) after (middle, leads, does) = ended_still start middle after acts place (crowd_answered start acts middle leads) does
     crowd_answered start (On place (Closes why) ∷ acts) after leads = crowd_answered start acts after leads

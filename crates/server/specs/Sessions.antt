@@ -9,7 +9,7 @@ use Rattle.hub.specs.Events.{Open, Bytes, End, HubState}
 use Rattle.hub.specs.Exchanges.{Exchange, replies}
 use Rattle.hub.specs.Happenings.{Answered, Passes}
 use Rattle.hub.specs.Runs.{lines, Line}
-use Rattle.connections.specs.Histories.{At, Ordered, Syncs, On, Comes, Opens, Reads, IsOver, Hears, Wants, Takes, Fails, Ends, Closes, History}
+use Rattle.connections.specs.Histories.{At, Ordered, GoesOn, Syncs, NoneWaits, On, Comes, Opens, Reads, IsOver, IsSilent, Hears, Wants, Takes, TakesNone, Fails, Ends, Closes, History}
 
 -- only want of memory is told as such
 abbrev pub session_fault : HubRefusal → SessionFault
@@ -42,15 +42,19 @@ abbrev pub AreLines : History → List Line → Type 0
 AreLines [] all = all ≡ []
 AreLines (At now ∷ before) all = AreLines before all
 AreLines (Ordered ∷ before) all = AreLines before all
+AreLines (GoesOn ∷ before) all = AreLines before all
 AreLines (Syncs kept ∷ before) all = AreLines before all
+AreLines (NoneWaits ∷ before) all = AreLines before all
 AreLines (On place Comes ∷ before) all = AreLines before all
 AreLines (On place Opens ∷ before) all = AreLines before all
 AreLines (On place (Reads bytes) ∷ before) all = AreLines before all
 AreLines (On place IsOver ∷ before) all = AreLines before all
+AreLines (On place IsSilent ∷ before) all = AreLines before all
 AreLines (On place (Hears part reply) ∷ before) all = (earlier : List Line) × (exchanges : List Exchange)
     × AreLines before earlier × (all ≡ earlier ++ lines place exchanges) × (reply ≡ replies exchanges)
 AreLines (On place Wants ∷ before) all = (earlier : List Line) × (lost : List Exchange) × AreLines before earlier × (all ≡ earlier ++ lines place lost)
 AreLines (On place (Takes bytes) ∷ before) all = AreLines before all
+AreLines (On place TakesNone ∷ before) all = AreLines before all
 AreLines (On place Fails ∷ before) all = AreLines before all
 AreLines (On place Ends ∷ before) all = AreLines before all
 AreLines (On place (Closes why) ∷ before) all = AreLines before all

@@ -4,7 +4,8 @@
 // which contracts know it. `scripts/listen.sh` covers the rest.
 ghost use Rattle.std.specs.Prelude.{◌≡◌, ◌≢◌, ◌↔◌, List, [], Err, IfErr, None, OnOk};
 ghost use Rattle.connections.specs.Endings.{AreWithin, HasEnded};
-ghost use Rattle.connections.specs.Fitting.{AreFree};
+ghost use Rattle.connections.specs.Fairness.{IsFair, IsWhole};
+ghost use Rattle.connections.specs.Fitting.{size_of, AreFree};
 ghost use Rattle.connections.specs.Histories.{History, of_connections};
 ghost use Rattle.connections.specs.Soundness.{IsSound};
 ghost use Rattle.connections.specs.Telling.{TellsMemory};
@@ -71,7 +72,8 @@ where
     requires { AreFree places }
     ensures tells { TellsMemory (E.contents errors.old) (E.contents errors.new) }
     ensures shown { C.has connections.old [] → (acts : History) × C.has connections.new (of_connections acts) × IsSound limits.idle acts
-        × AreWithin limits.count acts × HasEnded limits.count acts × ((lines : List Line) × AreLines acts lines × ShownBy K.kept K.failed sessions.old.hub.service lines sessions.new.hub.service) }
+        × AreWithin limits.count acts × HasEnded limits.count acts
+        × IsFair limits.idle limits.count (size_of places) acts × IsWhole limits.idle acts × ((lines : List Line) × AreLines acts lines × ShownBy K.kept K.failed sessions.old.hub.service lines sessions.new.hub.service) }
 {
     // What the two calls of `head` ensure: the book is sound before and after, and the provider's
     // functions keep their laws.

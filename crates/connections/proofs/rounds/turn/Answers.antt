@@ -1,11 +1,12 @@
-use Rattle.std.proofs.Common.{◌≡◌, ◌+◌, ◌∷◌, refl, ◌∙◌, arith}
-use Rattle.connections.specs.Endings.{comers}
+use Rattle.std.proofs.Common.{◌≡◌, ◌≢◌, ◌+◌, ◌∷◌, length, refl, sym, ◌∙◌, arith}
+use Rattle.connections.specs.Endings.{comers, most_comers}
+use Rattle.connections.specs.Fairness.{AreHeard, IsFair}
 use Rattle.connections.specs.Histories.{At, Syncs, Hearing, of_connections, stage}
-use Rattle.connections.proofs.Touring.{begun, fit_begun}
+use Rattle.connections.proofs.Touring.{are_heard, asked_on, begun, fit_begun, telling}
 use Rattle.connections.proofs.rounds.turn.Goals as goal
 
 pub returns-clause-turns : goal.returns-clause-turns
-returns-clause-turns g c = λ start acts known order fit.
+returns-clause-turns g c = λ count start acts known order fit whole.
     let waited = c.wait-now.ensures (of_connections acts) known.0 in
     let a = c.stop_by-stopped.ensures c.args.last.round.idle (At c.wait-now.result ∷ acts) (waited, known.2) refl order in
     let b = begun g.S.Sessions.opens g.S.Sessions.hears g.S.Sessions.wants g.S.Sessions.ends start c.args.sessions.now acts c.wait-now.result a.0 a.1 known.1 in
@@ -18,11 +19,17 @@ returns-clause-turns g c = λ start acts known order fit.
     let same_h : comers h.0 + 0 ≡ comers t.0 + 0 = h.1.fewer_left in
     let same_w : comers w.0 + 0 ≡ comers h.0 + 0 = w.1.fewer_left in
     let fewer : comers t.0 + c.take_new-left.result ≡ comers a.0 + c.args.last.left = t.1.fewer_left in
-    let same_a : comers a.0 ≡ comers acts = b.4 in (
+    let same_a : comers a.0 ≡ comers acts = b.4 in
+    let most : comers acts + c.args.last.left ≡ most_comers count = whole.0 in
+    let size = length c.args.places.now in
+    let idle = c.args.last.round.idle in
+    let fair : IsFair idle count size h.0 = h.1.lasts.fair idle count size (t.1.lasts.fair idle count size (b.6 idle count size whole.1 whole.2)) in
+    let heard : AreHeard count size h.0 = are_heard count size c.take_new-left.result t.0 h.0 h.1 (omega arith) (asked_on c.args.last.left c.take_new-left.result a.0 t.0 t.1 a.4) t.4 h.4 in
+    let last : stage w.0 ≢ Hearing = λ same. telling c.sync.result (sym w.1.same_stage ∙ same) in (
       w.0,
       w.2,
       w.1.same_stop ∙ h.1.same_stop ∙ t.1.same_stop ∙ a.3,
       w.3,
-      omega arith,
       w.1.same_rounds ∙ h.1.same_rounds ∙ t.1.same_rounds ∙ b.5,
+      (omega arith, w.1.lasts.fair idle count size (heard, fair), (last, w.4)),
     )

@@ -1,5 +1,5 @@
-use Rattle.std.proofs.Common.{[], ◌+◌, refl, sym, ◌∙◌, rules, zero-add}
-use Rattle.connections.proofs.Touring.{all_free, ended, ended_late, turned}
+use Rattle.std.proofs.Common.{[], ◌+◌, length, false, refl, sym, ◌∙◌, rules, zero-add}
+use Rattle.connections.proofs.Touring.{all_free, ended, ended_late, telling, turned}
 use Rattle.connections.proofs.Wanting.{tells_both, tells_none}
 use Rattle.connections.proofs.rounds.turn_all.Goals as goal
 
@@ -7,7 +7,7 @@ pub loop-round-init : goal.loop-round-init
 loop-round-init g c = (
   c.new-state.ensures.round.0,
   tells_none (g.E.Write.contents c.args.errors.now),
-  λ has. ([], (has, refl, tt), sym c.new-state.ensures.round.1, all_free c.args.places.now c.requires, zero-add c.new-state.result.left ∙ c.new-state.ensures.left, refl),
+  λ has. ([], (has, refl, tt), sym c.new-state.ensures.round.1, all_free c.args.places.now c.requires, refl, (zero-add c.new-state.result.left ∙ c.new-state.ensures.left, tt, (telling false, λ place. tt))),
 )
 
 pub loop-round-preserved : goal.loop-round-preserved
@@ -15,8 +15,8 @@ loop-round-preserved g c = (
   c.turn-state.ensures.same ∙ c.loop-round.invariant.0,
   tells_both _ _ _ c.loop-round.invariant.1 c.tell_wanting.ensures,
   λ has. turned g.S.Sessions.opens g.S.Sessions.hears g.S.Sessions.wants g.S.Sessions.ends g.C.Connections.has c.args.limits.idle c.loop-round.state.round.idle
-      c.args.limits.count c.loop-round.state.left c.turn-state.result.left c.loop-round._round c.loop-round.state.round.stopped c.turn-state.result.round.stopped
-      c.loop-round.connections c.turn-state.new.connections c.loop-round.sessions c.turn-state.new.sessions c.loop-round.places c.turn-state.new.places c.loop-round.invariant.0 c.args.sessions.now
+      c.args.limits.count (length c.args.places.now) c.loop-round.state.left c.turn-state.result.left c.loop-round._round c.loop-round.state.round.stopped c.turn-state.result.round.stopped
+      c.loop-round.connections c.turn-state.new.connections c.loop-round.sessions c.turn-state.new.sessions c.loop-round.places c.turn-state.new.places c.loop-round.invariant.0 c.loop-round.auto.places c.args.sessions.now
       (c.loop-round.invariant.2 has) c.turn-state.ensures.turns,
 )
 
@@ -26,10 +26,10 @@ returns-then-are_free-clause-tells g c = tells_both _ _ _ c.loop-round.invariant
 pub returns-then-are_free-clause-happens : goal.returns-then-are_free-clause-happens
 returns-then-are_free-clause-happens g c = λ has.
     let t = turned g.S.Sessions.opens g.S.Sessions.hears g.S.Sessions.wants g.S.Sessions.ends g.C.Connections.has c.args.limits.idle c.loop-round.state.round.idle
-    c.args.limits.count c.loop-round.state.left c.turn-state.result.left c.loop-round._round c.loop-round.state.round.stopped c.turn-state.result.round.stopped
-    c.loop-round.connections c.turn-state.new.connections c.loop-round.sessions c.turn-state.new.sessions c.loop-round.places c.turn-state.new.places c.loop-round.invariant.0 c.args.sessions.now
+    c.args.limits.count (length c.args.places.now) c.loop-round.state.left c.turn-state.result.left c.loop-round._round c.loop-round.state.round.stopped c.turn-state.result.round.stopped
+    c.loop-round.connections c.turn-state.new.connections c.loop-round.sessions c.turn-state.new.sessions c.loop-round.places c.turn-state.new.places c.loop-round.invariant.0 c.loop-round.auto.places c.args.sessions.now
     (c.loop-round.invariant.2 has) c.turn-state.ensures.turns in
-    ended g.S.Sessions.opens g.S.Sessions.hears g.S.Sessions.wants g.S.Sessions.ends g.C.Connections.has c.args.limits.idle c.args.limits.count c.turn-state.result.left (c.loop-round._round + 1)
+    ended g.S.Sessions.opens g.S.Sessions.hears g.S.Sessions.wants g.S.Sessions.ends g.C.Connections.has c.args.limits.idle c.args.limits.count (length c.args.places.now) c.turn-state.result.left (c.loop-round._round + 1)
     c.turn-state.result.round.stopped c.args.sessions.now c.turn-state.new.connections c.turn-state.new.sessions c.turn-state.new.places t (c.is_closing.ensures (search rules)) (c.are_free.ensures (search rules))
 
 pub returns-clause-tells : goal.returns-clause-tells
@@ -37,5 +37,5 @@ returns-clause-tells g c = c.loop-round.invariant.1
 
 pub returns-clause-happens : goal.returns-clause-happens
 returns-clause-happens g c = λ has.
-    ended_late g.S.Sessions.opens g.S.Sessions.hears g.S.Sessions.wants g.S.Sessions.ends g.C.Connections.has c.args.limits.idle c.args.limits.count c.loop-round.state.left c.loop-round._round
+    ended_late g.S.Sessions.opens g.S.Sessions.hears g.S.Sessions.wants g.S.Sessions.ends g.C.Connections.has c.args.limits.idle c.args.limits.count (length c.args.places.now) c.loop-round.state.left c.loop-round._round
     c.loop-round.state.round.stopped c.args.sessions.now c.loop-round.connections c.loop-round.sessions c.loop-round.places (c.loop-round.invariant.2 has) (search rules)

@@ -16,6 +16,8 @@ returns-clause-shown g c = λ has.
       happened.1.2,
       happened.2,
       happened.3,
+      happened.4,
+      happened.5,
       (
         told.0,
         told.1,

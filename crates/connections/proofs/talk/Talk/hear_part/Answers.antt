@@ -1,4 +1,4 @@
-use Rattle.std.proofs.Common.{◌≡◌, ◌≤◌, ◌∷◌, ◌++◌, List, ℕ, length, take, drop, arith, refl, sym, subst}
+use Rattle.std.proofs.Common.{◌≡◌, ◌≤◌, ◌∷◌, ◌++◌, List, ℕ, length, take, drop, arith, refl, sym, subst, inl}
 use Rattle.std.proofs.lemmas.Grind.{common_steps}
 use Rattle.connections.specs.Fitting.{KeepsTalk}
 use Rattle.connections.specs.Histories.{Hears, On, Wants, Course, clock, if_answered}
@@ -8,7 +8,7 @@ use Rattle.connections.proofs.talk.Talk.hear_part.Goals as goal
 pub returns-in-Err-clause-hears : goal.returns-in-Err-clause-hears
 returns-in-Err-clause-hears g c = λ idle start acts held hearing now here.
     let next = next_want idle acts c.args.place (here_so _ _ _ (λ (of : Course) (keeps : KeepsTalk c.args.self.now of). keeps.is_open) here) in
-    (On c.args.place Wants ∷ acts, stays_one c.args.place Wants acts, refl, ((c.args.sessions.now, held.0, c.in-Err.ensures.err), (next.0, held.1)), next.1)
+    (On c.args.place Wants ∷ acts, stays_one c.args.place Wants acts, refl, ((c.args.sessions.now, held.0, c.in-Err.ensures.err), (next.0, held.1)), next.1, tt)
 
 pub returns-clause-hears : goal.returns-clause-hears
 returns-clause-hears g c = λ idle start acts held hearing now here.
@@ -32,4 +32,5 @@ returns-clause-hears g c = λ idle start acts held hearing now here.
       refl,
       ((c.args.sessions.now, held.0, heard), (next.0, held.1)),
       rw (sym {A = List ℕ} ok.4, active) at next.1,
+      λ so. inl (refl, refl),
     )

@@ -1,8 +1,9 @@
-use Rattle.std.proofs.Common.{◌≡◌, ◌≤◌, ◌++◌, List, ℕ, length, take, drop, arith, sym}
+use Rattle.std.proofs.Common.{◌≡◌, ◌≤◌, ◌++◌, List, ℕ, length, take, drop, arith, refl, sym}
 use Rattle.std.proofs.lemmas.Grind.{common_steps}
+use Rattle.connections.specs.Fairness.{offers}
 use Rattle.connections.specs.Fitting.{KeepsTalk}
-use Rattle.connections.specs.Histories.{Fails, Takes, Course, of_connections}
-use Rattle.connections.proofs.Steps.{come_to, here_so, next_fail, next_take}
+use Rattle.connections.specs.Histories.{Fails, Takes, TakesNone, Course, of_connections}
+use Rattle.connections.proofs.Steps.{come_to, here_so, next_fail, next_take, next_take_none}
 use Rattle.connections.proofs.talk.Talk.write.Goals as goal
 
 pub returns-in-Took : goal.returns-in-Took
@@ -17,11 +18,20 @@ returns-in-Took g c = λ idle acts knows telling time here.
     let rest : c.drop_front.new.bytes.items ≡ drop c.in-Took.count output = c.drop_front.ensures in
     let split : output ≡ bytes ++ c.drop_front.new.bytes.items = rw rest (grind (arith, common_steps)) in
     let next = next_take idle acts c.args.place bytes c.drop_front.new.bytes.items c.args.self.now.input.items output c.args.self.now.active c.args.self.now.is_over c.args.now time telling some split here in
-    come_to g.C.Connections.has idle c.args.place acts c.args.connections.now c.write.new.self (Takes bytes) _ tt
-    (rw seen at (c.write.ensures.bytes c.in-Took.count c.in-Took.is (of_connections acts))) knows next
+    let a = come_to g.C.Connections.has idle c.args.place acts c.args.connections.now c.write.new.self (Takes bytes) _ tt
+    (rw seen at (c.write.ensures.bytes c.in-Took.count c.in-Took.is (of_connections acts))) knows next in
+    (a.0, a.1, a.2, a.3, a.4 offers refl)
+
+pub returns-in-Wait : goal.returns-in-Wait
+returns-in-Wait g c = λ idle acts knows telling time here.
+    let a = come_to g.C.Connections.has idle c.args.place acts c.args.connections.now c.write.new.self TakesNone _ tt
+    (c.write.ensures.wait c.in-Wait.is (of_connections acts)) knows
+    (next_take_none idle acts c.args.place _ _ _ _ telling c.requires here) in
+    (a.0, a.1, a.2, a.3, a.4 offers refl)
 
 pub returns-in-Fault : goal.returns-in-Fault
 returns-in-Fault g c = λ idle acts knows telling time here.
-    come_to g.C.Connections.has idle c.args.place acts c.args.connections.now c.write.new.self Fails _ tt
+    let a = come_to g.C.Connections.has idle c.args.place acts c.args.connections.now c.write.new.self Fails _ tt
     (c.write.ensures.fault c.in-Fault.is (of_connections acts)) knows
-    (next_fail idle acts c.args.place (here_so _ _ _ (λ (of : Course) (keeps : KeepsTalk c.args.self.now of). keeps.is_open) here))
+    (next_fail idle acts c.args.place (here_so _ _ _ (λ (of : Course) (keeps : KeepsTalk c.args.self.now of). keeps.is_open) here)) in
+    (a.0, a.1, a.2, a.3, tt)

@@ -1,0 +1,145 @@
+-- Each round gives each connection its turn.
+use Rattle.std.specs.Prelude.{◌≡◌, ◌≢◌, ◌⊎◌, ◌+◌, ◌<◌, ℕ, [], ◌∷◌, length, Bool, true, false, Option, Some, None, ⊤}
+use Rattle.connections.specs.declared.ending.Ending.TheVariants.{Done, Idle, Stopped}
+use Rattle.connections.specs.declared.limits.TheConstants.{FULL_OUTPUT}
+use Rattle.connections.specs.Endings.{IsClosing, IsStopped}
+use Rattle.connections.specs.Histories.{At, Ordered, GoesOn, Syncs, NoneWaits, On, Deed, Comes, Opens, Reads, IsOver, IsSilent, Hears, Wants, Takes, TakesNone, Fails, Ends, Closes, History, Course, Hearing, course, stage}
+use Rattle.connections.specs.Soundness.{IsHeard, IsReason, IsTold}
+
+-- ---- what happened in a round
+
+-- a connection was asked for what it sends, or its session heard some of it
+abbrev pub asks : Deed → Bool
+asks Comes = false
+asks Opens = false
+asks (Reads bytes) = true
+asks IsOver = true
+asks IsSilent = true
+asks (Hears part reply) = true
+asks Wants = false
+asks (Takes bytes) = false
+asks TakesNone = false
+asks Fails = false
+asks Ends = false
+asks (Closes why) = false
+
+-- a connection was offered what its session was answered
+abbrev pub offers : Deed → Bool
+offers Comes = false
+offers Opens = false
+offers (Reads bytes) = false
+offers IsOver = false
+offers IsSilent = false
+offers (Hears part reply) = false
+offers Wants = false
+offers (Takes bytes) = true
+offers TakesNone = true
+offers Fails = false
+offers Ends = false
+offers (Closes why) = false
+
+-- a connection was closed
+abbrev pub closes : Deed → Bool
+closes Comes = false
+closes Opens = false
+closes (Reads bytes) = false
+closes IsOver = false
+closes IsSilent = false
+closes (Hears part reply) = false
+closes Wants = false
+closes (Takes bytes) = false
+closes TakesNone = false
+closes Fails = false
+closes Ends = false
+closes (Closes why) = true
+
+-- in this round, such a deed happened at a place
+abbrev pub InRound : (Deed → Bool) → History → ℕ → Type 0
+InRound is [] place = ⊥
+InRound is (At now ∷ before) place = ⊥
+InRound is (Ordered ∷ before) place = InRound is before place
+InRound is (Syncs kept ∷ before) place = InRound is before place
+InRound is (GoesOn ∷ before) place = InRound is before place
+InRound is (NoneWaits ∷ before) place = InRound is before place
+InRound is (On other deed ∷ before) place = ((other ≡ place) × (is deed ≡ true)) ⊎ InRound is before place
+
+-- in this round, no connection waited to be taken
+abbrev pub NoneWaited : History → Type 0
+NoneWaited [] = ⊥
+NoneWaited (At now ∷ before) = ⊥
+NoneWaited (Ordered ∷ before) = NoneWaited before
+NoneWaited (Syncs kept ∷ before) = NoneWaited before
+NoneWaited (GoesOn ∷ before) = NoneWaited before
+NoneWaited (NoneWaits ∷ before) = ⊤
+NoneWaited (On place deed ∷ before) = NoneWaited before
+
+-- in this round, no stop was ordered so far
+abbrev pub NoneOrdered : History → Type 0
+NoneOrdered [] = ⊥
+NoneOrdered (At now ∷ before) = ⊥
+NoneOrdered (Ordered ∷ before) = NoneOrdered before
+NoneOrdered (GoesOn ∷ before) = ⊤
+NoneOrdered (Syncs kept ∷ before) = NoneOrdered before
+NoneOrdered (NoneWaits ∷ before) = NoneOrdered before
+NoneOrdered (On place deed ∷ before) = NoneOrdered before
+
+-- ---- the turn of one connection
+
+-- if there is a connection, this is so of it
+abbrev pub IfThere : Option Course → (Course → Type 0) → Type 0
+IfThere None P = ⊤
+IfThere (Some of) P = P of
+
+-- so much that was answered waits for the connection that nothing is read or heard
+abbrev pub IsFull : Course → Type 0
+IsFull of = length of.taken + FULL_OUTPUT < length of.answered
+
+-- unless the connection is full, all that was read is heard, and it was asked for more, unless it sends no more
+abbrev pub IsAttended : History → ℕ → Course → Type 0
+IsAttended acts place of = IsFull of ⊎ (IsHeard of × ((of.is_over ≡ true) ⊎ InRound asks acts place))
+
+-- it is not time to close the connection
+abbrev pub IsNotDue : ℕ → History → Course → Type 0
+IsNotDue idle acts of = (¬ IsReason idle acts Done of) × (¬ IsReason idle acts Idle of) × (¬ IsReason idle acts Stopped of)
+
+-- all that was answered is taken or was offered, and it is not time to close the connection
+abbrev pub IsServed : ℕ → History → ℕ → Course → Type 0
+IsServed idle acts place of = (IsTold of ⊎ InRound offers acts place) × IsNotDue idle acts of
+
+-- a place has a connection, or had one in this round
+abbrev pub IsUsed : History → ℕ → Type 0
+IsUsed acts place = (course acts place ≢ None) ⊎ InRound closes acts place
+
+-- ---- a round
+
+-- each connection had its turn to send
+abbrev pub AreAttended : History → Type 0
+AreAttended acts = (place : ℕ) → IfThere (course acts place) (IsAttended acts place)
+
+-- each connection had its turn to take
+abbrev pub AreServed : ℕ → History → Type 0
+AreServed idle acts = (place : ℕ) → IfThere (course acts place) (IsServed idle acts place)
+
+-- so many places are in use
+abbrev pub AreUsed : ℕ → History → Type 0
+AreUsed size acts = (place : ℕ) → place < size → IsUsed acts place
+
+-- the connections of a round are heard: none is left waiting for a free place, and each had its turn to send, unless
+-- a stop was ordered
+abbrev pub AreHeard : ℕ → ℕ → History → Type 0
+AreHeard count size acts = (IsClosing count acts ⊎ NoneWaited acts ⊎ AreUsed size acts) × (IsStopped acts ⊎ (NoneOrdered acts × AreAttended acts))
+
+-- the round is over: what was answered was put on its disk, and each connection had its turn to take
+abbrev pub IsWhole : ℕ → History → Type 0
+IsWhole idle acts = (stage acts ≢ Hearing) × AreServed idle acts
+
+-- Each round was whole before the next, of so many places, where so many connections may be taken and one may be
+-- idle for so long.
+abbrev pub IsFair : ℕ → ℕ → ℕ → History → Type 0
+IsFair idle count size [] = ⊤
+IsFair idle count size (At now ∷ before) = IsWhole idle before × IsFair idle count size before
+IsFair idle count size (Ordered ∷ before) = IsFair idle count size before
+IsFair idle count size (Syncs kept ∷ before) = AreHeard count size before × IsFair idle count size before
+IsFair idle count size (GoesOn ∷ before) = IsFair idle count size before
+IsFair idle count size (NoneWaits ∷ before) = IsFair idle count size before
+IsFair idle count size (On place deed ∷ before) = IsFair idle count size before
