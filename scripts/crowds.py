@@ -89,10 +89,10 @@ def checked(address, count, silent):
             frame = request_frame("register", names[n][k], b"key of %d" % n)
             client.sendall(frame[7:] + request_frame("lookup", 0, names[n][k]))
     for n, client in enumerate(clients):
-        for k in range(NAMES):
-            promise, absent = answers(client, 2)
+        told = answers(client, 2 * NAMES)
+        for name, promise, absent in zip(names[n], told[::2], told[1::2], strict=True):
             users[n].keep_promise(promise.write())
-            if users[n].look(names[n][k], 0, absent.write()) is not None:
+            if users[n].look(name, 0, absent.write()) is not None:
                 yield f"client {n}: a name is there before its epoch"
     ask(operator, "close", TOKEN, first.body.epoch + 1)
     roots = ask(operator, "history", first.body.epoch + 1, 64)
