@@ -3,17 +3,21 @@
 
     scripts/crowds.py HOST:PORT checked COUNT SILENT  COUNT clients register and look up names, all at once, beside so many
                                                       that are silent; each reply is checked as a client checks it
+    scripts/crowds.py HOST:PORT kept COUNT            the names of `checked` are there, in a server that began with its journal
     scripts/crowds.py HOST:PORT slow                  a client that sends one byte at a time, and others beside it
-    scripts/crowds.py HOST:PORT deaf                  one that asks and takes no reply, and others beside it
-    scripts/crowds.py HOST:PORT resets COUNT          COUNT clients that reset their connections, and then one that does not
+    scripts/crowds.py HOST:PORT deaf                  one that asks and takes no reply, others beside it, and then its replies
+    scripts/crowds.py HOST:PORT resets COUNT          COUNT clients that reset their connections, and one beside them
     scripts/crowds.py HOST:PORT idle SECONDS          silent clients are closed after so long, and one that asks is not
     scripts/crowds.py HOST:PORT full PLACES           a client waits for a place, and has it once another is gone
     scripts/crowds.py HOST:PORT many COUNT            COUNT clients of a server with fewer file handles: each is answered
+    scripts/crowds.py HOST:PORT stopped               what each client has of a server that is ordered to stop, once `ready`
+                                                      is printed
 
-The server has just begun with the keys of `scripts/formats.py --keys`, for `checked`. Prints what is not so. The status is
-0 where all is.
+The server has the keys of `scripts/formats.py --keys`, and for `checked` it has just begun. Prints what is not so. The
+status is 0 where all is.
 """
 
+import select
 import socket
 import struct
 import sys
@@ -28,6 +32,12 @@ from worked import SIGNING_KEY, TOKEN, VUF_KEY, one_reply
 HEAD = request_frame("head")
 PATIENCE = 0.3
 NAMES = 2
+# More bytes than a server reads of a client that takes no reply.
+MOST_READ = 4_000_000
+# For so long a client that takes no reply can send nothing more, once its replies are too many.
+FULL_SECONDS = 1
+# How long a server that is ordered to stop waits for such a client.
+LAST_SECONDS = 5
 
 
 def ask(client, *request):
@@ -60,6 +70,35 @@ def is_answered(address):
         return len(frames(one_reply(client))[0]) == 1
 
 
+def narrow(address):
+    """A connection for which the system keeps few bytes."""
+    client = socket.socket()
+    client.setsockopt(socket.SOL_SOCKET, socket.SO_RCVBUF, 65536)
+    client.setsockopt(socket.SOL_SOCKET, socket.SO_SNDBUF, 4096)
+    host, _, port = address.rpartition(":")
+    client.connect((host, int(port)))
+    return client
+
+
+def ask_on(client):
+    """Asks until the server reads no more, and counts the bytes that were sent."""
+    client.settimeout(FULL_SECONDS)
+    sent = 0
+    try:
+        while sent < MOST_READ:
+            sent += client.send(HEAD * 1000)
+    except TimeoutError:
+        pass
+    client.settimeout(60)
+    return sent
+
+
+def reset(client):
+    """Closes a connection with no time to linger, which resets it."""
+    client.setsockopt(socket.SOL_SOCKET, socket.SO_LINGER, struct.pack("ii", 1, 0))
+    client.close()
+
+
 def is_closed(client, seconds):
     """The server closes the connection within so long."""
     client.settimeout(seconds)
@@ -73,13 +112,17 @@ def is_closed(client, seconds):
     return True
 
 
+def names_of(count):
+    return [[b"name %d of %d" % (k, n) for k in range(NAMES)] for n in range(count)]
+
+
 def checked(address, count, silent):
     count = int(count)
     still = [connected(address) for _ in range(int(silent))]
     operator = connected(address)
     first = ask(operator, "head")
     clients = [connected(address) for _ in range(count)]
-    names = [[b"name %d of %d" % (k, n) for k in range(NAMES)] for n in range(count)]
+    names = names_of(count)
     users = [Client(SIGNING_KEY, first.write(), sha256, KeyedVuf(VUF_KEY)) for _ in range(count)]
     for k in range(NAMES):
         for n, client in enumerate(clients):
@@ -89,10 +132,10 @@ def checked(address, count, silent):
             frame = request_frame("register", names[n][k], b"key of %d" % n)
             client.sendall(frame[7:] + request_frame("lookup", 0, names[n][k]))
     for n, client in enumerate(clients):
-        for k in range(NAMES):
-            promise, absent = answers(client, 2)
+        told = answers(client, 2 * NAMES)
+        for name, promise, absent in zip(names[n], told[::2], told[1::2], strict=True):
             users[n].keep_promise(promise.write())
-            if users[n].look(names[n][k], 0, absent.write()) is not None:
+            if users[n].look(name, 0, absent.write()) is not None:
                 yield f"client {n}: a name is there before its epoch"
     ask(operator, "close", TOKEN, first.body.epoch + 1)
     roots = ask(operator, "history", first.body.epoch + 1, 64)
@@ -114,6 +157,16 @@ def checked(address, count, silent):
         client.close()
 
 
+def kept(address, count):
+    with connected(address) as client:
+        user = Client(SIGNING_KEY, ask(client, "head").write(), sha256, KeyedVuf(VUF_KEY))
+        for n, names in enumerate(names_of(int(count))):
+            client.sendall(b"".join(request_frame("lookup", 0, name) for name in names))
+            for name, reply in zip(names, answers(client, NAMES), strict=True):
+                if user.look(name, 0, reply.write()) != b"key of %d" % n:
+                    yield f"another key of {name.decode()}"
+
+
 def slow(address):
     with connected(address) as client:
         for byte in HEAD * 2:
@@ -126,24 +179,35 @@ def slow(address):
 
 
 def deaf(address):
-    with connected(address) as client:
-        client.settimeout(PATIENCE)
-        try:
-            for _ in range(100):
-                client.sendall(HEAD * 1000)
-        except TimeoutError:
-            pass
+    with narrow(address) as client:
+        sent = ask_on(client)
+        if sent >= MOST_READ:
+            yield "the server reads on, though no reply is taken"
         for _ in range(5):
             if not is_answered(address):
                 yield "no answer beside a client that takes no reply"
+        whole, more = divmod(sent, len(HEAD))
+        if len(answers(client, whole)) != whole:
+            yield "replies are missing once they are taken"
+        client.sendall(HEAD[more:])
+        if len(answers(client, 1)) != 1:
+            yield "no reply to the last request"
 
 
 def resets(address, count):
-    for number in range(int(count)):
-        with connected(address) as client:
-            client.sendall(HEAD[:3] if number % 2 else HEAD * 100)
-            # With no time to linger, closing resets the connection.
-            client.setsockopt(socket.SOL_SOCKET, socket.SO_LINGER, struct.pack("ii", 1, 0))
+    with connected(address) as asking:
+        for number in range(int(count)):
+            client = narrow(address)
+            # In the middle of a frame, before the replies are read, and in the middle of them.
+            client.sendall([HEAD[:3], HEAD * 100, HEAD * 100][number % 3])
+            if number % 3 == 2:
+                client.recv(200)
+            reset(client)
+            ask(asking, "head")
+        client = narrow(address)
+        ask_on(client)
+        reset(client)
+        ask(asking, "head")
     if not is_answered(address):
         yield "no answer after resets"
 
@@ -192,7 +256,30 @@ def many(address, count):
         client.close()
 
 
-WAYS = {"checked": checked, "slow": slow, "deaf": deaf, "resets": resets, "idle": idle, "full": full, "many": many}
+def stopped(address):
+    """Who is silent is closed at once, and one that takes no reply after some seconds. Answers that were made come."""
+    still, half, asking, full = connected(address), connected(address), connected(address), narrow(address)
+    half.sendall(HEAD[:3])
+    ask(asking, "head")
+    asking.sendall(HEAD * 3)
+    ask_on(full)
+    print("ready", flush=True)
+    if not is_closed(still, 60):
+        yield "a silent client was not closed"
+    start = time.monotonic()
+    if not is_closed(half, PATIENCE):
+        yield "a client with half a request was not closed"
+    if len(answers(asking, 4)) != 3:
+        yield "answers did not come"
+    end = select.poll()
+    end.register(full, select.POLLRDHUP)
+    end.poll(20_000)
+    taken = time.monotonic() - start
+    if not LAST_SECONDS - 1 < taken < LAST_SECONDS + 3:
+        yield f"one that takes no reply was closed after {taken:.1f} seconds"
+
+
+WAYS = {"checked": checked, "kept": kept, "slow": slow, "deaf": deaf, "resets": resets, "idle": idle, "full": full, "many": many, "stopped": stopped}
 
 
 def main(address, way, *words):

@@ -6,7 +6,7 @@
 #   scripts/listen.sh
 #
 # Takes the built programs, or those that DIRECTORYD and EXAMPLE_CLIENT name. The last line is
-# `N passed, M failed`, and the status is 0 where none failed. It takes some twenty seconds, and ends
+# `N passed, M failed`, and the status is 0 where none failed. It takes some forty seconds, and ends
 # after five minutes whatever happens.
 set -uo pipefail
 cd "$(dirname "$0")/.." || exit 1
@@ -74,11 +74,8 @@ told() {
     same "$1" "$3" "$(timeout --foreground 60 scripts/send_frames.py "$address" $2 2>&1)"
 }
 
-# Starts a server on a port that the system chooses, with these options: starts WORD..
-starts() {
-    : >"$folder/server_err"
-    "$program" listen $keys "$@" 127.0.0.1:0 >"$folder/server_out" 2>"$folder/server_err" &
-    server=$!
+# The address that the server tells.
+hears_address() {
     address=
     for _ in {1..600}; do
         address=$(sed -n 's/^listening on \(127\.0\.0\.1:[1-9][0-9]*\)$/\1/p' "$folder/server_err")
@@ -87,6 +84,14 @@ starts() {
     done
     fails "the server does not tell its address: $(cat "$folder/server_err")"
     finish
+}
+
+# Starts a server on a port that the system chooses, with these options: starts WORD..
+starts() {
+    : >"$folder/server_err"
+    "$program" listen $keys "$@" 127.0.0.1:0 >"$folder/server_out" 2>"$folder/server_err" &
+    server=$!
+    hears_address
 }
 
 # The server has to end by itself now, with this status and nothing but its line: stops WHAT STATUS
@@ -209,6 +214,16 @@ ulimit -S -n 64
 starts
 ulimit -S -n "$limit"
 well "more clients than file handles" scripts/crowds.py "$address" many 120
+same "no line about file handles" "listening on $address" "$(cat "$folder/server_err")"
+ends_now
+
+# What many clients were answered is in the journal of a server that was killed.
+starts --journal "$folder/journal"
+well "a journal of many clients" scripts/crowds.py "$address" checked 100 10
+{ kill -KILL "$server" && wait "$server"; } 2>/dev/null
+starts --journal "$folder/journal"
+same "the records of many clients" "journal: 202 records taken" "$(head -n 1 "$folder/server_err")"
+well "the names of many clients" scripts/crowds.py "$address" kept 100
 ends_now
 
 # The end of standard input is an order to stop: of a pipe, with and without something before it, and of a file.
@@ -218,11 +233,7 @@ for before in 0 60000; do
     "$program" listen $keys --until-eof 127.0.0.1:0 <"$folder/order" >"$folder/server_out" 2>"$folder/server_err" &
     server=$!
     exec 8>"$folder/order"
-    for _ in {1..600}; do
-        address=$(sed -n 's/^listening on \(127\.0\.0\.1:[1-9][0-9]*\)$/\1/p' "$folder/server_err")
-        [ -z "$address" ] || break
-        sleep 0.05
-    done
+    hears_address
     head -c $before /dev/zero >&8
     well "a server with an order to come" scripts/connections.py "$address" heads 3
     same "it goes on" yes "$(sleep 0.2; kill -0 "$server" 2>/dev/null && echo yes)"
@@ -230,6 +241,23 @@ for before in 0 60000; do
     stops "after the end of its input, $before bytes" 0
     rm "$folder/order"
 done
+mkfifo "$folder/order"
+: >"$folder/server_err"
+"$program" listen $keys --until-eof 127.0.0.1:0 <"$folder/order" >"$folder/server_out" 2>"$folder/server_err" &
+server=$!
+exec 8>"$folder/order"
+hears_address
+: >"$folder/seen"
+scripts/crowds.py "$address" stopped >"$folder/seen" 2>&1 8>&- &
+clients=$!
+for _ in {1..600}; do
+    ! grep -q ready "$folder/seen" || break
+    sleep 0.05
+done
+exec 8>&-
+wait $clients
+same "clients of a server that stops" "0 ready" "$? $(cat "$folder/seen")"
+stops "with clients that are still there" 0
 status=0
 timeout --foreground 60 "$program" listen $keys --until-eof 127.0.0.1:0 <"$folder/requests" 2>/dev/null || status=$?
 same "a file as the order to stop" 0 "$status"

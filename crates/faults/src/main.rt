@@ -8,12 +8,17 @@
 //! What a failing writer leaves of a journal is opened: the answer tells after how many commands of the
 //! run the directory stands, or `other` where it is no beginning of the run.
 //!
+//! `crowd` answers many connections at once, which do what a script says.
+//!
 //! The stored answers come from `scripts/fault_questions.py`, which computes them from the definitions.
 #![tactic(auto)]
 
+mod crowd;
 mod devices;
+mod echoes;
 mod job;
 mod keeping;
+mod peers;
 mod provider;
 mod stopping;
 mod sweep;
@@ -30,6 +35,7 @@ struct Sweeps;
 impl Subjects for Sweeps {
     fn answer(&mut self, case: &mut Case<'_>) {
         match case.word() {
+            b"crowd" => crowd::crowd(case),
             b"directory" => keeping::directory(case),
             b"hub" => keeping::hub(case),
             b"journal" => stopping::journal(case),

@@ -1,0 +1,272 @@
+// Connections that do what a script says. Each wait of the loop is a step of the script, whose acts come before it
+// returns. Once the script is at its end, the loop goes on until it has nothing to do, and then a stop is ordered.
+use connections::{Connections, Ending, Reading, Writing};
+use std::alloc::{AllocError, Global};
+
+/// What happens.
+#[derive(Clone, Copy, Debug)]
+pub(crate) enum Act<'a> {
+    /// A step begins, at this time.
+    At(u64),
+    /// So many connections come.
+    Come(usize),
+    /// What happens to so many connections, from this one on.
+    To(usize, usize, Change<'a>),
+    /// A stop is ordered.
+    Stop,
+    /// What is answered in this step does not get on its disk.
+    Unsynced,
+}
+
+/// What happens to a connection.
+#[derive(Clone, Copy, Debug)]
+pub(crate) enum Change<'a> {
+    /// The peer sends these bytes.
+    Gives(&'a [u8]),
+    /// The peer sends no more.
+    IsOver,
+    /// A read gives, and a write takes, at most so many bytes.
+    Piece(usize),
+    /// The peer takes so many bytes from now on.
+    Room(usize),
+    /// The reads that follow this byte fail, and the writes that do.
+    ReadFails(usize),
+    WriteFails(usize),
+}
+
+/// The peer of a connection.
+#[derive(Drop)]
+pub(crate) struct Peer {
+    given: Vec<u8>,
+    /// How many of the bytes that were given are read.
+    pub(crate) read: usize,
+    pub(crate) taken: Vec<u8>,
+    pub(crate) ending: Option<Ending>,
+    is_over: bool,
+    piece: usize,
+    room: usize,
+    read_fails: usize,
+    write_fails: usize,
+}
+
+impl Peer {
+    fn new(alloc: Global) -> Self {
+        Peer {
+            given: Vec::new(alloc),
+            read: 0,
+            taken: Vec::new(alloc),
+            ending: None,
+            is_over: false,
+            piece: usize::MAX,
+            room: usize::MAX,
+            read_fails: usize::MAX,
+            write_fails: usize::MAX,
+        }
+    }
+
+    fn change(&mut self, change: Change<'_>) -> Result<(), AllocError> {
+        match change {
+            Change::Gives(bytes) => return self.given.extend_from_slice(bytes),
+            Change::IsOver => self.is_over = true,
+            Change::Piece(size) => self.piece = size,
+            Change::Room(size) => self.room = size,
+            Change::ReadFails(count) => self.read_fails = count,
+            Change::WriteFails(count) => self.write_fails = count,
+        }
+        Ok(())
+    }
+
+    fn read(&mut self, room: &mut [u8]) -> Reading {
+        let unread = match self.given.get(self.read..) {
+            Some(unread) => unread,
+            None => &[],
+        };
+        let allowed = self.read_fails.saturating_sub(self.read);
+        if allowed == 0 {
+            return Reading::Fault;
+        }
+        let count = unread.len().min(self.piece).min(room.len()).min(allowed);
+        if count == 0 {
+            return if self.is_over {
+                Reading::End
+            } else {
+                Reading::Wait
+            };
+        }
+        room[..count].copy_from_slice(&unread[..count]);
+        self.read = self.read.saturating_add(count);
+        Reading::Bytes(count)
+    }
+
+    /// Takes some of the bytes, and says how many.
+    fn write(&mut self, bytes: &[u8]) -> Result<Writing, AllocError> {
+        let allowed = self.write_fails.saturating_sub(self.taken.len());
+        if allowed == 0 {
+            return Ok(Writing::Fault);
+        }
+        let count = bytes.len().min(self.piece).min(self.room).min(allowed);
+        if count == 0 {
+            return Ok(Writing::Wait);
+        }
+        self.taken.extend_from_slice(&bytes[..count])?;
+        if self.room < usize::MAX {
+            self.room = self.room.saturating_sub(count);
+        }
+        Ok(Writing::Took(count))
+    }
+}
+
+/// The connections of a script.
+#[derive(Drop)]
+pub(crate) struct Peers<'a> {
+    alloc: Global,
+    script: &'a [Act<'a>],
+    now: u64,
+    is_stopped: bool,
+    is_synced: bool,
+    pub(crate) peers: Vec<Peer>,
+    /// How many were taken. They are taken in the order in which they come.
+    taken: usize,
+    /// The connection at each place.
+    places: Vec<Option<usize>>,
+    pub(crate) lacks_memory: bool,
+}
+
+impl<'a> Peers<'a> {
+    /// No connection, at so many places.
+    pub(crate) fn new(
+        alloc: Global,
+        script: &'a [Act<'a>],
+        places: usize,
+    ) -> Result<Self, AllocError> {
+        Ok(Peers {
+            alloc,
+            script,
+            now: 0,
+            is_stopped: false,
+            is_synced: true,
+            peers: Vec::new(alloc),
+            taken: 0,
+            places: Vec::from_elem(alloc, None, places)?,
+            lacks_memory: false,
+        })
+    }
+
+    fn act(&mut self, act: Act<'_>) -> Result<(), AllocError> {
+        match act {
+            Act::At(now) => self.now = now,
+            Act::Come(count) => {
+                for _ in 0..count {
+                    self.peers.push(Peer::new(self.alloc))?;
+                }
+            }
+            Act::To(first, count, change) => {
+                for peer in self.peers.iter_mut().skip(first).take(count) {
+                    peer.change(change)?;
+                }
+            }
+            Act::Stop => self.is_stopped = true,
+            Act::Unsynced => self.is_synced = false,
+        }
+        Ok(())
+    }
+
+    /// What happens from the next step to the one after it.
+    fn step(&mut self, step: &[Act<'_>]) {
+        for act in step {
+            if self.act(*act).is_err() {
+                self.lacks_memory = true;
+            }
+        }
+    }
+
+    /// The connection at a place.
+    fn at(&mut self, place: usize) -> Option<&mut Peer> {
+        let number = match self.places.get(place) {
+            Some(Some(number)) => *number,
+            _ => return None,
+        };
+        self.peers.get_mut(number)
+    }
+}
+
+/// How many acts the first step has.
+fn step_size(script: &[Act<'_>]) -> usize {
+    for place in 1..script.len() {
+        if matches!(script[place], Act::At(_)) {
+            return place;
+        }
+    }
+    script.len()
+}
+
+impl Connections for Peers<'_> {
+    ghost use Rattle.std.specs.Prelude.{⊤};
+
+    // What happens is told by the script, and contracts know nothing of it.
+    ghost has = { λ _ _. ⊤ };
+
+    fn wait(&mut self, most: u64) -> u64 {
+        self.is_synced = true;
+        if self.script.is_empty() {
+            if most > 0 {
+                self.is_stopped = true;
+                self.now = self.now.saturating_add(most);
+            }
+            return self.now;
+        }
+        let (step, rest) = self.script.split_at(step_size(self.script));
+        self.step(step);
+        self.script = rest;
+        self.now
+    }
+
+    fn is_stopped(&mut self) -> bool {
+        self.is_stopped
+    }
+
+    fn take(&mut self, place: usize) -> bool {
+        if self.taken >= self.peers.len() {
+            return false;
+        }
+        if let Some(free) = self.places.get_mut(place) {
+            *free = Some(self.taken);
+        }
+        self.taken = self.taken.saturating_add(1);
+        true
+    }
+
+    fn read(&mut self, place: usize, room: &mut [u8]) -> Reading {
+        match self.at(place) {
+            Some(peer) => peer.read(room),
+            None => Reading::Fault,
+        }
+    }
+
+    fn write(&mut self, place: usize, bytes: &[u8]) -> Writing {
+        let wrote = match self.at(place) {
+            Some(peer) => peer.write(bytes),
+            None => Ok(Writing::Fault),
+        };
+        match wrote {
+            Ok(writing) => writing,
+            Err(_) => {
+                self.lacks_memory = true;
+                Writing::Fault
+            }
+        }
+    }
+
+    fn close(&mut self, place: usize, why: Ending) {
+        if let Some(peer) = self.at(place) {
+            peer.ending = Some(why);
+        }
+        if let Some(place) = self.places.get_mut(place) {
+            *place = None;
+        }
+    }
+
+    fn sync(&mut self) -> bool {
+        self.is_synced
+    }
+}
