@@ -4,7 +4,7 @@
 //! Callers can rely on this: whatever bytes come back, a reply is told only as the client's own calls
 //! decide: a proof that the client refuses, a root that does not stand in its chain, a promise that its
 //! provider did not sign, and a reply to another request are told as refused, by the number of the refusal.
-//! Contracts do not know what a socket or a file has; `scripts/asking.sh` shows those.
+//! Contracts do not know what a socket or a file has; `scripts/asks.py` shows those.
 //!
 //! ```text
 //! let mut asker = Asker::start(alloc, checks, key, token, root_bytes)?;

@@ -13,7 +13,7 @@ pub(crate) struct Directory<'a> {
 
 impl Directory<'_> {
     /// Sends a request, and returns the body of the reply, which nobody has checked. Each request has a connection
-    /// of its own: while one is open the directory answers no other, such as the operator's.
+    /// of its own.
     pub(crate) fn ask(&self, ask: Ask<'_>) -> Result<Vec<u8>> {
         let mut frame = Vec::new(self.rt.alloc());
         ask.write(&mut frame)?;
