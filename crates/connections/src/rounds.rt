@@ -191,7 +191,8 @@ fn turn_all<S: Sessions, C: Connections, E: Write>(
 /// Answers connections, each at a place and by a session of its own, until so many were taken and have ended,
 /// or until a stop is ordered and those that were open have ended. Whatever the connections do, what happens
 /// is sound: each connection takes a beginning of what its session was answered, in order, and is closed for
-/// a reason that holds. In each round each connection has its turn. A connection that is closed for want of memory is told of in a line to the errors.
+/// a reason that holds; and each round gives each connection its turn, until the loop is over. A connection
+/// that is closed for want of memory is told of in a line to the errors.
 pub fn answer_all<S: Sessions, C: Connections, E: Write>(
     alloc: Global,
     places: Places,
