@@ -14,7 +14,9 @@ import collections
 import hashlib
 import os
 import random
+import resource
 import select
+import socket
 import ssl
 import statistics
 import subprocess
@@ -85,6 +87,9 @@ FEED_FRAMES, FEED_TAKEN, FEED_RUNS = (64, 1_024, 16_384), 1 << 23, 20
 # The requests that a client has in flight, those of a step, and the rounds. The token is that of the
 # client in the crate `measure`, and the keys are those of its directory.
 IN_FLIGHT, SERVE_FRAMES, SERVE_ROUNDS = 64, 8_000, 9
+# The connections that ask at once, one look-up each at a time; the look-ups of a step, and the rounds. And those that
+# are idle once they asked for the head.
+CROWDS, CROWD_FRAMES, CROWD_ROUNDS, IDLE_CONNECTIONS = (1, 16, 256, 1_000), 8_000, 5, 900
 SERVE_KEYS = {"sign-key": "01", "vuf-key": "02", "salt-key": "00", "token": "04"}
 
 # The roots of the chains that are observed, and the runs of each. In a run: the roots that then extend
@@ -951,9 +956,9 @@ class Loopback:
 
     def __init__(self):
         words = [word for key, value in SERVE_KEYS.items() for word in (f"--{key}", value * 32)]
-        words = [DIRECTORYD, "listen", *words, "--count", "1", "127.0.0.1:0"]
-        self.server = subprocess.Popen(words, stderr=subprocess.PIPE)
-        port = self.server.stderr.readline().rpartition(b":")[2].decode().strip()
+        words = [DIRECTORYD, "listen", *words, "--idle", "0", "--until-eof", "127.0.0.1:0"]
+        self.server = subprocess.Popen(words, stdin=subprocess.PIPE, stderr=subprocess.PIPE)
+        port = self.port = self.server.stderr.readline().rpartition(b":")[2].decode().strip()
         self.memory = [self.look()]
         words = [HUB_NAMES, SERVE_FRAMES, IN_FLIGHT, SERVE_ROUNDS]
         self.client = Side("ask", port, *words, server=self.server)
@@ -967,8 +972,24 @@ class Loopback:
         self.compare()
         for side in (self.client, self.hub, self.bare, self.answer):
             side.end()
+
+    def end(self):
+        """An order to stop."""
+        self.server.stdin.close()
         if self.server.wait(60) != 0:
             sys.exit(f"directoryd listen: status {self.server.returncode}")
+
+    def idle_bytes(self):
+        """The resident memory that the server has for each of many connections that are idle."""
+        before = self.look()[0]
+        clients = [socket.create_connection(("127.0.0.1", int(self.port))) for _ in range(IDLE_CONNECTIONS)]
+        for client in clients:
+            client.sendall(bytes.fromhex("0000000106"))
+            client.recv(4096)
+        after = self.look()[0]
+        for client in clients:
+            client.close()
+        return (after - before) / IDLE_CONNECTIONS
 
     def look(self):
         """The resident memory of the server, and its peak."""
@@ -1005,7 +1026,7 @@ class Loopback:
         """The bare exchange: as many bytes as the look-ups of a step before had."""
         if self.bare is None:
             reply = round(self.bytes["look-up", 1][0] / SERVE_FRAMES)
-            self.answer = Side("answer", HUB_REQUESTS["look-up"], reply)
+            self.answer = Side("answer", HUB_REQUESTS["look-up"], reply, 1)
             self.answer.process.stdin.write(b"\n")
             words = [self.answer.number, HUB_NAMES, SERVE_FRAMES, SERVE_ROUNDS]
             self.bare = Side("exchange", *words, server=self.answer.process)
@@ -1024,7 +1045,62 @@ class Loopback:
         return statistics.median(a / b for a, b in pairs)
 
 
+class Crowd:
+    """So many connections, each with a look-up at a time: of a server that listens on a port, and of a bare exchange
+    of as many bytes, whose replies have so many. Each is asked in turn."""
+
+    def __init__(self, connections, server, port, reply):
+        self.connections = connections
+        self.answer = Side("answer", HUB_REQUESTS["look-up"], reply, connections)
+        self.answer.process.stdin.write(b"\n")
+        words = [HUB_NAMES, connections, CROWD_FRAMES, CROWD_ROUNDS]
+        self.sides = {"": Side("crowd", port, *words, server=server)}
+        self.sides["bare"] = Side("crowd", self.answer.number, *words, server=self.answer.process)
+        self.rates = {name: [] for name in self.sides}
+        self.times = {name: ([], [], []) for name in self.sides}
+
+    def round(self):
+        for name, side in self.sides.items():
+            _, clock, _ = side.asked()
+            self.rates[name].append(CROWD_FRAMES / clock)
+            for kept in self.times[name]:
+                kept.append(side.step()[0])
+
+    def end(self):
+        for side in (*self.sides.values(), self.answer):
+            side.end()
+
+    def rows(self, wanted):
+        """A row of each side. The rate is also told as a part of this one."""
+        for name, rates in self.rates.items():
+            rate = statistics.median(rates)
+            middle, late, worst = (statistics.median(times) / 1e3 for times in self.times[name])
+            row = [f"{self.connections:,}", name, f"{rate:,.0f}", f"{rate / wanted:.2f}"]
+            yield [*row, f"{middle:,.0f}", f"{late:,.0f}", f"{worst:,.0f}", f"{late / middle:.1f}"]
+
+
+def crowds(loop):
+    """Many connections at once, beside the one with many look-ups in flight."""
+    wanted = 1 / statistics.median(loop.times["look-up", IN_FLIGHT])
+    reply = round(loop.bytes["look-up", 1][0] / SERVE_FRAMES)
+    idle = loop.idle_bytes()
+    rows = []
+    for connections in CROWDS:
+        crowd = Crowd(connections, loop.server, loop.port, reply)
+        for _ in range(CROWD_ROUNDS):
+            crowd.round()
+        crowd.end()
+        rows += crowd.rows(wanted)
+    head = ["connections", "", "a second", "part", "50th", "99th", "worst", "99th of the 50th"]
+    title = f"look-ups by many connections, one of each at a time, and their part of the rate of one with {IN_FLIGHT} in flight; us"
+    table(title, head, rows)
+    print(f"\nan idle connection: {idle / 1024:.1f} KiB of resident memory")
+
+
 def serve(_folder):
+    # A client and a server have a file handle for each connection.
+    most = resource.getrlimit(resource.RLIMIT_NOFILE)[1]
+    resource.setrlimit(resource.RLIMIT_NOFILE, (most, most))
     # All run on one processor. With two, much of the time is that of waking the other one, and it
     # depends on where the system puts which process.
     os.sched_setaffinity(0, {max(os.sched_getaffinity(0))})
@@ -1046,6 +1122,8 @@ def serve(_folder):
         for at, memory in zip(times, loop.memory)
     ]
     table("resident memory of the server, MiB", ["", "now", "peak"], rows)
+    crowds(loop)
+    loop.end()
 
 
 class Audits:

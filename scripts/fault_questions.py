@@ -19,6 +19,8 @@ told.
 `directory MESSAGE..` and `hub PIECE FRAMES` ask a directory whose keeper fails at its first call, its second, and so
 on. The answer is what is replied without a failure, and in each of these runs.
 
+`crowd ..` answers many connections at once: see crowd_questions.py.
+
 `journal PIECE COUNT MESSAGE..` runs a directory over the first COUNT messages, with a journal whose writer takes at
 most PIECE bytes a call and fails at its first call, its second, and so on. What is written then is opened. The answer
 is the journal without a failure, and then a row for runs that left the same: COUNT, and `nothing` or `after N`, where
@@ -29,6 +31,7 @@ would be `other` if there were no such N.
 import itertools
 from typing import NamedTuple
 
+import crowd_questions
 import session_scripts
 import sessions
 from answers import BadQuestion, Lines, told, told_text
@@ -241,7 +244,7 @@ class Sweeps(Lines):
     """Answers questions. The method of a verb takes the words, and gives the program of devices, piece and input."""
 
     def verb(self, subject, words):
-        if subject in ("directory", "hub", "journal"):
+        if subject in ("crowd", "directory", "hub", "journal"):
             return getattr(self, subject)
         of = getattr(self, f"of_{subject}", None)
         if of is None:
@@ -319,6 +322,9 @@ class Sweeps(Lines):
             output = hub.bytes(1, part)
             steps += [Read(head(hub)), output]
         return Program([*steps, Read(head(hub))], head=start)
+
+    def crowd(self, words):
+        return crowd_questions.answer(words)
 
     def directory(self, words):
         requests = [read_request(message[0], message[1:]) for message in words.all_bytes()]
@@ -622,6 +628,7 @@ SUBJECTS = {
     "scripts": of_scripts,
     "keepers of records": of_keepers,
     "journals": of_journals,
+    "many connections at once": crowd_questions.ask_all,
 }
 
 

@@ -18,6 +18,7 @@ fn read_change<'a>(verb: &[u8], case: &mut Case<'a>) -> Change<'a> {
         b"give" => Change::Gives(case.bytes()),
         b"over" => Change::IsOver,
         b"piece" => Change::Piece(case.number_to(MOST_BYTES)),
+        b"width" => Change::Width(case.number_to(MOST_BYTES)),
         b"room" => Change::Room(case.number_to(MOST_BYTES)),
         b"read-fails" => Change::ReadFails(case.number_to(MOST_BYTES)),
         b"write-fails" => Change::WriteFails(case.number_to(MOST_BYTES)),

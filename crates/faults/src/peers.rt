@@ -25,8 +25,9 @@ pub(crate) enum Change<'a> {
     Gives(&'a [u8]),
     /// The peer sends no more.
     IsOver,
-    /// A read gives, and a write takes, at most so many bytes.
+    /// A read gives at most so many bytes, and a write takes at most so many.
     Piece(usize),
+    Width(usize),
     /// The peer takes so many bytes from now on.
     Room(usize),
     /// The reads that follow this byte fail, and the writes that do.
@@ -44,6 +45,7 @@ pub(crate) struct Peer {
     pub(crate) ending: Option<Ending>,
     is_over: bool,
     piece: usize,
+    width: usize,
     room: usize,
     read_fails: usize,
     write_fails: usize,
@@ -58,6 +60,7 @@ impl Peer {
             ending: None,
             is_over: false,
             piece: usize::MAX,
+            width: usize::MAX,
             room: usize::MAX,
             read_fails: usize::MAX,
             write_fails: usize::MAX,
@@ -69,6 +72,7 @@ impl Peer {
             Change::Gives(bytes) => return self.given.extend_from_slice(bytes),
             Change::IsOver => self.is_over = true,
             Change::Piece(size) => self.piece = size,
+            Change::Width(size) => self.width = size,
             Change::Room(size) => self.room = size,
             Change::ReadFails(count) => self.read_fails = count,
             Change::WriteFails(count) => self.write_fails = count,
@@ -104,7 +108,7 @@ impl Peer {
         if allowed == 0 {
             return Ok(Writing::Fault);
         }
-        let count = bytes.len().min(self.piece).min(self.room).min(allowed);
+        let count = bytes.len().min(self.width).min(self.room).min(allowed);
         if count == 0 {
             return Ok(Writing::Wait);
         }

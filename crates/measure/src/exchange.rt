@@ -43,14 +43,18 @@ const ROOM: usize = 16_384;
 
 /// Requests whose frames have all the same size.
 #[derive(Drop)]
-struct Requests {
+pub(crate) struct Requests {
     frames: Vec<u8>,
     size: usize,
 }
 
 impl Requests {
     /// The requests of a kind for these entries.
-    fn new(alloc: Global, kind: Kind, entries: &[Entry]) -> Result<Requests, AllocError> {
+    pub(crate) fn new(
+        alloc: Global,
+        kind: Kind,
+        entries: &[Entry],
+    ) -> Result<Requests, AllocError> {
         let mut frames = Vec::new(alloc);
         for entry in entries {
             write_frame(&Frame::Of(kind, entry), &mut frames)?;
@@ -68,8 +72,13 @@ impl Requests {
         Ok(Requests { frames, size })
     }
 
+    /// The bytes of one request.
+    pub(crate) fn size(&self) -> usize {
+        self.size
+    }
+
     /// The bytes of the next requests, of which so many are behind and so many may be sent.
-    fn next(&self, behind: usize, count: usize) -> &[u8] {
+    pub(crate) fn next(&self, behind: usize, count: usize) -> &[u8] {
         let start = behind.saturating_mul(self.size).min(self.frames.len());
         let end = start
             .saturating_add(count.saturating_mul(self.size))
@@ -80,14 +89,14 @@ impl Requests {
 
 /// A client of a server.
 #[derive(Drop)]
-struct Client {
+pub(crate) struct Client {
     stream: TcpStream,
     feed: Feed,
 }
 
 impl Client {
     /// Connects to the server on this port.
-    fn new<R>(rt: &R, alloc: Global, port: usize) -> Result<Client>
+    pub(crate) fn new<R>(rt: &R, alloc: Global, port: usize) -> Result<Client>
     where
         R: Net<Listener = TcpListener, Stream = TcpStream>,
     {
@@ -111,6 +120,26 @@ impl Client {
             whole = whole.wrapping_add(1);
         }
         Ok(whole)
+    }
+
+    pub(crate) fn send(&mut self, requests: &[u8]) -> Result<()> {
+        self.stream.write_all(requests)?;
+        Ok(())
+    }
+
+    /// Takes the reply to one request, and counts its bytes.
+    pub(crate) fn take_one(&mut self) -> Result<u64> {
+        let mut room = [0; ROOM];
+        let mut bytes: u64 = 0;
+        for _ in 0..u64::MAX {
+            let read = self.stream.read(&mut room)?;
+            ensure!(read != 0, "the server closed the connection");
+            bytes = bytes.saturating_add(read as u64);
+            if self.take(&room[..read])? > 0 {
+                break;
+            }
+        }
+        Ok(bytes)
     }
 
     /// Sends the requests, never more ahead of the replies than may be in flight, and counts the bytes of
@@ -228,23 +257,35 @@ fn frame_of(alloc: Global, bytes: usize) -> Result<Vec<u8>, AllocError> {
     Ok(frame)
 }
 
-/// Answers one connection: a reply of so many bytes for each request of so many, whatever is in it. The
-/// one step tells the port.
-pub(crate) fn answer<R>(rt: &R, alloc: Global, request: usize, reply: usize) -> Result<()>
+/// Answers so many connections: a reply of so many bytes for each request of so many, whatever is in it, of
+/// each connection in turn. The one step tells the port.
+pub(crate) fn answer<R>(
+    rt: &R,
+    alloc: Global,
+    request: usize,
+    reply: usize,
+    connections: usize,
+) -> Result<()>
 where
     R: Print + Input + Net<Listener = TcpListener, Stream = TcpStream>,
 {
     let listener = TcpListener::bind(rt, "127.0.0.1:0")?;
     end_step(rt, alloc, u64::from(listener.local_addr()?.port()))?;
-    let (mut stream, _) = listener.accept()?;
-    stream.set_nodelay(true)?;
+    let mut streams = Vec::with_capacity(alloc, connections)?;
+    for _ in 0..connections {
+        let (stream, _) = listener.accept()?;
+        stream.set_nodelay(true)?;
+        streams.push(stream)?;
+    }
     let mut room = frame_of(alloc, request)?;
     let frame = frame_of(alloc, reply)?;
     for _ in 0..u64::MAX {
-        if stream.read_exact(&mut room).is_err() {
-            break;
+        for stream in &mut streams {
+            if stream.read_exact(&mut room).is_err() {
+                return Ok(());
+            }
+            stream.write_all(&frame)?;
         }
-        stream.write_all(&frame)?;
     }
     Ok(())
 }

@@ -9,6 +9,7 @@
 mod auditing;
 mod chains;
 mod changes;
+mod crowd;
 mod digests;
 mod directory;
 mod exchange;
@@ -31,6 +32,7 @@ use anyhow::{Context, Result, bail};
 use std::alloc::Global;
 use std::env;
 use std::net::{Net, TcpListener, TcpStream};
+use std::time::Clock;
 
 const USAGE: &str = "usage: measure digests BYTES COUNT | texts COUNT ROUNDS \
     | tree GROWN MORE DIGESTS | whole ITEMS TIMES DIGESTS \
@@ -41,7 +43,7 @@ const USAGE: &str = "usage: measure digests BYTES COUNT | texts COUNT ROUNDS \
     | looks NAMES SIBLINGS ROOTS EPOCHS ROUNDS | watch SIBLINGS EPOCHS ROUNDS \
     | clients SIBLINGS NAMES SHARED EPOCHS ROUNDS | all \
     | ask PORT NAMES FRAMES IN_FLIGHT ROUNDS | exchange PORT NAMES FRAMES ROUNDS \
-    | answer REQUEST REPLY";
+    | crowd PORT NAMES CONNECTIONS FRAMES ROUNDS | answer REQUEST REPLY CONNECTIONS";
 
 /// The number that this word writes.
 fn number(word: &str) -> Result<usize> {
@@ -217,7 +219,7 @@ fn run_on_clients(
 /// whether it is.
 fn run_over_loopback<R>(rt: &R, alloc: Global, program: &str, numbers: &[usize]) -> Result<bool>
 where
-    R: Print + Input + Net<Listener = TcpListener, Stream = TcpStream>,
+    R: Print + Input + Clock + Net<Listener = TcpListener, Stream = TcpStream>,
 {
     match (program, numbers) {
         ("ask", &[port, names, frames, in_flight, rounds]) => {
@@ -240,7 +242,19 @@ where
             };
             exchange::measure_look_ups(rt, alloc, &wanted)?;
         }
-        ("answer", &[request, reply]) => exchange::answer(rt, alloc, request, reply)?,
+        ("crowd", &[port, names, connections, frames, rounds]) => {
+            let wanted = crowd::Crowd {
+                port,
+                names,
+                connections,
+                frames,
+                rounds,
+            };
+            crowd::measure(rt, alloc, &wanted)?;
+        }
+        ("answer", &[request, reply, connections]) => {
+            exchange::answer(rt, alloc, request, reply, connections)?;
+        }
         _ => return Ok(false),
     }
     Ok(true)
