@@ -87,7 +87,7 @@ FEED_FRAMES, FEED_TAKEN, FEED_RUNS = (64, 1_024, 16_384), 1 << 23, 20
 # The requests that a client has in flight, those of a step, and the rounds. The token is that of the
 # client in the crate `measure`, and the keys are those of its directory.
 IN_FLIGHT, SERVE_FRAMES, SERVE_ROUNDS = 64, 8_000, 9
-# The connections that ask at once, one look-up each at a time; the look-ups of a step, and the rounds. And those that
+# The connections that ask at once, one look-up each at a time; about the look-ups of a step, and the rounds. And those that
 # are idle once they asked for the head.
 CROWDS, CROWD_FRAMES, CROWD_ROUNDS, IDLE_CONNECTIONS = (1, 16, 256, 1_000), 8_000, 5, 900
 SERVE_KEYS = {"sign-key": "01", "vuf-key": "02", "salt-key": "00", "token": "04"}
@@ -1053,7 +1053,9 @@ class Crowd:
         self.connections = connections
         self.answer = Side("answer", HUB_REQUESTS["look-up"], reply, connections)
         self.answer.process.stdin.write(b"\n")
-        words = [HUB_NAMES, connections, CROWD_FRAMES, CROWD_ROUNDS]
+        # As many of each connection.
+        self.frames = CROWD_FRAMES // connections * connections
+        words = [HUB_NAMES, connections, self.frames, CROWD_ROUNDS]
         self.sides = {"": Side("crowd", port, *words, server=server)}
         self.sides["bare"] = Side("crowd", self.answer.number, *words, server=self.answer.process)
         self.rates = {name: [] for name in self.sides}
@@ -1062,7 +1064,7 @@ class Crowd:
     def round(self):
         for name, side in self.sides.items():
             _, clock, _ = side.asked()
-            self.rates[name].append(CROWD_FRAMES / clock)
+            self.rates[name].append(self.frames / clock)
             for kept in self.times[name]:
                 kept.append(side.step()[0])
 

@@ -50,12 +50,13 @@ impl Clients {
         Ok(bytes)
     }
 
-    /// All requests, one of each client at a time. Counts the bytes of the replies.
+    /// The requests, one of each client at a time, and as many of each. Counts the bytes of the replies.
     fn ask(&mut self, clock: &impl Clock, requests: &Requests, frames: usize) -> Result<u64> {
         let mut bytes: u64 = 0;
         self.times.clear();
-        for behind in (0..frames).step_by(self.clients.len().max(1)) {
-            self.send(clock, requests, behind)?;
+        let connections = self.clients.len();
+        for batch in 0..frames.checked_div(connections).unwrap_or(0) {
+            self.send(clock, requests, batch.saturating_mul(connections))?;
             bytes = bytes.saturating_add(self.take(clock)?);
         }
         Ok(bytes)
