@@ -3,6 +3,7 @@ pub mod Answering
 pub mod Checking
 pub mod Exchanges
 pub mod Refused
+pub mod Stopping
 pub mod Testing
 pub mod Told
 pub mod Watching

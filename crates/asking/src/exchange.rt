@@ -26,6 +26,29 @@ pub(crate) fn frame_in(bytes: &[u8]) -> Result<FrameView<'_>, AskFault>
     }
 }
 
+/// Reads the bytes that tell the length of the next frame.
+fn read_length<R: Read>(reader: &mut R) -> Result<[u8; LENGTH], AskFault>
+    ensures { IfOk result (λ length. Consumes (R.remaining reader.old) (R.remaining reader.new) length) }
+{
+    let mut length = [0; LENGTH];
+    if reader.read_exact(&mut length).is_err() {
+        return Err(AskFault::NoReply);
+    }
+    Ok(length)
+}
+
+/// Reads so many bytes.
+fn read_rest<R: Read>(alloc: Global, reader: &mut R, size: usize) -> Result<Vec<u8>, AskFault>
+    ensures { IfOk result (λ rest. Consumes (R.remaining reader.old) (R.remaining reader.new) rest.items) }
+{
+    let mut rest = Vec::new(alloc);
+    rest.resize(size, 0)?;
+    if reader.read_exact(&mut rest).is_err() {
+        return Err(AskFault::NoReply);
+    }
+    Ok(rest)
+}
+
 /// Reads as many bytes as the next frame has, by its length.
 ///
 /// # Errors
@@ -34,21 +57,15 @@ pub(crate) fn frame_in(bytes: &[u8]) -> Result<FrameView<'_>, AskFault>
 pub(crate) fn read_reply<R: Read>(alloc: Global, reader: &mut R) -> Result<Vec<u8>, AskFault>
     ensures { IfOk result (λ bytes. Consumes (R.remaining reader.old) (R.remaining reader.new) bytes.items) }
 {
-    let mut length = [0; LENGTH];
-    if reader.read_exact(&mut length).is_err() {
-        return Err(AskFault::NoReply);
-    }
+    let length = read_length(reader)?;
     let size = u32::from_be_bytes(length) as usize;
     if size < 1 || MAX_FRAME_LEN < size {
         return Err(AskFault::NoReply);
     }
-    let mut body = Vec::new(alloc);
-    body.resize(size, 0)?;
-    if reader.read_exact(&mut body).is_err() {
-        return Err(AskFault::NoReply);
-    }
-    let mut bytes = Vec::from_slice(alloc, &length)?;
-    bytes.extend_from_slice(&body)?;
+    let rest = read_rest(alloc, reader, size)?;
+    let mut bytes = Vec::new(alloc);
+    bytes.extend_from_slice(&length)?;
+    bytes.extend_from_slice(&rest)?;
     Ok(bytes)
 }
 

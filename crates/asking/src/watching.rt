@@ -1,6 +1,7 @@
 // The monitors of names.
-ghost use Rattle.std.specs.Prelude.{IfOk};
-ghost use Rattle.asking.specs.Watching.{WatchesEpoch};
+ghost use Rattle.std.specs.Prelude.{IfOk, OnOk};
+ghost use Rattle.asking.specs.Told.{Tells};
+ghost use Rattle.asking.specs.Watching.{step_told, WatchesEpoch};
 
 use crate::answering::body_of;
 use crate::checking::tell_client;
@@ -216,6 +217,25 @@ where
     }
 }
 
+/// Tells what a step of a monitor found.
+fn tell_watched(
+    name: &[u8],
+    epoch: u64,
+    step: Step<'_>,
+    said: &mut Said,
+) -> Result<(), AllocError>
+    ensures { OnOk result (Tells said.old (step_told name.now epoch step.entry) said.new) }
+{
+    match step {
+        Step::Kept => tell_step(&mut said.text, name, epoch, Step::Kept),
+        Step::Alarm { epoch: at, found } => {
+            tell_step(&mut said.text, name, epoch, Step::Alarm { epoch: at, found })?;
+            said.raise(ALARM);
+            Ok(())
+        }
+    }
+}
+
 /// Lets a monitor watch its next epoch by a reply, and tells its step. Returns whether its client accepted the
 /// proof.
 fn watch_epoch<H, V, S>(
@@ -234,10 +254,7 @@ where
 {
     match monitor.step(&mut checks.hash, &checks.vuf, reply) {
         Ok(step) => {
-            tell_step(&mut said.text, monitor.name().bytes(), epoch, step)?;
-            if let Step::Alarm { .. } = step {
-                said.raise(ALARM);
-            }
+            tell_watched(monitor.name().bytes(), epoch, step, said)?;
             Ok(true)
         }
         Err(Refusal::Client(why)) => {
