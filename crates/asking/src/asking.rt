@@ -64,7 +64,7 @@ where
 
     /// Sends what is asked, and reads the reply.
     pub(crate) fn request<T: Read + Write>(
-        &mut self,
+        &self,
         stream: &mut T,
         ask: &Ask,
     ) -> Result<Vec<u8>, AskFault> {

@@ -1,8 +1,8 @@
 // A request goes out as one frame, and the next frame of the stream is its reply. Not a byte behind it is
 // read.
-ghost use Rattle.std.specs.Prelude.{◌≡◌, ◌≤◌, IfOk, OnOk};
+ghost use Rattle.std.specs.Prelude.{IfOk, OnOk};
 ghost use Rattle.std.specs.Io.KnownBytes.{Appends, Consumes};
-ghost use Rattle.wire.specs.Frames.{frame_bytes, frame_size};
+ghost use Rattle.wire.specs.Frames.{frame_bytes};
 ghost use Rattle.wire.specs.FrameViews.{frame_seen};
 ghost use Rattle.wire.specs.Requests.{request_frame, request_seen};
 ghost use Rattle.asking.specs.Exchanges.{HoldsFrame};
@@ -69,23 +69,35 @@ pub(crate) fn read_reply<R: Read>(alloc: Global, reader: &mut R) -> Result<Vec<u
     Ok(bytes)
 }
 
-/// Sends a request, and reads its reply.
+/// Sends a request as one frame.
 ///
 /// # Errors
 ///
-/// Those of `read_reply`, and `NoReply` if the request cannot be sent.
-pub(crate) fn exchange<T: Read + Write>(
-    alloc: Global,
-    stream: &mut T,
-    request: &Request<'_>,
-) -> Result<Vec<u8>, AskFault> {
+/// `NoReply` if the request has no frame, or cannot be sent; `OutOfMemory`.
+fn send<W: Write>(alloc: Global, writer: &mut W, request: &Request<'_>) -> Result<(), AskFault>
+    ensures { OnOk result (Appends (W.contents writer.old) (W.contents writer.new) (frame_bytes (request_frame (request_seen request.now)))) }
+{
     if !request.fits() {
         return Err(AskFault::NoReply);
     }
     let mut frame = Vec::new(alloc);
     request.write(&mut frame)?;
-    if write_text(stream, &frame).is_err() {
+    if write_text(writer, &frame).is_err() {
         return Err(AskFault::NoReply);
     }
+    Ok(())
+}
+
+/// Sends a request, and reads its reply.
+///
+/// # Errors
+///
+/// Those of `send` and of `read_reply`.
+pub(crate) fn exchange<T: Read + Write>(
+    alloc: Global,
+    stream: &mut T,
+    request: &Request<'_>,
+) -> Result<Vec<u8>, AskFault> {
+    send(alloc, stream, request)?;
     read_reply(alloc, stream)
 }

@@ -82,11 +82,7 @@ where
 }
 
 /// Tells that a promise was not kept, by the evidence of it.
-fn tell_proof(
-    alloc: Global,
-    broken: BrokenPromise,
-    said: &mut Said,
-) -> Result<(), AllocError>
+fn tell_proof(alloc: Global, broken: BrokenPromise, said: &mut Said) -> Result<(), AllocError>
     ensures text { OnOk result ((said.new).text.items ≡ (said.old).text.items ++ evidence_text (evidence.Broken broken) ++ 10 ∷ []) }
     ensures status { (said.new).status ≡ (said.old).status }
 {

@@ -218,18 +218,18 @@ where
 }
 
 /// Tells what a step of a monitor found.
-fn tell_watched(
-    name: &[u8],
-    epoch: u64,
-    step: Step<'_>,
-    said: &mut Said,
-) -> Result<(), AllocError>
+fn tell_watched(name: &[u8], epoch: u64, step: Step<'_>, said: &mut Said) -> Result<(), AllocError>
     ensures { OnOk result (Tells said.old (step_told name.now epoch step.entry) said.new) }
 {
     match step {
         Step::Kept => tell_step(&mut said.text, name, epoch, Step::Kept),
         Step::Alarm { epoch: at, found } => {
-            tell_step(&mut said.text, name, epoch, Step::Alarm { epoch: at, found })?;
+            tell_step(
+                &mut said.text,
+                name,
+                epoch,
+                Step::Alarm { epoch: at, found },
+            )?;
             said.raise(ALARM);
             Ok(())
         }
