@@ -1,2 +1,3 @@
+pub mod Going
 pub mod Placed
 pub mod Telling

@@ -1,7 +1,8 @@
-pub mod AskOptions
 pub mod Answering
+pub mod AskOptions
 pub mod Checking
 pub mod Exchanges
+pub mod Going
 pub mod Refused
 pub mod Stopping
 pub mod Testing

@@ -1,4 +1,8 @@
 // A question over a stream: what the client makes of its reply, and what follows from it.
+ghost use Rattle.std.specs.Prelude.{OnOk};
+ghost use Rattle.play.specs.Spoken.{ask_seen};
+ghost use Rattle.asking.specs.Going.{Asks};
+
 use crate::answering::{answers, request_of};
 use crate::checking::hear;
 use crate::exchange::{exchange, frame_in};
@@ -40,7 +44,9 @@ where
         stream: &mut T,
         ask: &Ask,
         said: &mut Said,
-    ) -> Result<(), AskFault> {
+    ) -> Result<(), AskFault>
+        ensures { OnOk result (Asks H.digest_of V.accepted S.verified (self.old).client said.old (ask_seen ask.now) said.new (self.new).client) }
+    {
         let head = self.head();
         let reply = self.request(stream, ask)?;
         let frame = frame_in(&reply)?;

@@ -1,12 +1,17 @@
 // The client and its monitors take the roots that are new.
+ghost use Rattle.std.specs.Prelude.{◌≡◌, OnOk};
+ghost use Rattle.asking.specs.Going.{Goes, Says};
+
 use crate::answering::body_of;
 use crate::checking::tell_client;
 use crate::exchange::frame_in;
-use crate::{AskFault, Asker, Said};
+use crate::{AskFault, Asker, Checks, Said};
+use monitor::Monitor;
 use nodehash::NodeHash;
 use play::Ask;
 use rootchain::MAX_ROOTS;
 use sigiface::Verifier;
+use std::alloc::Global;
 use std::io::{Read, Write};
 use vrfiface::VufCheck;
 
@@ -28,7 +33,9 @@ where
         &mut self,
         stream: &mut T,
         said: &mut Said,
-    ) -> Result<(), AskFault> {
+    ) -> Result<(), AskFault>
+        ensures { OnOk result (Goes H.digest_of V.accepted S.verified (self.old).client (self.new).client × Says said.old said.new) }
+    {
         // Every loop of Rattle has an end: this one's is past any chain.
         for _ in 0..u64::MAX {
             if !self.take_list(stream, said)? {
@@ -43,7 +50,9 @@ where
         &mut self,
         stream: &mut T,
         said: &mut Said,
-    ) -> Result<bool, AskFault> {
+    ) -> Result<bool, AskFault>
+        ensures { OnOk result (Goes H.digest_of V.accepted S.verified (self.old).client (self.new).client × Says said.old said.new) }
+    {
         let Some(from) = self.head().checked_add(1) else {
             return Ok(false);
         };
@@ -65,18 +74,39 @@ where
     }
 
     /// Hands a list of new roots to the client and the monitors.
-    fn take(&mut self, list: &[u8], said: &mut Said) -> Result<(), AskFault> {
+    fn take(&mut self, list: &[u8], said: &mut Said) -> Result<(), AskFault>
+        ensures { OnOk result (Goes H.digest_of V.accepted S.verified (self.old).client (self.new).client × (said.new ≡ said.old)) }
+    {
         let checks = &mut self.checks;
-        if let Err(why) = self.client.update(&mut checks.hash, &checks.verifier, list) {
-            tell_client(self.alloc, b"client refuses root", why, said)?;
-            return Err(AskFault::Stopped);
-        }
-        for monitor in self.monitors.iter_mut() {
-            if let Err(why) = monitor.update(&mut checks.hash, &checks.verifier, list) {
+        match self.client.update(&mut checks.hash, &checks.verifier, list) {
+            Ok(()) => update_all(self.alloc, &mut self.monitors, checks, list, said),
+            Err(why) => {
                 tell_client(self.alloc, b"client refuses root", why, said)?;
-                return Err(AskFault::Stopped);
+                Err(AskFault::Stopped)
             }
         }
-        Ok(())
     }
+}
+
+/// Hands a list of new roots to the monitors.
+fn update_all<H, V, S>(
+    alloc: Global,
+    monitors: &mut [Monitor<H, V, S>],
+    checks: &mut Checks<H, V, S>,
+    list: &[u8],
+    said: &mut Said,
+) -> Result<(), AskFault>
+where
+    H: NodeHash + Drop,
+    V: VufCheck + Drop,
+    S: Verifier + Drop,
+    ensures { OnOk result (said.new ≡ said.old) }
+{
+    for monitor in monitors {
+        if let Err(why) = monitor.update(&mut checks.hash, &checks.verifier, list) {
+            tell_client(alloc, b"client refuses root", why, said)?;
+            return Err(AskFault::Stopped);
+        }
+    }
+    Ok(())
 }
