@@ -1,16 +1,18 @@
 -- The roots of a list, one after another.
-use Rattle.std.proofs.Common.{◌≡◌, ℕ, List, [], ◌∷◌, Option, None, Some, codes, inl, inr, refl, subst, sym}
+use Rattle.std.proofs.Common.{◌≡◌, ℕ, List, [], ◌∷◌, Option, None, Some, Result, Ok, Err, codes, inl, inr, refl, subst, sym}
+use Rattle.std.specs.Prelude.{OnOk}
 use Rattle.rootchain.specs.Chains.{KeyedRoots}
 use Rattle.rootchain.specs.declared.signed_root.SignedRoot.{SignedRoot}
 use Rattle.wire.specs.Responses.{Roots}
 use Rattle.client.specs.declared.refusal.Refusal.{Refusal}
 use Rattle.play.specs.Hearing.{response_text}
 use Rattle.asking.specs.declared.placing.Stop.{Stop}
+use Rattle.asking.specs.declared.said.Said.{Said}
 use Rattle.asking.specs.declared.placing.Stop.TheVariants.{OtherEpoch, Refused}
 use Rattle.asking.specs.Checking.{AreTold, GoesOn}
 use Rattle.asking.specs.Refused.{client_refuses}
 use Rattle.asking.specs.Stopping.{stop_told, Stops, StopsAt}
-use Rattle.asking.specs.Told.{Told, fine}
+use Rattle.asking.specs.Told.{Told, Tells, fine}
 
 module _ (hash : List ℕ → List ℕ) (verified : List ℕ → List ℕ → List ℕ → Type 0) (chain : KeyedRoots) (from : ℕ) (all : List SignedRoot) where
   -- where it stops at one of those that are left, it stops at one of all
@@ -25,11 +27,11 @@ module _ (hash : List ℕ → List ℕ) (verified : List ℕ → List ℕ → Li
   passing-stop first more why passing is = passing (Some why) (inl (why, refl, is))
 
   -- where it stops at none, all are told
-  pub all-told : (rest : List SignedRoot) → Stops hash verified chain from rest None → AreTold hash verified chain from all rest (fine (response_text (Roots all)))
-  all-told [] none = refl
-  all-told (first ∷ more) (inl (why, is, at)) = absurd cc
-  all-told (first ∷ more) (inr ((asked, place, is, none), later)) =
-      inr (asked, place, is, subst (λ (refusal : Option Refusal). GoesOn (AreTold hash verified chain from all more (fine (response_text (Roots all)))) refusal (fine (response_text (Roots all)))) (sym none) (all-told more later))
+  pub all_told : (rest : List SignedRoot) → Stops hash verified chain from rest None → AreTold hash verified chain from all rest (fine (response_text (Roots all)))
+  all_told [] none = refl
+  all_told (first ∷ more) (inl (why, is, at)) = absurd cc
+  all_told (first ∷ more) (inr ((asked, place, is, none), later)) =
+      inr (asked, place, is, subst (λ (refusal : Option Refusal). GoesOn (AreTold hash verified chain from all more (fine (response_text (Roots all)))) refusal (fine (response_text (Roots all)))) (sym none) (all_told more later))
 
   -- at a root where it stops, that is told
   told-at : (first : SignedRoot) (more : List SignedRoot) (why : Stop) → StopsAt hash verified chain from first (Some why) → AreTold hash verified chain from all (first ∷ more) (stop_told why)
@@ -38,9 +40,21 @@ module _ (hash : List ℕ → List ℕ) (verified : List ℕ → List ℕ → Li
       let told = client_refuses (codes "client refuses root") why in
       inr (asked, place, is, subst (λ (refusal : Option Refusal). GoesOn (AreTold hash verified chain from all more told) refusal told) (sym some) refl)
 
-  pub stop-told : (rest : List SignedRoot) (why : Stop) → Stops hash verified chain from rest (Some why) → AreTold hash verified chain from all rest (stop_told why)
-  stop-told [] why none = absurd cc
-  stop-told (first ∷ more) why (inl (other, is, at)) = told-at first more why (subst (λ (stop : Option Stop). StopsAt hash verified chain from first stop) (sym is) at)
-  stop-told (first ∷ more) why (inr ((asked, place, is, none), later)) =
+  pub told_of_stop : (rest : List SignedRoot) (why : Stop) → Stops hash verified chain from rest (Some why) → AreTold hash verified chain from all rest (stop_told why)
+  told_of_stop [] why none = absurd cc
+  told_of_stop (first ∷ more) why (inl (other, is, at)) = told-at first more why (subst (λ (stop : Option Stop). StopsAt hash verified chain from first stop) (sym is) at)
+  told_of_stop (first ∷ more) why (inr ((asked, place, is, none), later)) =
       let told = stop_told why in
-      inr (asked, place, is, subst (λ (refusal : Option Refusal). GoesOn (AreTold hash verified chain from all more told) refusal told) (sym none) (stop-told more why later))
+      inr (asked, place, is, subst (λ (refusal : Option Refusal). GoesOn (AreTold hash verified chain from all more told) refusal told) (sym none) (told_of_stop more why later))
+
+  -- what is told where it stops
+  pub tells_stop : {A E : Type 0} (result : Result A E) (why : Stop) (before after : Said) → Stops hash verified chain from all (Some why) → OnOk result (Tells before (stop_told why) after)
+      → OnOk result ((told : Told) × AreTold hash verified chain from all all told × Tells before told after)
+  tells_stop (Ok done) why before after stops tells = (stop_told why, told_of_stop all why stops, tells)
+  tells_stop (Err fault) why before after stops tells = tt
+
+  -- and where it does not
+  pub tells_all : {A E : Type 0} (result : Result A E) (before after : Said) → Stops hash verified chain from all None → OnOk result (Tells before (fine (response_text (Roots all))) after)
+      → OnOk result ((told : Told) × AreTold hash verified chain from all all told × Tells before told after)
+  tells_all (Ok done) before after stops tells = (fine (response_text (Roots all)), all_told all stops, tells)
+  tells_all (Err fault) before after stops tells = tt

@@ -1,15 +1,16 @@
 // Roots that the client does not take: the latest one, and those that were asked for. Each is told if the
 // chain has no reason against it.
-ghost use Rattle.std.specs.Prelude.{◌≡◌, ◌++◌, IfOk, None, OnOk, Result};
+ghost use Rattle.std.specs.Prelude.{◌≡◌, ◌++◌, codes, IfOk, None, OnOk, Result};
 ghost use Rattle.rootchain.specs.declared.chain.placing.Place.{Place};
-ghost use Rattle.rootchain.specs.declared.refusal.Refusal.{Refusal as RootRefusal};
+ghost use Rattle.rootchain.specs.declared.refusal.Refusal.{Refusal as ChainRefusal};
 ghost use Rattle.asking.specs.Checking.{place_told, refusal_at, AreTold, Places};
+ghost use Rattle.asking.specs.Refused.{client_refuses};
 ghost use Rattle.asking.specs.Stopping.{epochs_text, Stops, StopsAt};
 ghost use Rattle.asking.specs.Told.{Told, Tells};
 
 use crate::checking::tell_client;
 use crate::{Checks, Said};
-use client::{Client, Refusal};
+use client::{Client, Refusal, RootRefusal};
 use nodehash::NodeHash;
 use play::{push_number, tell_response};
 use rootchain::{Place, RootList, SignedRoot};
@@ -56,16 +57,22 @@ where
     H: NodeHash + Drop,
     V: VufCheck + Drop,
     S: Verifier + Drop,
-    ensures { OnOk result ((place : Result Place RootRefusal) × Places H.digest_of S.verified client.now.chain root place × Tells said.old (place_told root place) said.new) }
+    ensures { OnOk result ((place : Result Place ChainRefusal) × Places H.digest_of S.verified client.now.chain root place × Tells said.old (place_told root place) said.new) }
 {
-    let why = match place(client, checks, &root) {
-        Ok(Place::Known) => return tell_response(&mut said.text, Response::Root(root)),
-        Ok(Place::Next) => Refusal::from(rootchain::Refusal::BadLink),
-        Ok(Place::Ahead) => Refusal::from(rootchain::Refusal::BadLink),
-        Ok(Place::BeforeStart) => Refusal::from(rootchain::Refusal::NotLater),
-        Ok(Place::Evidence(roots)) => Refusal::RootDiffers(roots),
-        Err(why) => Refusal::from(why),
-    };
+    match place(client, checks, &root) {
+        Ok(Place::Known) => tell_response(&mut said.text, Response::Root(root)),
+        Ok(Place::Next) => refuse_root(alloc, Refusal::Root(RootRefusal::BadLink), said),
+        Ok(Place::Ahead) => refuse_root(alloc, Refusal::Root(RootRefusal::BadLink), said),
+        Ok(Place::BeforeStart) => refuse_root(alloc, Refusal::Root(RootRefusal::NotLater), said),
+        Ok(Place::Evidence(roots)) => refuse_root(alloc, Refusal::RootDiffers(roots), said),
+        Err(why) => refuse_root(alloc, Refusal::from(why), said),
+    }
+}
+
+/// Tells that a root is refused.
+fn refuse_root(alloc: Global, why: Refusal, said: &mut Said) -> Result<(), AllocError>
+    ensures { OnOk result (Tells said.old (client_refuses (codes "client refuses root") why) said.new) }
+{
     tell_client(alloc, b"client refuses root", why, said)
 }
 
@@ -152,7 +159,7 @@ where
     let mut line = Vec::from_slice(alloc, b"roots")?;
     match push_epochs(client, checks, from, roots, &mut line)? {
         Some(Stop::OtherEpoch) => said.refuse_other(),
-        Some(Stop::Refused(why)) => tell_client(alloc, b"client refuses root", why, said),
+        Some(Stop::Refused(why)) => refuse_root(alloc, why, said),
         None => {
             line.push(b'\n')?;
             said.text.extend_from_slice(&line)
