@@ -1,3 +1,2 @@
-pub mod Going
 pub mod Placed
 pub mod Telling

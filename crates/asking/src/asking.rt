@@ -3,7 +3,6 @@ ghost use Rattle.std.specs.Prelude.{OnOk};
 ghost use Rattle.wire.specs.FrameViews.{frame_seen};
 ghost use Rattle.play.specs.Spoken.{ask_seen};
 ghost use Rattle.asking.specs.Checking.{HearsFrame};
-ghost use Rattle.asking.specs.Going.{Asks, Goes, Says};
 ghost use Rattle.asking.specs.Told.{Told, Tells};
 
 use crate::answering::{answers, request_of};
@@ -48,9 +47,7 @@ where
         stream: &mut T,
         ask: &Ask,
         said: &mut Said,
-    ) -> Result<(), AskFault>
-        ensures { OnOk result (Asks H.digest_of V.accepted S.verified (self.old).client said.old (ask_seen ask.now) said.new (self.new).client) }
-    {
+    ) -> Result<(), AskFault> {
         let head = self.head();
         let reply = self.request(stream, ask)?;
         let frame = frame_in(&reply)?;
@@ -65,9 +62,7 @@ where
         stream: &mut T,
         epoch: u64,
         said: &mut Said,
-    ) -> Result<(), AskFault>
-        ensures { OnOk result (Goes H.digest_of V.accepted S.verified (self.old).client (self.new).client × Says said.old said.new) }
-    {
+    ) -> Result<(), AskFault> {
         if epoch <= self.head() {
             return Ok(());
         }
@@ -100,9 +95,7 @@ where
         stream: &mut T,
         head: u64,
         said: &mut Said,
-    ) -> Result<(), AskFault>
-        ensures { OnOk result (Goes H.digest_of V.accepted S.verified (self.old).client (self.new).client × Says said.old said.new) }
-    {
+    ) -> Result<(), AskFault> {
         if self.head() <= head {
             return Ok(());
         }

@@ -1,6 +1,4 @@
 // The client and its monitors take the roots that are new.
-ghost use Rattle.std.specs.Prelude.{◌≡◌, OnOk};
-ghost use Rattle.asking.specs.Going.{Goes, Says};
 
 use crate::answering::body_of;
 use crate::checking::tell_client;
@@ -33,9 +31,7 @@ where
         &mut self,
         stream: &mut T,
         said: &mut Said,
-    ) -> Result<(), AskFault>
-        ensures { OnOk result (Goes H.digest_of V.accepted S.verified (self.old).client (self.new).client × Says said.old said.new) }
-    {
+    ) -> Result<(), AskFault> {
         // Every loop of Rattle has an end: this one's is past any chain.
         for _ in 0..u64::MAX {
             if !self.take_list(stream, said)? {
@@ -50,9 +46,7 @@ where
         &mut self,
         stream: &mut T,
         said: &mut Said,
-    ) -> Result<bool, AskFault>
-        ensures { OnOk result (Goes H.digest_of V.accepted S.verified (self.old).client (self.new).client × Says said.old said.new) }
-    {
+    ) -> Result<bool, AskFault> {
         let Some(from) = self.head().checked_add(1) else {
             return Ok(false);
         };
@@ -74,9 +68,7 @@ where
     }
 
     /// Hands a list of new roots to the client and the monitors.
-    fn take(&mut self, list: &[u8], said: &mut Said) -> Result<(), AskFault>
-        ensures { OnOk result (Goes H.digest_of V.accepted S.verified (self.old).client (self.new).client × (said.new ≡ said.old)) }
-    {
+    fn take(&mut self, list: &[u8], said: &mut Said) -> Result<(), AskFault> {
         let checks = &mut self.checks;
         match self.client.update(&mut checks.hash, &checks.verifier, list) {
             Ok(()) => update_all(self.alloc, &mut self.monitors, checks, list, said),
@@ -100,7 +92,6 @@ where
     H: NodeHash + Drop,
     V: VufCheck + Drop,
     S: Verifier + Drop,
-    ensures { OnOk result (said.new ≡ said.old) }
 {
     for monitor in monitors {
         if let Err(why) = monitor.update(&mut checks.hash, &checks.verifier, list) {

@@ -3,6 +3,7 @@
 ghost use Rattle.std.specs.Prelude.{◌≡◌, ◌++◌, codes, IfOk, None, OnOk, Result};
 ghost use Rattle.rootchain.specs.declared.chain.placing.Place.{Place};
 ghost use Rattle.rootchain.specs.declared.refusal.Refusal.{Refusal as ChainRefusal};
+ghost use Rattle.client.specs.Refusals.{of_root};
 ghost use Rattle.asking.specs.Checking.{place_told, refusal_at, AreTold, Places};
 ghost use Rattle.asking.specs.Refused.{client_refuses};
 ghost use Rattle.asking.specs.Stopping.{epochs_text, Stops, StopsAt};
@@ -10,7 +11,7 @@ ghost use Rattle.asking.specs.Told.{Told, Tells};
 
 use crate::checking::tell_client;
 use crate::{Checks, Said};
-use client::{Client, Refusal, RootRefusal};
+use client::{Client, Refusal};
 use nodehash::NodeHash;
 use play::{push_number, tell_response};
 use rootchain::{Place, RootList, SignedRoot};
@@ -61,11 +62,11 @@ where
 {
     match place(client, checks, &root) {
         Ok(Place::Known) => tell_response(&mut said.text, Response::Root(root)),
-        Ok(Place::Next) => refuse_root(alloc, Refusal::Root(RootRefusal::BadLink), said),
-        Ok(Place::Ahead) => refuse_root(alloc, Refusal::Root(RootRefusal::BadLink), said),
-        Ok(Place::BeforeStart) => refuse_root(alloc, Refusal::Root(RootRefusal::NotLater), said),
+        Ok(Place::Next) => refuse_chain(alloc, rootchain::Refusal::BadLink, said),
+        Ok(Place::Ahead) => refuse_chain(alloc, rootchain::Refusal::BadLink, said),
+        Ok(Place::BeforeStart) => refuse_chain(alloc, rootchain::Refusal::NotLater, said),
         Ok(Place::Evidence(roots)) => refuse_root(alloc, Refusal::RootDiffers(roots), said),
-        Err(why) => refuse_root(alloc, Refusal::from(why), said),
+        Err(why) => refuse_chain(alloc, why, said),
     }
 }
 
@@ -74,6 +75,13 @@ fn refuse_root(alloc: Global, why: Refusal, said: &mut Said) -> Result<(), Alloc
     ensures { OnOk result (Tells said.old (client_refuses (codes "client refuses root") why) said.new) }
 {
     tell_client(alloc, b"client refuses root", why, said)
+}
+
+/// Tells that a root is refused as the chain refuses it.
+fn refuse_chain(alloc: Global, why: rootchain::Refusal, said: &mut Said) -> Result<(), AllocError>
+    ensures { OnOk result (Tells said.old (client_refuses (codes "client refuses root") (of_root why)) said.new) }
+{
+    refuse_root(alloc, Refusal::from(why), said)
 }
 
 /// Why a root is refused that comes with others, by where it stands.

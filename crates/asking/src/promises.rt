@@ -2,7 +2,6 @@
 ghost use Rattle.std.specs.Prelude.{◌≡◌, ◌++◌, ◌∷◌, [], codes, IfOk, OnOk};
 ghost use Rattle.auditor.specs.declared.evidence.Evidence.TheVariants as evidence;
 ghost use Rattle.audits.specs.Files.{evidence_text};
-ghost use Rattle.asking.specs.Going.{Goes, Says};
 ghost use Rattle.asking.specs.Refused.{refuses_text};
 ghost use Rattle.asking.specs.Testing.{TellsDue};
 ghost use Rattle.asking.specs.Told.{refused, Tells};
@@ -38,9 +37,7 @@ where
         &mut self,
         stream: &mut T,
         said: &mut Said,
-    ) -> Result<(), AskFault>
-        ensures { OnOk result (Goes H.digest_of V.accepted S.verified (self.old).client (self.new).client × Says said.old said.new) }
-    {
+    ) -> Result<(), AskFault> {
         let mut place = 0;
         // Every loop of Rattle has an end: this one's is past any list.
         for _ in 0..u64::MAX {
@@ -67,9 +64,7 @@ where
         stream: &mut T,
         name: &Name,
         said: &mut Said,
-    ) -> Result<bool, AskFault>
-        ensures { OnOk result (Goes H.digest_of V.accepted S.verified (self.old).client (self.new).client × Says said.old said.new) }
-    {
+    ) -> Result<bool, AskFault> {
         let Some(epoch) = self.client.due_epoch(name) else {
             return Ok(false);
         };

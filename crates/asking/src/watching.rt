@@ -1,6 +1,5 @@
 // The monitors of names.
 ghost use Rattle.std.specs.Prelude.{◌≡◌, IfOk, OnOk};
-ghost use Rattle.asking.specs.Going.{Goes, Says};
 ghost use Rattle.asking.specs.Told.{Tells};
 ghost use Rattle.asking.specs.Watching.{step_told, WatchesEpoch};
 
@@ -38,9 +37,7 @@ where
         name: &Name,
         key: Option<&KeyData>,
         said: &mut Said,
-    ) -> Result<(), AskFault>
-        ensures { OnOk result (Goes H.digest_of V.accepted S.verified (self.old).client (self.new).client × Says said.old said.new) }
-    {
+    ) -> Result<(), AskFault> {
         let place = self.monitors.len();
         let Some(first) = self.first_unwatched(name) else {
             return Ok(());
@@ -57,9 +54,7 @@ where
         &mut self,
         stream: &mut T,
         said: &mut Said,
-    ) -> Result<(), AskFault>
-        ensures { OnOk result (Goes H.digest_of V.accepted S.verified (self.old).client (self.new).client × Says said.old said.new) }
-    {
+    ) -> Result<(), AskFault> {
         for place in 0..self.monitors.len() {
             self.step_through(stream, place, said)?;
         }
@@ -87,9 +82,7 @@ where
         name: &Name,
         key: Option<&KeyData>,
         said: &mut Said,
-    ) -> Result<(), AllocError>
-        ensures { OnOk result (((self.new).client ≡ (self.old).client) × Says said.old said.new) }
-    {
+    ) -> Result<(), AllocError> {
         let client = match client_from(
             self.alloc,
             &mut self.checks,
@@ -147,9 +140,7 @@ where
         stream: &mut T,
         place: usize,
         said: &mut Said,
-    ) -> Result<(), AskFault>
-        ensures { OnOk result (((self.new).client ≡ (self.old).client) × Says said.old said.new) }
-    {
+    ) -> Result<(), AskFault> {
         // Every loop of Rattle has an end: this one's is past any chain.
         for _ in 0..u64::MAX {
             if !self.step(stream, place, said)? {
@@ -165,9 +156,7 @@ where
         stream: &mut T,
         place: usize,
         said: &mut Said,
-    ) -> Result<bool, AskFault>
-        ensures { OnOk result (((self.new).client ≡ (self.old).client) × Says said.old said.new) }
-    {
+    ) -> Result<bool, AskFault> {
         let Some(monitor) = self.monitors.get(place) else {
             return Ok(false);
         };
@@ -280,7 +269,6 @@ where
     H: NodeHash + Drop,
     V: VufCheck + Drop,
     S: Verifier + Drop,
-    ensures { OnOk result (Says said.old said.new) }
 {
     match monitors.get_mut(place) {
         Some(monitor) => watch_epoch(alloc, monitor, checks, epoch, reply, said),
