@@ -23,3 +23,9 @@ pub tells_so : {A E : Type 0} (result : Result A E) (P : Told → Type 0) (told 
     → OnOk result (Tells same told after) → OnOk result ((x : Told) × P x × Tells before x after)
 tells_so (Ok done) P told before same after is holds tells = (told, holds, subst (λ (s : Said). Tells s told after) is tells)
 tells_so (Err fault) P told before same after is holds tells = tt
+
+-- this is the answer, and it is told so
+pub tells_answer : {X A E : Type 0} (result : Result A E) (P : X → Type 0) (told_of : X → Told) (answer : X) (before after : Said) → P answer
+    → OnOk result (Tells before (told_of answer) after) → OnOk result ((x : X) × P x × Tells before (told_of x) after)
+tells_answer (Ok done) P told_of answer before after holds tells = (answer, holds, tells)
+tells_answer (Err fault) P told_of answer before after holds tells = tt

@@ -1,8 +1,9 @@
-pub mod AskOptions
 pub mod Answering
+pub mod AskOptions
 pub mod Checking
 pub mod Exchanges
 pub mod Refused
+pub mod Stopping
 pub mod Testing
 pub mod Told
 pub mod Watching

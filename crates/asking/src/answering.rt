@@ -116,7 +116,7 @@ pub(crate) fn tell_unread(
     why: ReadRefusal,
     said: &mut Said,
 ) -> Result<(), AllocError>
-    ensures { OnOk result (Tells said.old (refused (refuses_text (codes "reply") (read_refusal_number why))) said.new) }
+    ensures { OnOk result (Tells said.old (refused (refuses_text (codes "client refuses reply") (read_refusal_number why))) said.new) }
 {
     let words = format!(in alloc; "{why}")?;
     said.refuse(b"client refuses reply", why.number(), words.as_bytes())

@@ -1,4 +1,5 @@
-ghost use Rattle.std.specs.Prelude.{◌≡◌};
+ghost use Rattle.std.specs.Prelude.{◌≡◌, Err, IfErr, IfOk, Ok};
+ghost use Rattle.client.specs.Starting.{Starts};
 
 use client::{Client, Refusal};
 use encoding::{Hash32, Name};
@@ -62,18 +63,23 @@ where
         key: Hash32,
         token: Hash32,
         root: &[u8],
-    ) -> Result<Self, Refusal> {
-        let client = Client::start(alloc, &checks.verifier, key, root)?;
-        Ok(Asker {
-            alloc,
-            checks,
-            key,
-            token,
-            client,
-            monitors: Vec::new(alloc),
-            marks: Vec::new(alloc),
-            earlier: Vec::new(alloc),
-        })
+    ) -> Result<Self, Refusal>
+        ensures ok { IfOk result (λ asker. Starts S.verified key root.now (Ok asker.client)) }
+        ensures err { IfErr result (λ why. Starts S.verified key root.now (Err why)) }
+    {
+        match Client::start(alloc, &checks.verifier, key, root) {
+            Ok(client) => Ok(Asker {
+                alloc,
+                checks,
+                key,
+                token,
+                client,
+                monitors: Vec::new(alloc),
+                marks: Vec::new(alloc),
+                earlier: Vec::new(alloc),
+            }),
+            Err(why) => Err(why),
+        }
     }
 
     /// The client.

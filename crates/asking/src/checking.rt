@@ -8,23 +8,22 @@ ghost use Rattle.client.specs.Looking.{Looks};
 ghost use Rattle.client.specs.Promising.{Keeps};
 ghost use Rattle.client.specs.declared.refusal.Refusal.{Refusal};
 ghost use Rattle.proofs.specs.declared.statement.Statement.{Statement};
-ghost use Rattle.rootchain.specs.declared.chain.placing.Place.{Place};
-ghost use Rattle.rootchain.specs.declared.refusal.Refusal.{Refusal as RootRefusal};
 ghost use Rattle.audits.specs.Files.{evidence_text};
 ghost use Rattle.play.specs.Spoken.{ask_seen};
-ghost use Rattle.asking.specs.Checking.{look_told, place_told, promise_told, refusal_at, AreTold, Hears, HearsFrame, Places};
+ghost use Rattle.asking.specs.Checking.{look_told, promise_told, Hears, HearsFrame};
 ghost use Rattle.asking.specs.Refused.{client_refuses, evidence_before};
 ghost use Rattle.asking.specs.Told.{Told, Tells};
 
 use crate::answering::{answers, tell_refused, tell_unread};
+use crate::placing::{place_all, place_latest};
 use crate::{Checks, Said};
 use auditor::Evidence;
 use audits::evidence_json;
 use client::{Client, Refusal};
 use encoding::Name;
 use nodehash::NodeHash;
-use play::{Ask, push_number, tell_response, tell_statement};
-use rootchain::{Place, RootList, SignedPromise, SignedRoot};
+use play::{Ask, tell_response, tell_statement};
+use rootchain::SignedPromise;
 use sigiface::Verifier;
 use std::alloc::{AllocError, Global};
 use vrfiface::VufCheck;
@@ -202,96 +201,4 @@ where
         Ok(()) => tell_response(&mut said.text, Response::Promise(signed)),
         Err(why) => tell_client(alloc, b"client refuses promise", why, said),
     }
-}
-
-/// Where a root stands to the chain of a client.
-fn place<H, V, S>(
-    client: &Client<H, V, S>,
-    checks: &mut Checks<H, V, S>,
-    root: &SignedRoot,
-) -> Result<Place, rootchain::Refusal>
-where
-    H: NodeHash + Drop,
-    V: VufCheck + Drop,
-    S: Verifier + Drop,
-    ensures { Places H.digest_of S.verified client.now.chain root.now result }
-{
-    client
-        .chain()
-        .place(&mut checks.hash, &checks.verifier, root)
-}
-
-/// Tells the latest root, which the chain has to have.
-fn place_latest<H, V, S>(
-    alloc: Global,
-    client: &Client<H, V, S>,
-    checks: &mut Checks<H, V, S>,
-    root: SignedRoot,
-    said: &mut Said,
-) -> Result<(), AllocError>
-where
-    H: NodeHash + Drop,
-    V: VufCheck + Drop,
-    S: Verifier + Drop,
-    ensures { OnOk result ((place : Result Place RootRefusal) × Places H.digest_of S.verified client.now.chain root place × Tells said.old (place_told root place) said.new) }
-{
-    let why = match place(client, checks, &root) {
-        Ok(Place::Known) => return tell_response(&mut said.text, Response::Root(root)),
-        Ok(Place::Next) => Refusal::from(rootchain::Refusal::BadLink),
-        Ok(Place::Ahead) => Refusal::from(rootchain::Refusal::BadLink),
-        Ok(Place::BeforeStart) => Refusal::from(rootchain::Refusal::NotLater),
-        Ok(Place::Evidence(roots)) => Refusal::RootDiffers(roots),
-        Err(why) => Refusal::from(why),
-    };
-    tell_client(alloc, b"client refuses root", why, said)
-}
-
-/// Why a root is refused that comes with others, by where it stands.
-fn refusal_of(place: Result<Place, rootchain::Refusal>) -> Option<Refusal>
-    ensures { result ≡ refusal_at place }
-{
-    match place {
-        Ok(Place::Evidence(roots)) => Some(Refusal::RootDiffers(roots)),
-        Ok(Place::Known) => None,
-        Ok(Place::Next) => None,
-        Ok(Place::Ahead) => None,
-        Ok(Place::BeforeStart) => None,
-        Err(why) => Some(Refusal::from(why)),
-    }
-}
-
-/// Tells roots that were asked for from an epoch on. Each verifies, and is no evidence with the chain.
-fn place_all<H, V, S>(
-    alloc: Global,
-    client: &Client<H, V, S>,
-    checks: &mut Checks<H, V, S>,
-    from: u64,
-    roots: RootList<'_>,
-    said: &mut Said,
-) -> Result<(), AllocError>
-where
-    H: NodeHash + Drop,
-    V: VufCheck + Drop,
-    S: Verifier + Drop,
-    ensures { OnOk result ((told : Told) × AreTold H.digest_of S.verified client.now.chain from roots.entry roots.entry told × Tells said.old told said.new) }
-{
-    let mut rest = roots;
-    let mut line = Vec::from_slice(alloc, b"roots")?;
-    for _ in 0..rest.len() {
-        let Some(root) = rest.next() else {
-            unreachable!()
-        };
-        if root.body.epoch < from {
-            return said.refuse_other();
-        }
-        let placed = place(client, checks, &root);
-        if let Some(why) = refusal_of(placed) {
-            return tell_client(alloc, b"client refuses root", why, said);
-        }
-        line.push(b' ')?;
-        push_number(&mut line, root.body.epoch)?;
-    }
-    line.push(b'\n')?;
-    said.text.extend_from_slice(&line)?;
-    Ok(())
 }

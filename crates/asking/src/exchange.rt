@@ -1,8 +1,8 @@
 // A request goes out as one frame, and the next frame of the stream is its reply. Not a byte behind it is
 // read.
-ghost use Rattle.std.specs.Prelude.{◌≡◌, ◌≤◌, IfOk, OnOk};
+ghost use Rattle.std.specs.Prelude.{IfOk, OnOk};
 ghost use Rattle.std.specs.Io.KnownBytes.{Appends, Consumes};
-ghost use Rattle.wire.specs.Frames.{frame_bytes, frame_size};
+ghost use Rattle.wire.specs.Frames.{frame_bytes};
 ghost use Rattle.wire.specs.FrameViews.{frame_seen};
 ghost use Rattle.wire.specs.Requests.{request_frame, request_seen};
 ghost use Rattle.asking.specs.Exchanges.{HoldsFrame};
@@ -26,6 +26,29 @@ pub(crate) fn frame_in(bytes: &[u8]) -> Result<FrameView<'_>, AskFault>
     }
 }
 
+/// Reads the bytes that tell the length of the next frame.
+fn read_length<R: Read>(reader: &mut R) -> Result<[u8; LENGTH], AskFault>
+    ensures { IfOk result (λ length. Consumes (R.remaining reader.old) (R.remaining reader.new) length) }
+{
+    let mut length = [0; LENGTH];
+    if reader.read_exact(&mut length).is_err() {
+        return Err(AskFault::NoReply);
+    }
+    Ok(length)
+}
+
+/// Reads so many bytes.
+fn read_rest<R: Read>(alloc: Global, reader: &mut R, size: usize) -> Result<Vec<u8>, AskFault>
+    ensures { IfOk result (λ rest. Consumes (R.remaining reader.old) (R.remaining reader.new) rest.items) }
+{
+    let mut rest = Vec::new(alloc);
+    rest.resize(size, 0)?;
+    if reader.read_exact(&mut rest).is_err() {
+        return Err(AskFault::NoReply);
+    }
+    Ok(rest)
+}
+
 /// Reads as many bytes as the next frame has, by its length.
 ///
 /// # Errors
@@ -34,41 +57,47 @@ pub(crate) fn frame_in(bytes: &[u8]) -> Result<FrameView<'_>, AskFault>
 pub(crate) fn read_reply<R: Read>(alloc: Global, reader: &mut R) -> Result<Vec<u8>, AskFault>
     ensures { IfOk result (λ bytes. Consumes (R.remaining reader.old) (R.remaining reader.new) bytes.items) }
 {
-    let mut length = [0; LENGTH];
-    if reader.read_exact(&mut length).is_err() {
-        return Err(AskFault::NoReply);
-    }
+    let length = read_length(reader)?;
     let size = u32::from_be_bytes(length) as usize;
     if size < 1 || MAX_FRAME_LEN < size {
         return Err(AskFault::NoReply);
     }
-    let mut body = Vec::new(alloc);
-    body.resize(size, 0)?;
-    if reader.read_exact(&mut body).is_err() {
+    let rest = read_rest(alloc, reader, size)?;
+    let mut bytes = Vec::new(alloc);
+    bytes.extend_from_slice(&length)?;
+    bytes.extend_from_slice(&rest)?;
+    Ok(bytes)
+}
+
+/// Sends a request as one frame.
+///
+/// # Errors
+///
+/// `NoReply` if the request has no frame, or cannot be sent; `OutOfMemory`.
+fn send<W: Write>(alloc: Global, writer: &mut W, request: &Request<'_>) -> Result<(), AskFault>
+    ensures { OnOk result (Appends (W.contents writer.old) (W.contents writer.new) (frame_bytes (request_frame (request_seen request.now)))) }
+{
+    if !request.fits() {
         return Err(AskFault::NoReply);
     }
-    let mut bytes = Vec::from_slice(alloc, &length)?;
-    bytes.extend_from_slice(&body)?;
-    Ok(bytes)
+    let mut frame = Vec::new(alloc);
+    request.write(&mut frame)?;
+    if write_text(writer, &frame).is_err() {
+        return Err(AskFault::NoReply);
+    }
+    Ok(())
 }
 
 /// Sends a request, and reads its reply.
 ///
 /// # Errors
 ///
-/// Those of `read_reply`, and `NoReply` if the request cannot be sent.
+/// Those of `send` and of `read_reply`.
 pub(crate) fn exchange<T: Read + Write>(
     alloc: Global,
     stream: &mut T,
     request: &Request<'_>,
 ) -> Result<Vec<u8>, AskFault> {
-    if !request.fits() {
-        return Err(AskFault::NoReply);
-    }
-    let mut frame = Vec::new(alloc);
-    request.write(&mut frame)?;
-    if write_text(stream, &frame).is_err() {
-        return Err(AskFault::NoReply);
-    }
+    send(alloc, stream, request)?;
     read_reply(alloc, stream)
 }

@@ -1,12 +1,15 @@
 // The client and its monitors take the roots that are new.
+
 use crate::answering::body_of;
 use crate::checking::tell_client;
 use crate::exchange::frame_in;
-use crate::{AskFault, Asker, Said};
+use crate::{AskFault, Asker, Checks, Said};
+use monitor::Monitor;
 use nodehash::NodeHash;
 use play::Ask;
 use rootchain::MAX_ROOTS;
 use sigiface::Verifier;
+use std::alloc::Global;
 use std::io::{Read, Write};
 use vrfiface::VufCheck;
 
@@ -67,16 +70,34 @@ where
     /// Hands a list of new roots to the client and the monitors.
     fn take(&mut self, list: &[u8], said: &mut Said) -> Result<(), AskFault> {
         let checks = &mut self.checks;
-        if let Err(why) = self.client.update(&mut checks.hash, &checks.verifier, list) {
-            tell_client(self.alloc, b"client refuses root", why, said)?;
-            return Err(AskFault::Stopped);
-        }
-        for monitor in self.monitors.iter_mut() {
-            if let Err(why) = monitor.update(&mut checks.hash, &checks.verifier, list) {
+        match self.client.update(&mut checks.hash, &checks.verifier, list) {
+            Ok(()) => update_all(self.alloc, &mut self.monitors, checks, list, said),
+            Err(why) => {
                 tell_client(self.alloc, b"client refuses root", why, said)?;
-                return Err(AskFault::Stopped);
+                Err(AskFault::Stopped)
             }
         }
-        Ok(())
     }
+}
+
+/// Hands a list of new roots to the monitors.
+fn update_all<H, V, S>(
+    alloc: Global,
+    monitors: &mut [Monitor<H, V, S>],
+    checks: &mut Checks<H, V, S>,
+    list: &[u8],
+    said: &mut Said,
+) -> Result<(), AskFault>
+where
+    H: NodeHash + Drop,
+    V: VufCheck + Drop,
+    S: Verifier + Drop,
+{
+    for monitor in monitors {
+        if let Err(why) = monitor.update(&mut checks.hash, &checks.verifier, list) {
+            tell_client(alloc, b"client refuses root", why, said)?;
+            return Err(AskFault::Stopped);
+        }
+    }
+    Ok(())
 }

@@ -21,6 +21,7 @@ mod exchange;
 mod fault;
 mod following;
 mod order;
+mod placing;
 mod promises;
 mod running;
 mod said;

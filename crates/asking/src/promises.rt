@@ -1,6 +1,10 @@
 // The promises that the client keeps are tested once the chain has the next root.
-ghost use Rattle.std.specs.Prelude.{IfOk};
+ghost use Rattle.std.specs.Prelude.{◌≡◌, ◌++◌, ◌∷◌, [], codes, IfOk, OnOk};
+ghost use Rattle.auditor.specs.declared.evidence.Evidence.TheVariants as evidence;
+ghost use Rattle.audits.specs.Files.{evidence_text};
+ghost use Rattle.asking.specs.Refused.{refuses_text};
 ghost use Rattle.asking.specs.Testing.{TellsDue};
+ghost use Rattle.asking.specs.Told.{refused, Tells};
 
 use crate::answering::body_of;
 use crate::checking::{tell_client, tell_evidence};
@@ -12,6 +16,7 @@ use client::{Client, Due};
 use encoding::Name;
 use nodehash::NodeHash;
 use play::{Ask, push_hex};
+use proofs::BrokenPromise;
 use sigiface::Verifier;
 use std::alloc::{AllocError, Global};
 use std::io::{Read, Write};
@@ -76,6 +81,40 @@ where
     }
 }
 
+/// Tells that a promise was not kept, by the evidence of it.
+fn tell_proof(alloc: Global, broken: BrokenPromise, said: &mut Said) -> Result<(), AllocError>
+    ensures text { OnOk result ((said.new).text.items ≡ (said.old).text.items ++ evidence_text (evidence.Broken broken) ++ 10 ∷ []) }
+    ensures status { (said.new).status ≡ (said.old).status }
+{
+    tell_evidence(alloc, &Evidence::Broken(broken), said)
+}
+
+/// Tells that the promise for a name was not kept.
+fn tell_broken(
+    alloc: Global,
+    name: &Name,
+    broken: BrokenPromise,
+    said: &mut Said,
+) -> Result<(), AllocError>
+    ensures { OnOk result (Tells said.old (refused (evidence_text (evidence.Broken broken))) said.new) }
+{
+    tell_proof(alloc, broken, said)?;
+    said.words.extend_from_slice(b"promise for ")?;
+    push_hex(&mut said.words, name.bytes())?;
+    said.explain(b"it was not kept")
+}
+
+/// Tells that a name has another index than its promise says.
+fn tell_other_index(said: &mut Said) -> Result<(), AllocError>
+    ensures { OnOk result (Tells said.old (refused (refuses_text (codes "client refuses promise") 26)) said.new) }
+{
+    said.refuse(
+        b"client refuses promise",
+        OTHER_INDEX,
+        b"the name has another index",
+    )
+}
+
 /// Tells what a reply shows of the promise that is tested for a name: nothing where it was kept. Returns whether it
 /// was.
 fn tell_due<H, V, S>(
@@ -95,18 +134,11 @@ where
     match client.due(&mut checks.hash, &checks.vuf, name, reply) {
         Ok(Due::Kept) => Ok(true),
         Ok(Due::Broken(broken)) => {
-            tell_evidence(alloc, &Evidence::Broken(broken), said)?;
-            said.words.extend_from_slice(b"promise for ")?;
-            push_hex(&mut said.words, name.bytes())?;
-            said.explain(b"it was not kept")?;
+            tell_broken(alloc, name, broken, said)?;
             Ok(false)
         }
         Ok(Due::OtherIndex) => {
-            said.refuse(
-                b"client refuses promise",
-                OTHER_INDEX,
-                b"the name has another index",
-            )?;
+            tell_other_index(said)?;
             Ok(false)
         }
         Err(why) => {

@@ -1,5 +1,5 @@
 // A run of questions over a connection. Contracts do not know what a socket or a file has.
-ghost use Rattle.std.specs.Prelude.{◌≡◌, Err, None};
+ghost use Rattle.std.specs.Prelude.{◌≡◌, Err, None, Some, MatchResult};
 ghost use Rattle.std.specs.Io.KnownBytes.{Keeps};
 ghost use Rattle.textio.specs.declared.program_fault.ProgramFault.TheVariants.{BadHex};
 ghost use Rattle.asking.specs.AskOptions.{ask_keys_of, values_of};
@@ -66,8 +66,39 @@ where
     ensures bad_hex { ask_keys_of (values_of order.entry) ≡ None
         → (result ≡ Err BadHex) × Keeps (W.contents writer.old) (W.contents writer.new) × Keeps (E.contents errors.old) (E.contents errors.new) }
 {
-    let key = Hash32::new(option_hex32(order.provider)?);
-    let token = Hash32::new(option_nonce(order.token)?);
+    match keys_of(&order) {
+        Ok((key, token)) => ask_under(alloc, system, order, key, token, reader, writer, errors),
+        Err(fault) => Err(fault),
+    }
+}
+
+/// The provider's public key and the operator's token.
+fn keys_of(order: &AskOrder<'_>) -> Result<(Hash32, Hash32), ProgramFault>
+    ensures { MatchResult result (λ keys. ask_keys_of (values_of order.now) ≡ Some (keys.0, keys.1))
+        (λ fault. (fault ≡ BadHex) × (ask_keys_of (values_of order.now) ≡ None)) }
+{
+    let key = option_hex32(order.provider)?;
+    let token = option_nonce(order.token)?;
+    Ok((Hash32::new(key), Hash32::new(token)))
+}
+
+/// Asks under this key, with this token.
+fn ask_under<'a, N, R, W, E>(
+    alloc: Global,
+    system: &'a N,
+    order: AskOrder<'a>,
+    key: Hash32,
+    token: Hash32,
+    reader: &mut R,
+    writer: &'a mut W,
+    errors: &'a mut E,
+) -> Result<u8, ProgramFault>
+where
+    N: Net<Listener = TcpListener, Stream = TcpStream> + Files<File = File>,
+    R: BufRead,
+    W: Write,
+    E: Write,
+{
     let state = match order.state {
         Some(path) => Some(State::new(alloc, path)?),
         None => None,

@@ -1,6 +1,7 @@
 // The monitors of names.
-ghost use Rattle.std.specs.Prelude.{IfOk};
-ghost use Rattle.asking.specs.Watching.{WatchesEpoch};
+ghost use Rattle.std.specs.Prelude.{◌≡◌, IfOk, OnOk};
+ghost use Rattle.asking.specs.Told.{Tells};
+ghost use Rattle.asking.specs.Watching.{step_told, WatchesEpoch};
 
 use crate::answering::body_of;
 use crate::checking::tell_client;
@@ -8,7 +9,7 @@ use crate::exchange::frame_in;
 use crate::said::ALARM;
 use crate::{AskFault, Asker, Checks, Said};
 use client::Client;
-use encoding::{KeyData, Name};
+use encoding::{Hash32, KeyData, Name};
 use monitor::{Monitor, Refusal, Step};
 use nodehash::NodeHash;
 use play::{Ask, tell_step};
@@ -82,7 +83,13 @@ where
         key: Option<&KeyData>,
         said: &mut Said,
     ) -> Result<(), AllocError> {
-        let client = match self.client_from(first) {
+        let client = match client_from(
+            self.alloc,
+            &mut self.checks,
+            &self.client,
+            self.key,
+            first,
+        ) {
             Ok(client) => client,
             Err(why) => return tell_client(self.alloc, b"client refuses root", why, said),
         };
@@ -94,42 +101,9 @@ where
             },
         };
         let mut monitor = Monitor::new(self.alloc, client, name.copied(), key);
-        let checks = &mut self.checks;
-        for signed in self.earlier.iter() {
-            if signed.promise.name == *name {
-                // A promise from before the first root, or one that is kept twice, is refused.
-                let _taken = monitor.expect_change(
-                    &mut checks.hash,
-                    &checks.verifier,
-                    &signed.promise.key,
-                    signed.write().bytes(),
-                );
-            }
-        }
+        expect_all(&mut self.checks, &mut monitor, &self.earlier, name);
         self.monitors.push(monitor)?;
         Ok(())
-    }
-
-    /// A client whose chain is that of the client from this root on.
-    fn client_from(&mut self, first: &SignedRoot) -> Result<Client<H, V, S>, client::Refusal> {
-        let checks = &mut self.checks;
-        let root = first.write();
-        let mut client = Client::start(self.alloc, &checks.verifier, self.key, root.bytes())?;
-        let mut epoch = first.body.epoch;
-        let mut list = Vec::new(self.alloc);
-        // Every loop of Rattle has an end: this one's is past any chain.
-        for _ in 0..u64::MAX {
-            let Some(root) = self.client.chain().after(epoch) else {
-                break;
-            };
-            epoch = root.body.epoch;
-            list.clear();
-            if write_list(&[root.copied()], &mut list).is_err() {
-                return Err(client::Refusal::Memory);
-            }
-            client.update(&mut checks.hash, &checks.verifier, &list)?;
-        }
-        Ok(client)
     }
 
     /// The key of the last promise for a name from before this epoch.
@@ -151,26 +125,13 @@ where
     }
 
     /// Gives the last promise that the client kept, of which these are the bytes, to each monitor of its name.
-    pub(crate) fn hand_out(&mut self, promise: &[u8]) -> Result<(), AllocError> {
-        let Some(signed) = self.client.promises().last() else {
-            return Ok(());
-        };
-        let checks = &mut self.checks;
-        for monitor in self.monitors.iter_mut() {
-            if *monitor.name() == signed.promise.name {
-                let key = &signed.promise.key;
-                let handed = monitor.expect_change(
-                    &mut checks.hash,
-                    &checks.verifier,
-                    key,
-                    promise,
-                );
-                if handed == Err(Refusal::Client(client::Refusal::Memory)) {
-                    return Err(AllocError);
-                }
-            }
+    pub(crate) fn hand_out(&mut self, promise: &[u8]) -> Result<(), AllocError>
+        ensures { (self.new).client ≡ (self.old).client }
+    {
+        match self.client.promises().last() {
+            Some(signed) => hand_to(&mut self.monitors, &mut self.checks, signed, promise),
+            None => Ok(()),
         }
-        Ok(())
     }
 
     /// Lets a monitor watch each epoch of its chain that it has not watched, up to one whose proof is refused.
@@ -208,10 +169,128 @@ where
         let Some(found) = body_of(self.alloc, &ask, &frame_in(&reply)?, said)? else {
             return Ok(false);
         };
-        let checks = &mut self.checks;
-        match self.monitors.get_mut(place) {
-            Some(monitor) => Ok(watch_epoch(self.alloc, monitor, checks, epoch, found, said)?),
-            None => Ok(false),
+        let (monitors, checks) = (&mut self.monitors, &mut self.checks);
+        Ok(watch_at(self.alloc, monitors, place, checks, epoch, found, said)?)
+    }
+}
+
+/// A client whose chain is that of another one from this root on.
+fn client_from<H, V, S>(
+    alloc: Global,
+    checks: &mut Checks<H, V, S>,
+    other: &Client<H, V, S>,
+    key: Hash32,
+    first: &SignedRoot,
+) -> Result<Client<H, V, S>, client::Refusal>
+where
+    H: NodeHash + Drop,
+    V: VufCheck + Drop,
+    S: Verifier + Drop,
+{
+    let root = first.write();
+    let mut client = Client::start(alloc, &checks.verifier, key, root.bytes())?;
+    let mut epoch = first.body.epoch;
+    let mut list = Vec::new(alloc);
+    // Every loop of Rattle has an end: this one's is past any chain.
+    for _ in 0..u64::MAX {
+        let Some(root) = other.chain().after(epoch) else {
+            break;
+        };
+        epoch = root.body.epoch;
+        list.clear();
+        if write_list(&[root.copied()], &mut list).is_err() {
+            return Err(client::Refusal::Memory);
+        }
+        client.update(&mut checks.hash, &checks.verifier, &list)?;
+    }
+    Ok(client)
+}
+
+/// Lets a monitor expect the changes that were promised for its name in earlier runs.
+fn expect_all<H, V, S>(
+    checks: &mut Checks<H, V, S>,
+    monitor: &mut Monitor<H, V, S>,
+    earlier: &[SignedPromise],
+    name: &Name,
+)
+where
+    H: NodeHash + Drop,
+    V: VufCheck + Drop,
+    S: Verifier + Drop,
+{
+    for signed in earlier {
+        if signed.promise.name == *name {
+            // A promise from before the first root, or one that is kept twice, is refused.
+            let _taken = monitor.expect_change(
+                &mut checks.hash,
+                &checks.verifier,
+                &signed.promise.key,
+                signed.write().bytes(),
+            );
+        }
+    }
+}
+
+/// Gives a promise, of which these are the bytes, to each monitor of its name.
+fn hand_to<H, V, S>(
+    monitors: &mut [Monitor<H, V, S>],
+    checks: &mut Checks<H, V, S>,
+    signed: &SignedPromise,
+    promise: &[u8],
+) -> Result<(), AllocError>
+where
+    H: NodeHash + Drop,
+    V: VufCheck + Drop,
+    S: Verifier + Drop,
+{
+    for monitor in monitors {
+        if *monitor.name() == signed.promise.name {
+            let key = &signed.promise.key;
+            let handed = monitor.expect_change(&mut checks.hash, &checks.verifier, key, promise);
+            if handed == Err(Refusal::Client(client::Refusal::Memory)) {
+                return Err(AllocError);
+            }
+        }
+    }
+    Ok(())
+}
+
+/// Lets the monitor at a place watch its next epoch by a reply.
+fn watch_at<H, V, S>(
+    alloc: Global,
+    monitors: &mut [Monitor<H, V, S>],
+    place: usize,
+    checks: &mut Checks<H, V, S>,
+    epoch: u64,
+    reply: &[u8],
+    said: &mut Said,
+) -> Result<bool, AllocError>
+where
+    H: NodeHash + Drop,
+    V: VufCheck + Drop,
+    S: Verifier + Drop,
+{
+    match monitors.get_mut(place) {
+        Some(monitor) => watch_epoch(alloc, monitor, checks, epoch, reply, said),
+        None => Ok(false),
+    }
+}
+
+/// Tells what a step of a monitor found.
+fn tell_watched(name: &[u8], epoch: u64, step: Step<'_>, said: &mut Said) -> Result<(), AllocError>
+    ensures { OnOk result (Tells said.old (step_told name.now epoch step.entry) said.new) }
+{
+    match step {
+        Step::Kept => tell_step(&mut said.text, name, epoch, Step::Kept),
+        Step::Alarm { epoch: at, found } => {
+            tell_step(
+                &mut said.text,
+                name,
+                epoch,
+                Step::Alarm { epoch: at, found },
+            )?;
+            said.raise(ALARM);
+            Ok(())
         }
     }
 }
@@ -234,10 +313,7 @@ where
 {
     match monitor.step(&mut checks.hash, &checks.vuf, reply) {
         Ok(step) => {
-            tell_step(&mut said.text, monitor.name().bytes(), epoch, step)?;
-            if let Step::Alarm { .. } = step {
-                said.raise(ALARM);
-            }
+            tell_watched(monitor.name().bytes(), epoch, step, said)?;
             Ok(true)
         }
         Err(Refusal::Client(why)) => {
