@@ -1,18 +1,18 @@
 -- How a round begins, and what comes of rounds.
-use Rattle.std.proofs.Common.{◌≡◌, ◌≢◌, ◌⊎◌, ℕ, ◌+◌, ◌-◌, ◌^◌, ◌<◌, ◌≤◌, List, [], ◌∷◌, length, get_or, set, Bool, true, false, Option, None, Some, refl, sym, ap, subst, ◌∙◌, arith, inl, inr, below_more, get_or-set_same, get_or-set_other}
+use Rattle.std.proofs.Common.{◌≡◌, ◌≢◌, ◌⊎◌, ℕ, zero, suc, ◌+◌, ◌-◌, ◌^◌, ◌<◌, ◌≤◌, List, [], ◌∷◌, length, get_or, set, Bool, true, false, Option, None, Some, refl, sym, ap, subst, ◌∙◌, arith, inl, inr, below_more, get_or-set_same, get_or-set_other}
 use Rattle.std.proofs.lemmas.Bool.{cases_lt, eqb-true, eqb-false}
 use Rattle.std.proofs.lemmas.List.{get_or_past, get_or_read}
 use Rattle.std.specs.Prelude.{◌==◌}
 use Rattle.connections.specs.declared.ending.Ending.TheVariants.{Idle, Stopped}
 use Rattle.connections.specs.declared.limits.TheConstants.{LAST_MILLISECONDS}
 use Rattle.connections.specs.declared.talk.Talk.{Talk}
-use Rattle.connections.specs.Endings.{AreWithin, HasEnded, IsClosing, IsStopped, comers, most_comers, rounds}
+use Rattle.connections.specs.Endings.{AreWithin, HasEnded, IsClosing, IsFinished, IsStopped, comers, most_comers, rounds}
 use Rattle.connections.specs.Fairness.{asks, offers, AreAttended, AreHeard, AreUsed, InRound, IfThere, IsAttended, IsFair, IsServed, IsUsed, IsWhole, NoneOrdered, NoneWaited}
 use Rattle.connections.specs.Fitting.{Fits, FitAll, Has, HasWholeRounds, MayOrder, Passes, Serves, Stays, Tours, Turns}
 use Rattle.connections.specs.Histories.{At, History, Course, Hearing, Telling, Stage, clock, course, stage, stopped, Leads}
 use Rattle.connections.specs.Soundness.{IsReason, IsTold}
 use Rattle.connections.proofs.Closing.{fits_none, fits_used}
-use Rattle.connections.proofs.Steps.{lasts_both, lasts_none}
+use Rattle.connections.proofs.Steps.{lasts_both, lasts_none, some_there}
 
 -- nothing happened yet
 pub all_free : (places : List (Option Talk)) → ((place : ℕ) → get_or places place None ≡ None) → FitAll places []
@@ -121,6 +121,40 @@ asked_on left left_new before after passes (inr none) = inr (passes.lasts.none_o
 pub telling : (kept : Bool) → Telling kept ≢ Hearing
 telling kept same = cc
 
+-- ---- what is left to be done
+
+some_time : (since : ℕ) → Some since ≢ None
+some_time since same = cc
+
+free_fits : (slot : Option Talk) (there : Option Course) → Fits slot there → there ≡ None → slot ≡ None
+free_fits None there fits none = refl
+free_fits (Some talk) None fits none = absurd fits
+free_fits (Some talk) (Some of) fits none = absurd (some_there of none)
+
+-- a connection may come, or one is there
+abbrev pub MayGoOn : ℕ → Option ℕ → List (Option Talk) → Type 0
+MayGoOn left stop places = ¬ (((left ≡ 0) ⊎ (stop ≢ None)) × ((place : ℕ) → get_or places place None ≡ None))
+
+pub not_finished : (count left : ℕ) (stop : Option ℕ) (acts : History) (places : List (Option Talk)) → stopped acts ≡ stop → FitAll places acts → comers acts + left ≡ most_comers count
+    → MayGoOn left stop places → ¬ IsFinished count acts
+not_finished count left stop acts places order fit most goes finished = goes (by_closing finished.1, λ place. free_fits (get_or places place None) (course acts place) (fit place) (finished.0 place))
+  where
+    by_closing : IsClosing count acts → (left ≡ 0) ⊎ (stop ≢ None)
+    by_closing (inl (since, is)) = inr (λ (none : stop ≡ None). some_time since (sym is ∙ order ∙ none))
+    by_closing (inr all) = inl (let m : comers acts + left ≡ most_comers count = most in omega arith)
+
+most_some : (count : ℕ) → most_comers count ≢ 0
+most_some zero none = absurd (omega arith)
+most_some (suc count) none = absurd (omega arith)
+
+-- before the first round
+pub may_begin : (count left : ℕ) (stop : Option ℕ) (places : List (Option Talk)) → left ≡ most_comers count → stop ≡ None → MayGoOn left stop places
+may_begin count left stop places most order finished = by_closing finished.0
+  where
+    by_closing : (left ≡ 0) ⊎ (stop ≢ None) → ⊥
+    by_closing (inl none) = most_some count (sym most ∙ none)
+    by_closing (inr some) = some order
+
 -- behind the last place there is no connection
 pub all_there : (places : List (Option Talk)) (acts : History) (P : ℕ → Course → Type 0) → FitAll places acts → ((place : ℕ) → place < length places → IfThere (course acts place) (P place))
     → (place : ℕ) → IfThere (course acts place) (P place)
@@ -137,12 +171,12 @@ module _ {S : Type 0} (opens : S → ℕ → S → Type 0) (hears : S → ℕ �
   abbrev pub Begun : S → S → History → ℕ → History → Type 0
   Begun start sessions acts now after = Leads opens hears wants ends start after sessions × (stage after ≡ Hearing) × (clock after ≡ now) × ((place : ℕ) → course after place ≡ course acts place)
       × (comers after ≡ comers acts) × (rounds after ≡ rounds acts + 1)
-      × ((idle count size : ℕ) → IsFair idle count size acts → IsWhole idle acts → IsFair idle count size after)
+      × ((idle count size : ℕ) → IsFair idle count size acts → IsWhole idle acts → ¬ IsFinished count acts → IsFair idle count size after)
 
   pub begun : (start sessions : S) (acts : History) (now : ℕ) (after : History) → MayOrder (At now ∷ acts) after → Leads opens hears wants ends start acts sessions → Begun start sessions acts now after
-  begun start sessions acts now after (inl same) leads = subst (Begun start sessions acts now) (sym same) (leads, refl, refl, λ place. refl, refl, refl, λ idle count size fair whole. (whole, fair))
-  begun start sessions acts now after (inr (inl same)) leads = subst (Begun start sessions acts now) (sym same) (leads, refl, refl, λ place. refl, refl, refl, λ idle count size fair whole. (whole, fair))
-  begun start sessions acts now after (inr (inr same)) leads = subst (Begun start sessions acts now) (sym same) (leads, refl, refl, λ place. refl, refl, refl, λ idle count size fair whole. (whole, fair))
+  begun start sessions acts now after (inl same) leads = subst (Begun start sessions acts now) (sym same) (leads, refl, refl, λ place. refl, refl, refl, λ idle count size fair whole more. (whole, more, fair))
+  begun start sessions acts now after (inr (inl same)) leads = subst (Begun start sessions acts now) (sym same) (leads, refl, refl, λ place. refl, refl, refl, λ idle count size fair whole more. (whole, more, fair))
+  begun start sessions acts now after (inr (inr same)) leads = subst (Begun start sessions acts now) (sym same) (leads, refl, refl, λ place. refl, refl, refl, λ idle count size fair whole more. (whole, more, fair))
 
   pub fit_begun : (start sessions : S) (acts : History) (now : ℕ) (after : History) (places : List (Option Talk)) → Begun start sessions acts now after → FitAll places acts → FitAll places after
   fit_begun start sessions acts now after places begun fit = λ place. subst (λ (there : Option Course). Fits (get_or places place None) there) (sym (begun.3 place)) (fit place)
@@ -207,12 +241,13 @@ module _ {S : Type 0} (opens : S → ℕ → S → Type 0) (hears : S → ℕ �
 
     -- one round more
     pub turned : (idle idle_now count size left left_new turns : ℕ) (stop stop_new : Option ℕ) (connections connections_new : C) (sessions new : S) (places places_new : List (Option Talk))
-        → idle_now ≡ idle → length places ≡ size → (start : S) → Stands idle count size start connections sessions places stop left turns
+        → idle_now ≡ idle → length places ≡ size → MayGoOn left stop places → (start : S) → Stands idle count size start connections sessions places stop left turns
         → Turns opens hears wants ends has idle_now stop left connections sessions places stop_new left_new connections_new new places_new
         → Stands idle count size start connections_new new places_new stop_new left_new (turns + 1)
-    turned idle idle_now count size left left_new turns stop stop_new connections connections_new sessions new places places_new same_idle same_size start (acts, known, order, fit, began, whole) one =
+    turned idle idle_now count size left left_new turns stop stop_new connections connections_new sessions new places places_new same_idle same_size goes start (acts, known, order, fit, began, whole) one =
         let turns_now = subst (λ (i : ℕ). Turns opens hears wants ends has i stop left connections sessions places stop_new left_new connections_new new places_new) same_idle one in
-        let t = turns_now count start acts known order fit (subst (λ (n : ℕ). HasWholeRounds idle count n left acts) (sym same_size) whole) in
+        let t = turns_now count start acts known order fit (subst (λ (n : ℕ). HasWholeRounds idle count n left acts) (sym same_size) whole)
+        (not_finished count left stop acts places order fit whole.0 goes) in
         let round : rounds t.0 ≡ rounds acts + 1 = t.4 in
         (t.0, t.1, t.2, t.3, round ∙ ap (λ (n : ℕ). n + 1) began, subst (λ (n : ℕ). HasWholeRounds idle count n left_new t.0) same_size t.5)
 

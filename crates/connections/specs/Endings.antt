@@ -58,6 +58,10 @@ IsStopped acts = (since : ℕ) × (stopped acts ≡ Some since)
 abbrev pub IsClosing : ℕ → History → Type 0
 IsClosing count acts = IsStopped acts ⊎ (comers acts ≡ most_comers count)
 
--- No more connections are taken, and those that were taken are gone; or the loop had all its rounds.
+-- nothing is left to be done: no more connections are taken, and those that were taken are gone
+abbrev pub IsFinished : ℕ → History → Type 0
+IsFinished count acts = AreGone acts × IsClosing count acts
+
+-- nothing is left to be done, or the loop had all its rounds
 abbrev pub HasEnded : ℕ → History → Type 0
-HasEnded count acts = (AreGone acts × IsClosing count acts) ⊎ (rounds acts ≡ 2 ^ 64 - 1)
+HasEnded count acts = IsFinished count acts ⊎ (rounds acts ≡ 2 ^ 64 - 1)

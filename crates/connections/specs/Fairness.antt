@@ -2,7 +2,7 @@
 use Rattle.std.specs.Prelude.{◌≡◌, ◌≢◌, ◌⊎◌, ◌+◌, ◌<◌, ℕ, [], ◌∷◌, length, Bool, true, false, Option, Some, None, ⊤}
 use Rattle.connections.specs.declared.ending.Ending.TheVariants.{Done, Idle, Stopped}
 use Rattle.connections.specs.declared.limits.TheConstants.{FULL_OUTPUT}
-use Rattle.connections.specs.Endings.{IsClosing, IsStopped}
+use Rattle.connections.specs.Endings.{IsClosing, IsFinished, IsStopped}
 use Rattle.connections.specs.Histories.{At, Ordered, GoesOn, Syncs, NoneWaits, On, Deed, Comes, Opens, Reads, IsOver, IsSilent, Hears, Wants, Takes, TakesNone, Fails, Ends, Closes, History, Course, Hearing, course, stage}
 use Rattle.connections.specs.Soundness.{IsHeard, IsReason, IsTold}
 
@@ -133,11 +133,11 @@ AreHeard count size acts = (IsClosing count acts ⊎ NoneWaited acts ⊎ AreUsed
 abbrev pub IsWhole : ℕ → History → Type 0
 IsWhole idle acts = (stage acts ≢ Hearing) × AreServed idle acts
 
--- Each round was whole before the next, of so many places, where so many connections may be taken and one may be
--- idle for so long.
+-- Each round was whole before the next, and left something to be done, of so many places, where so many connections
+-- may be taken and one may be idle for so long.
 abbrev pub IsFair : ℕ → ℕ → ℕ → History → Type 0
 IsFair idle count size [] = ⊤
-IsFair idle count size (At now ∷ before) = IsWhole idle before × IsFair idle count size before
+IsFair idle count size (At now ∷ before) = IsWhole idle before × (¬ IsFinished count before) × IsFair idle count size before
 IsFair idle count size (Ordered ∷ before) = IsFair idle count size before
 IsFair idle count size (Syncs kept ∷ before) = AreHeard count size before × IsFair idle count size before
 IsFair idle count size (GoesOn ∷ before) = IsFair idle count size before

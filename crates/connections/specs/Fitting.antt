@@ -5,7 +5,7 @@ use Rattle.connections.specs.declared.ending.Ending.TheVariants.{Done, Fault, Id
 use Rattle.connections.specs.declared.limits.TheConstants.{LAST_MILLISECONDS}
 use Rattle.connections.specs.declared.places.Places.{Places}
 use Rattle.connections.specs.declared.talk.Talk.{Talk}
-use Rattle.connections.specs.Endings.{comers, most_comers, rounds}
+use Rattle.connections.specs.Endings.{IsFinished, comers, most_comers, rounds}
 use Rattle.connections.specs.Fairness.{asks, InRound, IsAttended, IsFair, IsUsed, IsWhole, NoneOrdered, NoneWaited}
 use Rattle.connections.specs.Histories.{Stage, Hearing, Ordered, GoesOn, On, Deed, Comes, Opens, Reads, IsOver, IsSilent, Hears, Wants, Takes, TakesNone, Fails, Ends, Closes, History, Course, clock, course, of_connections, stage, stopped, Leads}
 use Rattle.connections.specs.Soundness.{Here, IsReason, IsSound}
@@ -191,6 +191,6 @@ module _ {S : Type 0} (opens : S → ℕ → S → Type 0) (hears : S → ℕ �
     -- one round
     abbrev pub Turns : ℕ → Option ℕ → ℕ → C → S → List (Option Talk) → Option ℕ → ℕ → C → S → List (Option Talk) → Type 0
     Turns idle stop left connections old places stop_new left_new connections_new new places_new = (count : ℕ) (start : S) (acts : History) → Has idle start connections old acts
-        → stopped acts ≡ stop → FitAll places acts → HasWholeRounds idle count (length places) left acts
+        → stopped acts ≡ stop → FitAll places acts → HasWholeRounds idle count (length places) left acts → ¬ IsFinished count acts
         → (after : History) × Has idle start connections_new new after × (stopped after ≡ stop_new) × FitAll places_new after
         × (rounds after ≡ rounds acts + 1) × HasWholeRounds idle count (length places) left_new after

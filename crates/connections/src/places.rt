@@ -1,6 +1,6 @@
 //! All places, one after another, in each part of a round.
 
-ghost use Rattle.std.specs.Prelude.{◌≡◌, ◌⊎◌, ℕ, None, IsTrue, IfOk, get_or, length};
+ghost use Rattle.std.specs.Prelude.{◌≡◌, ◌⊎◌, ◌↔◌, ℕ, None, IsTrue, IfOk, get_or, length};
 ghost use Rattle.connections.specs.Fairness.{AreAttended, AreServed, AreUsed, NoneWaited};
 ghost use Rattle.connections.specs.Fitting.{AreFree, Tours, size_of};
 ghost use Rattle.connections.specs.Histories.{Hearing, Telling};
@@ -46,7 +46,7 @@ fn free_slots(alloc: Global, count: usize) -> Result<Vec<Option<Talk>>, AllocErr
 
 /// Whether no place has a connection.
 pub(crate) fn are_free(places: &[Option<Talk>]) -> bool
-    ensures { IsTrue result → (place : ℕ) → get_or places.now place None ≡ None }
+    ensures { IsTrue result ↔ ((place : ℕ) → get_or places.now place None ≡ None) }
 {
     for slot in places {
         if slot.is_some() {

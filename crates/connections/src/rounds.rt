@@ -2,7 +2,7 @@
 //! its disk, and then tells each. A round that did anything is followed by one that does not wait: a place may
 //! have become free, and there may be more to read.
 
-ghost use Rattle.std.specs.Prelude.{◌≡◌, ◌≢◌, ◌⊎◌, ℕ, [], ◌∷◌, None, IsTrue, get_or, length};
+ghost use Rattle.std.specs.Prelude.{◌≡◌, ◌≢◌, ◌⊎◌, ◌↔◌, ℕ, [], ◌∷◌, None, IsTrue, get_or, length};
 ghost use Rattle.connections.specs.Endings.{AreWithin, HasEnded, IsStopped, most_comers};
 ghost use Rattle.connections.specs.Fairness.{AreAttended, AreUsed, IsFair, IsWhole, NoneOrdered, NoneWaited};
 ghost use Rattle.connections.specs.Fitting.{AreFree, Has, Knows, MayOrder, Tours, Turns, size_of};
@@ -121,10 +121,17 @@ impl State {
 
     /// Whether no more connections are taken.
     fn is_closing(self) -> bool
-        ensures { IsTrue result → (self.left ≡ 0) ⊎ (self.round.stopped ≢ None) }
+        ensures { IsTrue result ↔ ((self.left ≡ 0) ⊎ (self.round.stopped ≢ None)) }
     {
         self.left == 0 || self.round.stopped.is_some()
     }
+}
+
+/// Whether no more connections are taken, and no place has one.
+fn is_finished(state: State, places: &[Option<Talk>]) -> bool
+    ensures { IsTrue result ↔ (((state.left ≡ 0) ⊎ (state.round.stopped ≢ None)) × ((place : ℕ) → get_or places.now place None ≡ None)) }
+{
+    state.is_closing() && are_free(places)
 }
 
 /// One round.
@@ -182,7 +189,7 @@ fn turn_all<S: Sessions, C: Connections, E: Write>(
     for _round in 0..u64::MAX {
         state = turn(alloc, places, sessions, connections, state);
         tell_wanting(errors, state.work.wanting);
-        if state.is_closing() && are_free(places) {
+        if is_finished(state, places) {
             return;
         }
     }

@@ -6,7 +6,7 @@ use Rattle.connections.proofs.Touring.{are_heard, asked_on, begun, fit_begun, te
 use Rattle.connections.proofs.rounds.turn.Goals as goal
 
 pub returns-clause-turns : goal.returns-clause-turns
-returns-clause-turns g c = λ count start acts known order fit whole.
+returns-clause-turns g c = λ count start acts known order fit whole more.
     let waited = c.wait-now.ensures (of_connections acts) known.0 in
     let a = c.stop_by-stopped.ensures c.args.last.round.idle (At c.wait-now.result ∷ acts) (waited, known.2) refl order in
     let b = begun g.S.Sessions.opens g.S.Sessions.hears g.S.Sessions.wants g.S.Sessions.ends start c.args.sessions.now acts c.wait-now.result a.0 a.1 known.1 in
@@ -23,7 +23,7 @@ returns-clause-turns g c = λ count start acts known order fit whole.
     let most : comers acts + c.args.last.left ≡ most_comers count = whole.0 in
     let size = length c.args.places.now in
     let idle = c.args.last.round.idle in
-    let fair : IsFair idle count size h.0 = h.1.lasts.fair idle count size (t.1.lasts.fair idle count size (b.6 idle count size whole.1 whole.2)) in
+    let fair : IsFair idle count size h.0 = h.1.lasts.fair idle count size (t.1.lasts.fair idle count size (b.6 idle count size whole.1 whole.2 more)) in
     let heard : AreHeard count size h.0 = are_heard count size c.take_new-left.result t.0 h.0 h.1 (omega arith) (asked_on c.args.last.left c.take_new-left.result a.0 t.0 t.1 a.4) t.4 h.4 in
     let last : stage w.0 ≢ Hearing = λ same. telling c.sync.result (sym w.1.same_stage ∙ same) in (
       w.0,
