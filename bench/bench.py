@@ -960,6 +960,7 @@ class Loopback:
         self.server = subprocess.Popen(words, stdin=subprocess.PIPE, stderr=subprocess.PIPE)
         port = self.port = self.server.stderr.readline().rpartition(b":")[2].decode().strip()
         self.memory = [self.look()]
+        self.idle = self.idle_bytes()
         words = [HUB_NAMES, SERVE_FRAMES, IN_FLIGHT, SERVE_ROUNDS]
         self.client = Side("ask", port, *words, server=self.server)
         self.memory.append(self.look())
@@ -1085,7 +1086,6 @@ def crowds(loop):
     """Many connections at once, beside the one with many look-ups in flight."""
     wanted = 1 / statistics.median(loop.times["look-up", IN_FLIGHT])
     reply = round(loop.bytes["look-up", 1][0] / SERVE_FRAMES)
-    idle = loop.idle_bytes()
     rows = []
     for connections in CROWDS:
         crowd = Crowd(connections, loop.server, loop.port, reply)
@@ -1096,7 +1096,7 @@ def crowds(loop):
     head = ["connections", "", "a second", "part", "50th", "99th", "worst", "99th of the 50th"]
     title = f"look-ups by many connections, one of each at a time, and their part of the rate of one with {IN_FLIGHT} in flight; us"
     table(title, head, rows)
-    print(f"\nan idle connection: {idle / 1024:.1f} KiB of resident memory")
+    print(f"\nan idle connection: {loop.idle / 1024:.1f} KiB of resident memory")
 
 
 def serve(_folder):
