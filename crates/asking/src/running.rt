@@ -134,9 +134,9 @@ fn checks_of(key: Hash32) -> KeyedChecks {
 }
 
 /// The line of the words.
-fn line_of_words(alloc: Global, words: &[Option<&str>]) -> Result<Vec<u8>, ProgramFault> {
+fn line_of_words(alloc: Global, order: AskOrder<'_>) -> Result<Vec<u8>, ProgramFault> {
     let mut line = Vec::new(alloc);
-    for word in words {
+    for word in [order.command, order.first, order.second] {
         if let Some(word) = word {
             if !line.is_empty() {
                 line.push(b' ')?;
@@ -184,9 +184,9 @@ where
         let followed = self.follow(&mut asker);
         self.save(&asker)?;
         followed?;
-        match order.words[0] {
+        match order.command {
             Some(_) => {
-                let line = line_of_words(self.alloc, &order.words)?;
+                let line = line_of_words(self.alloc, order)?;
                 self.ask_line(&mut asker, &line, 1)
             }
             None => self.ask_lines(&mut asker, reader),
