@@ -1,5 +1,5 @@
 -- What is asked of a directory, by the texts of a command line.
-use Rattle.std.specs.Prelude.{ℕ, List, Option, map, option_and_then, option_map}
+use Rattle.std.specs.Prelude.{ℕ, List, [], ◌∷◌, Option, option_and_then, option_map}
 use Rattle.textio.specs.Digits.{hex32, nonce_of}
 use Rattle.asking.specs.declared.order.AskOrder.{AskOrder}
 
@@ -16,7 +16,7 @@ values_of order = record {
   token = option_map (λ text. text.now) order.token;
   state = option_map (λ text. text.now) order.state;
   address = order.address.now;
-  words = map (λ word. option_map (λ text. text.now) word) order.words;
+  words = option_map (λ text. text.now) order.command ∷ option_map (λ text. text.now) order.first ∷ option_map (λ text. text.now) order.second ∷ [];
 }
 
 -- the key and the token, zeros if none is given; none if a text is not 64 hexadecimal digits

@@ -184,9 +184,10 @@ where
         let followed = self.follow(&mut asker);
         self.save(&asker)?;
         followed?;
-        match order.words[0] {
+        match order.command {
             Some(_) => {
-                let line = line_of_words(self.alloc, &order.words)?;
+                let words = [order.command, order.first, order.second];
+                let line = line_of_words(self.alloc, &words)?;
                 self.ask_line(&mut asker, &line, 1)
             }
             None => self.ask_lines(&mut asker, reader),

@@ -112,6 +112,8 @@ pub(crate) fn ask_with<'a>(order: AskOrder<'a>, file: &'a str) -> AskOrder<'a>
         token: option_or(order.token, file, "token"),
         state: order.state,
         address: order.address,
-        words: order.words,
+        command: order.command,
+        first: order.first,
+        second: order.second,
     }
 }

@@ -503,11 +503,9 @@ fn ask_order<'a>(found: &ArgMatches<'a>) -> AskOrder<'a>
         token: found.get_str("token"),
         state: found.get_str("state"),
         address: text(found, "address"),
-        words: [
-            found.get_str("command"),
-            found.get_str("first"),
-            found.get_str("second"),
-        ],
+        command: found.get_str("command"),
+        first: found.get_str("first"),
+        second: found.get_str("second"),
     }
 }
 
