@@ -9,8 +9,9 @@ pub struct AskOrder<'a> {
     pub state: Option<&'a str>,
     /// The address of the directory, such as `127.0.0.1:7000`.
     pub address: &'a str,
-    /// The words of one command; without the first the lines of the input are asked.
+    /// The first word of one command; without it the lines of the input are asked.
     pub command: Option<&'a str>,
+    /// The words behind it.
     pub first: Option<&'a str>,
     pub second: Option<&'a str>,
 }
