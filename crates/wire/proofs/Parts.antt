@@ -75,8 +75,8 @@ no_number bytes fault e = lt_of_not-le (λ long. let read = sym e ∙ four_read 
 -- what is left behind a number of four bytes
 pub number_length : (bytes : List ℕ) (n : ℕ) (rest : List ℕ) → read_number 4 bytes ≡ Ok (n, rest) → length bytes ≡ 4 + length rest
 number_length bytes n rest e = elim (cases_lt (length bytes) 4) [
-    | inl short ↦ let read = sym e ∙ four_missing bytes short in cc
-    | inr long ↦
+  | inl short ↦ let read = sym e ∙ four_missing bytes short in cc
+  | inr long ↦
       let behind = ap (λ (x : ℕ × List ℕ). x.1) (ok_is (n, rest) (big_number 4 (take 4 bytes), drop 4 bytes) (sym e ∙ four_read bytes long)) in
       omega (arith, ap length behind, length-drop 4 bytes, long)
-  ]
+]
