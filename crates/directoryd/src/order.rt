@@ -1,6 +1,6 @@
 ghost use Rattle.std.specs.Prelude.{◌≡◌, ◌⊎◌, ◌≤◌, IfOk, IfErr, Some, codes, false, map, option_map};
 ghost use Rattle.std.specs.NonZero.{non_zero_u64_get};
-ghost use Rattle.clap.specs.Words.{app_of, found_of, kind_of, rows_of, rule_of};
+ghost use Rattle.clap.specs.Words.{app_of, first_of, found_of, kind_of, rows_of, rule_of};
 ghost use Rattle.clap.specs.declared.builder.command.Command.TheViews.{out-Command};
 ghost use Rattle.clap.specs.declared.error.kind.ErrorKind.TheVariants.{OutOfMemory};
 ghost use Rattle.directoryd.specs.CommandLine.{ask_app, audit_app, bounded_rule, directory_app, flag_rule, hash_rule, journal_rule, judge_app, listen_app, nonce_rule, number_rule, play_app, positional_rule, prove_app, required_rule, root_app, serve_app, text_rule, with_directory, with_keys, word_rule, IsHashNames, Refuses};
@@ -542,7 +542,7 @@ fn directory_order<'a>(found: &ArgMatches<'a>) -> DirectoryOrder<'a>
 
 /// The options of `listen`, and its file of keys.
 fn listen_order<'a>(found: &ArgMatches<'a>) -> Order<'a>
-    ensures { values_in result ≡ task_in (codes "listen") (rows_of (found_of found.now)) }
+    ensures { values_in result ≡ the_connections (directory_in (rows_of (found_of found.now))) (connections_in (rows_of (found_of found.now))) (first_of (codes "keys") (rows_of (found_of found.now))) }
 {
     let order = ListenOrder {
         directory: directory_order(found),

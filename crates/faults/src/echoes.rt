@@ -1,4 +1,6 @@
 // Sessions that answer each line by itself, with no directory behind them.
+ghost use Rattle.std.specs.Prelude.{◌≢◌, ◌≤◌, [], length};
+
 use connections::{SessionFault, Sessions};
 use std::alloc::{AllocError, Global};
 use std::io::Write;
@@ -40,11 +42,16 @@ impl Echoes {
 }
 
 /// How many of these bytes are the next part: those up to the first LF, if there is one.
-fn part_size(bytes: &[u8]) -> usize {
-    match bytes.iter().position(|byte| *byte == b'\n') {
-        Some(place) => place.saturating_add(1).min(bytes.len()),
-        None => bytes.len(),
+fn part_size(bytes: &[u8]) -> usize
+    ensures some { bytes.now ≢ [] → 1 ≤ result }
+    ensures most { result ≤ length bytes.now }
+{
+    for place in 0..bytes.len() {
+        if bytes[place] == b'\n' {
+            return place + 1;
+        }
     }
+    bytes.len()
 }
 
 /// The answer to the line of a session: its number, that of the line, and the line. For a line that begins with
@@ -97,16 +104,15 @@ impl Sessions for Echoes {
         if self.open >= self.most {
             return Err(SessionFault::Refused);
         }
-        let Some(echo) = self.echoes.get_mut(session) else {
+        let Some(None) = self.echoes.get(session) else {
             return Err(SessionFault::Refused);
         };
-        if echo.is_some() {
-            return Err(SessionFault::Refused);
+        if let Some(free) = self.echoes.get_mut(session) {
+            *free = Some(Echo {
+                lines: 0,
+                line: Vec::new(self.alloc),
+            });
         }
-        *echo = Some(Echo {
-            lines: 0,
-            line: Vec::new(self.alloc),
-        });
         self.open = self.open.saturating_add(1);
         Ok(())
     }

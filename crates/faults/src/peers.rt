@@ -1,5 +1,7 @@
 // Connections that do what a script says. Each wait of the loop is a step of the script, whose acts come before it
 // returns. Once the script is at its end, the loop goes on until it has nothing to do, and then a stop is ordered.
+ghost use Rattle.std.specs.Prelude.{◌≡◌, ◌≤◌, ℕ, length, Ok};
+
 use connections::{Connections, Ending, Reading, Writing};
 use std::alloc::{AllocError, Global};
 
@@ -80,16 +82,16 @@ impl Peer {
         Ok(())
     }
 
-    fn read(&mut self, room: &mut [u8]) -> Reading {
-        let unread = match self.given.get(self.read..) {
-            Some(unread) => unread,
-            None => &[],
-        };
+    fn read(&mut self, room: &mut [u8]) -> Reading
+        ensures room { length room.new ≡ length room.old }
+        ensures count { (count : ℕ) → result ≡ Reading.Bytes count → (1 ≤ count) × (count ≤ length room.new) }
+    {
         let allowed = self.read_fails.saturating_sub(self.read);
         if allowed == 0 {
             return Reading::Fault;
         }
-        let count = unread.len().min(self.piece).min(room.len()).min(allowed);
+        let unread = self.given.len().saturating_sub(self.read);
+        let count = least(unread, self.piece.min(allowed), room.len());
         if count == 0 {
             return if self.is_over {
                 Reading::End
@@ -97,18 +99,21 @@ impl Peer {
                 Reading::Wait
             };
         }
-        room[..count].copy_from_slice(&unread[..count]);
-        self.read = self.read.saturating_add(count);
+        let end = self.read + count;
+        room[..count].copy_from_slice(&self.given[self.read..end]);
+        self.read = end;
         Reading::Bytes(count)
     }
 
     /// Takes some of the bytes, and says how many.
-    fn write(&mut self, bytes: &[u8]) -> Result<Writing, AllocError> {
+    fn write(&mut self, bytes: &[u8]) -> Result<Writing, AllocError>
+        ensures count { (count : ℕ) → result ≡ Ok (Writing.Took count) → (1 ≤ count) × (count ≤ length bytes.now) }
+    {
         let allowed = self.write_fails.saturating_sub(self.taken.len());
         if allowed == 0 {
             return Ok(Writing::Fault);
         }
-        let count = bytes.len().min(self.width).min(self.room).min(allowed);
+        let count = least(bytes.len(), self.width.min(allowed), self.room);
         if count == 0 {
             return Ok(Writing::Wait);
         }
@@ -120,11 +125,20 @@ impl Peer {
     }
 }
 
+/// The least of these numbers.
+fn least(one: usize, other: usize, third: usize) -> usize
+    ensures { (result ≤ one) × (result ≤ third) }
+{
+    one.min(other).min(third)
+}
+
 /// The connections of a script.
 #[derive(Drop)]
 pub(crate) struct Peers<'a> {
     alloc: Global,
     script: &'a [Act<'a>],
+    /// How many acts have happened.
+    done: usize,
     now: u64,
     is_stopped: bool,
     is_synced: bool,
@@ -146,6 +160,7 @@ impl<'a> Peers<'a> {
         Ok(Peers {
             alloc,
             script,
+            done: 0,
             now: 0,
             is_stopped: false,
             is_synced: true,
@@ -176,9 +191,16 @@ impl<'a> Peers<'a> {
     }
 
     /// What happens from the next step to the one after it.
-    fn step(&mut self, step: &[Act<'_>]) {
-        for act in step {
-            if self.act(*act).is_err() {
+    fn step(&mut self) {
+        let script = self.script;
+        let first = self.done;
+        for place in first..script.len() {
+            let act = script[place];
+            if place > first && matches!(act, Act::At(_)) {
+                return;
+            }
+            self.done = place + 1;
+            if self.act(act).is_err() {
                 self.lacks_memory = true;
             }
         }
@@ -194,16 +216,6 @@ impl<'a> Peers<'a> {
     }
 }
 
-/// How many acts the first step has.
-fn step_size(script: &[Act<'_>]) -> usize {
-    for place in 1..script.len() {
-        if matches!(script[place], Act::At(_)) {
-            return place;
-        }
-    }
-    script.len()
-}
-
 impl Connections for Peers<'_> {
     ghost use Rattle.std.specs.Prelude.{⊤};
 
@@ -212,16 +224,14 @@ impl Connections for Peers<'_> {
 
     fn wait(&mut self, most: u64) -> u64 {
         self.is_synced = true;
-        if self.script.is_empty() {
+        if self.done >= self.script.len() {
             if most > 0 {
                 self.is_stopped = true;
                 self.now = self.now.saturating_add(most);
             }
             return self.now;
         }
-        let (step, rest) = self.script.split_at(step_size(self.script));
-        self.step(step);
-        self.script = rest;
+        self.step();
         self.now
     }
 
