@@ -90,7 +90,7 @@ class Asked:
 
     def __init__(self, provider, roots=None, kept=()):
         self.provider, self.text, self.words, self.status = provider, [], [], 0
-        self.monitors, self.marks, self.earlier, self.client = [], {}, [], None
+        self.monitors, self.marks, self.earlier, self.changes, self.client = [], {}, [], [], None
         self.saved, self.kept = roots or [], list(kept)
 
     def ask(self, *request):
@@ -127,9 +127,10 @@ class Asked:
                 self.client.update(write_list([SignedRoot.read(root)]))
             for line in self.kept:
                 word, *words = line.split(" ")
-                if word == "promise":
+                if word in ("promise", "change"):
                     self.client.keep_promise(bytes.fromhex(words[0]))
-                    self.earlier.append(self.client.promises[-1])
+                    if word == "change":
+                        self.earlier.append(self.client.promises[-1])
                 else:
                     self.marks[bytes.fromhex(words[0])] = int(words[1])
             return
@@ -234,6 +235,7 @@ class Asked:
                 raise RootRefusal(NOT_LATER if place == BEFORE_START else BAD_LINK)
 
     def hand_out(self, signed, body):
+        self.changes.append(signed)
         for monitor in self.monitors:
             if monitor.name == signed.promise.name:
                 try:
@@ -279,7 +281,9 @@ class Asked:
         """The lines of the two files after the run."""
         if self.client is None:
             return [root.hex() for root in self.saved], self.kept
-        kept = [f"promise {signed.write().hex()}" for signed in self.client.promises]
+        own = {signed.write() for signed in [*self.earlier, *self.changes]}
+        word = {True: "change", False: "promise"}
+        kept = [f"{word[signed.write() in own]} {signed.write().hex()}" for signed in self.client.promises]
         marks = {}
         for monitor in self.monitors:
             following = monitor.next_epoch()

@@ -42,8 +42,10 @@ where
     pub(crate) client: Client<H, V, S>,
     pub(crate) monitors: Vec<Monitor<H, V, S>>,
     pub(crate) marks: Vec<Mark>,
-    /// The promises that were kept in earlier runs, which a monitor that begins expects.
+    /// What the client was promised for its own changes in earlier runs, which a monitor that begins expects.
     pub(crate) earlier: Vec<SignedPromise>,
+    /// What it was promised for those of this run.
+    pub(crate) changes: Vec<SignedPromise>,
 }
 
 impl<H, V, S> Asker<H, V, S>
@@ -77,6 +79,7 @@ where
                 monitors: Vec::new(alloc),
                 marks: Vec::new(alloc),
                 earlier: Vec::new(alloc),
+                changes: Vec::new(alloc),
             }),
             Err(why) => Err(why),
         }

@@ -6,6 +6,7 @@ use encoding::{Hash32, Name};
 use hex::FromHexError;
 use nodehash::NodeHash;
 use play::{push_hex, push_number};
+use rootchain::SignedPromise;
 use sigiface::Verifier;
 use std::alloc::{AllocError, Global};
 use std::fs::{self, File, Files, OpenOptions};
@@ -187,11 +188,16 @@ where
         }
     }
 
-    /// Keeps what a line of the second file has: `promise HEX`, or `watched NAME EPOCH`.
+    /// Keeps what a line of the second file has: `promise HEX`, `change HEX`, or `watched NAME EPOCH`.
     fn keep_line(&mut self, line: &[u8], number: u64) -> Result<(), ProgramFault> {
         if let Some(promise) = line.strip_prefix(b"promise ".as_slice()) {
-            let promise = line_bytes(self.alloc, promise, number)?;
-            return self.keep_earlier(&promise, number);
+            let _signed = self.keep_earlier(promise, number)?;
+            return Ok(());
+        }
+        if let Some(promise) = line.strip_prefix(b"change ".as_slice()) {
+            let signed = self.keep_earlier(promise, number)?;
+            self.earlier.push(signed)?;
+            return Ok(());
         }
         let Some(mark) = line.strip_prefix(b"watched ".as_slice()) else {
             return Err(ProgramFault::BadItem(number));
@@ -199,19 +205,20 @@ where
         self.keep_mark(mark, number)
     }
 
-    /// Keeps a promise of an earlier run.
-    fn keep_earlier(&mut self, promise: &[u8], number: u64) -> Result<(), ProgramFault> {
+    /// Keeps a promise of an earlier run, which these digits give.
+    fn keep_earlier(&mut self, digits: &[u8], number: u64) -> Result<SignedPromise, ProgramFault> {
+        let promise = line_bytes(self.alloc, digits, number)?;
         let checks = &mut self.checks;
         let read = self
             .client
-            .read_promise(&mut checks.hash, &checks.verifier, promise);
+            .read_promise(&mut checks.hash, &checks.verifier, &promise);
         let signed = match read {
             Ok(signed) => signed,
             Err(why) => return Err(fault_of(&why, number)),
         };
-        self.earlier.push(signed.copied())?;
+        let kept = signed.copied();
         match self.client.keep_read(signed) {
-            Ok(()) => Ok(()),
+            Ok(()) => Ok(kept),
             Err(why) => Err(fault_of(&why, number)),
         }
     }
@@ -270,11 +277,21 @@ where
         Some((name, least))
     }
 
+    /// Whether a promise is for a change of this client.
+    fn is_own(&self, signed: &SignedPromise) -> bool {
+        self.earlier.iter().any(|own| own == signed) || self.changes.iter().any(|own| own == signed)
+    }
+
     /// The lines of the promises that are kept, and of how far names were watched.
     fn kept_lines(&self) -> Result<Vec<u8>, AllocError> {
         let mut text = Vec::new(self.alloc);
         for signed in self.client.promises() {
-            text.extend_from_slice(b"promise ")?;
+            let word: &[u8] = if self.is_own(signed) {
+                b"change "
+            } else {
+                b"promise "
+            };
+            text.extend_from_slice(word)?;
             push_hex(&mut text, signed.write().bytes())?;
             text.push(b'\n')?;
         }

@@ -124,12 +124,16 @@ where
         }
     }
 
-    /// Gives the last promise that the client kept, of which these are the bytes, to each monitor of its name.
+    /// Notes the last promise that the client kept, of which these are the bytes, as one for a change of its own,
+    /// and gives it to each monitor of its name.
     pub(crate) fn hand_out(&mut self, promise: &[u8]) -> Result<(), AllocError>
         ensures { (self.new).client ≡ (self.old).client }
     {
         match self.client.promises().last() {
-            Some(signed) => hand_to(&mut self.monitors, &mut self.checks, signed, promise),
+            Some(signed) => {
+                self.changes.push(signed.copied())?;
+                hand_to(&mut self.monitors, &mut self.checks, signed, promise)
+            }
             None => Ok(()),
         }
     }
