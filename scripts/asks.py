@@ -507,11 +507,11 @@ def scripts(drawn, seed):
         yield f"drawn script {each}", play_scripts.drawn(each)
 
 
-def listening(program):
-    """A directory that listens, with the keys of a script, and its address."""
+def listening(program, count=1):
+    """A directory that listens for so many connections, with the keys of a script, and its address."""
     keys = ["--sign-key", SIGNING_KEY, "--vuf-key", VUF_KEY, "--salt-key", SALT_KEY, "--token", TOKEN]
     words = [word if isinstance(word, str) else word.hex() for word in keys]
-    server = subprocess.Popen([program, "listen", *words, "--count", "1", "127.0.0.1:0"], stderr=subprocess.PIPE, text=True)
+    server = subprocess.Popen([program, "listen", *words, "--count", str(count), "127.0.0.1:0"], stderr=subprocess.PIPE, text=True)
     return server, server.stderr.readline().split()[-1]
 
 
@@ -567,6 +567,23 @@ def silent(program):
     return None if got == (b"", b"no reply\n", 1) else f"a silent directory: {got}"
 
 
+def changed_by_another(program):
+    """Somebody else changes a key, and the owner asks for the promise of it: in the next run that is still an alarm."""
+    server, address = listening(program, 4)
+    with tempfile.TemporaryDirectory() as folder:
+        own = "--state", f"{folder}/state"
+        runs = [
+            (own, b"register 61 6b31\nclose 2\nwatch 61 6b31\n"), ((), b"change 61 6576\n"),
+            (own, b"promise 61\nclose 3\n"), (own, b"watch 61 6b31\n"),
+        ]
+        for state, script in runs:
+            order = [program, "ask", "--provider", PROVIDER.hex(), *state, address]
+            run = subprocess.run(order, input=script, capture_output=True, timeout=60)
+    server.wait(60)
+    got = run.stdout, run.returncode
+    return None if got == (b"alarm 61 3 6576\n", 3) else f"a change by somebody else: {got}"
+
+
 def main():
     parser = argparse.ArgumentParser(usage=__doc__)
     parser.add_argument("program")
@@ -579,6 +596,7 @@ def main():
     thread.start()
     found = [*honest(program, words.drawn, words.seed), *lying(program, words.lies, words.seed)]
     thread.join()
+    waited.append(changed_by_another(program))
     failures = [difference for difference in [*found, *waited] if difference is not None]
     for difference in failures[:20]:
         print(difference)
