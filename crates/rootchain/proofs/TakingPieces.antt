@@ -1,5 +1,5 @@
 -- What comes of a piece, and of one piece after another.
-use Rattle.std.proofs.Common.{◌≡◌, ◌≢◌, ◌⊎◌, ℕ, List, [], ◌∷◌, ◌++◌, Result, Ok, Err, refl, sym, ap, subst, ◌∙◌, append_assoc, arith, length, length-append, inl, inr}
+use Rattle.std.proofs.Common.{◌≡◌, ◌≢◌, ◌⊎◌, ℕ, List, [], ◌∷◌, ◌++◌, Result, Ok, Err, refl, sym, ap, subst, ◌∙◌, append_assoc, arith, length, length-append, inl, inr, IfErr}
 use Rattle.rootchain.specs.declared.signed_root.SignedRoot.{SignedRoot}
 use Rattle.rootchain.specs.declared.list_refusal.ListRefusal.{ListRefusal}
 use Rattle.rootchain.specs.declared.list_refusal.ListRefusal.TheVariants as list
@@ -8,9 +8,9 @@ use Rattle.rootchain.specs.declared.piece_refusal.PieceRefusal.TheVariants.{Malf
 use Rattle.rootchain.specs.Chains.{IsChain, KeyedRoots}
 use Rattle.rootchain.specs.RootFeeds.{told_from, Held, Counts, Done, Failed}
 use Rattle.rootchain.specs.TakingLists.{with_roots, StopsAt, Takes}
-use Rattle.rootchain.specs.TakingPieces.{joined, of_piece, TakesPiece, TakesPieces, TakesTold, CuttingDoesNotMatter}
+use Rattle.rootchain.specs.TakingPieces.{joined, of_piece, PieceRefusalHolds, TakesPiece, TakesPieces, TakesTold, CuttingDoesNotMatter}
 use Rattle.rootchain.proofs.RootFeeds.{from-more, from-nothing, from-start, list-spelled}
-use Rattle.rootchain.proofs.TakingLists.{grows-nothing, takes-chain, takes-grows}
+use Rattle.rootchain.proofs.TakingLists.{grows-nothing, stop-holds, takes-chain, takes-grows}
 
 module _ (hash : List ℕ → List ℕ) (verified : List ℕ → List ℕ → List ℕ → Type 0) where
   pub told-stops : (chain : KeyedRoots) (held : Held) (piece : List ℕ) (why : ListRefusal) (after : KeyedRoots) (held' : Held) → StopsAt hash verified chain (told_from held piece).0 why after
@@ -20,6 +20,14 @@ module _ (hash : List ℕ → List ℕ) (verified : List ℕ → List ℕ → Li
   told-stops chain held piece list.BeforeStart after held' stops = (stops, λ e. cc)
   told-stops chain held piece list.Ahead after held' stops = (stops, λ e. cc)
   told-stops chain held piece (list.Evidence evidence) after held' stops = (stops, λ e. cc)
+
+  pub told-refused : (chain : KeyedRoots) (held : Held) (piece : List ℕ) (why : ListRefusal) (after : KeyedRoots) (held' : Held) → TakesTold hash verified {A = Unit} chain held piece (Err (of_piece why)) after held'
+      → why ≢ list.Memory → TakesPiece hash verified {A = Unit} chain held piece (Err (of_piece why)) after Failed
+  told-refused chain held piece list.Memory after held' stops other = absurd (other refl)
+  told-refused chain held piece list.BadSignature after held' stops other = (stops.0, other, refl)
+  told-refused chain held piece list.BeforeStart after held' stops other = (stops.0, other, refl)
+  told-refused chain held piece list.Ahead after held' stops other = (stops.0, other, refl)
+  told-refused chain held piece (list.Evidence evidence) after held' stops other = (stops.0, other, refl)
 
   -- ---- roots in two parts
 
@@ -112,6 +120,14 @@ module _ (hash : List ℕ → List ℕ) (verified : List ℕ → List ℕ → Li
   piece-grows chain held piece (Err Malformed) after held' takes = takes-grows hash verified (told_from held piece).0 chain after takes.0
   piece-grows chain held piece (Err (Root why)) after held' takes = takes-grows hash verified takes.0.0 chain after takes.0.4
   piece-grows chain held piece (Err Memory) after held' takes = ([], takes.2 ∙ grows-nothing chain)
+
+  -- a refusal holds
+  pub piece-holds : {A : Type 0} (chain : KeyedRoots) (held : Held) (piece : List ℕ) (answer : Result A PieceRefusal) (after : KeyedRoots) (held' : Held)
+      → IsChain hash verified chain → TakesPiece hash verified chain held piece answer after held' → IfErr answer (PieceRefusalHolds hash verified chain.key)
+  piece-holds chain held piece (Ok _) after held' is takes = tt
+  piece-holds chain held piece (Err Malformed) after held' is takes = tt
+  piece-holds chain held piece (Err (Root why)) after held' is takes = stop-holds hash verified chain (told_from held piece).0 why after is takes.0
+  piece-holds chain held piece (Err Memory) after held' is takes = tt
 
   -- ---- nothing comes after a list
 

@@ -1,10 +1,13 @@
 -- A list of roots that a chain takes whole, or refuses (after CONIKS, section 3).
-use Rattle.std.specs.Prelude.{◌≡◌, ◌⊎◌, ℕ, List, [], ◌∷◌, ◌++◌, Result, Ok, Err}
+use Rattle.std.specs.Prelude.{◌≡◌, ◌⊎◌, ℕ, Bool, true, false, List, [], ◌∷◌, ◌++◌, Result, Ok, Err}
 use Rattle.rootchain.specs.declared.chain.placing.Place.TheVariants as place
+use Rattle.rootchain.specs.declared.chain.taking_one.Kind.{Kind}
+use Rattle.rootchain.specs.declared.chain.taking_one.Kind.TheVariants as kind
+use Rattle.rootchain.specs.declared.evidence.RootEvidence.TheVariants.{Link}
 use Rattle.rootchain.specs.declared.signed_root.SignedRoot.{SignedRoot}
 use Rattle.rootchain.specs.declared.list_refusal.ListRefusal.{ListRefusal}
 use Rattle.rootchain.specs.declared.list_refusal.ListRefusal.TheVariants.{BadSignature, BeforeStart, Ahead, Evidence, Memory}
-use Rattle.rootchain.specs.Chains.{KeyedRoots, Verifies}
+use Rattle.rootchain.specs.Chains.{IsHead, KeyedRoots, Verifies}
 use Rattle.rootchain.specs.Evidence.{BothAre, IsRootEvidence}
 use Rattle.rootchain.specs.Places.{IsPlace}
 use Rattle.rootchain.specs.SignedRoots.{IsSignedRoot}
@@ -47,6 +50,18 @@ module _ (hash : List ℕ → List ℕ) (verified : List ℕ → List ℕ → Li
   TakesOne chain root (Ok _) after = Passes chain root after
   TakesOne chain root (Err why) after = IsRefusedRoot chain root why × (after ≡ chain)
 
+  -- the root names the epoch of the head, and not its hash
+  abbrev pub IsNotNamed : KeyedRoots → SignedRoot → Type 0
+  IsNotNamed chain root = (head : SignedRoot) → IsHead chain head → IsPlace hash chain root (place.Evidence (Link head root))
+
+  -- what kind of root it is
+  abbrev pub IsKind : KeyedRoots → SignedRoot → Kind → Type 0
+  IsKind chain root kind.Unsigned = ¬ Verifies verified chain.key root
+  IsKind chain root kind.Known = Verifies verified chain.key root × IsPlace hash chain root place.Known
+  IsKind chain root kind.Next = Verifies verified chain.key root × IsPlace hash chain root place.Next
+  IsKind chain root kind.NotNamed = Verifies verified chain.key root × IsNotNamed chain root
+  IsKind chain root kind.Other = Verifies verified chain.key root
+
   -- what comes of a list, up to the first root that is refused
   abbrev pub TakesEach : {A : Type 0} → KeyedRoots → List SignedRoot → Result A ListRefusal → KeyedRoots → Type 0
   TakesEach chain roots (Ok _) after = Takes chain roots after
@@ -59,6 +74,11 @@ module _ (hash : List ℕ → List ℕ) (verified : List ℕ → List ℕ → Li
   ListRefusalHolds key BeforeStart = Unit
   ListRefusalHolds key Ahead = Unit
   ListRefusalHolds key Memory = Unit
+
+-- what becomes of a root: it is taken, or refused in this way
+abbrev pub answer : Bool → ListRefusal → Result Unit ListRefusal
+answer true why = Ok tt
+answer false why = Err why
 
 -- if evidence is told, its roots have a spelling
 abbrev pub ListRefusalIsSpelled : ListRefusal → Type 0

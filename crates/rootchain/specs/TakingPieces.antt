@@ -1,5 +1,7 @@
 -- A piece of a list of roots, of which a chain takes each root that it makes whole (after CONIKS, section 3).
 use Rattle.std.specs.Prelude.{◌≡◌, ◌≢◌, ◌⊎◌, ℕ, List, [], ◌∷◌, ◌++◌, Result, Ok, Err}
+use Rattle.rootchain.specs.declared.chain.taking_pieces.Outcome.{Outcome}
+use Rattle.rootchain.specs.declared.chain.taking_pieces.Outcome.TheVariants as outcome
 use Rattle.rootchain.specs.declared.signed_root.SignedRoot.{SignedRoot}
 use Rattle.rootchain.specs.declared.list_refusal.ListRefusal.{ListRefusal}
 use Rattle.rootchain.specs.declared.list_refusal.ListRefusal.TheVariants as list
@@ -22,6 +24,12 @@ of_piece list.BadSignature = Root list.BadSignature
 of_piece list.BeforeStart = Root list.BeforeStart
 of_piece list.Ahead = Root list.Ahead
 of_piece (list.Evidence evidence) = Root (list.Evidence evidence)
+
+-- what comes of a piece: it is taken, or refused in this way
+abbrev pub piece_answer : Outcome → ListRefusal → Result Unit PieceRefusal
+piece_answer outcome.Taken why = Ok tt
+piece_answer outcome.Malformed why = Err Malformed
+piece_answer outcome.Refused why = Err (of_piece why)
 
 module _ (hash : List ℕ → List ℕ) (verified : List ℕ → List ℕ → List ℕ → Type 0) where
   -- What comes of a piece: the roots that it makes whole are taken in order, each before the next one is

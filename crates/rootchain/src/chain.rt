@@ -125,4 +125,5 @@ impl<H: NodeHash, S: Verifier> Chain<H, S> {
 
 mod taking;
 mod taking_lists;
+mod taking_one;
 mod taking_pieces;

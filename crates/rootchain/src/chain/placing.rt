@@ -52,6 +52,7 @@ impl<H: NodeHash, S: Verifier> Chain<H, S> {
     /// The place of a root, whether it verifies or not.
     pub(super) fn place_of(&self, hash: &mut H, root: &SignedRoot) -> Place
         ensures place { IsPlace H.digest_of self.now root.now result }
+        ensures chain { IsChain H.digest_of S.verified self.now }
         ensures counted { H.digests hash.new ≤ H.digests hash.old + 1 }
         ensures spared { ¬ IsHashed self.now root.now → H.digests hash.new ≡ H.digests hash.old }
     {

@@ -5,10 +5,10 @@ ghost use Rattle.std.specs.List.{AllByRecursion};
 ghost use Rattle.rootchain.specs.declared.signed_root.SignedRoot.{SignedRoot};
 ghost use Rattle.rootchain.specs.Chains.{IsChain};
 ghost use Rattle.rootchain.specs.SignedRoots.{IsSignedRoot};
-ghost use Rattle.rootchain.specs.TakingLists.{with_roots, IsListRefusal, Takes, TakesEach, TakesOne, ListRefusalHolds, ListRefusalIsSpelled};
+ghost use Rattle.rootchain.specs.TakingLists.{with_roots, IsListRefusal, Takes, TakesEach, ListRefusalHolds, ListRefusalIsSpelled};
 
 use super::Chain;
-use crate::{ListRefusal, Place, Refusal, RootList, SignedRoot};
+use crate::{ListRefusal, RootList};
 use nodehash::NodeHash;
 use sigiface::Verifier;
 
@@ -59,31 +59,12 @@ impl<H: NodeHash, S: Verifier> Chain<H, S> {
         ensures counted { H.digests hash.new ≤ H.digests hash.old + length list.entry }
     {
         let mut list = list;
+        let mut why = ListRefusal::Memory;
         while let Some(root) = list.next() {
-            self.take_one(hash, verifier, root)?;
+            if !self.take_one(hash, verifier, root, &mut why) {
+                return Err(why);
+            }
         }
         Ok(())
-    }
-
-    /// Takes one root of a list.
-    pub(super) fn take_one(
-        &mut self,
-        hash: &mut H,
-        verifier: &S,
-        root: SignedRoot,
-    ) -> Result<(), ListRefusal>
-        ensures one { TakesOne H.digest_of S.verified self.old root result self.new }
-        ensures spelled { AllByRecursion IsSignedRoot self.old.roots → IsSignedRoot root → IfErr result ListRefusalIsSpelled }
-        ensures form { AllByRecursion IsSignedRoot self.old.roots → IsSignedRoot root → AllByRecursion IsSignedRoot self.new.roots }
-        ensures counted { H.digests hash.new ≤ H.digests hash.old + 1 }
-    {
-        match self.take(hash, verifier, root) {
-            Ok(Place::Known | Place::Next) => Ok(()),
-            Ok(Place::BeforeStart) => Err(ListRefusal::BeforeStart),
-            Ok(Place::Ahead) => Err(ListRefusal::Ahead),
-            Ok(Place::Evidence(evidence)) => Err(ListRefusal::Evidence(evidence)),
-            Err(Refusal::BadSignature) => Err(ListRefusal::BadSignature),
-            Err(_) => Err(ListRefusal::Memory),
-        }
     }
 }

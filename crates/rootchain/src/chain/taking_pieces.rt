@@ -5,7 +5,7 @@
 //! A refusal may have two roots in it. A function that returns one clears the room for it when it is called,
 //! which takes longer than to hold a few bytes. So `take_part` returns none and becomes part of its caller, and
 //! `take_piece` does not.
-ghost use Rattle.std.specs.Prelude.{◌≡◌, ◌≢◌, ◌+◌, ◌≤◌, List, length, IfErr};
+ghost use Rattle.std.specs.Prelude.{◌≡◌, ◌≢◌, ◌↔◌, ◌+◌, ◌≤◌, List, length, IfErr, IsTrue};
 ghost use Rattle.std.specs.List.{AllByRecursion};
 ghost use Rattle.rootchain.specs.declared.signed_root.SignedRoot.{SignedRoot};
 ghost use Rattle.rootchain.specs.Chains.{IsChain};
@@ -13,13 +13,25 @@ ghost use Rattle.rootchain.specs.FeedViews.{TakesPart};
 ghost use Rattle.rootchain.specs.RootFeeds.{told_from, Failed};
 ghost use Rattle.rootchain.specs.SignedRoots.{IsSignedRoot};
 ghost use Rattle.rootchain.specs.TakingLists.{with_roots};
-ghost use Rattle.rootchain.specs.TakingPieces.{of_piece, TakesPiece, TakesTold, PieceRefusalHolds, PieceRefusalIsSpelled};
+ghost use Rattle.rootchain.specs.declared.list_refusal.ListRefusal.TheVariants as list;
+ghost use Rattle.rootchain.specs.TakingPieces.{of_piece, piece_answer, TakesPiece, TakesTold, PieceRefusalHolds, PieceRefusalIsSpelled};
 
 use super::Chain;
 use crate::root_feed::Next;
 use crate::{ListRefusal, PieceRefusal, RootFeed};
 use nodehash::NodeHash;
 use sigiface::Verifier;
+
+/// What comes of a piece.
+#[derive(Clone, Copy, Debug)]
+enum Outcome {
+    /// Its roots are taken.
+    Taken,
+    /// The list has no such bytes there.
+    Malformed,
+    /// A root is refused.
+    Refused,
+}
 
 impl<H: NodeHash, S: Verifier> Chain<H, S> {
     /// Takes the next piece of a list, or leaves it to `take_piece`, and returns whether it took it. It takes
@@ -69,39 +81,44 @@ impl<H: NodeHash, S: Verifier> Chain<H, S> {
         if feed.take_part(piece) {
             return Ok(());
         }
-        self.take_whole(hash, verifier, feed, piece)
+        let mut why = ListRefusal::Memory;
+        match self.take_whole(hash, verifier, feed, piece, &mut why) {
+            Outcome::Taken => Ok(()),
+            Outcome::Malformed => Err(PieceRefusal::Malformed),
+            Outcome::Refused => Err(of_piece(why)),
+        }
     }
 
-    /// Takes the roots that a piece makes whole, where there is memory for them.
+    /// Takes the roots that a piece makes whole, where there is memory for them. If one is refused, `why` is
+    /// its refusal.
     fn take_whole(
         &mut self,
         hash: &mut H,
         verifier: &S,
         feed: &mut RootFeed,
         piece: &[u8],
-    ) -> Result<(), PieceRefusal>
+        why: &mut ListRefusal,
+    ) -> Outcome
         requires { feed.old ≢ Failed }
-        ensures takes { TakesPiece H.digest_of S.verified self.old feed.old piece.now result self.new feed.new }
-        ensures grows { (more : List SignedRoot) × (self.new ≡ with_roots self.old more) }
-        ensures evidence { IfErr result (PieceRefusalHolds H.digest_of S.verified self.old.key) }
-        ensures spelled { AllByRecursion IsSignedRoot self.old.roots → IfErr result PieceRefusalIsSpelled }
+        ensures takes { TakesPiece H.digest_of S.verified self.old feed.old piece.now (piece_answer result why.new) self.new feed.new }
+        ensures spelled { AllByRecursion IsSignedRoot self.old.roots → IfErr (piece_answer result why.new) PieceRefusalIsSpelled }
         ensures form { AllByRecursion IsSignedRoot self.old.roots → AllByRecursion IsSignedRoot self.new.roots }
         ensures counted { H.digests hash.new ≤ H.digests hash.old + length (told_from feed.old piece.now).0 }
     {
         let before = self.roots.len();
         let held = feed.copied();
-        match self.take_told(hash, verifier, feed, piece) {
-            Ok(()) => Ok(()),
-            Err(PieceRefusal::Memory) => {
-                self.roots.truncate(before);
-                *feed = held;
-                Err(PieceRefusal::Memory)
+        match self.take_told(hash, verifier, feed, piece, why) {
+            Outcome::Taken => Outcome::Taken,
+            Outcome::Malformed => Outcome::Malformed,
+            Outcome::Refused => {
+                if is_memory(why) {
+                    self.roots.truncate(before);
+                    *feed = held;
+                } else {
+                    feed.fail();
+                }
+                Outcome::Refused
             }
-            Err(PieceRefusal::Root(why)) => {
-                feed.fail();
-                Err(PieceRefusal::Root(why))
-            }
-            Err(PieceRefusal::Malformed) => Err(PieceRefusal::Malformed),
         }
     }
 
@@ -112,9 +129,10 @@ impl<H: NodeHash, S: Verifier> Chain<H, S> {
         verifier: &S,
         feed: &mut RootFeed,
         piece: &[u8],
-    ) -> Result<(), PieceRefusal>
-        ensures told { TakesTold H.digest_of S.verified self.old feed.old piece.now result self.new feed.new }
-        ensures spelled { AllByRecursion IsSignedRoot self.old.roots → IfErr result PieceRefusalIsSpelled }
+        why: &mut ListRefusal,
+    ) -> Outcome
+        ensures told { TakesTold H.digest_of S.verified self.old feed.old piece.now (piece_answer result why.new) self.new feed.new }
+        ensures spelled { AllByRecursion IsSignedRoot self.old.roots → IfErr (piece_answer result why.new) PieceRefusalIsSpelled }
         ensures form { AllByRecursion IsSignedRoot self.old.roots → AllByRecursion IsSignedRoot self.new.roots }
         ensures counted { H.digests hash.new ≤ H.digests hash.old + length (told_from feed.old piece.now).0 }
     {
@@ -122,19 +140,28 @@ impl<H: NodeHash, S: Verifier> Chain<H, S> {
         loop {
             match feed.next(rest) {
                 Next::Root(root, after) => {
-                    if let Err(why) = self.take_one(hash, verifier, root) {
-                        return Err(of_piece(why));
+                    if !self.take_one(hash, verifier, root, why) {
+                        return Outcome::Refused;
                     }
                     rest = after;
                 }
-                Next::Wait => return Ok(()),
-                Next::Failed => return Err(PieceRefusal::Malformed),
+                Next::Wait => return Outcome::Taken,
+                Next::Failed => return Outcome::Malformed,
             }
         }
     }
 }
 
+/// Whether there was no memory for a root.
+fn is_memory(why: &ListRefusal) -> bool
+    ensures { IsTrue result ↔ (why.now ≡ list.Memory) }
+{
+    matches!(why, ListRefusal::Memory)
+}
+
 /// The refusal of a piece for that of one of its roots.
+#[cold]
+#[inline(never)]
 fn of_piece(why: ListRefusal) -> PieceRefusal
     ensures { result ≡ of_piece why }
 {
