@@ -25,7 +25,7 @@ const FEWEST_TOGETHER: usize = 4;
 const MOST_TOGETHER: usize = 256;
 
 /// The most nodes of another nonce that are made anew level by level.
-const MOST_NODES_TOGETHER: usize = 1024;
+const MOST_NODES_TOGETHER: usize = 2048;
 
 /// Of so many nodes of a tree at most one is made anew level by level at a time. Rows take less than 16
 /// times as many bytes for each of their nodes, that is less than 16 for each node of the tree.

@@ -181,26 +181,26 @@ fn texts_of_row(
 /// The node at a spot, from the digests from `used` on and the next nodes of the row below.
 fn node_at(
     alloc: Global,
-    spot: &Spot,
+    spot: Spot,
     digests: &[Hash32],
     used: usize,
     lower: &mut IntoIter<Node>,
 ) -> Result<Node, AllocError>
-    requires digests { used + digests_of spot.now ≤ length digests.now }
-    requires lower { sides_of spot.now ≤ length (into_iter_items lower.old) }
+    requires digests { used + digests_of spot ≤ length digests.now }
+    requires lower { sides_of spot ≤ length (into_iter_items lower.old) }
     ensures made { IfOk result (λ node. (spots : List Spot) (nodes : List Node)
-        → AreMade spots (drop (used + digests_of spot.now) digests.now) (drop (sides_of spot.now) (into_iter_items lower.old)) nodes
-        → AreMade (spot.now ∷ spots) (drop used digests.now) (into_iter_items lower.old) (node ∷ nodes)) }
-    ensures rest { OnOk result (into_iter_items lower.new ≡ drop (sides_of spot.now) (into_iter_items lower.old)) }
+        → AreMade spots (drop (used + digests_of spot) digests.now) (drop (sides_of spot) (into_iter_items lower.old)) nodes
+        → AreMade (spot ∷ spots) (drop used digests.now) (into_iter_items lower.old) (node ∷ nodes)) }
+    ensures rest { OnOk result (into_iter_items lower.new ≡ drop (sides_of spot) (into_iter_items lower.old)) }
 {
     match spot {
-        Spot::Shared(node) => Ok(node.share()?),
+        Spot::Shared(node) => Ok(node),
         Spot::Blank(_) => Ok(Node::Empty {
             hash: digests[used],
         }),
         Spot::Alone(item) => Ok(Node::Leaf {
             hash: digests[used],
-            item: item.clone()?,
+            item,
         }),
         Spot::Joined => {
             let Some(zero_side) = lower.next() else {
@@ -225,20 +225,21 @@ fn node_at(
 /// The nodes of a row, from their digests and the nodes of the row below.
 fn join_row(
     alloc: Global,
-    spots: &[Spot],
+    spots: Vec<Spot>,
     digests: &[Hash32],
     lower: Vec<Node>,
 ) -> Result<Vec<Node>, AllocError>
-    requires digests { length digests.now ≡ row_digests spots.now }
-    requires lower { length lower.items ≡ row_sides spots.now }
-    ensures { IfOk result (λ nodes. AreMade spots.now digests.now lower.items nodes.items) }
+    requires digests { length digests.now ≡ row_digests spots.items }
+    requires lower { length lower.items ≡ row_sides spots.items }
+    ensures { IfOk result (λ nodes. AreMade spots.items digests.now lower.items nodes.items) }
 {
     let mut nodes = Vec::with_capacity(alloc, spots.len())?;
     let mut below = lower.into_iter();
     let mut used = 0;
     for spot in spots {
+        let here = digests_of(&spot);
         nodes.push(node_at(alloc, spot, digests, used, &mut below)?)?;
-        used += digests_of(spot);
+        used += here;
     }
     Ok(nodes)
 }
@@ -264,16 +265,16 @@ fn make_row<H: NodeHash>(
     hash: &mut H,
     nonce: &Hash32,
     level: usize,
-    spots: &[Spot],
+    spots: Vec<Spot>,
     lower: Vec<Node>,
 ) -> Result<Vec<Node>, AllocError>
     requires level { level ≤ 256 }
-    requires lower { length lower.items ≡ row_sides spots.now }
-    ensures made { IfOk result (λ nodes. AreMade spots.now (map H.digest_of (row_texts nonce.now level spots.now (map kept lower.items))) lower.items nodes.items) }
-    ensures work { H.digests hash.new ≤ H.digests hash.old + row_digests spots.now }
-    ensures exact { OnOk result (H.digests hash.new ≡ after_digests (row_digests spots.now) (H.digests hash.old)) }
+    requires lower { length lower.items ≡ row_sides spots.items }
+    ensures made { IfOk result (λ nodes. AreMade spots.items (map H.digest_of (row_texts nonce.now level spots.items (map kept lower.items))) lower.items nodes.items) }
+    ensures work { H.digests hash.new ≤ H.digests hash.old + row_digests spots.items }
+    ensures exact { OnOk result (H.digests hash.new ≡ after_digests (row_digests spots.items) (H.digests hash.old)) }
 {
-    let texts = texts_of_row(alloc, nonce, level, spots, &lower)?;
+    let texts = texts_of_row(alloc, nonce, level, &spots, &lower)?;
     let digests = digests_of_texts(alloc, hash, &texts)?;
     join_row(alloc, spots, &digests, lower)
 }
@@ -295,10 +296,10 @@ fn grow_row<H: NodeHash>(
 {
     let (spots, lower) = split_row(alloc, level, changes, places)?;
     if lower.is_empty() {
-        return make_row(alloc, hash, nonce, level, &spots, Vec::new(alloc));
+        return make_row(alloc, hash, nonce, level, spots, Vec::new(alloc));
     }
     let below = grow_row(alloc, hash, nonce, level + 1, changes, &lower)?;
-    make_row(alloc, hash, nonce, level, &spots, below)
+    make_row(alloc, hash, nonce, level, spots, below)
 }
 
 /// The node at the prefix of `level` bits with these changes put in, made level by level.

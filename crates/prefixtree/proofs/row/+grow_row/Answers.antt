@@ -13,7 +13,7 @@ make_row-requires-clause-lower g t c =
     let split = c.in_ok-spots.ensures g.H.NodeHash.digest_of c.args.nonce.now c.requires.places in
     let none : length c.in_ok-spots.lower.items ≡ 0 = search rules in
     let sides = split-sides g.H.NodeHash.digest_of c.args.nonce.now c.args.changes.now c.args.level c.args.places.now _ _ split in
-    omega (arith, none, sides, ap length c.new.ensures.items, ap row_sides c.deref.ensures.value)
+    omega (arith, none, sides, ap length c.new.ensures.items)
 
 pub returns-then-is_empty-clause-built : goal.returns-then-is_empty-clause-built
 returns-then-is_empty-clause-built g t c =
@@ -23,7 +23,7 @@ returns-then-is_empty-clause-built g t c =
     let split = subst (λ (l : List Place). AreSplit of c.args.nonce.now c.args.changes.now c.args.level c.args.places.now c.in_ok-spots.spots.items l) nil (c.in_ok-spots.ensures of c.args.nonce.now c.requires.places) in
     IfOk-weaker c.make_row.result _ _ (λ nodes made.
     made-built of c.args.nonce.now c.args.changes.now c.args.level c.args.places.now c.in_ok-spots.spots.items [] [] nodes.items
-    split tt (rw (c.deref.ensures.value, c.new.ensures.items) at made))
+    split tt (rw c.new.ensures.items at made))
     c.make_row.ensures.made
 
 pub returns-then-is_empty-clause-work : goal.returns-then-is_empty-clause-work
@@ -31,7 +31,7 @@ returns-then-is_empty-clause-work g t c =
     let split = c.in_ok-spots.ensures g.H.NodeHash.digest_of c.args.nonce.now c.requires.places in
     omega (
       arith,
-      rw c.deref.ensures.value at c.make_row.ensures.work,
+      c.make_row.ensures.work,
       split-count g.H.NodeHash.digest_of c.args.nonce.now c.args.changes.now c.args.level c.args.places.now _ _ split,
     )
 
@@ -49,7 +49,7 @@ returns-then-is_empty-clause-exact g t c =
     ) in
     on_ok_weaker c.make_row.result (λ (made : count c.make_row.new.hash ≡ after_digests here (count c.args.hash.now)).
     made ∙ ap (λ (n : ℕ). after_digests n (count c.args.hash.now)) (sym all))
-    (rw c.deref.ensures.value at c.make_row.ensures.exact)
+    c.make_row.ensures.exact
 
 pub grow_row-requires : goal.grow_row-requires
 grow_row-requires g t c κs within =
@@ -57,28 +57,28 @@ grow_row-requires g t c κs within =
     let split = c.in_ok-spots.ensures g.H.NodeHash.digest_of c.args.nonce.now c.requires.places in
     let less = split-level g.H.NodeHash.digest_of c.args.nonce.now c.args.changes.now c.args.level c.args.places.now _ _ split some in
     let deeper : c.args.level + 1 ≤ 256 = omega (arith, less) in
-    (omega (arith, less), (within, (deeper, rw c.deref-2.ensures.value (split-places g.H.NodeHash.digest_of c.args.nonce.now c.args.changes.now c.args.level c.args.places.now _ _ split))))
+    (omega (arith, less), (within, (deeper, rw c.deref.ensures.value (split-places g.H.NodeHash.digest_of c.args.nonce.now c.args.changes.now c.args.level c.args.places.now _ _ split))))
 
 pub returns-in_err-below-clause-work : goal.returns-in_err-below-clause-work
 returns-in_err-below-clause-work g t c =
     let split = c.in_ok-spots.ensures g.H.NodeHash.digest_of c.args.nonce.now c.requires.places in
-    omega (arith, rw c.deref-2.ensures.value at c.grow_row.ensures.work, split-count g.H.NodeHash.digest_of c.args.nonce.now c.args.changes.now c.args.level c.args.places.now _ _ split)
+    omega (arith, rw c.deref.ensures.value at c.grow_row.ensures.work, split-count g.H.NodeHash.digest_of c.args.nonce.now c.args.changes.now c.args.level c.args.places.now _ _ split)
 
 pub make_row-requires-2-clause-lower : goal.make_row-requires-2-clause-lower
 make_row-requires-2-clause-lower g t c =
     let of = g.H.NodeHash.digest_of in
     let split = c.in_ok-spots.ensures of c.args.nonce.now c.requires.places in
-    built-length of c.args.nonce.now c.args.changes.now (c.args.level + 1) _ _ (rw c.deref-2.ensures.value at c.in_ok-below.ensures.built)
-    ∙ split-sides of c.args.nonce.now c.args.changes.now c.args.level c.args.places.now _ _ split ∙ ap row_sides (sym c.deref-3.ensures.value)
+    built-length of c.args.nonce.now c.args.changes.now (c.args.level + 1) _ _ (rw c.deref.ensures.value at c.in_ok-below.ensures.built)
+    ∙ split-sides of c.args.nonce.now c.args.changes.now c.args.level c.args.places.now _ _ split
 
 pub returns-clause-built : goal.returns-clause-built
 returns-clause-built g t c =
     let of = g.H.NodeHash.digest_of in
     let split = c.in_ok-spots.ensures of c.args.nonce.now c.requires.places in
-    let built = rw c.deref-2.ensures.value at c.in_ok-below.ensures.built in
+    let built = rw c.deref.ensures.value at c.in_ok-below.ensures.built in
     IfOk-weaker c.make_row-2.result _ _ (λ nodes made.
     made-built of c.args.nonce.now c.args.changes.now c.args.level c.args.places.now c.in_ok-spots.spots.items c.in_ok-spots.lower.items c.in_ok-below.below.items nodes.items
-    split built (rw c.deref-3.ensures.value at made))
+    split built made)
     c.make_row-2.ensures.made
 
 pub returns-clause-work : goal.returns-clause-work
@@ -86,8 +86,8 @@ returns-clause-work g t c =
     let split = c.in_ok-spots.ensures g.H.NodeHash.digest_of c.args.nonce.now c.requires.places in
     omega (
       arith,
-      rw c.deref-2.ensures.value at c.grow_row.ensures.work,
-      rw c.deref-3.ensures.value at c.make_row-2.ensures.work,
+      rw c.deref.ensures.value at c.grow_row.ensures.work,
+      c.make_row-2.ensures.work,
       split-count g.H.NodeHash.digest_of c.args.nonce.now c.args.changes.now c.args.level c.args.places.now _ _ split,
     )
 
@@ -98,7 +98,7 @@ returns-clause-exact g t c =
     let below : ℕ = row_count (c.args.level + 1) c.args.changes.now c.in_ok-spots.lower.items in
     let here : ℕ = row_digests c.in_ok-spots.spots.items in
     on_ok_weaker c.make_row-2.result (λ (made : count c.make_row-2.new.hash ≡ after_digests here (count c.grow_row.new.hash)).
-    made ∙ ap (after_digests here) (rw c.deref-2.ensures.value at c.in_ok-below.ensures.exact)
+    made ∙ ap (after_digests here) (rw c.deref.ensures.value at c.in_ok-below.ensures.exact)
     ∙ after_digests-join below here (count c.args.hash.now)
     ∙ ap (λ (n : ℕ). after_digests n (count c.args.hash.now)) (sym (split-count g.H.NodeHash.digest_of c.args.nonce.now c.args.changes.now c.args.level c.args.places.now _ _ split)))
-    (rw c.deref-3.ensures.value at c.make_row-2.ensures.exact)
+    c.make_row-2.ensures.exact

@@ -1,5 +1,5 @@
 use Rattle.std.proofs.Common.{◌≡◌, ◌+◌, ◌++◌, List, length, drop}
-use Rattle.std.specs.Vec.Iter.{into_iter_items}
+use Rattle.std.specs.Vec.Iter.{into_iter_items, into_iter_len}
 use Rattle.prefixtree.specs.declared.node.Node.{Node}
 use Rattle.prefixtree.specs.Rows.{row_digests, row_sides, AreMade}
 use Rattle.prefixtree.proofs.row.join_row.Given as goal
@@ -7,8 +7,9 @@ use Rattle.prefixtree.proofs.row.join_row.Given as goal
 -- whatever nodes are made at what is left complete the row
 abbrev pub invariant-loop-spot : goal.invariant-loop-spot
 invariant-loop-spot l = record {
-  digests : l.used + row_digests (drop l.spot-index l.spots) ≡ length l.digests;
-  lower : length (into_iter_items l.below) ≡ row_sides (drop l.spot-index l.spots);
-  ends : (nodes : List Node) → AreMade (drop l.spot-index l.spots) (drop l.used l.digests) (into_iter_items l.below) nodes
-      → AreMade l.spots l.digests l.fn.lower.items (l.nodes.items ++ nodes);
+  counted : length (into_iter_items l.spot-iterator) ≡ into_iter_len l.spot-iterator;
+  digests : l.used + row_digests (into_iter_items l.spot-iterator) ≡ length l.digests;
+  lower : length (into_iter_items l.below) ≡ row_sides (into_iter_items l.spot-iterator);
+  ends : (nodes : List Node) → AreMade (into_iter_items l.spot-iterator) (drop l.used l.digests) (into_iter_items l.below) nodes
+      → AreMade l.fn.spots.items l.digests l.fn.lower.items (l.nodes.items ++ nodes);
 }
