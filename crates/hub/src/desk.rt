@@ -25,7 +25,7 @@ use rootchain::{SignedPromise, SignedRoot};
 use sigiface::Signer;
 use std::marker::Model;
 use vrfiface::Vuf;
-use wire::{Answer, Request};
+use wire::{Answer, Request, begin_proof, end_proof};
 
 /// A directory with its keeper and the token of its operator, who alone may close an epoch.
 #[derive(Drop)]
@@ -142,7 +142,16 @@ impl<H: NodeHash, V: Vuf, S: Signer, R: Rng, K: Keeper> Desk<H, V, S, R, K> {
         ensures { (reply : List ℕ) × Serves H.digest_of V.value_of S.signature_of R.stream K.kept K.failed self.old (asks.Query (Lookup name.now epoch)) reply self.new
             × (output.new.items ≡ output.old.items ++ reply) }
     {
-        write_proof(&self.directory.lookup(name, epoch), output)
+        let start = output.len();
+        let begun = begin_proof(output).is_ok();
+        prove!(begun);
+        match self.directory.lookup_into(name, epoch, output) {
+            Ok(()) => end_proof(output, start),
+            Err(why) => {
+                output.truncate(start);
+                write_refused(why.number(), output)
+            }
+        }
     }
 
     /// Ends the epoch for whoever has the token.
