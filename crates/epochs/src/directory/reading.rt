@@ -100,7 +100,7 @@ impl<H: NodeHash, V: Vuf, S: Signer, R: Rng> Directory<H, V, S, R> {
             (λ _. (text : List ℕ) × Reads (provider H.digest_of V.value_of S.signature_of self.old) (book R.stream self.old) (Query (Lookup name.now epoch)) (Found text)
             × (length text ≤ PROOF_TEXT_ROOM) × (output.new.items ≡ output.old.items ++ text))
             (λ why. IsRefused (provider H.digest_of V.value_of S.signature_of self.old) (book R.stream self.old) (Query (Lookup name.now epoch)) why
-            × (output.new.items ≡ output.old.items)) }
+            × (output.new ≡ output.old)) }
         ensures stays { book R.stream self.new ≡ book R.stream self.old }
         ensures keys { HasKeysOf self.old self.new }
         ensures work { self.new.digests ≤ self.old.digests + 1 }
@@ -116,8 +116,8 @@ impl<H: NodeHash, V: Vuf, S: Signer, R: Rng> Directory<H, V, S, R> {
         let address = address_in(history, &mut self.hash, &self.vuf, &name);
         let tree = &self.trees[page];
         let (level, end) = tree.path_end(&address.index);
-        let found = shown_in(history, page);
-        write_front_of(output, &self.roots[page].body, &address, end, level, found);
+        let shown = shown_in(history, page);
+        write_front_of(output, &self.roots[page].body, &address, end, level, shown);
         tree.write_siblings(&address.index, output);
         Ok(())
     }

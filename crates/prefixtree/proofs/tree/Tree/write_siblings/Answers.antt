@@ -24,6 +24,7 @@ loop-node-init g c =
       items = rw (← items) (agreeing-root g.H.NodeHash.digest_of c.self.inside.nonce i c.self.inside.node size c.self.invariant);
       more = below_none (λ n. 1 < length (agreeing i n c.args.self.now.items));
       room = c.requires;
+      grown = omega arith;
       siblings = [];
       long = refl;
       beside = below_none (λ k. hash_at [] k ≡ sibling g.H.NodeHash.digest_of c.args.self.now.nonce c.args.self.now.items i k);
@@ -51,6 +52,7 @@ loop-node-preserved g c =
       items = contents-below of nonce i level items size.0 inv.items down;
       more = below_more (λ n. 1 < length (agreeing i n items)) level inv.more (rw inv.items at down.two);
       room = omega (arith, long, inv.room, down.below_256, c.extend_from_slice.ensures.capacity);
+      grown = omega (arith, long, inv.grown);
       siblings = siblings ++ beside ∷ [];
       long = length-append siblings (beside ∷ []) ∙ ap (λ n. n + 1) inv.long;
       beside = below_more (λ k. hash_at (siblings ++ beside ∷ []) k ≡ sibling of nonce items i k) level
@@ -66,8 +68,11 @@ returns g c =
     let inv = c.loop-node.invariant in
     let node = c.loop-node.node.now in
     let held : contents node ≡ agreeing i (length inv.siblings) items = inv.items ∙ ap (λ n. agreeing i n items) (sym inv.long) in
-    (inv.siblings, end_of i (agreeing i (length inv.siblings) items), record {
-      level = record { few = rw (← held) (length-childless node c.in_default.not-Interior); least = λ n p. inv.more n (omega (arith, p, inv.long)) };
-      beside = λ k p. inv.beside k (omega (arith, p, inv.long));
-      last = refl;
-    }, inv.written)
+    record {
+      path = (inv.siblings, end_of i (agreeing i (length inv.siblings) items), record {
+        level = record { few = rw (← held) (length-childless node c.in_default.not-Interior); least = λ n p. inv.more n (omega (arith, p, inv.long)) };
+        beside = λ k p. inv.beside k (omega (arith, p, inv.long));
+        last = refl;
+      }, inv.written);
+      len = omega (arith, inv.grown, inv.fits);
+    }
