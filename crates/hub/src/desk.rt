@@ -4,7 +4,7 @@ ghost use Rattle.commands.specs.Operations.{question, Lookup, Promise};
 ghost use Rattle.book.specs.declared.reply.Reply.{Reply};
 ghost use Rattle.book.specs.Shows.{IsRootOf};
 ghost use Rattle.epochs.specs.DirectoryStates.{book, provider};
-ghost use Rattle.epochs.specs.Replied.{found, last, promised, IsTold};
+ghost use Rattle.epochs.specs.Replied.{last, promised, IsTold};
 ghost use Rattle.wire.specs.Frames.{frame_bytes};
 ghost use Rattle.wire.specs.Requests.{request_seen};
 ghost use Rattle.wire.specs.Requests as asks;
@@ -17,7 +17,7 @@ use crate::Service;
 use crate::drain::write_refused;
 use book::{Keeper, Refusal};
 use commands::{Put, Query, Verb};
-use encoding::{Hash32, ProofText};
+use encoding::Hash32;
 use epochs::Directory;
 use nodehash::NodeHash;
 use rand_core::Rng;
@@ -196,16 +196,6 @@ fn write_promise(answer: Result<SignedPromise, Refusal>, output: &mut Vec<u8>)
 {
     match answer {
         Ok(promise) => write(&Answer::Promise(&promise), output),
-        Err(why) => write_refused(why.number(), output),
-    }
-}
-
-fn write_proof(answer: &Result<ProofText, Refusal>, output: &mut Vec<u8>)
-    requires { vec_len output.old + MAX_ANSWER_LEN ≤ vec_capacity output.old }
-    ensures { output.new.items ≡ output.old.items ++ frame_bytes (reply_frame (found answer.now)) }
-{
-    match answer {
-        Ok(text) => write(&Answer::Proof(text), output),
         Err(why) => write_refused(why.number(), output),
     }
 }
