@@ -4,7 +4,7 @@ ghost use Rattle.commands.specs.Operations.{question, Lookup, Promise};
 ghost use Rattle.book.specs.declared.reply.Reply.{Reply};
 ghost use Rattle.book.specs.Shows.{IsRootOf};
 ghost use Rattle.epochs.specs.DirectoryStates.{book, provider};
-ghost use Rattle.epochs.specs.Replied.{found, last, promised, IsTold};
+ghost use Rattle.epochs.specs.Replied.{last, promised, IsTold};
 ghost use Rattle.wire.specs.Frames.{frame_bytes};
 ghost use Rattle.wire.specs.Requests.{request_seen};
 ghost use Rattle.wire.specs.Requests as asks;
@@ -17,7 +17,7 @@ use crate::Service;
 use crate::drain::write_refused;
 use book::{Keeper, Refusal};
 use commands::{Put, Query, Verb};
-use encoding::{Hash32, ProofText};
+use encoding::Hash32;
 use epochs::Directory;
 use nodehash::NodeHash;
 use rand_core::Rng;
@@ -25,7 +25,7 @@ use rootchain::{SignedPromise, SignedRoot};
 use sigiface::Signer;
 use std::marker::Model;
 use vrfiface::Vuf;
-use wire::{Answer, Request};
+use wire::{Answer, Request, begin_proof, end_proof};
 
 /// A directory with its keeper and the token of its operator, who alone may close an epoch.
 #[derive(Drop)]
@@ -142,7 +142,16 @@ impl<H: NodeHash, V: Vuf, S: Signer, R: Rng, K: Keeper> Desk<H, V, S, R, K> {
         ensures { (reply : List ℕ) × Serves H.digest_of V.value_of S.signature_of R.stream K.kept K.failed self.old (asks.Query (Lookup name.now epoch)) reply self.new
             × (output.new.items ≡ output.old.items ++ reply) }
     {
-        write_proof(&self.directory.lookup(name, epoch), output)
+        let start = output.len();
+        let begun = begin_proof(output).is_ok();
+        prove!(begun);
+        match self.directory.lookup_into(name, epoch, output) {
+            Ok(()) => end_proof(output, start),
+            Err(why) => {
+                output.truncate(start);
+                write_refused(why.number(), output)
+            }
+        }
     }
 
     /// Ends the epoch for whoever has the token.
@@ -187,16 +196,6 @@ fn write_promise(answer: Result<SignedPromise, Refusal>, output: &mut Vec<u8>)
 {
     match answer {
         Ok(promise) => write(&Answer::Promise(&promise), output),
-        Err(why) => write_refused(why.number(), output),
-    }
-}
-
-fn write_proof(answer: &Result<ProofText, Refusal>, output: &mut Vec<u8>)
-    requires { vec_len output.old + MAX_ANSWER_LEN ≤ vec_capacity output.old }
-    ensures { output.new.items ≡ output.old.items ++ frame_bytes (reply_frame (found answer.now)) }
-{
-    match answer {
-        Ok(text) => write(&Answer::Proof(text), output),
         Err(why) => write_refused(why.number(), output),
     }
 }

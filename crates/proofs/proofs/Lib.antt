@@ -1,6 +1,7 @@
 pub mod Chunks
 pub mod Colliding
 pub mod Differing
+pub mod Fronts
 pub mod Honest
 pub mod Opposed
 pub mod Passing

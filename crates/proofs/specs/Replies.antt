@@ -47,6 +47,10 @@ joined_bytes = flat_map (λ bytes. bytes)
 abbrev pub sibling_bytes : List (List ℕ) → List ℕ
 sibling_bytes siblings = big_bytes 2 (length siblings) ++ joined_bytes siblings
 
+-- the body, the value behind its length, the end, and the number of the siblings
+abbrev pub front_bytes : Body → List ℕ → End → ℕ → List ℕ
+front_bytes body value end siblings = body_bytes body ++ (counted_bytes value ++ (reply_end_bytes end ++ big_bytes 2 siblings))
+
 -- the body, the value behind its length, the end, and the siblings
 abbrev pub reply_bytes : Reply → List ℕ
 reply_bytes reply = body_bytes reply.body ++ (counted_bytes reply.value ++ (reply_end_bytes reply.end ++ sibling_bytes reply.siblings))

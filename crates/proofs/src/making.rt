@@ -1,12 +1,12 @@
-ghost use Rattle.std.specs.Prelude.{◌≡◌, ◌+◌, ◌*◌, ◌≤◌, ◌++◌, length};
+ghost use Rattle.std.specs.Prelude.{◌≡◌, ◌+◌, ◌*◌, ◌≤◌, ◌++◌, length, vec_len, vec_capacity};
 ghost use Rattle.rootchain.specs.Bodies.{IsWellFormed};
-ghost use Rattle.proofs.specs.Replies.{reply_end_bytes, reply_bytes, sibling_bytes, AreSiblings, IsEnd, IsReply};
+ghost use Rattle.proofs.specs.Replies.{front_bytes, reply_end_bytes, reply_bytes, sibling_bytes, AreSiblings, IsEnd, IsReply};
 ghost use Rattle.proofs.specs.Views.{end_given};
 ghost use Rattle.encoding.specs.declared.fixed_text.TheConstants.{PROOF_TEXT_ROOM};
 
 use crate::End;
 use crate::kind_bytes::{EMPTY, OTHER, PRESENT};
-use encoding::{Hash32, ProofText, Small};
+use encoding::{FixedText, Hash32, ProofText, Small};
 use prefixtree::Path;
 use rootchain::Body;
 
@@ -24,9 +24,35 @@ pub fn make(body: &Body, value: &Small, end: &End<'_>, path: &Path) -> ProofText
     text
 }
 
+/// The room of a reply up to its siblings, which has at most 2,489 bytes.
+const FRONT_ROOM: usize = 2500;
+
+/// Appends a reply up to its siblings, with the number of these, into room that is there.
+pub fn write_front(
+    output: &mut Vec<u8>,
+    body: &Body,
+    value: &Small,
+    end: &End<'_>,
+    siblings: usize,
+)
+    requires few { siblings ≤ 256 }
+    requires room { vec_len output.old + 2500 ≤ vec_capacity output.old }
+    ensures value { output.new.items ≡ output.old.items ++ front_bytes body.now value.now (end_given end.now) siblings }
+    ensures len { vec_len output.new ≤ vec_len output.old + 2500 }
+    ensures capacity { vec_capacity output.old ≤ vec_capacity output.new }
+{
+    let mut text: FixedText<FRONT_ROOM> = FixedText::new();
+    text.push_slice(body.write().bytes());
+    text.push_counted(value.bytes());
+    push_end(&mut text, end);
+    text.push_u16(siblings as u16);
+    let written = output.extend_from_slice(text.bytes()).is_ok();
+    prove!(written);
+}
+
 /// Appends an end.
-fn push_end(text: &mut ProofText, end: &End<'_>)
-    requires { length text.old + 2083 ≤ PROOF_TEXT_ROOM }
+fn push_end<const ROOM: usize>(text: &mut FixedText<ROOM>, end: &End<'_>)
+    requires { length text.old + 2083 ≤ ROOM }
     ensures value { text.new ≡ text.old ++ reply_end_bytes (end_given end.now) }
     ensures len { length text.new ≤ length text.old + 2083 }
     ensures form { IsEnd (end_given end.now) }

@@ -3,7 +3,7 @@
 use crate::journals;
 use book::{NoKeeper, Record, Refusal, Reply};
 use commands::{Command, Edit, Verb};
-use encoding::Hash32;
+use encoding::{Hash32, PROOF_TEXT_ROOM};
 use epochs::Directory;
 use nodehash::{NodeHash, Sha256Hash, SumHash};
 use questions::Case;
@@ -321,8 +321,31 @@ where
     let name = case.bytes();
     let epoch = case.number();
     match directory.lookup(name, epoch) {
-        Ok(proof) => case.say_bytes(proof.bytes()),
+        Ok(proof) => {
+            case.say_bytes(proof.bytes());
+            compare_written(case, directory, name, epoch, proof.bytes());
+        }
         Err(why) => refuse(case, why),
+    }
+}
+
+/// Spoils the answer unless these are the bytes that the directory writes.
+fn compare_written<H, V>(
+    case: &mut Case<'_>,
+    directory: &mut Made<H, V>,
+    name: &[u8],
+    epoch: u64,
+    proof: &[u8],
+) where
+    H: NodeHash + Drop,
+    V: Vuf + Drop,
+{
+    let Ok(mut bytes) = Vec::with_capacity(case.alloc(), PROOF_TEXT_ROOM) else {
+        return case.lack_memory();
+    };
+    let has_failed = directory.lookup_into(name, epoch, &mut bytes).is_err();
+    if has_failed || bytes.as_slice() != proof {
+        case.spoil();
     }
 }
 

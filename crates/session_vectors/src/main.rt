@@ -11,10 +11,11 @@
 //! |---|---|---|
 //! | `directory` | `Directory::new`, `head` | `new`, `head` |
 //! | | `register`, `change`, `promise`, `close`, `rotate` | the same words |
-//! | | `lookup`, `history`; `run`; `replay` | `lookup`, `history`; `run`; `replay` |
+//! | | `lookup`, `lookup_into`, which calls `write_front` | `lookup` |
+//! | | `history`; `run`; `replay` | `history`; `run`; `replay` |
 //! | | `journal::open`, under the stream of salts that `records` numbers | `open` |
 //! | `hub` | `Hub::new`, which calls `Hub::over` and `Desk::new` | `new` |
-//! | | `event`, which calls `Service::answer` | `open`, `bytes`, `end` |
+//! | | `event`, which calls `Service::answer`, `begin_proof` and `end_proof` | `open`, `bytes`, `end` |
 //! | | `head` | `head`, `seen`, `seen-sum` |
 //! | | `run` | `run`, `run-on`, `seen`, `seen-sum` |
 //! | `serve` | `serve_unkept`, which calls `serve` | `run`, `keys` |

@@ -30,7 +30,7 @@
 //! | `trees` | `Tree::new`, `with`, `copy` | `new`, `with`, `copy` |
 //! | | `placed`, `from_items`, `with_all` | `from`, `more` |
 //! | | `renew` | `renew` |
-//! | | `root`, `get`, `path`, `Path::level` | `root`, `get`, `path` |
+//! | | `root`, `get`; `path`, `Path::level`, `path_end`, `write_siblings` | `root`, `get`; `path` |
 //! | | `end_text`, `joined_text`, `climb`, `leads`, `Path::leads` | `end-text`, `joined`, `climb`, `leads` |
 //! | `replies` | `ReplyView::read`, `statement`, `siblings` | `read` |
 //! | | `accept`, which calls `check` | `accept`, `accept-sum` |

@@ -141,11 +141,37 @@ fn get(case: &mut Case<'_>, tree: &Tree<Sha256Hash>) {
     }
 }
 
-/// `path INDEX`
+/// `path INDEX`: as it is in one piece, and in two.
 fn path(case: &mut Case<'_>, tree: &Tree<Sha256Hash>) {
     let index = case.index();
     let path = tree.path(&index);
     say_path(case, &path);
+    let (level, end) = tree.path_end(&index);
+    if level != path.level() || end != path.end {
+        case.spoil();
+    }
+    compare_siblings(case, tree, &index, path.siblings.as_slice());
+}
+
+/// Spoils the answer unless these are the siblings that the tree writes.
+fn compare_siblings(
+    case: &mut Case<'_>,
+    tree: &Tree<Sha256Hash>,
+    index: &Index,
+    siblings: &[Hash32],
+) {
+    let Ok(mut bytes) = Vec::with_capacity(case.alloc(), 8192) else {
+        return case.lack_memory();
+    };
+    tree.write_siblings(index, &mut bytes);
+    if bytes.len() != 32 * siblings.len() {
+        case.spoil();
+    }
+    for (written, sibling) in bytes.chunks_exact(32).zip(siblings) {
+        if written != sibling.bytes() {
+            case.spoil();
+        }
+    }
 }
 
 fn say_path(case: &mut Case<'_>, path: &Path) {

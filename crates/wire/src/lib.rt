@@ -36,3 +36,4 @@ pub use laws::{
 pub use refusals::{FeedRefusal, ReadRefusal};
 pub use request::Request;
 pub use response::Response;
+pub use writing::{begin_proof, end_proof};

@@ -1,10 +1,12 @@
-ghost use Rattle.std.specs.Prelude.{◌≡◌, ◌+◌, ◌^◌, ◌<◌, ◌≤◌, ◌++◌, length, OnOk, OnErr, IsOk, vec_len, vec_capacity};
+ghost use Rattle.std.specs.Prelude.{◌≡◌, ◌+◌, ◌^◌, ◌<◌, ◌≤◌, ◌++◌, ℕ, List, length, take, drop, OnOk, OnErr, IsOk, vec_len, vec_capacity};
 ghost use Rattle.byteorder.specs.Endian.{big_bytes};
 ghost use Rattle.encoding.specs.Bytes.{IsBytes};
 ghost use Rattle.wire.specs.Frames.{frame_bytes, frame_head};
+ghost use Rattle.wire.specs.Responses.{proof_frame};
 ghost use Rattle.wire.specs.declared.frame.TheConstants.{MAX_FRAME_LEN};
 
 use byteorder::{BigEndian, ByteOrder};
+use crate::kind_bytes::PROOF;
 use std::alloc::AllocError;
 
 /// Reserves the room of a frame, and appends what stands before its body. An `Err` appends nothing,
@@ -14,6 +16,7 @@ pub(crate) fn begin_frame(output: &mut Vec<u8>, kind: u8, body_len: usize) -> Re
     ensures ok { OnOk result (output.new.items ≡ output.old.items ++ frame_head kind body_len) }
     ensures reserved { OnOk result (vec_len output.new + body_len ≤ vec_capacity output.new) }
     ensures err { OnErr result (output.new.items ≡ output.old.items) }
+    ensures capacity { vec_capacity output.old ≤ vec_capacity output.new }
     ensures room { vec_len output.old + 5 + body_len ≤ vec_capacity output.old → IsOk result }
 {
     output.reserve(5 + body_len)?;
@@ -62,4 +65,35 @@ pub(crate) fn length_bytes(bytes: &[u8]) -> [u8; 2]
     let mut two = [0; 2];
     BigEndian::write_u16(&mut two, bytes.len() as u16);
     two
+}
+
+/// Appends what stands before the body of a reply to a look-up, for a body of no byte: `end_proof` writes
+/// the length. An `Err` appends nothing, and is not returned where there is room.
+pub fn begin_proof(output: &mut Vec<u8>) -> Result<(), AllocError>
+    ensures ok { OnOk result (output.new.items ≡ output.old.items ++ frame_head PROOF 0) }
+    ensures err { OnErr result (output.new.items ≡ output.old.items) }
+    ensures capacity { vec_capacity output.old ≤ vec_capacity output.new }
+    ensures room { vec_len output.old + 5 ≤ vec_capacity output.old → IsOk result }
+{
+    begin_frame(output, PROOF, 0)
+}
+
+/// Writes the length of the frame that `begin_proof` began at this place, whose body stands behind it.
+pub fn end_proof(output: &mut Vec<u8>, start: usize)
+    requires { (before body : List ℕ) × (length before ≡ start) × (length body < MAX_FRAME_LEN)
+        × (output.old.items ≡ (before ++ frame_head PROOF 0) ++ body) }
+    ensures { (before body : List ℕ) → length before ≡ start → output.old.items ≡ (before ++ frame_head PROOF 0) ++ body
+        → output.new.items ≡ before ++ frame_bytes (proof_frame body) }
+{
+    let mut size = [0; 4];
+    BigEndian::write_u32(&mut size, (output.len() - start - 4) as u32);
+    put_at(output, start, &size);
+}
+
+/// Puts bytes in place of those that stand there.
+fn put_at(output: &mut Vec<u8>, start: usize, bytes: &[u8; 4])
+    requires { start + 4 ≤ vec_len output.old }
+    ensures { output.new.items ≡ take start output.old.items ++ (bytes.now ++ drop (start + 4) output.old.items) }
+{
+    output[start..start + 4].copy_from_slice(bytes);
 }

@@ -1,7 +1,9 @@
-ghost use Rattle.std.specs.Prelude.{◌≡◌, ℕ, ◌+◌, ◌<◌, ◌≤◌, List, Option, Some, None, IfSome, MatchResult, length, option_and_then, option_map, slice_get};
+ghost use Rattle.std.specs.Prelude.{◌≡◌, ℕ, ◌+◌, ◌<◌, ◌≤◌, List, Option, Some, None, IfSome, MatchResult, length, option_and_then, option_map, slice_get, vec_len, vec_capacity, ◌++◌};
 ghost use Rattle.std.specs.List.{AllZip};
 ghost use Rattle.commands.specs.Operations.{History, Lookup, Promise as PromiseOf, Query};
-ghost use Rattle.proofs.specs.Replies.{reply_bytes};
+ghost use Rattle.proofs.specs.Replies.{front_bytes, reply_bytes};
+ghost use Rattle.encoding.specs.declared.fixed_text.TheConstants.{PROOF_TEXT_ROOM};
+ghost use Rattle.book.specs.declared.reply.Reply.TheVariants.{Found};
 ghost use Rattle.proofs.specs.Views.{end_given};
 ghost use Rattle.book.specs.Answers.{Told};
 ghost use Rattle.book.specs.Books.{Page, page_at, pages};
@@ -13,12 +15,13 @@ ghost use Rattle.epochs.specs.DirectoryStates.{book, provider, HasKeysOf};
 ghost use Rattle.epochs.specs.Replied.{found, promised};
 
 use super::Directory;
+use crate::address::Address;
 use crate::history::{Version, address_in, shown_in};
 use book::Refusal;
 use encoding::{Index, KeyData, Name, ProofText, Small};
 use nodehash::NodeHash;
 use prefixtree::{End as PathEnd, Path};
-use proofs::{End, make};
+use proofs::{End, make, write_front};
 use rand_core::Rng;
 use rootchain::{Body, MAX_ROOTS, SignedPromise, SignedRoot};
 use sigiface::Signer;
@@ -78,6 +81,45 @@ impl<H: NodeHash, V: Vuf, S: Signer, R: Rng> Directory<H, V, S, R> {
             &path,
             found,
         ))
+    }
+
+    /// Appends the bytes of the reply that `lookup` returns, into room that is there. They go straight to
+    /// their place, since a path and a text are values of 8 and 10 KB.
+    ///
+    /// # Errors
+    ///
+    /// Those of `lookup`, which append nothing.
+    pub fn lookup_into(
+        &mut self,
+        name: &[u8],
+        epoch: u64,
+        output: &mut Vec<u8>,
+    ) -> Result<(), Refusal>
+        requires { vec_len output.old + PROOF_TEXT_ROOM ≤ vec_capacity output.old }
+        ensures reads { MatchResult result
+            (λ _. (text : List ℕ) × Reads (provider H.digest_of V.value_of S.signature_of self.old) (book R.stream self.old) (Query (Lookup name.now epoch)) (Found text)
+            × (length text ≤ PROOF_TEXT_ROOM) × (output.new.items ≡ output.old.items ++ text))
+            (λ why. IsRefused (provider H.digest_of V.value_of S.signature_of self.old) (book R.stream self.old) (Query (Lookup name.now epoch)) why
+            × (output.new ≡ output.old)) }
+        ensures stays { book R.stream self.new ≡ book R.stream self.old }
+        ensures keys { HasKeysOf self.old self.new }
+        ensures work { self.new.digests ≤ self.old.digests + 1 }
+        ensures spared { IsHeld (book R.stream self.old) name.now → self.new.digests ≡ self.old.digests }
+    {
+        let Ok(name) = Name::new(name) else {
+            return Err(Refusal::BadName);
+        };
+        let Some(page) = self.page(epoch) else {
+            return Err(Refusal::NoSuchEpoch);
+        };
+        let history = self.names.find(name.bytes());
+        let address = address_in(history, &mut self.hash, &self.vuf, &name);
+        let tree = &self.trees[page];
+        let (level, end) = tree.path_end(&address.index);
+        let shown = shown_in(history, page);
+        write_front_of(output, &self.roots[page].body, &address, end, level, shown);
+        tree.write_siblings(&address.index, output);
+        Ok(())
     }
 
     /// The first `count` roots of at least the epoch `from`, ascending; fewer, or none, only where
@@ -149,6 +191,42 @@ fn reply_of(
             make(body, value, &opened(path.end, version, &key), path)
         }
         None => make(body, value, &unopened(path.end, *index), path),
+    }
+}
+
+/// Appends the reply under this body, at this address, up to the siblings of the path, which ends so.
+fn write_front_of(
+    output: &mut Vec<u8>,
+    body: &Body,
+    address: &Address,
+    end: PathEnd,
+    level: usize,
+    found: Option<&Version>,
+)
+    requires few { level ≤ 256 }
+    requires room { vec_len output.old + 2500 ≤ vec_capacity output.old }
+    ensures value { output.new.items ≡ output.old.items ++ front_bytes body.now address.now.value (reply_end address.now.index (option_map (λ version. version.now.binding) found.entry) end) level }
+    ensures len { vec_len output.new ≤ vec_len output.old + 2500 }
+    ensures capacity { vec_capacity output.old ≤ vec_capacity output.new }
+{
+    match found {
+        Some(version) => {
+            let key = version.key();
+            write_front(
+                output,
+                body,
+                &address.value,
+                &opened(end, version, &key),
+                level,
+            )
+        }
+        None => write_front(
+            output,
+            body,
+            &address.value,
+            &unopened(end, address.index),
+            level,
+        ),
     }
 }
 
