@@ -1,5 +1,5 @@
 -- What the loop keeps of a place, and the history that it stands for.
-use Rattle.std.specs.Prelude.{◌≡◌, ◌≢◌, ◌⊎◌, ◌+◌, ◌≤◌, ℕ, List, [], ◌∷◌, ◌++◌, Bool, true, false, Option, Some, None, Result, Ok, Err, IfOk, get_or, length, ⊤}
+use Rattle.std.specs.Prelude.{◌≡◌, ◌≢◌, ◌⊎◌, ◌+◌, ◌≤◌, ℕ, List, [], ◌∷◌, ◌++◌, Bool, true, false, Option, Some, None, Result, Ok, Err, IfOk, drop, get_or, length, ⊤}
 use Rattle.connections.specs.declared.ending.Ending.{Ending}
 use Rattle.connections.specs.declared.ending.Ending.TheVariants.{Done, Fault, Idle, Stopped, Unsynced, Memory, Refused}
 use Rattle.connections.specs.declared.limits.TheConstants.{LAST_MILLISECONDS}
@@ -112,10 +112,14 @@ IsOfConnection (Closes why) = ⊤
 abbrev pub Adds : ℕ → History → History → Type 0
 Adds place before after = (after ≡ before) ⊎ ((deed : Deed) × IsOfConnection deed × (after ≡ On place deed ∷ before))
 
+-- the connection goes on, and this is so of it, or there is a reason to close it
+abbrev pub GoesOrCloses : {X : Type 0} → ℕ → History → ℕ → Result X Ending → (X → Course → Type 0) → Type 0
+GoesOrCloses idle acts place (Ok done) Kept = Here (course acts place) (Kept done)
+GoesOrCloses idle acts place (Err why) Kept = Here (course acts place) (λ of. (of.is_open ≡ true) × IsReason idle acts why of)
+
 -- the connection goes on as it is kept, or there is a reason to close it
 abbrev pub Judged : {X : Type 0} → ℕ → History → ℕ → Result X Ending → Talk → Type 0
-Judged idle acts place (Ok done) talk = Here (course acts place) (KeepsTalk talk)
-Judged idle acts place (Err why) talk = Here (course acts place) (λ of. (of.is_open ≡ true) × IsReason idle acts why of)
+Judged idle acts place result talk = GoesOrCloses idle acts place result (λ _. KeepsTalk talk)
 
 -- the peer sends no more, and all is heard and told
 abbrev pub IsDone : Talk → Type 0
@@ -155,13 +159,18 @@ module _ {S : Type 0} (opens : S → ℕ → S → Type 0) (hears : S → ℕ �
   abbrev pub Held : ℕ → S → S → History → Type 0
   Held idle start sessions acts = Leads opens hears wants ends start acts sessions × IsSound idle acts
 
-  -- what happens to the session of a place while connections are heard, and what is then kept; by the test,
-  -- whether it heard anything
-  abbrev pub Hearkens : {X : Type 0} → (X → Bool) → ℕ → ℕ → S → Talk → Result X Ending → S → Talk → Type 0
-  Hearkens hears_some place now old talk result new talk_new = (idle : ℕ) (start : S) (acts : History) → Held idle start old acts → stage acts ≡ Hearing → clock acts ≡ now
-      → Here (course acts place) (KeepsTalk talk)
-      → (after : History) × Stays place 0 acts after × (of_connections after ≡ of_connections acts) × Held idle start new after × Judged idle after place result talk_new
+  -- what happens to the session of a place while connections are heard, from what is kept of it to what is then kept;
+  -- by the test, whether it heard anything
+  abbrev pub Hearkens : {X : Type 0} → (X → Bool) → ℕ → ℕ → S → (Course → Type 0) → Result X Ending → S → (X → Course → Type 0) → Type 0
+  Hearkens hears_some place now old Kept result new Then = (idle : ℕ) (start : S) (acts : History) → Held idle start old acts → stage acts ≡ Hearing → clock acts ≡ now
+      → Here (course acts place) Kept
+      → (after : History) × Stays place 0 acts after × (of_connections after ≡ of_connections acts) × Held idle start new after × GoesOrCloses idle after place result Then
       × IfOk result (λ done. hears_some done ≡ true → InRound asks after place)
+
+  -- the session hears so many bytes of those that wait to be heard
+  abbrev pub HearsFrom : ℕ → ℕ → S → List ℕ → List ℕ → ℕ → Result ℕ Ending → S → List ℕ → ℕ → Type 0
+  HearsFrom place now old input output active result new output_new active_new = (over : Bool) →
+      Hearkens (λ _. true) place now old (Keeps input output active over) result new (λ count. Keeps (drop count input) output_new active_new over)
 
   module _ {C : Type 0} (has : C → History → Type 0) where
     -- all that is known of connections and sessions

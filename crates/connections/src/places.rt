@@ -7,6 +7,7 @@ ghost use Rattle.connections.specs.Histories.{Hearing, Telling};
 
 use crate::Sessions;
 use crate::connections::Connections;
+use crate::limits::PIECE_SIZE;
 use crate::slots::{Round, Work, hear_at, take_at, tell_at};
 use crate::talk::Talk;
 use std::alloc::{AllocError, Global};
@@ -100,6 +101,7 @@ pub(crate) fn hear_all<S: Sessions, C: Connections>(
     sessions: &mut S,
     connections: &mut C,
     round: Round,
+    room: &mut [u8; PIECE_SIZE],
     work: &mut Work,
 )
     ensures { Tours S.opens S.hears S.wants S.ends C.has Hearing round.idle round.now round.stopped 0 0 AreAttended connections.old sessions.old places.old connections.new sessions.new places.new }
@@ -112,6 +114,7 @@ pub(crate) fn hear_all<S: Sessions, C: Connections>(
             connections,
             place,
             round,
+            room,
             work,
         );
     }

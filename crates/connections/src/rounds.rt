@@ -10,7 +10,7 @@ ghost use Rattle.connections.specs.Histories.{History, Hearing, clock, stopped};
 ghost use Rattle.connections.specs.Telling.{TellsMemory};
 
 use crate::connections::Connections;
-use crate::limits::LONGEST_WAIT;
+use crate::limits::{LONGEST_WAIT, PIECE_SIZE};
 use crate::places::{Places, are_free, hear_all, take_all, tell_all};
 use crate::slots::{Round, Work};
 use crate::talk::Talk;
@@ -59,6 +59,7 @@ fn hear_new<S: Sessions, C: Connections>(
     sessions: &mut S,
     connections: &mut C,
     round: Round,
+    room: &mut [u8; PIECE_SIZE],
     work: &mut Work,
 )
     ensures { Tours S.opens S.hears S.wants S.ends C.has Hearing round.idle round.now round.stopped 0 0 (λ after. IsStopped after ⊎ AreAttended after) connections.old sessions.old places.old connections.new sessions.new places.new }
@@ -66,7 +67,7 @@ fn hear_new<S: Sessions, C: Connections>(
     if round.stopped.is_some() {
         return;
     }
-    hear_all(alloc, places, sessions, connections, round, work);
+    hear_all(alloc, places, sessions, connections, round, room, work);
 }
 
 /// Writes a line for each connection that was closed for want of memory. One that cannot be written is
@@ -141,6 +142,7 @@ fn turn<S: Sessions, C: Connections>(
     sessions: &mut S,
     connections: &mut C,
     last: State,
+    room: &mut [u8; PIECE_SIZE],
 ) -> State
     ensures turns { Turns S.opens S.hears S.wants S.ends C.has last.round.idle last.round.stopped last.left connections.old sessions.old places.old result.round.stopped result.left connections.new sessions.new places.new }
     ensures same { result.round.idle ≡ last.round.idle }
@@ -163,7 +165,7 @@ fn turn<S: Sessions, C: Connections>(
         last.left,
         &mut work,
     );
-    hear_new(alloc, places, sessions, connections, round, &mut work);
+    hear_new(alloc, places, sessions, connections, round, room, &mut work);
     round.is_synced = connections.sync();
     tell_all(alloc, places, sessions, connections, round, &mut work);
     State { round, work, left }
@@ -185,9 +187,11 @@ fn turn_all<S: Sessions, C: Connections, E: Write>(
         × IsFair limits.idle limits.count (length places.old) acts × IsWhole limits.idle acts }
 {
     let mut state = State::new(limits);
+    // Pieces are read into this one room: what is heard at once is kept nowhere else.
+    let mut room = [0; PIECE_SIZE];
     // Every loop of Rattle has an end: this one's is past any life of a server.
     for _round in 0..u64::MAX {
-        state = turn(alloc, places, sessions, connections, state);
+        state = turn(alloc, places, sessions, connections, state, &mut room);
         tell_wanting(errors, state.work.wanting);
         if is_finished(state, places) {
             return;

@@ -7,6 +7,7 @@ ghost use Rattle.connections.specs.Histories.{History, Hearing, Telling, clock, 
 ghost use Rattle.connections.specs.Soundness.{Here, IsReason};
 
 use crate::connections::Connections;
+use crate::limits::PIECE_SIZE;
 use crate::talk::Talk;
 use crate::{Ending, SessionFault, Sessions};
 use std::alloc::Global;
@@ -119,6 +120,7 @@ pub(crate) fn hear_at<S: Sessions, C: Connections>(
     connections: &mut C,
     place: usize,
     round: Round,
+    room: &mut [u8; PIECE_SIZE],
     work: &mut Work,
 )
     ensures { Serves S.opens S.hears S.wants S.ends C.has Hearing round.idle round.now round.stopped place 0 (λ after. IfThere (course after place) (IsAttended after place)) connections.old sessions.old slot.old connections.new sessions.new slot.new }
@@ -126,7 +128,7 @@ pub(crate) fn hear_at<S: Sessions, C: Connections>(
     let Some(talk) = slot else {
         return;
     };
-    match talk.attend(alloc, sessions, connections, place, round.now) {
+    match talk.attend(alloc, sessions, connections, place, round.now, room) {
         Ok(has_done) => work.is_busy = work.is_busy || has_done,
         Err(why) => {
             work.close(why);
