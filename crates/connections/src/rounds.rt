@@ -3,9 +3,9 @@
 //! have become free, and there may be more to read.
 
 ghost use Rattle.std.specs.Prelude.{◌≡◌, ◌≢◌, ◌⊎◌, ◌↔◌, ℕ, [], ◌∷◌, None, IsTrue, get_or, length};
-ghost use Rattle.connections.specs.Endings.{AreWithin, HasEnded, IsStopped, most_comers};
+ghost use Rattle.connections.specs.Endings.{AreInside, AreWithin, HasEnded, IsStopped, most_comers};
 ghost use Rattle.connections.specs.Fairness.{AreAttended, AreUsed, IsFair, IsWhole, NoneOrdered, NoneWaited};
-ghost use Rattle.connections.specs.Fitting.{AreFree, Has, Knows, MayOrder, Tours, Turns, size_of};
+ghost use Rattle.connections.specs.Fitting.{AreFree, AreUnread, Has, Knows, MayOrder, Tours, Turns, size_of};
 ghost use Rattle.connections.specs.Histories.{History, Hearing, clock, stopped};
 ghost use Rattle.connections.specs.Telling.{TellsMemory};
 
@@ -44,7 +44,7 @@ fn take_new<S: Sessions, C: Connections>(
     left: u64,
     work: &mut Work,
 ) -> u64
-    ensures { Tours S.opens S.hears S.wants S.ends C.has Hearing round.idle round.now round.stopped left result (λ after. IsStopped after ⊎ (result ≡ 0) ⊎ NoneWaited after ⊎ AreUsed (length places.old) after) connections.old sessions.old places.old connections.new sessions.new places.new }
+    ensures { Tours S.opens S.refuses S.hears S.wants S.ends C.has Hearing round.idle round.now round.stopped left result AreUnread (λ after. (IsStopped after ⊎ (result ≡ 0) ⊎ NoneWaited after ⊎ AreUsed (length places.old) after) × AreUnread after) connections.old sessions.old places.old connections.new sessions.new places.new }
 {
     if round.stopped.is_some() {
         return left;
@@ -62,7 +62,7 @@ fn hear_new<S: Sessions, C: Connections>(
     room: &mut [u8; PIECE_SIZE],
     work: &mut Work,
 )
-    ensures { Tours S.opens S.hears S.wants S.ends C.has Hearing round.idle round.now round.stopped 0 0 (λ after. IsStopped after ⊎ AreAttended after) connections.old sessions.old places.old connections.new sessions.new places.new }
+    ensures { Tours S.opens S.refuses S.hears S.wants S.ends C.has Hearing round.idle round.now round.stopped 0 0 AreUnread (λ after. IsStopped after ⊎ AreAttended after) connections.old sessions.old places.old connections.new sessions.new places.new }
 {
     if round.stopped.is_some() {
         return;
@@ -144,7 +144,7 @@ fn turn<S: Sessions, C: Connections>(
     last: State,
     room: &mut [u8; PIECE_SIZE],
 ) -> State
-    ensures turns { Turns S.opens S.hears S.wants S.ends C.has last.round.idle last.round.stopped last.left connections.old sessions.old places.old result.round.stopped result.left connections.new sessions.new places.new }
+    ensures turns { Turns S.opens S.refuses S.hears S.wants S.ends C.has last.round.idle last.round.stopped last.left connections.old sessions.old places.old result.round.stopped result.left connections.new sessions.new places.new }
     ensures same { result.round.idle ≡ last.round.idle }
 {
     let now = connections.wait(last.pause());
@@ -183,8 +183,8 @@ fn turn_all<S: Sessions, C: Connections, E: Write>(
 )
     requires { (place : ℕ) → get_or places.old place None ≡ None }
     ensures tells { TellsMemory (E.contents errors.old) (E.contents errors.new) }
-    ensures happens { C.has connections.old [] → (acts : History) × Has S.opens S.hears S.wants S.ends C.has limits.idle sessions.old connections.new sessions.new acts × AreWithin limits.count acts × HasEnded limits.count acts
-        × IsFair limits.idle limits.count (length places.old) acts × IsWhole limits.idle acts }
+    ensures happens { C.has connections.old [] → (acts : History) × Has S.opens S.refuses S.hears S.wants S.ends C.has limits.idle sessions.old connections.new sessions.new acts × AreWithin limits.count acts × HasEnded limits.count acts
+        × IsFair limits.idle limits.count (length places.old) acts × IsWhole limits.idle acts × AreInside (length places.old) acts }
 {
     let mut state = State::new(limits);
     // Pieces are read into this one room: what is heard at once is kept nowhere else.
@@ -214,8 +214,8 @@ pub fn answer_all<S: Sessions, C: Connections, E: Write>(
 )
     requires { AreFree places }
     ensures tells { TellsMemory (E.contents errors.old) (E.contents errors.new) }
-    ensures happens { C.has connections.old [] → (acts : History) × Has S.opens S.hears S.wants S.ends C.has limits.idle sessions.old connections.new sessions.new acts × AreWithin limits.count acts × HasEnded limits.count acts
-        × IsFair limits.idle limits.count (size_of places) acts × IsWhole limits.idle acts }
+    ensures happens { C.has connections.old [] → (acts : History) × Has S.opens S.refuses S.hears S.wants S.ends C.has limits.idle sessions.old connections.new sessions.new acts × AreWithin limits.count acts × HasEnded limits.count acts
+        × IsFair limits.idle limits.count (size_of places) acts × IsWhole limits.idle acts × AreInside (size_of places) acts }
 {
     let mut places = places;
     turn_all(

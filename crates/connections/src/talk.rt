@@ -2,7 +2,7 @@
 //! the rest waits, and nothing is read before it is heard.
 
 ghost use Rattle.std.specs.Prelude.{◌≡◌, ◌≢◌, ◌⊎◌, ◌↔◌, ◌<◌, ◌≤◌, ◌++◌, [], ℕ, List, length, drop, IsTrue, IfOk, IfErr, OnOk, Some, true, false};
-ghost use Rattle.connections.specs.Fairness.{InRound, asks, offers};
+ghost use Rattle.connections.specs.Rounds.{InRound, asks, offers};
 ghost use Rattle.connections.specs.Fitting.{Adds, Attends, Hearkens, HearsFrom, IsDone, IsIdleDue, IsJudged, IsStopDue, Judged, Keeps, KeepsTalk, Knows};
 ghost use Rattle.connections.specs.Histories.{History, Hearing, Telling, clock, course, stage, stopped};
 ghost use Rattle.connections.specs.Soundness.{Here, MayRead};
@@ -20,7 +20,7 @@ pub(crate) struct Talk {
     input: Vec<u8>,
     /// What was answered and not yet taken.
     output: Vec<u8>,
-    /// When it last completed a message or took a byte, or else was taken.
+    /// When its session was last answered, or it took a byte, or else was taken.
     active: u64,
     /// The peer sends no more.
     is_over: bool,
@@ -68,7 +68,7 @@ impl Talk {
         place: usize,
         now: u64,
     ) -> Result<bool, Ending>
-        ensures hears { Hearkens S.opens S.hears S.wants S.ends (λ done. done) place now sessions.old (KeepsTalk self.old) result sessions.new (λ _. KeepsTalk self.new) }
+        ensures hears { Hearkens S.opens S.refuses S.hears S.wants S.ends (λ done. done) place now sessions.old (KeepsTalk self.old) result sessions.new (λ _. KeepsTalk self.new) }
         ensures all { IfOk result (λ _. (self.new.input.items ≡ []) ⊎ (FULL_OUTPUT < length self.new.output.items)) }
         ensures nothing { result ≡ Ok false → self.new ≡ self.old }
     {
@@ -100,7 +100,7 @@ impl Talk {
         requires none { self.old.input.items ≡ [] }
         requires some { bytes.now ≢ [] }
         requires room { length self.old.output.items ≤ FULL_OUTPUT }
-        ensures hears { Hearkens S.opens S.hears S.wants S.ends (λ _. true) place now sessions.old (Keeps bytes.now self.old.output.items self.old.active self.old.is_over) result sessions.new (λ _. KeepsTalk self.new) }
+        ensures hears { Hearkens S.opens S.refuses S.hears S.wants S.ends (λ _. true) place now sessions.old (Keeps bytes.now self.old.output.items self.old.active self.old.is_over) result sessions.new (λ _. KeepsTalk self.new) }
         ensures all { IfOk result (λ _. (self.new.input.items ≡ []) ⊎ (FULL_OUTPUT < length self.new.output.items)) }
     {
         let heard = hear_parts(
@@ -134,7 +134,7 @@ impl Talk {
         now: u64,
         room: &mut [u8; PIECE_SIZE],
     ) -> Result<bool, Ending>
-        ensures { Attends S.opens S.hears S.wants S.ends C.has Hearing place now connections.old sessions.old self.old result connections.new sessions.new self.new }
+        ensures { Attends S.opens S.refuses S.hears S.wants S.ends C.has Hearing place now connections.old sessions.old self.old result connections.new sessions.new self.new }
     {
         if !self.may_read() {
             return self.hear_rest(alloc, sessions, place, now);
@@ -266,7 +266,7 @@ fn hear_part<S: Sessions>(
 ) -> Result<usize, Ending>
     requires some { bytes.now ≢ [] }
     requires room { length output.old.items ≤ FULL_OUTPUT }
-    ensures hears { HearsFrom S.opens S.hears S.wants S.ends place now sessions.old bytes.now output.old.items active.old result sessions.new output.new.items active.new }
+    ensures hears { HearsFrom S.opens S.refuses S.hears S.wants S.ends place now sessions.old bytes.now output.old.items active.old result sessions.new output.new.items active.new }
     ensures count { IfOk result (λ count. (1 ≤ count) × (count ≤ length bytes.now)) }
 {
     let size = output.len();
@@ -289,7 +289,7 @@ fn hear_parts<S: Sessions>(
 ) -> Result<usize, Ending>
     requires some { bytes.now ≢ [] }
     requires room { length output.old.items ≤ FULL_OUTPUT }
-    ensures hears { HearsFrom S.opens S.hears S.wants S.ends place now sessions.old bytes.now output.old.items active.old result sessions.new output.new.items active.new }
+    ensures hears { HearsFrom S.opens S.refuses S.hears S.wants S.ends place now sessions.old bytes.now output.old.items active.old result sessions.new output.new.items active.new }
     ensures count { IfOk result (λ count. count ≤ length bytes.now) }
     ensures all { IfOk result (λ count. (count ≡ length bytes.now) ⊎ (FULL_OUTPUT < length output.new.items)) }
 {

@@ -1,14 +1,21 @@
 use Rattle.std.proofs.Common.{◌≡◌, ◌≤◌, ◌∷◌, ◌++◌, List, ℕ, length, take, drop, arith, refl, sym, inl}
 use Rattle.std.proofs.lemmas.Grind.{common_steps}
-use Rattle.connections.specs.Fitting.{Keeps}
-use Rattle.connections.specs.Histories.{Hears, On, Wants, Course, clock, if_answered}
-use Rattle.connections.proofs.Steps.{active_is, here_so, next_hear, next_want, stays_one}
+use Rattle.connections.specs.Histories.{Hears, On, Wants, clock, if_answered}
+use Rattle.connections.proofs.Steps.{active_is, next_hear, next_want, stays_one}
 use Rattle.connections.proofs.talk.hear_part.Goals as goal
 
 pub returns-in-Err-clause-hears : goal.returns-in-Err-clause-hears
 returns-in-Err-clause-hears g c = λ over idle start acts held hearing now here.
-    let next = next_want idle acts c.args.place (here_so _ _ _ (λ (of : Course) (keeps : Keeps c.args.bytes.now c.args.output.now.items c.args.active.now over of). keeps.is_open) here) in
-    (On c.args.place Wants ∷ acts, stays_one c.args.place Wants acts, refl, ((c.args.sessions.now, held.0, c.in-Err.ensures.err), (next.0, held.1)), next.1, tt)
+    let err = c.in-Err.ensures.err in
+    let input : List ℕ = c.args.bytes.now in
+    let part : List ℕ = take err.0 input in
+    let rest : List ℕ = drop err.0 input in
+    let least : 1 ≤ err.0 = err.1 in
+    let most : err.0 ≤ length input = err.2 in
+    let some : 1 ≤ length part = grind (arith, common_steps) in
+    let split : input ≡ part ++ rest = grind (arith, common_steps) in
+    let next = next_want idle acts c.args.place part rest input c.args.output.now.items c.args.active.now over hearing some split c.requires.room here in
+    (On c.args.place (Wants part) ∷ acts, stays_one c.args.place (Wants part) acts, refl, ((c.args.sessions.now, held.0, err.3), (next.0, held.1)), next.1, tt)
 
 pub returns-clause-hears : goal.returns-clause-hears
 returns-clause-hears g c = λ over idle start acts held hearing now here.
