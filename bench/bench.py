@@ -89,7 +89,9 @@ FEED_FRAMES, FEED_TAKEN, FEED_RUNS = (64, 1_024, 16_384), 1 << 23, 20
 IN_FLIGHT, SERVE_FRAMES, SERVE_ROUNDS = 64, 8_000, 9
 # The connections that ask at once, one look-up each at a time; about the look-ups of a step, and the rounds. And those that
 # are idle once they asked for the head.
-CROWDS, CROWD_FRAMES, CROWD_ROUNDS, IDLE_CONNECTIONS = (1, 16, 256, 1_000), 8_000, 5, 900
+# How many connections, and how many look-ups each has in flight.
+CROWDS = (1, 1), (16, 1), (256, 1), (256, 4), (256, 64), (1_000, 1)
+CROWD_FRAMES, CROWD_ROUNDS, IDLE_CONNECTIONS = 8_000, 5, 900
 SERVE_KEYS = {"sign-key": "01", "vuf-key": "02", "salt-key": "00", "token": "04"}
 
 # The roots of the chains that are observed, and the runs of each. In a run: the roots that then extend
@@ -1027,7 +1029,7 @@ class Loopback:
         """The bare exchange: as many bytes as the look-ups of a step before had."""
         if self.bare is None:
             reply = round(self.bytes["look-up", 1][0] / SERVE_FRAMES)
-            self.answer = Side("answer", HUB_REQUESTS["look-up"], reply, 1)
+            self.answer = Side("answer", HUB_REQUESTS["look-up"], reply, 1, 1)
             self.answer.process.stdin.write(b"\n")
             words = [self.answer.number, HUB_NAMES, SERVE_FRAMES, SERVE_ROUNDS]
             self.bare = Side("exchange", *words, server=self.answer.process)
@@ -1047,16 +1049,17 @@ class Loopback:
 
 
 class Crowd:
-    """So many connections, each with a look-up at a time: of a server that listens on a port, and of a bare exchange
-    of as many bytes, whose replies have so many. Each is asked in turn."""
+    """So many connections, each with so many look-ups in flight: of a server that listens on a port, and of a bare
+    exchange of as many bytes, whose replies have so many. Each is asked in turn."""
 
-    def __init__(self, connections, server, port, reply):
-        self.connections = connections
-        self.answer = Side("answer", HUB_REQUESTS["look-up"], reply, connections)
+    def __init__(self, connections, in_flight, server, port, reply):
+        self.connections, self.in_flight = connections, in_flight
+        self.answer = Side("answer", HUB_REQUESTS["look-up"], reply, connections, in_flight)
         self.answer.process.stdin.write(b"\n")
         # As many of each connection.
-        self.frames = CROWD_FRAMES // connections * connections
-        words = [HUB_NAMES, connections, self.frames, CROWD_ROUNDS]
+        batch = connections * in_flight
+        self.frames = max(CROWD_FRAMES // batch, 1) * batch
+        words = [HUB_NAMES, connections, in_flight, self.frames, CROWD_ROUNDS]
         self.sides = {"": Side("crowd", port, *words, server=server)}
         self.sides["bare"] = Side("crowd", self.answer.number, *words, server=self.answer.process)
         self.rates = {name: [] for name in self.sides}
@@ -1078,7 +1081,7 @@ class Crowd:
         for name, rates in self.rates.items():
             rate = statistics.median(rates)
             middle, late, worst = (statistics.median(times) / 1e3 for times in self.times[name])
-            row = [f"{self.connections:,}", name, f"{rate:,.0f}", f"{rate / wanted:.2f}"]
+            row = [f"{self.connections:,}", f"{self.in_flight}", name, f"{rate:,.0f}", f"{rate / wanted:.2f}"]
             yield [*row, f"{middle:,.0f}", f"{late:,.0f}", f"{worst:,.0f}", f"{late / middle:.1f}"]
 
 
@@ -1087,14 +1090,14 @@ def crowds(loop):
     wanted = 1 / statistics.median(loop.times["look-up", IN_FLIGHT])
     reply = round(loop.bytes["look-up", 1][0] / SERVE_FRAMES)
     rows = []
-    for connections in CROWDS:
-        crowd = Crowd(connections, loop.server, loop.port, reply)
+    for connections, in_flight in CROWDS:
+        crowd = Crowd(connections, in_flight, loop.server, loop.port, reply)
         for _ in range(CROWD_ROUNDS):
             crowd.round()
         crowd.end()
         rows += crowd.rows(wanted)
-    head = ["connections", "", "a second", "part", "50th", "99th", "worst", "99th of the 50th"]
-    title = f"look-ups by many connections, one of each at a time, and their part of the rate of one with {IN_FLIGHT} in flight; us"
+    head = ["connections", "in flight", "", "a second", "part", "50th", "99th", "worst", "99th of the 50th"]
+    title = f"look-ups by many connections, and their part of the rate of one with {IN_FLIGHT} in flight; us"
     table(title, head, rows)
     print(f"\nan idle connection: {loop.idle / 1024:.1f} KiB of resident memory")
 

@@ -5,7 +5,8 @@
 #
 # The programs are vectors, session_vectors and faults, as they were built last. Each answers a question once
 # more where a call lacked memory. So a run passes if it writes the stored answers, or if it ends with status 1
-# before its first answer. Any other end is a wrong answer in place of a refusal, or shows that a refused call
+# before its first answer. Of many connections at once it may also close the one for which memory was wanting
+# (scripts/others_go_on.py). Any other end is a wrong answer in place of a refusal, or shows that a refused call
 # has changed something. A program that is not built counts as failed.
 #
 # The questions of each subject, which stand between empty lines, are a run of their own. First each allocation of
@@ -61,8 +62,6 @@ count() {
         cmp "$folder/$1/all.answers" "$crates/$1/stdout" >&2 || return 1
     awk -v RS= -v folder="$folder/$1" '{ print > (folder "/" NR ".questions") }' "$crates/$1/stdin"
     for part in "$folder/$1"/[0-9]*.questions; do
-        # Where memory is wanting for one of many connections, the others go on, and the answer tells of it.
-        grep -m 1 '^#' "$part" | grep -q '^# many connections at once' && continue
         subject=$(basename "$part" .questions)
         run "$1" "$subject" 0 "$folder/$1/$subject.answers" "$folder/count" || return 1
         when=then
@@ -89,6 +88,13 @@ order() {
             }'
 }
 
+# Whether a run with many connections answered as it should. Where memory is wanting for one of them, the others go
+# on, and the answer tells of it: others_go_on PROGRAM SUBJECT OUTPUT
+others_go_on() {
+    grep -m 1 '^#' "$folder/$1/$2.questions" | grep -q '^# many connections at once' &&
+        python3 scripts/others_go_on.py "$folder/$1/$2.questions" "$3" "$folder/$1/$2.answers"
+}
+
 # Tries a part of the allocations until the time is over: a line PROGRAM END each, END `passed`, `early` or
 # `failed`.
 try_part() {
@@ -101,6 +107,8 @@ try_part() {
                 echo "$program passed"
             elif [ $status = 1 ] && [ ! -s "$output" ]; then
                 echo "$program early"
+            elif [ $status = 0 ] && others_go_on "$program" "$subject" "$output"; then
+                echo "$program passed"
             else
                 echo "$program failed"
                 tell "$program" "$subject" "$number" $status "$output" >&2

@@ -1,14 +1,18 @@
 -- A connection is taken and its session opened; a session is ended and its connection closed.
-use Rattle.std.proofs.Common.{◌≡◌, ◌≢◌, ◌⊎◌, ℕ, ◌+◌, ◌≤◌, List, [], ◌∷◌, ◌++◌, true, false, Option, Some, None, Result, Ok, Err, IfOk, refl, sym, ap, ◌∙◌, arith, inl, inr, append-nil}
+use Rattle.std.proofs.Common.{◌≡◌, ◌≢◌, ◌⊎◌, ℕ, ◌+◌, ◌≤◌, List, [], ◌∷◌, ◌++◌, true, false, Option, Some, None, Result, Ok, Err, IfOk, refl, sym, subst, ap, ◌∙◌, arith, inl, inr, append-nil}
 use Rattle.connections.specs.declared.ending.Ending.{Ending}
 use Rattle.connections.specs.declared.ending.Ending.TheVariants.{Done, Fault, Idle, Stopped, Unsynced, Memory, Refused}
+use Rattle.connections.specs.declared.ending.SessionFault.{SessionFault}
+use Rattle.connections.specs.declared.ending.SessionFault.TheVariants as session
+use Rattle.std.proofs.lemmas.Bool.{false≢true}
 use Rattle.connections.specs.declared.limits.TheConstants.{LAST_MILLISECONDS}
 use Rattle.connections.specs.declared.talk.Talk.{Talk}
 use Rattle.connections.specs.Fairness.{IsNotDue, IsUsed}
-use Rattle.connections.specs.Fitting.{Fits, Has, IsDone, IsIdleDue, IsJudged, IsStopDue, IsOpeningFault, Judged, Keeps, KeepsTalk, Stays}
-use Rattle.connections.specs.Histories.{On, Comes, Opens, Ends, Closes, History, Course, Hearing, clock, course, done_at, of_connections, stage, stopped, taken_at}
+use Rattle.connections.specs.Fitting.{Fits, Has, IsDone, IsIdleDue, IsJudged, IsStopDue, ending_of, Judged, Keeps, KeepsTalk, Stays}
+use Rattle.connections.specs.Histories.{On, Comes, Opens, Refuses, Ends, Closes, History, Course, Hearing, clock, course, done_at, of_connections, stage, stopped, taken_at, went_on}
+use Rattle.connections.specs.Rounds.{IsUnread}
 use Rattle.connections.specs.Soundness.{Here, IsDue, IsReason}
-use Rattle.connections.proofs.Steps.{here_at, here_of, here_one, here_so, none_left, some_there, stays_both, stays_one, went}
+use Rattle.connections.proofs.Steps.{here_at, here_of, here_one, here_so, none_left, some_there, stays_both, stays_one, still_unread, went}
 
 -- ---- a place and its history
 
@@ -99,23 +103,23 @@ judged now idle stop acts place talk (Err Unsynced) time order here is = absurd 
 judged now idle stop acts place talk (Err Memory) time order here is = absurd is
 judged now idle stop acts place talk (Err Refused) time order here is = absurd is
 
-opening_reason : (idle : ℕ) (acts : History) (now : ℕ) (why : Ending) → IsOpeningFault why → IsReason idle acts why (taken_at now)
-opening_reason idle acts now Done is = absurd is
-opening_reason idle acts now Fault is = absurd is
-opening_reason idle acts now Idle is = absurd is
-opening_reason idle acts now Stopped is = absurd is
-opening_reason idle acts now Unsynced is = absurd is
-opening_reason idle acts now Memory is = tt
-opening_reason idle acts now Refused is = refl
+opening_reason : (idle : ℕ) (acts : History) (place now : ℕ) (fault : SessionFault) (of : Course) → went_on (Refuses fault) now (taken_at now) ≡ Some of → (of.is_open ≡ false) × IsReason idle acts (ending_of fault) of
+opening_reason idle acts place now session.Memory of is = subst (λ (there : Option Course). Here there (λ of. (of.is_open ≡ false) × (of.is_wanting ≡ true))) is (refl, refl)
+opening_reason idle acts place now session.Refused of is = subst (λ (there : Option Course). Here there (λ of. (of.is_open ≡ false) × (of.is_refused ≡ true))) is (refl, refl)
 
-module _ {S : Type 0} (opens : S → ℕ → S → Type 0) (hears : S → ℕ → List ℕ → List ℕ → S → Type 0) (wants ends : S → ℕ → S → Type 0) {C : Type 0} (has : C → History → Type 0) where
+-- where a session is not opened, its connection goes on until it is closed
+gone_on : (fault : SessionFault) (now : ℕ) → (of : Course) × (went_on (Refuses fault) now (taken_at now) ≡ Some of)
+gone_on session.Memory now = (_, refl)
+gone_on session.Refused now = (_, refl)
+
+module _ {S : Type 0} (opens : S → ℕ → S → Type 0) (refuses : S → ℕ → SessionFault → Type 0) (hears : S → ℕ → List ℕ → List ℕ → S → Type 0) (wants : S → ℕ → List ℕ → S → Type 0) (ends : S → ℕ → S → Type 0) {C : Type 0} (has : C → History → Type 0) where
   -- ---- the end of a connection
 
   -- a connection is closed, whose session is ended before
   abbrev pub ClosesAt : ℕ → Ending → C → S → C → S → Type 0
-  ClosesAt place why connections old connections_new new = (idle : ℕ) (start : S) (acts : History) → Has opens hears wants ends has idle start connections old acts
+  ClosesAt place why connections old connections_new new = (idle : ℕ) (start : S) (acts : History) → Has opens refuses hears wants ends has idle start connections old acts
       → Here (course acts place) (λ of. (of.is_open ≡ true) × IsReason idle acts why of)
-      → (after : History) × Stays place 0 acts after × Has opens hears wants ends has idle start connections_new new after × (course after place ≡ None)
+      → (after : History) × Stays place 0 acts after × Has opens refuses hears wants ends has idle start connections_new new after × (course after place ≡ None)
 
   pub closed : (place : ℕ) (why : Ending) (connections connections_new : C) (old new : S) → ends old place new
       → ((acts : History) → has connections acts → has connections_new (On place (Closes why) ∷ acts)) → ClosesAt place why connections old connections_new new
@@ -130,40 +134,48 @@ module _ {S : Type 0} (opens : S → ℕ → S → Type 0) (hears : S → ℕ �
       here_at (course once place) shut (λ (of : Course). (of.is_open ≡ false) × IsReason idle once why of) there (refl, reason_kept idle acts place of why found.2.1) in (
         On place (Closes why) ∷ once,
         stays_both place 0 0 acts once (On place (Closes why) ∷ once) (stays_one place Ends acts) (stays_one place (Closes why) once),
-        (step (of_connections acts) known.0, (old, known.1, ended), (due_close, (due_end, known.2))),
+        (step (of_connections acts) known.0, (old, known.1, ended), ((due_close, λ so. absurd (false≢true so)), ((due_end, λ so. absurd (false≢true so)), known.2))),
         went place (Closes why) once shut there,
       )
 
   -- ---- the beginning of one
 
-  module _ (idle : ℕ) (start : S) (acts : History) (place : ℕ) (connections connections_taken : C) (old : S) (known : Has opens hears wants ends has idle start connections old acts)
-      (hearing : stage acts ≡ Hearing) (goes : stopped acts ≡ None) (free : course acts place ≡ None)
+  module _ (idle : ℕ) (start : S) (acts : History) (place : ℕ) (connections connections_taken : C) (old : S) (known : Has opens refuses hears wants ends has idle start connections old acts)
+      (hearing : stage acts ≡ Hearing) (goes : stopped acts ≡ None) (free : course acts place ≡ None) (unread : IsUnread place acts)
       (step : has connections (of_connections acts) → has connections_taken (On place Comes ∷ of_connections acts)) where
     there : course (On place Comes ∷ acts) place ≡ Some (taken_at (clock acts))
     there = here_one place Comes acts ∙ ap (done_at Comes (clock acts)) free
 
     pub opened : (now : ℕ) → clock acts ≡ now → (new : S) → opens old place new
-        → (after : History) × Stays place 1 acts after × Has opens hears wants ends has idle start connections_taken new after × Here (course after place) (Keeps [] [] now false) × IsUsed after place
+        → (after : History) × Stays place 1 acts after × Has opens refuses hears wants ends has idle start connections_taken new after × Here (course after place) (Keeps [] [] now false) × IsUsed after place × IsUnread place after
     opened now time new does =
         let due : IsDue idle (On place Comes ∷ acts) Opens (course (On place Comes ∷ acts) place) =
         here_at (course (On place Comes ∷ acts) place) (taken_at (clock acts)) (λ (of : Course). (of.is_open ≡ false) × (of.read ≡ [])) there (refl, refl) in (
           On place Opens ∷ On place Comes ∷ acts,
           stays_both place 1 0 acts (On place Comes ∷ acts) (On place Opens ∷ On place Comes ∷ acts) (stays_one place Comes acts) (stays_one place Opens (On place Comes ∷ acts)),
-          (step known.0, (old, known.1, does), (due, ((free, hearing, goes), known.2))),
+          (step known.0, (old, known.1, does), ((due, λ so. absurd (false≢true so)), (((free, hearing, goes), λ so. absurd (false≢true so)), known.2))),
           here_at (course (On place Opens ∷ On place Comes ∷ acts) place) (record (taken_at (clock acts)) { is_open = true }) (Keeps [] [] now false) (went place Opens (On place Comes ∷ acts) (taken_at (clock acts)) there)
-              (record { is_open = refl; input_rest = refl; output_rest = refl; last = time; end = refl }),
+              (record { is_open = refl; input_rest = refl; output_rest = refl; last = time; end = refl; fine = refl }),
           inl (λ (none : course (On place Opens ∷ On place Comes ∷ acts) place ≡ None). some_there _ (sym (went place Opens (On place Comes ∷ acts) (taken_at (clock acts)) there) ∙ none)),
+          still_unread place Opens (On place Comes ∷ acts) refl (still_unread place Comes acts refl unread),
         )
 
-    pub refused : (why : Ending) → IsOpeningFault why → (connections_new : C) → ((acts : History) → has connections_taken acts → has connections_new (On place (Closes why) ∷ acts))
-        → (after : History) × Stays place 1 acts after × Has opens hears wants ends has idle start connections_new old after × (course after place ≡ None) × IsUsed after place
-    refused why is connections_new close =
-        let due : IsDue idle (On place Comes ∷ acts) (Closes why) (course (On place Comes ∷ acts) place) =
-        here_at (course (On place Comes ∷ acts) place) (taken_at (clock acts)) (λ (of : Course). (of.is_open ≡ false) × IsReason idle (On place Comes ∷ acts) why of) there
-        (refl, opening_reason idle (On place Comes ∷ acts) (clock acts) why is) in (
-          On place (Closes why) ∷ On place Comes ∷ acts,
-          stays_both place 1 0 acts (On place Comes ∷ acts) (On place (Closes why) ∷ On place Comes ∷ acts) (stays_one place Comes acts) (stays_one place (Closes why) (On place Comes ∷ acts)),
-          (close (On place Comes ∷ of_connections acts) (step known.0), known.1, (due, ((free, hearing, goes), known.2))),
-          went place (Closes why) (On place Comes ∷ acts) (taken_at (clock acts)) there,
+    pub refused : (fault : SessionFault) → refuses old place fault → (connections_new : C) → ((acts : History) → has connections_taken acts → has connections_new (On place (Closes (ending_of fault)) ∷ acts))
+        → (after : History) × Stays place 1 acts after × Has opens refuses hears wants ends has idle start connections_new old after × (course after place ≡ None) × IsUsed after place × IsUnread place after
+    refused fault refuses connections_new close =
+        let came : History = On place Comes ∷ acts in
+        let shut : History = On place (Refuses fault) ∷ came in
+        let why : Ending = ending_of fault in
+        let due : IsDue idle came (Refuses fault) (course came place) =
+        here_at (course came place) (taken_at (clock acts)) (λ (of : Course). (of.is_open ≡ false) × (of.read ≡ [])) there (refl, refl) in
+        let on = gone_on fault (clock acts) in
+        let is : course shut place ≡ Some on.0 = went place (Refuses fault) came (taken_at (clock acts)) there ∙ on.1 in
+        let due_close : IsDue idle shut (Closes why) (course shut place) =
+        here_at (course shut place) on.0 (λ (of : Course). (of.is_open ≡ false) × IsReason idle shut why of) is (opening_reason idle shut place (clock acts) fault on.0 on.1) in (
+          On place (Closes why) ∷ shut,
+          stays_both place 1 0 acts shut (On place (Closes why) ∷ shut) (stays_both place 1 0 acts came shut (stays_one place Comes acts) (stays_one place (Refuses fault) came)) (stays_one place (Closes why) shut),
+          (close (On place Comes ∷ of_connections acts) (step known.0), (known.1, refuses), ((due_close, λ so. absurd (false≢true so)), ((due, λ so. absurd (false≢true so)), (((free, hearing, goes), λ so. absurd (false≢true so)), known.2)))),
+          went place (Closes why) shut on.0 is,
           inr (inl (refl, refl)),
+          still_unread place (Closes why) shut refl (still_unread place (Refuses fault) came refl (still_unread place Comes acts refl unread)),
         )

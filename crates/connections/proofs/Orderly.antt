@@ -3,7 +3,8 @@ use Rattle.std.proofs.Common.{◌≡◌, ℕ, List, [], ◌∷◌, ◌++◌, Boo
 use Rattle.std.proofs.lemmas.Bool.{eqb-true}
 use Rattle.std.specs.Prelude.{◌==◌}
 use Rattle.connections.specs.declared.ending.Ending.TheVariants.{Done}
-use Rattle.connections.specs.Histories.{At, Ordered, GoesOn, Syncs, NoneWaits, On, Deed, Comes, Opens, Reads, IsOver, IsSilent, Hears, Wants, Takes, TakesNone, Fails, Ends, Closes, History, Course, clock, course, done_at}
+use Rattle.connections.specs.declared.ending.SessionFault.TheVariants as fault
+use Rattle.connections.specs.Histories.{At, Ordered, GoesOn, Syncs, NoneWaits, On, Deed, Comes, Opens, Refuses, Reads, IsOver, IsSilent, Hears, Wants, Lacks, Takes, TakesNone, Fails, Ends, Closes, History, Course, clock, course, done_at}
 use Rattle.connections.specs.Laws.{AreInOrder}
 use Rattle.connections.specs.Soundness.{Here, IsDue, IsHeard, IsSound, IsTold}
 
@@ -12,6 +13,9 @@ stays_in_order idle acts Comes now None due order = ([], [], refl, refl)
 stays_in_order idle acts Comes now (Some of) due order = ([], [], refl, refl)
 stays_in_order idle acts Opens now None due order = tt
 stays_in_order idle acts Opens now (Some of) due order = order
+stays_in_order idle acts (Refuses why) now None due order = tt
+stays_in_order idle acts (Refuses fault.Memory) now (Some of) due order = order
+stays_in_order idle acts (Refuses fault.Refused) now (Some of) due order = order
 stays_in_order idle acts (Reads bytes) now None due order = tt
 stays_in_order idle acts (Reads bytes) now (Some of) (may, hearing, some, few) (untold, unheard, told, heard) = (untold, bytes, told, ap (λ (t : List ℕ). t ++ bytes) may.1)
 stays_in_order idle acts IsOver now None due order = tt
@@ -19,14 +23,16 @@ stays_in_order idle acts IsOver now (Some of) due order = order
 stays_in_order idle acts IsSilent now None due order = tt
 stays_in_order idle acts IsSilent now (Some of) due order = order
 stays_in_order idle acts (Hears part reply) now None due order = tt
-stays_in_order idle acts (Hears part reply) now (Some of) (opened, room, hearing, some, (rest, split)) (untold, unheard, told, heard) = (
+stays_in_order idle acts (Hears part reply) now (Some of) ((opened, room, fine, some, (rest, split)), hearing) (untold, unheard, told, heard) = (
   untold ++ reply,
   rest,
   ap (λ (t : List ℕ). t ++ reply) told ∙ append_assoc of.taken untold reply,
   split ∙ sym (append_assoc of.heard part rest),
 )
-stays_in_order idle acts Wants now None due order = tt
-stays_in_order idle acts Wants now (Some of) due order = order
+stays_in_order idle acts (Wants part) now None due order = tt
+stays_in_order idle acts (Wants part) now (Some of) due order = order
+stays_in_order idle acts Lacks now None due order = tt
+stays_in_order idle acts Lacks now (Some of) due order = order
 stays_in_order idle acts (Takes bytes) now None due order = tt
 stays_in_order idle acts (Takes bytes) now (Some of) (telling, some, (rest, split)) (untold, unheard, told, heard) = (rest, unheard, split ∙ sym (append_assoc of.taken bytes rest), heard)
 stays_in_order idle acts TakesNone now None due order = tt
@@ -52,11 +58,11 @@ in_order idle (Ordered ∷ acts) place sound = in_order idle acts place sound
 in_order idle (Syncs kept ∷ acts) place sound = in_order idle acts place sound.1
 in_order idle (GoesOn ∷ acts) place sound = in_order idle acts place sound.1
 in_order idle (NoneWaits ∷ acts) place sound = in_order idle acts place sound.2
-in_order idle (On other deed ∷ acts) place sound = at_place idle acts deed other place (other == place) refl sound.0 (in_order idle acts place sound.1)
+in_order idle (On other deed ∷ acts) place sound = at_place idle acts deed other place (other == place) refl sound.0.0 (in_order idle acts place sound.1)
 
 whole : (idle : ℕ) (acts : History) (there : Option Course) → IsDue idle acts (Closes Done) there → Here there (λ of. IsHeard of × IsTold of)
 whole idle acts None due = due
 whole idle acts (Some of) (shut, (over, heard, told)) = (heard, told)
 
 pub done_whole : (idle : ℕ) (acts : History) (place : ℕ) → IsSound idle (On place (Closes Done) ∷ acts) → Here (course acts place) (λ of. IsHeard of × IsTold of)
-done_whole idle acts place sound = whole idle acts (course acts place) sound.0
+done_whole idle acts place sound = whole idle acts (course acts place) sound.0.0

@@ -1,16 +1,18 @@
 -- One deed more at a place.
 use Rattle.std.proofs.Common.{◌≡◌, ◌≢◌, ℕ, ◌+◌, ◌<◌, ◌≤◌, List, [], ◌∷◌, ◌++◌, ◌⊎◌, length, Bool, true, false, Option, Some, None, Result, Ok, Err, IfOk, refl, sym, ap, ◌∙◌, append_assoc, arith, inl, inr}
-use Rattle.std.proofs.lemmas.Bool.{cases_lt, eq-eqb, eqb-true, ne_eqb}
+use Rattle.std.proofs.lemmas.Bool.{cases_lt, eq-eqb, eqb-true, false≢true, ne_eqb}
 use Rattle.std.proofs.lemmas.List.{append-nil, length-append}
 use Rattle.std.specs.Prelude.{◌==◌, ⊤}
 use Rattle.connections.specs.declared.ending.Ending.{Ending}
+use Rattle.connections.specs.declared.ending.SessionFault.TheVariants as fault
 use Rattle.connections.specs.declared.limits.TheConstants.{PIECE_SIZE, FULL_OUTPUT}
 use Rattle.connections.specs.declared.talk.Talk.{Talk}
 use Rattle.connections.specs.Endings.{comers, newcomers}
-use Rattle.connections.specs.Fairness.{asks, closes, offers, IfThere, InRound, IsAttended, IsFull, IsNotDue, IsServed, IsUsed}
+use Rattle.connections.specs.Fairness.{IfThere, IsAttended, IsFull, IsNotDue, IsServed, IsUsed}
 use Rattle.connections.specs.Fitting.{Adds, IsOfConnection, Keeps, KeepsTalk, Knows, Lasts, Stays}
-use Rattle.connections.specs.Histories.{NoneWaits, On, Deed, Comes, Opens, Reads, IsOver, IsSilent, Hears, Wants, Takes, TakesNone, Fails, Ends, Closes, History, Course, Hearing, Telling, clock, course, done_at, if_answered, of_connections, stage, went_on}
-use Rattle.connections.specs.Soundness.{Here, AreNext, HasRoom, IsDue, MayRead}
+use Rattle.connections.specs.Histories.{NoneWaits, On, Deed, Comes, Opens, Refuses, Reads, IsOver, IsSilent, Hears, Wants, Lacks, Takes, TakesNone, Fails, Ends, Closes, History, Course, Hearing, Telling, clock, course, done_at, if_answered, of_connections, stage, went_on}
+use Rattle.connections.specs.Rounds.{asks, closes, offers, reads, InRound, IsUnread}
+use Rattle.connections.specs.Soundness.{Here, AreNext, HasRoom, IsDue, IsOnce, MayHear, MayRead}
 
 -- ---- where a connection is
 
@@ -44,11 +46,14 @@ done_used : (deed : Deed) (now : ℕ) (there : Option Course) → there ≢ None
 done_used deed now None some = absurd (some refl)
 done_used Comes now (Some of) some = inl (some_there _)
 done_used Opens now (Some of) some = inl (some_there _)
+done_used (Refuses fault.Memory) now (Some of) some = inl (some_there _)
+done_used (Refuses fault.Refused) now (Some of) some = inl (some_there _)
 done_used (Reads bytes) now (Some of) some = inl (some_there _)
 done_used IsOver now (Some of) some = inl (some_there _)
 done_used IsSilent now (Some of) some = inl (some_there _)
 done_used (Hears part reply) now (Some of) some = inl (some_there _)
-done_used Wants now (Some of) some = inl (some_there _)
+done_used (Wants part) now (Some of) some = inl (some_there _)
+done_used Lacks now (Some of) some = inl (some_there _)
 done_used (Takes bytes) now (Some of) some = inl (some_there _)
 done_used TakesNone now (Some of) some = inl (some_there _)
 done_used Fails now (Some of) some = inl (some_there _)
@@ -111,7 +116,18 @@ stays_waits place acts = record {
     fair = λ idle count size fair. fair;
   };
   more_came = omega arith;
+  unread = λ other differs none. none;
+  inside = λ size less inside. inside;
 }
+
+unread_one : (place : ℕ) (deed : Deed) (acts : History) (other : ℕ) → other ≢ place → IsUnread other acts → IsUnread other (On place deed ∷ acts)
+unread_one place deed acts other differs none (inl (same, is)) = differs (sym same)
+unread_one place deed acts other differs none (inr found) = none found
+
+-- a deed that asks for nothing
+pub still_unread : (place : ℕ) (deed : Deed) (acts : History) → reads deed ≡ false → IsUnread place acts → IsUnread place (On place deed ∷ acts)
+still_unread place deed acts other none (inl (same, is)) = false≢true (sym other ∙ is)
+still_unread place deed acts other none (inr found) = none found
 
 -- all others stay
 pub stays_one : (place : ℕ) (deed : Deed) (acts : History) → Stays place (newcomers deed) acts (On place deed ∷ acts)
@@ -123,6 +139,8 @@ stays_one place deed acts = record {
   same_rounds = refl;
   lasts = lasts_one place deed acts;
   more_came = refl;
+  unread = unread_one place deed acts;
+  inside = λ size less inside. (less, inside);
 }
 
 -- nothing is left of a list that was the whole
@@ -141,16 +159,16 @@ not_told of input output active over some keeps same = some (none_left of.answer
 
 -- what is due of a connection, and what is so of it after the deed
 abbrev pub Next : ℕ → History → ℕ → Deed → (Course → Type 0) → Type 0
-Next idle acts place deed P = IsDue idle acts deed (course acts place) × Here (course (On place deed ∷ acts) place) P
+Next idle acts place deed P = (IsDue idle acts deed (course acts place) × IsOnce acts place deed) × Here (course (On place deed ∷ acts) place) P
 
-pub next_read : (idle : ℕ) (acts : History) (place : ℕ) (bytes input output : List ℕ) (active : ℕ) (over : Bool) → stage acts ≡ Hearing → 1 ≤ length bytes → length bytes ≤ PIECE_SIZE
+pub next_read : (idle : ℕ) (acts : History) (place : ℕ) (bytes input output : List ℕ) (active : ℕ) (over : Bool) → IsUnread place acts → stage acts ≡ Hearing → 1 ≤ length bytes → length bytes ≤ PIECE_SIZE
     → Here (course acts place) (λ of. Keeps input output active over of × MayRead of) → Next idle acts place (Reads bytes) (Keeps bytes output active over)
-next_read idle acts place bytes input output active over hearing some few here =
+next_read idle acts place bytes input output active over unread hearing some few here =
     let found = here_of (course acts place) (λ (of : Course). Keeps input output active over of × MayRead of) here in
     let of : Course = found.0 in
     let keeps : Keeps input output active over of = found.2.0 in
     let may : MayRead of = found.2.1 in (
-      here_at (course acts place) of (λ (of : Course). MayRead of × (stage acts ≡ Hearing) × (1 ≤ length bytes) × (length bytes ≤ PIECE_SIZE)) found.1 (may, hearing, some, few),
+      (here_at (course acts place) of (λ (of : Course). MayRead of × (stage acts ≡ Hearing) × (1 ≤ length bytes) × (length bytes ≤ PIECE_SIZE)) found.1 (may, hearing, some, few), λ so. unread),
       here_at (course (On place (Reads bytes) ∷ acts) place) (record of { read = of.read ++ bytes }) (Keeps bytes output active over) (went place (Reads bytes) acts of found.1)
           (record {
             is_open = keeps.is_open;
@@ -158,16 +176,17 @@ next_read idle acts place bytes input output active over hearing some few here =
             output_rest = keeps.output_rest;
             last = keeps.last;
             end = keeps.end;
+            fine = keeps.fine;
           }),
     )
 
-pub next_over : (idle : ℕ) (acts : History) (place : ℕ) (input output : List ℕ) (active : ℕ) (over : Bool) → stage acts ≡ Hearing
+pub next_over : (idle : ℕ) (acts : History) (place : ℕ) (input output : List ℕ) (active : ℕ) (over : Bool) → IsUnread place acts → stage acts ≡ Hearing
     → Here (course acts place) (λ of. Keeps input output active over of × MayRead of) → Next idle acts place IsOver (Keeps input output active true)
-next_over idle acts place input output active over hearing here =
+next_over idle acts place input output active over unread hearing here =
     let found = here_of (course acts place) (λ (of : Course). Keeps input output active over of × MayRead of) here in
     let of : Course = found.0 in
     let keeps : Keeps input output active over of = found.2.0 in (
-      here_at (course acts place) of (λ (of : Course). MayRead of × (stage acts ≡ Hearing)) found.1 (found.2.1, hearing),
+      (here_at (course acts place) of (λ (of : Course). MayRead of × (stage acts ≡ Hearing)) found.1 (found.2.1, hearing), λ so. unread),
       here_at (course (On place IsOver ∷ acts) place) (record of { is_over = true }) (Keeps input output active true) (went place IsOver acts of found.1)
           (record {
             is_open = keeps.is_open;
@@ -175,15 +194,16 @@ next_over idle acts place input output active over hearing here =
             output_rest = keeps.output_rest;
             last = keeps.last;
             end = refl;
+            fine = keeps.fine;
           }),
     )
 
-pub next_silent : (idle : ℕ) (acts : History) (place : ℕ) (input output : List ℕ) (active : ℕ) (over : Bool) → stage acts ≡ Hearing
+pub next_silent : (idle : ℕ) (acts : History) (place : ℕ) (input output : List ℕ) (active : ℕ) (over : Bool) → IsUnread place acts → stage acts ≡ Hearing
     → Here (course acts place) (λ of. Keeps input output active over of × MayRead of) → Next idle acts place IsSilent (Keeps input output active over)
-next_silent idle acts place input output active over hearing here =
+next_silent idle acts place input output active over unread hearing here =
     let found = here_of (course acts place) (λ (of : Course). Keeps input output active over of × MayRead of) here in
     let of : Course = found.0 in (
-      here_at (course acts place) of (λ (of : Course). MayRead of × (stage acts ≡ Hearing)) found.1 (found.2.1, hearing),
+      (here_at (course acts place) of (λ (of : Course). MayRead of × (stage acts ≡ Hearing)) found.1 (found.2.1, hearing), λ so. unread),
       here_at (course (On place IsSilent ∷ acts) place) of (Keeps input output active over) (went place IsSilent acts of found.1) found.2.0,
     )
 
@@ -192,7 +212,7 @@ pub next_fail : (idle : ℕ) (acts : History) (place : ℕ) → Here (course act
 next_fail idle acts place here =
     let found = here_of (course acts place) (λ (of : Course). of.is_open ≡ true) here in
     let of : Course = found.0 in (
-      here_at (course acts place) of (λ (of : Course). ⊤) found.1 tt,
+      (here_at (course acts place) of (λ (of : Course). ⊤) found.1 tt, λ so. absurd (false≢true so)),
       here_at (course (On place Fails ∷ acts) place) (record of { has_failed = true }) (λ (of : Course). (of.is_open ≡ true) × (of.has_failed ≡ true)) (went place Fails acts of found.1) (found.2, refl),
     )
 
@@ -203,7 +223,7 @@ next_take idle acts place bytes rest input output active over now time telling s
     let of : Course = found.0 in
     let keeps : Keeps input output active over of = found.2 in
     let answered : of.answered ≡ of.taken ++ (bytes ++ rest) = keeps.output_rest ∙ ap (λ (t : List ℕ). of.taken ++ t) split in (
-      here_at (course acts place) of (λ (of : Course). (stage acts ≡ Telling true) × (1 ≤ length bytes) × AreNext bytes of.answered of.taken) found.1 (telling, some, (rest, answered)),
+      (here_at (course acts place) of (λ (of : Course). (stage acts ≡ Telling true) × (1 ≤ length bytes) × AreNext bytes of.answered of.taken) found.1 (telling, some, (rest, answered)), λ so. absurd (false≢true so)),
       here_at (course (On place (Takes bytes) ∷ acts) place) (record of { taken = of.taken ++ bytes; active = clock acts }) (Keeps input rest now over) (went place (Takes bytes) acts of found.1)
           (record {
             is_open = keeps.is_open;
@@ -211,6 +231,7 @@ next_take idle acts place bytes rest input output active over now time telling s
             output_rest = answered ∙ sym (append_assoc of.taken bytes rest);
             last = time;
             end = keeps.end;
+            fine = keeps.fine;
           }),
     )
 
@@ -219,7 +240,7 @@ pub next_take_none : (idle : ℕ) (acts : History) (place : ℕ) (input output :
 next_take_none idle acts place input output active over telling some here =
     let found = here_of (course acts place) (Keeps input output active over) here in
     let of : Course = found.0 in (
-      here_at (course acts place) of (λ (of : Course). (stage acts ≡ Telling true) × (of.answered ≢ of.taken)) found.1 (telling, not_told of input output active over some found.2),
+      (here_at (course acts place) of (λ (of : Course). (stage acts ≡ Telling true) × (of.answered ≢ of.taken)) found.1 (telling, not_told of input output active over some found.2), λ so. absurd (false≢true so)),
       here_at (course (On place TakesNone ∷ acts) place) of (Keeps input output active over) (went place TakesNone acts of found.1) found.2,
     )
 
@@ -258,8 +279,7 @@ next_hear idle acts place part rest reply input output active over hearing some 
     let read : of.read ≡ of.heard ++ (part ++ rest) = keeps.input_rest ∙ ap (λ (t : List ℕ). of.heard ++ t) split in
     let size : length of.answered ≡ length of.taken + length output = ap length keeps.output_rest ∙ length-append of.taken output in
     let room : HasRoom of = omega arith in (
-      here_at (course acts place) of (λ (of : Course). (of.is_open ≡ true) × HasRoom of × (stage acts ≡ Hearing) × (1 ≤ length part) × AreNext part of.read of.heard) found.1
-          (keeps.is_open, room, hearing, some, (rest, read)),
+      (here_at (course acts place) of (λ (of : Course). MayHear of part × (stage acts ≡ Hearing)) found.1 ((keeps.is_open, room, keeps.fine, some, (rest, read)), hearing), λ so. absurd (false≢true so)),
       here_at (course (On place (Hears part reply) ∷ acts) place) (record of { heard = of.heard ++ part; answered = of.answered ++ reply; active = if_answered reply (clock acts) of.active })
           (Keeps rest (output ++ reply) (if_answered reply (clock acts) active) over) (went place (Hears part reply) acts of found.1)
           (record {
@@ -268,22 +288,43 @@ next_hear idle acts place part rest reply input output active over hearing some 
             output_rest = ap (λ (t : List ℕ). t ++ reply) keeps.output_rest ∙ append_assoc of.taken output reply;
             last = ap (if_answered reply (clock acts)) keeps.last;
             end = keeps.end;
+            fine = keeps.fine;
           }),
     )
 
-pub next_want : (idle : ℕ) (acts : History) (place : ℕ) → Here (course acts place) (λ of. of.is_open ≡ true)
-    → Next idle acts place Wants (λ of. (of.is_open ≡ true) × ⊤)
-next_want idle acts place here =
-    let found = here_of (course acts place) (λ (of : Course). of.is_open ≡ true) here in
-    let of : Course = found.0 in (
-      here_at (course acts place) of (λ (of : Course). of.is_open ≡ true) found.1 found.2,
-      here_at (course (On place Wants ∷ acts) place) (record of { is_wanting = true }) (λ (of : Course). (of.is_open ≡ true) × ⊤) (went place Wants acts of found.1) (found.2, tt),
+pub next_want : (idle : ℕ) (acts : History) (place : ℕ) (part rest input output : List ℕ) (active : ℕ) (over : Bool) → stage acts ≡ Hearing → 1 ≤ length part → input ≡ part ++ rest
+    → length output ≤ FULL_OUTPUT → Here (course acts place) (Keeps input output active over)
+    → Next idle acts place (Wants part) (λ of. (of.is_open ≡ true) × (of.is_wanting ≡ true))
+next_want idle acts place part rest input output active over hearing some split few here =
+    let found = here_of (course acts place) (Keeps input output active over) here in
+    let of : Course = found.0 in
+    let keeps : Keeps input output active over of = found.2 in
+    let read : of.read ≡ of.heard ++ (part ++ rest) = keeps.input_rest ∙ ap (λ (t : List ℕ). of.heard ++ t) split in
+    let size : length of.answered ≡ length of.taken + length output = ap length keeps.output_rest ∙ length-append of.taken output in
+    let room : HasRoom of = omega arith in (
+      (here_at (course acts place) of (λ (of : Course). MayHear of part × (stage acts ≡ Hearing)) found.1 ((keeps.is_open, room, keeps.fine, some, (rest, read)), hearing), λ so. absurd (false≢true so)),
+      here_at (course (On place (Wants part) ∷ acts) place) (record of { is_wanting = true }) (λ (of : Course). (of.is_open ≡ true) × (of.is_wanting ≡ true)) (went place (Wants part) acts of found.1) (keeps.is_open, refl),
+    )
+
+-- what waits to be heard cannot be kept
+pub next_lack : (idle : ℕ) (acts : History) (place : ℕ) (input output : List ℕ) (active : ℕ) (over : Bool) → stage acts ≡ Hearing → input ≢ []
+    → Here (course acts place) (Keeps input output active over) → Next idle acts place Lacks (λ of. (of.is_open ≡ true) × (of.is_wanting ≡ true))
+next_lack idle acts place input output active over hearing some here =
+    let found = here_of (course acts place) (Keeps input output active over) here in
+    let of : Course = found.0 in
+    let keeps : Keeps input output active over of = found.2 in (
+      (
+        here_at (course acts place) of (λ (of : Course). (of.is_open ≡ true) × (of.read ≢ of.heard) × (stage acts ≡ Hearing)) found.1
+            (keeps.is_open, (λ same. some (none_left of.read of.heard input keeps.input_rest same)), hearing),
+        λ so. absurd (false≢true so),
+      ),
+      here_at (course (On place Lacks ∷ acts) place) (record of { is_wanting = true }) (λ (of : Course). (of.is_open ≡ true) × (of.is_wanting ≡ true)) (went place Lacks acts of found.1) (keeps.is_open, refl),
     )
 
 -- ---- several deeds
 
 pub stays_none : (place : ℕ) (acts : History) → Stays place 0 acts acts
-stays_none place acts = record { others = λ other differs. refl; same_clock = refl; same_stage = refl; same_stop = refl; same_rounds = refl; lasts = lasts_none acts; more_came = omega arith }
+stays_none place acts = record { others = λ other differs. refl; same_clock = refl; same_stage = refl; same_stop = refl; same_rounds = refl; lasts = lasts_none acts; more_came = omega arith; unread = λ other differs none. none; inside = λ size less inside. inside }
 
 pub stays_both : (place came more : ℕ) (acts between after : History) → Stays place came acts between → Stays place more between after → Stays place (came + more) acts after
 stays_both place came more acts between after one two = record {
@@ -294,6 +335,8 @@ stays_both place came more acts between after one two = record {
   same_rounds = two.same_rounds ∙ one.same_rounds;
   lasts = lasts_both acts between after one.lasts two.lasts;
   more_came = let a : comers between ≡ comers acts + came = one.more_came in let b : comers after ≡ comers between + more = two.more_came in omega arith;
+  unread = λ other differs none. two.unread other differs (one.unread other differs none);
+  inside = λ size less inside. two.inside size less (one.inside size less inside);
 }
 
 -- ---- what may be read, and told
@@ -305,7 +348,7 @@ may_read there input output active over none more few here =
     (λ (of : Course) (keeps : Keeps input output active over of).
     let size : length of.answered ≡ length of.taken + length output = ap length keeps.output_rest ∙ length-append of.taken output in
     let room : HasRoom of = omega arith in
-    (keeps, (keeps.is_open, keeps.input_rest ∙ ap (λ (t : List ℕ). of.heard ++ t) none ∙ append-nil of.heard, room, keeps.end ∙ more)))
+    (keeps, (keeps.is_open, keeps.input_rest ∙ ap (λ (t : List ℕ). of.heard ++ t) none ∙ append-nil of.heard, room, keeps.end ∙ more, keeps.fine)))
     here
 
 -- ---- the turn to send

@@ -4,11 +4,13 @@ use Rattle.std.proofs.lemmas.Bool.{cases_lt, eqb-true, eqb-false}
 use Rattle.std.proofs.lemmas.List.{get_or_past, get_or_read}
 use Rattle.std.specs.Prelude.{◌==◌}
 use Rattle.connections.specs.declared.ending.Ending.TheVariants.{Idle, Stopped}
+use Rattle.connections.specs.declared.ending.SessionFault.{SessionFault}
 use Rattle.connections.specs.declared.limits.TheConstants.{LAST_MILLISECONDS}
 use Rattle.connections.specs.declared.talk.Talk.{Talk}
-use Rattle.connections.specs.Endings.{AreWithin, HasEnded, IsClosing, IsFinished, IsStopped, comers, most_comers, rounds}
-use Rattle.connections.specs.Fairness.{asks, offers, AreAttended, AreHeard, AreUsed, InRound, IfThere, IsAttended, IsFair, IsServed, IsUsed, IsWhole, NoneOrdered, NoneWaited}
-use Rattle.connections.specs.Fitting.{Fits, FitAll, Has, HasWholeRounds, MayOrder, Passes, Serves, Stays, Tours, Turns}
+use Rattle.connections.specs.Endings.{AreInside, AreWithin, HasEnded, IsClosing, IsFinished, IsStopped, comers, most_comers, rounds}
+use Rattle.connections.specs.Fairness.{AreAttended, AreHeard, AreUsed, IfThere, IsAttended, IsFair, IsServed, IsUsed, IsWhole, NoneOrdered, NoneWaited}
+use Rattle.connections.specs.Rounds.{asks, offers, InRound, IsUnread}
+use Rattle.connections.specs.Fitting.{AreUnread, Fits, FitAll, Has, HasWholeRounds, MayOrder, Passes, Serves, Stays, Tours, Turns}
 use Rattle.connections.specs.Histories.{At, History, Course, Hearing, Telling, Stage, clock, course, stage, stopped, Leads}
 use Rattle.connections.specs.Soundness.{IsReason, IsTold}
 use Rattle.connections.proofs.Closing.{fits_none, fits_used}
@@ -87,17 +89,38 @@ more_served idle place came before after stays below here =
       ),
     )
 
+-- what was not asked before, and at this place was not, is not asked
+pub unread_all : (place came : ℕ) (before after : History) → Stays place came before after → AreUnread before → IsUnread place after → AreUnread after
+unread_all place came before after stays unread none = λ other. by_place other (other == place) refl
+  where
+    by_place : (other : ℕ) (here : Bool) → (other == place) ≡ here → IsUnread other after
+    by_place other true is = subst (λ (n : ℕ). IsUnread n after) (sym (eqb-true other place is)) none
+    by_place other false is = stays.unread other (eqb-false other place is) (unread other)
+
 pub more_used : (place came : ℕ) (before after : History) → Stays place came before after → AreUsed place before → IsUsed after place → AreUsed (place + 1) after
 more_used place came before after stays below here = below_more (λ other. IsUsed after other) place (λ other less. stays.lasts.used other (below other less)) here
+
+-- the places from one on were not asked
+abbrev pub UnreadFrom : ℕ → History → Type 0
+UnreadFrom place acts = (other : ℕ) → place ≤ other → IsUnread other acts
+
+pub more_heard : (place came : ℕ) (before after : History) → Stays place came before after → Below Attended place before × UnreadFrom place before → Attended place after
+    → Below Attended (place + 1) after × UnreadFrom (place + 1) after
+more_heard place came before after stays (below, unread) here =
+    (more_attended place came before after stays below here, λ other past. stays.unread other (λ same. absurd (omega arith)) (unread other (omega arith)))
+
+pub more_taken : (place came : ℕ) (before after : History) → Stays place came before after → AreUsed place before × AreUnread before → IsUsed after place × IsUnread place after
+    → AreUsed (place + 1) after × AreUnread after
+more_taken place came before after stays (below, unread) (used, none) = (more_used place came before after stays below used, unread_all place came before after stays unread none)
 
 -- a place that has a connection is used
 pub used_here : (places : List (Option Talk)) (place : ℕ) (acts : History) → get_or places place None ≢ None → FitAll places acts → AreUsed place acts → AreUsed (place + 1) acts
 used_here places place acts some fit below = below_more (λ other. IsUsed acts other) place below (inl (fits_used (get_or places place None) (course acts place) (fit place) some))
 
 -- the connections of a round are heard, once none more are taken and each had its turn
-pub are_heard : (count size left : ℕ) (taken heard : History) → Passes 0 0 taken heard → comers taken + left ≡ most_comers count
+pub are_heard : (count size left places : ℕ) (taken heard : History) → Passes places 0 0 taken heard → comers taken + left ≡ most_comers count
     → IsStopped taken ⊎ NoneOrdered taken → IsStopped taken ⊎ (left ≡ 0) ⊎ NoneWaited taken ⊎ AreUsed size taken → IsStopped heard ⊎ AreAttended heard → AreHeard count size heard
-are_heard count size left taken heard passes most asked took turns = (may_come took, may_hear asked turns)
+are_heard count size left places taken heard passes most asked took turns = (may_come took, may_hear asked turns)
   where
     may_hear : IsStopped taken ⊎ NoneOrdered taken → IsStopped heard ⊎ AreAttended heard → IsStopped heard ⊎ (NoneOrdered heard × AreAttended heard)
     may_hear asked (inl stop) = inl stop
@@ -114,9 +137,9 @@ are_heard count size left taken heard passes most asked took turns = (may_come t
     may_come (inr (inr (inr used))) = inr (inr (λ place less. passes.lasts.used place (used place less)))
 
 -- whether to stop stays asked
-pub asked_on : (left left_new : ℕ) (before after : History) → Passes left left_new before after → IsStopped before ⊎ NoneOrdered before → IsStopped after ⊎ NoneOrdered after
-asked_on left left_new before after passes (inl (since, order)) = inl (since, passes.same_stop ∙ order)
-asked_on left left_new before after passes (inr none) = inr (passes.lasts.none_ordered none)
+pub asked_on : (size left left_new : ℕ) (before after : History) → Passes size left left_new before after → IsStopped before ⊎ NoneOrdered before → IsStopped after ⊎ NoneOrdered after
+asked_on size left left_new before after passes (inl (since, order)) = inl (since, passes.same_stop ∙ order)
+asked_on size left left_new before after passes (inr none) = inr (passes.lasts.none_ordered none)
 
 pub telling : (kept : Bool) → Telling kept ≢ Hearing
 telling kept same = cc
@@ -166,17 +189,18 @@ all_there places acts P fit below place = by_size (cases_lt place (length places
         let none : course acts place ≡ None = fits_none (course acts place) (subst (λ (slot : Option Talk). Fits slot (course acts place)) (get_or_past places place None past) (fit place)) in
         subst (λ (there : Option Course). IfThere there (P place)) (sym none) tt
 
-module _ {S : Type 0} (opens : S → ℕ → S → Type 0) (hears : S → ℕ → List ℕ → List ℕ → S → Type 0) (wants ends : S → ℕ → S → Type 0) where
+module _ {S : Type 0} (opens : S → ℕ → S → Type 0) (refuses : S → ℕ → SessionFault → Type 0) (hears : S → ℕ → List ℕ → List ℕ → S → Type 0) (wants : S → ℕ → List ℕ → S → Type 0) (ends : S → ℕ → S → Type 0) where
   -- what is so when a round has begun
   abbrev pub Begun : S → S → History → ℕ → History → Type 0
-  Begun start sessions acts now after = Leads opens hears wants ends start after sessions × (stage after ≡ Hearing) × (clock after ≡ now) × ((place : ℕ) → course after place ≡ course acts place)
+  Begun start sessions acts now after = Leads opens refuses hears wants ends start after sessions × (stage after ≡ Hearing) × (clock after ≡ now) × ((place : ℕ) → course after place ≡ course acts place)
       × (comers after ≡ comers acts) × (rounds after ≡ rounds acts + 1)
       × ((idle count size : ℕ) → IsFair idle count size acts → IsWhole idle acts → ¬ IsFinished count acts → IsFair idle count size after)
+      × AreUnread after × ((size : ℕ) → AreInside size acts → AreInside size after)
 
-  pub begun : (start sessions : S) (acts : History) (now : ℕ) (after : History) → MayOrder (At now ∷ acts) after → Leads opens hears wants ends start acts sessions → Begun start sessions acts now after
-  begun start sessions acts now after (inl same) leads = subst (Begun start sessions acts now) (sym same) (leads, refl, refl, λ place. refl, refl, refl, λ idle count size fair whole more. (whole, more, fair))
-  begun start sessions acts now after (inr (inl same)) leads = subst (Begun start sessions acts now) (sym same) (leads, refl, refl, λ place. refl, refl, refl, λ idle count size fair whole more. (whole, more, fair))
-  begun start sessions acts now after (inr (inr same)) leads = subst (Begun start sessions acts now) (sym same) (leads, refl, refl, λ place. refl, refl, refl, λ idle count size fair whole more. (whole, more, fair))
+  pub begun : (start sessions : S) (acts : History) (now : ℕ) (after : History) → MayOrder (At now ∷ acts) after → Leads opens refuses hears wants ends start acts sessions → Begun start sessions acts now after
+  begun start sessions acts now after (inl same) leads = subst (Begun start sessions acts now) (sym same) (leads, refl, refl, λ place. refl, refl, refl, λ idle count size fair whole more. (whole, more, fair), λ place found. found, λ size inside. inside)
+  begun start sessions acts now after (inr (inl same)) leads = subst (Begun start sessions acts now) (sym same) (leads, refl, refl, λ place. refl, refl, refl, λ idle count size fair whole more. (whole, more, fair), λ place found. found, λ size inside. inside)
+  begun start sessions acts now after (inr (inr same)) leads = subst (Begun start sessions acts now) (sym same) (leads, refl, refl, λ place. refl, refl, refl, λ idle count size fair whole more. (whole, more, fair), λ place found. found, λ size inside. inside)
 
   pub fit_begun : (start sessions : S) (acts : History) (now : ℕ) (after : History) (places : List (Option Talk)) → Begun start sessions acts now after → FitAll places acts → FitAll places after
   fit_begun start sessions acts now after places begun fit = λ place. subst (λ (there : Option Course). Fits (get_or places place None) there) (sym (begun.3 place)) (fit place)
@@ -186,16 +210,16 @@ module _ {S : Type 0} (opens : S → ℕ → S → Type 0) (hears : S → ℕ �
 
     module _ (when : Stage) (idle now : ℕ) (stop : Option ℕ) where
       -- one place more; what was so of the round, and is so of this place, leads to what is then so
-      pub toured : (left middle left_new came place : ℕ) (Before There After : History → Type 0) (connections between connections_new : C) (old new latest : S)
-          (places places_new : List (Option Talk)) (item slot : Option Talk) → middle ≡ left_new + came → place < length places_new → item ≡ get_or places_new place item
-          → ((before after : History) → Stays place came before after → Before before → There after → After after)
-          → Tours opens hears wants ends has when idle now stop left middle Before connections old places between new places_new
-          → Serves opens hears wants ends has when idle now stop place came There between new (get_or places_new place item) connections_new latest slot
-          → Tours opens hears wants ends has when idle now stop left left_new After connections old places connections_new latest (set places_new place slot)
-      toured left middle left_new came place Before There After connections between connections_new old new latest places places_new item slot fewer inside is leads tours serves =
-          λ start acts known at time order fit.
-          let a = tours start acts known at time order fit in
-          let b = serves start a.0 a.2 (a.1.same_stage ∙ at) (a.1.same_clock ∙ time) (a.1.same_stop ∙ order)
+      pub toured : (left middle left_new came place : ℕ) (Ready ReadyThere Before There After : History → Type 0) (connections between connections_new : C) (old new latest : S)
+          (places places_new : List (Option Talk)) (item slot : Option Talk) → middle ≡ left_new + came → place < length places_new → length places_new ≡ length places → item ≡ get_or places_new place item
+          → ((acts : History) → Before acts → ReadyThere acts) → ((before after : History) → Stays place came before after → Before before → There after → After after)
+          → Tours opens refuses hears wants ends has when idle now stop left middle Ready Before connections old places between new places_new
+          → Serves opens refuses hears wants ends has when idle now stop place came ReadyThere There between new (get_or places_new place item) connections_new latest slot
+          → Tours opens refuses hears wants ends has when idle now stop left left_new Ready After connections old places connections_new latest (set places_new place slot)
+      toured left middle left_new came place Ready ReadyThere Before There After connections between connections_new old new latest places places_new item slot fewer inside same_size is ready leads tours serves =
+          λ start acts known at time order is_ready fit.
+          let a = tours start acts known at time order is_ready fit in
+          let b = serves start a.0 a.2 (a.1.same_stage ∙ at) (a.1.same_clock ∙ time) (a.1.same_stop ∙ order) (ready a.0 a.4)
           (subst (λ (kept : Option Talk). Fits kept (course a.0 place)) (sym (get_or_read places_new place item inside is None) ∙ is) (a.3 place)) in
           let one : comers a.0 + middle ≡ comers acts + left = a.1.fewer_left in
           let two : comers b.0 ≡ comers a.0 + came = b.1.more_came in (
@@ -207,6 +231,7 @@ module _ {S : Type 0} (opens : S → ℕ → S → Type 0) (hears : S → ℕ �
               same_rounds = b.1.same_rounds ∙ a.1.same_rounds;
               lasts = lasts_both acts a.0 b.0 a.1.lasts b.1.lasts;
               fewer_left = omega arith;
+              inside = λ all. b.1.inside (length places) (subst (λ (n : ℕ). place < n) same_size inside) (a.1.inside all);
             },
             b.2,
             set_fits places_new place slot a.0 b.0 came inside b.1 a.3 b.3,
@@ -214,38 +239,38 @@ module _ {S : Type 0} (opens : S → ℕ → S → Type 0) (hears : S → ℕ �
           )
 
       -- the same tour, of which less or other things are said
-      pub toured_so : (left left_new : ℕ) (Before After : History → Type 0) (connections connections_new : C) (old new : S) (places places_new : List (Option Talk))
+      pub toured_so : (left left_new : ℕ) (Ready Before After : History → Type 0) (connections connections_new : C) (old new : S) (places places_new : List (Option Talk))
           → ((acts : History) → FitAll places_new acts → Before acts → After acts)
-          → Tours opens hears wants ends has when idle now stop left left_new Before connections old places connections_new new places_new
-          → Tours opens hears wants ends has when idle now stop left left_new After connections old places connections_new new places_new
-      toured_so left left_new Before After connections connections_new old new places places_new so tours = λ start acts known at time order fit.
-          let a = tours start acts known at time order fit in (a.0, a.1, a.2, a.3, so a.0 a.3 a.4)
+          → Tours opens refuses hears wants ends has when idle now stop left left_new Ready Before connections old places connections_new new places_new
+          → Tours opens refuses hears wants ends has when idle now stop left left_new Ready After connections old places connections_new new places_new
+      toured_so left left_new Ready Before After connections connections_new old new places places_new so tours = λ start acts known at time order ready fit.
+          let a = tours start acts known at time order ready fit in (a.0, a.1, a.2, a.3, so a.0 a.3 a.4)
 
       -- no place yet
-      pub toured_none : (left : ℕ) (None_yet : History → Type 0) (connections : C) (old : S) (places : List (Option Talk)) → ((acts : History) → None_yet acts)
-          → Tours opens hears wants ends has when idle now stop left left None_yet connections old places connections old places
-      toured_none left None_yet connections old places so = λ start acts known at time order fit. (
+      pub toured_none : (left : ℕ) (Ready None_yet : History → Type 0) (connections : C) (old : S) (places : List (Option Talk)) → ((acts : History) → Ready acts → None_yet acts)
+          → Tours opens refuses hears wants ends has when idle now stop left left Ready None_yet connections old places connections old places
+      toured_none left Ready None_yet connections old places so = λ start acts known at time order ready fit. (
         acts,
-        record { same_clock = refl; same_stage = refl; same_stop = refl; same_rounds = refl; lasts = lasts_none acts; fewer_left = refl },
+        record { same_clock = refl; same_stage = refl; same_stop = refl; same_rounds = refl; lasts = lasts_none acts; fewer_left = refl; inside = λ all. all },
         known,
         fit,
-        so acts,
+        so acts ready,
       )
 
     -- ---- rounds, one after another
 
     -- how the loop stands after so many rounds, when so many more connections may be taken
     abbrev pub Stands : ℕ → ℕ → ℕ → S → C → S → List (Option Talk) → Option ℕ → ℕ → ℕ → Type 0
-    Stands idle count size start connections sessions places stop left turns = (acts : History) × Has opens hears wants ends has idle start connections sessions acts
+    Stands idle count size start connections sessions places stop left turns = (acts : History) × Has opens refuses hears wants ends has idle start connections sessions acts
         × (stopped acts ≡ stop) × FitAll places acts × (rounds acts ≡ turns) × HasWholeRounds idle count size left acts
 
     -- one round more
     pub turned : (idle idle_now count size left left_new turns : ℕ) (stop stop_new : Option ℕ) (connections connections_new : C) (sessions new : S) (places places_new : List (Option Talk))
         → idle_now ≡ idle → length places ≡ size → MayGoOn left stop places → (start : S) → Stands idle count size start connections sessions places stop left turns
-        → Turns opens hears wants ends has idle_now stop left connections sessions places stop_new left_new connections_new new places_new
+        → Turns opens refuses hears wants ends has idle_now stop left connections sessions places stop_new left_new connections_new new places_new
         → Stands idle count size start connections_new new places_new stop_new left_new (turns + 1)
     turned idle idle_now count size left left_new turns stop stop_new connections connections_new sessions new places places_new same_idle same_size goes start (acts, known, order, fit, began, whole) one =
-        let turns_now = subst (λ (i : ℕ). Turns opens hears wants ends has i stop left connections sessions places stop_new left_new connections_new new places_new) same_idle one in
+        let turns_now = subst (λ (i : ℕ). Turns opens refuses hears wants ends has i stop left connections sessions places stop_new left_new connections_new new places_new) same_idle one in
         let t = turns_now count start acts known order fit (subst (λ (n : ℕ). HasWholeRounds idle count n left acts) (sym same_size) whole)
         (not_finished count left stop acts places order fit whole.0 goes) in
         let round : rounds t.0 ≡ rounds acts + 1 = t.4 in
@@ -253,8 +278,8 @@ module _ {S : Type 0} (opens : S → ℕ → S → Type 0) (hears : S → ℕ �
 
     -- what is so when the loop ends
     abbrev pub EndsWell : ℕ → ℕ → ℕ → S → C → S → Type 0
-    EndsWell idle count size start connections sessions = (acts : History) × Has opens hears wants ends has idle start connections sessions acts × AreWithin count acts × HasEnded count acts
-        × IsFair idle count size acts × IsWhole idle acts
+    EndsWell idle count size start connections sessions = (acts : History) × Has opens refuses hears wants ends has idle start connections sessions acts × AreWithin count acts × HasEnded count acts
+        × IsFair idle count size acts × IsWhole idle acts × AreInside size acts
 
     closing : (count left : ℕ) (stop : Option ℕ) (acts : History) → stopped acts ≡ stop → comers acts + left ≡ most_comers count → (left ≡ 0) ⊎ (stop ≢ None) → IsClosing count acts
     closing count left stop acts order most (inl none) = inr (let m : comers acts + left ≡ most_comers count = most in omega arith)
@@ -271,6 +296,7 @@ module _ {S : Type 0} (opens : S → ℕ → S → Type 0) (hears : S → ℕ �
       inl ((λ place. fits_none (course acts place) (subst (λ (slot : Option Talk). Fits slot (course acts place)) (free place) (fit place))), closing count left stop acts order whole.0 closes),
       whole.1,
       whole.2,
+      whole.3,
     )
 
     pub ended_late : (idle count size left turns : ℕ) (stop : Option ℕ) (start : S) (connections : C) (sessions : S) (places : List (Option Talk))
@@ -282,4 +308,5 @@ module _ {S : Type 0} (opens : S → ℕ → S → Type 0) (hears : S → ℕ �
       inr (began ∙ last),
       whole.1,
       whole.2,
+      whole.3,
     )

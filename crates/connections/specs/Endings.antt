@@ -1,16 +1,18 @@
 -- When the loop over connections has ended.
-use Rattle.std.specs.Prelude.{◌≡◌, ◌⊎◌, ◌+◌, ◌-◌, ◌^◌, ◌≤◌, ℕ, zero, suc, [], ◌∷◌, Some, None}
-use Rattle.connections.specs.Histories.{At, Ordered, GoesOn, Syncs, NoneWaits, On, Deed, Comes, Opens, Reads, IsOver, IsSilent, Hears, Wants, Takes, TakesNone, Fails, Ends, Closes, History, course, stopped}
+use Rattle.std.specs.Prelude.{◌≡◌, ◌⊎◌, ◌+◌, ◌-◌, ◌^◌, ◌<◌, ◌≤◌, ℕ, zero, suc, [], ◌∷◌, Some, None, ⊤}
+use Rattle.connections.specs.Histories.{At, Ordered, GoesOn, Syncs, NoneWaits, On, Deed, Comes, Opens, Refuses, Reads, IsOver, IsSilent, Hears, Wants, Lacks, Takes, TakesNone, Fails, Ends, Closes, History, course, stopped}
 
 -- how many connections come by a deed
 abbrev pub newcomers : Deed → ℕ
 newcomers Comes = 1
 newcomers Opens = 0
+newcomers (Refuses why) = 0
 newcomers (Reads bytes) = 0
 newcomers IsOver = 0
 newcomers IsSilent = 0
 newcomers (Hears part reply) = 0
-newcomers Wants = 0
+newcomers (Wants part) = 0
+newcomers Lacks = 0
 newcomers (Takes bytes) = 0
 newcomers TakesNone = 0
 newcomers Fails = 0
@@ -45,6 +47,16 @@ most_comers (suc count) = suc count
 -- no more than may be taken were taken
 abbrev pub AreWithin : ℕ → History → Type 0
 AreWithin count acts = comers acts ≤ most_comers count
+
+-- all happened at places below so many
+abbrev pub AreInside : ℕ → History → Type 0
+AreInside size [] = ⊤
+AreInside size (At now ∷ before) = AreInside size before
+AreInside size (Ordered ∷ before) = AreInside size before
+AreInside size (Syncs kept ∷ before) = AreInside size before
+AreInside size (GoesOn ∷ before) = AreInside size before
+AreInside size (NoneWaits ∷ before) = AreInside size before
+AreInside size (On place deed ∷ before) = (place < size) × AreInside size before
 
 -- no place has a connection
 abbrev pub AreGone : History → Type 0

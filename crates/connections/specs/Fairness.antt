@@ -1,67 +1,13 @@
 -- Each round gives each connection its turn.
-use Rattle.std.specs.Prelude.{◌≡◌, ◌≢◌, ◌⊎◌, ◌+◌, ◌<◌, ℕ, [], ◌∷◌, length, Bool, true, false, Option, Some, None, ⊤}
+use Rattle.std.specs.Prelude.{◌≡◌, ◌≢◌, ◌⊎◌, ◌+◌, ◌<◌, ℕ, [], ◌∷◌, length, true, Option, Some, None, ⊤}
 use Rattle.connections.specs.declared.ending.Ending.TheVariants.{Done, Idle, Stopped}
 use Rattle.connections.specs.declared.limits.TheConstants.{FULL_OUTPUT}
 use Rattle.connections.specs.Endings.{IsClosing, IsFinished, IsStopped}
-use Rattle.connections.specs.Histories.{At, Ordered, GoesOn, Syncs, NoneWaits, On, Deed, Comes, Opens, Reads, IsOver, IsSilent, Hears, Wants, Takes, TakesNone, Fails, Ends, Closes, History, Course, Hearing, course, stage}
+use Rattle.connections.specs.Histories.{At, Ordered, GoesOn, Syncs, NoneWaits, On, History, Course, Hearing, course, stage}
+use Rattle.connections.specs.Rounds.{asks, closes, offers, InRound}
 use Rattle.connections.specs.Soundness.{IsHeard, IsReason, IsTold}
 
 -- ---- what happened in a round
-
--- a connection was asked for what it sends, or its session heard some of it
-abbrev pub asks : Deed → Bool
-asks Comes = false
-asks Opens = false
-asks (Reads bytes) = true
-asks IsOver = true
-asks IsSilent = true
-asks (Hears part reply) = true
-asks Wants = false
-asks (Takes bytes) = false
-asks TakesNone = false
-asks Fails = false
-asks Ends = false
-asks (Closes why) = false
-
--- a connection was offered what its session was answered
-abbrev pub offers : Deed → Bool
-offers Comes = false
-offers Opens = false
-offers (Reads bytes) = false
-offers IsOver = false
-offers IsSilent = false
-offers (Hears part reply) = false
-offers Wants = false
-offers (Takes bytes) = true
-offers TakesNone = true
-offers Fails = false
-offers Ends = false
-offers (Closes why) = false
-
--- a connection was closed
-abbrev pub closes : Deed → Bool
-closes Comes = false
-closes Opens = false
-closes (Reads bytes) = false
-closes IsOver = false
-closes IsSilent = false
-closes (Hears part reply) = false
-closes Wants = false
-closes (Takes bytes) = false
-closes TakesNone = false
-closes Fails = false
-closes Ends = false
-closes (Closes why) = true
-
--- in this round, such a deed happened at a place
-abbrev pub InRound : (Deed → Bool) → History → ℕ → Type 0
-InRound is [] place = ⊥
-InRound is (At now ∷ before) place = ⊥
-InRound is (Ordered ∷ before) place = InRound is before place
-InRound is (Syncs kept ∷ before) place = InRound is before place
-InRound is (GoesOn ∷ before) place = InRound is before place
-InRound is (NoneWaits ∷ before) place = InRound is before place
-InRound is (On other deed ∷ before) place = ((other ≡ place) × (is deed ≡ true)) ⊎ InRound is before place
 
 -- in this round, no connection waited to be taken
 abbrev pub NoneWaited : History → Type 0

@@ -1,13 +1,16 @@
 -- What the loop keeps of a place, and the history that it stands for.
-use Rattle.std.specs.Prelude.{◌≡◌, ◌≢◌, ◌⊎◌, ◌+◌, ◌≤◌, ℕ, List, [], ◌∷◌, ◌++◌, Bool, true, false, Option, Some, None, Result, Ok, Err, IfOk, get_or, length, ⊤}
+use Rattle.std.specs.Prelude.{◌≡◌, ◌≢◌, ◌⊎◌, ◌+◌, ◌<◌, ◌≤◌, ℕ, List, [], ◌∷◌, ◌++◌, Bool, true, false, Option, Some, None, Result, Ok, Err, IfOk, drop, get_or, length, ⊤}
 use Rattle.connections.specs.declared.ending.Ending.{Ending}
 use Rattle.connections.specs.declared.ending.Ending.TheVariants.{Done, Fault, Idle, Stopped, Unsynced, Memory, Refused}
+use Rattle.connections.specs.declared.ending.SessionFault.{SessionFault}
+use Rattle.connections.specs.declared.ending.SessionFault.TheVariants as session
 use Rattle.connections.specs.declared.limits.TheConstants.{LAST_MILLISECONDS}
 use Rattle.connections.specs.declared.places.Places.{Places}
 use Rattle.connections.specs.declared.talk.Talk.{Talk}
-use Rattle.connections.specs.Endings.{IsFinished, comers, most_comers, rounds}
-use Rattle.connections.specs.Fairness.{asks, InRound, IsAttended, IsFair, IsUsed, IsWhole, NoneOrdered, NoneWaited}
-use Rattle.connections.specs.Histories.{Stage, Hearing, Ordered, GoesOn, On, Deed, Comes, Opens, Reads, IsOver, IsSilent, Hears, Wants, Takes, TakesNone, Fails, Ends, Closes, History, Course, clock, course, of_connections, stage, stopped, Leads}
+use Rattle.connections.specs.Endings.{AreInside, IsFinished, comers, most_comers, rounds}
+use Rattle.connections.specs.Fairness.{IsAttended, IsFair, IsUsed, IsWhole, NoneOrdered, NoneWaited}
+use Rattle.connections.specs.Histories.{Stage, Hearing, Ordered, GoesOn, On, Deed, Comes, Opens, Refuses, Reads, IsOver, IsSilent, Hears, Wants, Lacks, Takes, TakesNone, Fails, Ends, Closes, History, Course, clock, course, of_connections, stage, stopped, Leads}
+use Rattle.connections.specs.Rounds.{asks, InRound, IsUnread}
 use Rattle.connections.specs.Soundness.{Here, IsReason, IsSound}
 
 -- what was read and not heard, what was answered and not taken, and when the connection was last active
@@ -17,6 +20,7 @@ pub record Keeps (input output : List ℕ) (active : ℕ) (over : Bool) (of : Co
   pub output_rest : of.answered ≡ of.taken ++ output
   pub last : of.active ≡ active
   pub end : of.is_over ≡ over
+  pub fine : of.is_wanting ≡ false
 
 abbrev pub KeepsTalk : Talk → Course → Type 0
 KeepsTalk talk = Keeps talk.input.items talk.output.items talk.active talk.is_over
@@ -45,6 +49,8 @@ pub record Stays (place came : ℕ) (before after : History) : Type 0 where
   pub same_rounds : rounds after ≡ rounds before
   pub lasts : Lasts before after
   pub more_came : comers after ≡ comers before + came
+  pub unread : (other : ℕ) → other ≢ place → IsUnread other before → IsUnread other after
+  pub inside : (size : ℕ) → place < size → AreInside size before → AreInside size after
 
 -- how many connections a call took that says whether it took one
 abbrev pub came_by : Bool → ℕ
@@ -60,6 +66,10 @@ HasTried false place acts = NoneWaited acts
 abbrev pub FitAll : List (Option Talk) → History → Type 0
 FitAll places acts = (place : ℕ) → Fits (get_or places place None) (course acts place)
 
+-- no connection was asked in this round for what it sends
+abbrev pub AreUnread : History → Type 0
+AreUnread acts = (place : ℕ) → IsUnread place acts
+
 -- no place has a connection
 abbrev pub AreFree : Places → Type 0
 AreFree places = (place : ℕ) → get_or places.slots.items place None ≡ None
@@ -68,28 +78,24 @@ AreFree places = (place : ℕ) → get_or places.slots.items place None ≡ None
 abbrev pub size_of : Places → ℕ
 size_of places = length places.slots.items
 
--- the round stays where it is; so many more connections may be taken before, and so many after
-pub record Passes (left left_new : ℕ) (before after : History) : Type 0 where
+-- the round stays where it is, at so many places; so many more connections may be taken before, and so many after
+pub record Passes (size left left_new : ℕ) (before after : History) : Type 0 where
   pub same_clock : clock after ≡ clock before
   pub same_stage : stage after ≡ stage before
   pub same_stop : stopped after ≡ stopped before
   pub same_rounds : rounds after ≡ rounds before
   pub lasts : Lasts before after
   pub fewer_left : comers after + left_new ≡ comers before + left
+  pub inside : AreInside size before → AreInside size after
 
 -- a stop may be ordered, or none is so far
 abbrev pub MayOrder : History → History → Type 0
 MayOrder before after = (after ≡ before) ⊎ (after ≡ Ordered ∷ before) ⊎ (after ≡ GoesOn ∷ before)
 
 -- why a connection is closed whose session was not opened
-abbrev pub IsOpeningFault : Ending → Type 0
-IsOpeningFault Done = ⊥
-IsOpeningFault Fault = ⊥
-IsOpeningFault Idle = ⊥
-IsOpeningFault Stopped = ⊥
-IsOpeningFault Unsynced = ⊥
-IsOpeningFault Memory = ⊤
-IsOpeningFault Refused = ⊤
+abbrev pub ending_of : SessionFault → Ending
+ending_of session.Memory = Memory
+ending_of session.Refused = Refused
 
 -- ---- one step
 
@@ -97,11 +103,13 @@ IsOpeningFault Refused = ⊤
 abbrev pub IsOfConnection : Deed → Type 0
 IsOfConnection Comes = ⊥
 IsOfConnection Opens = ⊥
+IsOfConnection (Refuses why) = ⊥
 IsOfConnection (Reads bytes) = ⊤
 IsOfConnection IsOver = ⊤
 IsOfConnection IsSilent = ⊤
 IsOfConnection (Hears part reply) = ⊥
-IsOfConnection Wants = ⊥
+IsOfConnection (Wants part) = ⊥
+IsOfConnection Lacks = ⊥
 IsOfConnection (Takes bytes) = ⊤
 IsOfConnection TakesNone = ⊤
 IsOfConnection Fails = ⊤
@@ -112,10 +120,14 @@ IsOfConnection (Closes why) = ⊤
 abbrev pub Adds : ℕ → History → History → Type 0
 Adds place before after = (after ≡ before) ⊎ ((deed : Deed) × IsOfConnection deed × (after ≡ On place deed ∷ before))
 
+-- the connection goes on, and this is so of it, or there is a reason to close it
+abbrev pub GoesOrCloses : {X : Type 0} → ℕ → History → ℕ → Result X Ending → (X → Course → Type 0) → Type 0
+GoesOrCloses idle acts place (Ok done) Kept = Here (course acts place) (Kept done)
+GoesOrCloses idle acts place (Err why) Kept = Here (course acts place) (λ of. (of.is_open ≡ true) × IsReason idle acts why of)
+
 -- the connection goes on as it is kept, or there is a reason to close it
 abbrev pub Judged : {X : Type 0} → ℕ → History → ℕ → Result X Ending → Talk → Type 0
-Judged idle acts place (Ok done) talk = Here (course acts place) (KeepsTalk talk)
-Judged idle acts place (Err why) talk = Here (course acts place) (λ of. (of.is_open ≡ true) × IsReason idle acts why of)
+Judged idle acts place result talk = GoesOrCloses idle acts place result (λ _. KeepsTalk talk)
 
 -- the peer sends no more, and all is heard and told
 abbrev pub IsDone : Talk → Type 0
@@ -146,47 +158,52 @@ Knows has idle connections acts = has connections (of_connections acts) × IsSou
 
 -- the rounds so far are whole, and of so many connections so many more may be taken
 abbrev pub HasWholeRounds : ℕ → ℕ → ℕ → ℕ → History → Type 0
-HasWholeRounds idle count size left acts = (comers acts + left ≡ most_comers count) × IsFair idle count size acts × IsWhole idle acts
+HasWholeRounds idle count size left acts = (comers acts + left ≡ most_comers count) × IsFair idle count size acts × IsWhole idle acts × AreInside size acts
 
 -- ---- sessions, and both
 
-module _ {S : Type 0} (opens : S → ℕ → S → Type 0) (hears : S → ℕ → List ℕ → List ℕ → S → Type 0) (wants ends : S → ℕ → S → Type 0) where
+module _ {S : Type 0} (opens : S → ℕ → S → Type 0) (refuses : S → ℕ → SessionFault → Type 0) (hears : S → ℕ → List ℕ → List ℕ → S → Type 0) (wants : S → ℕ → List ℕ → S → Type 0) (ends : S → ℕ → S → Type 0) where
   -- the history leads from these sessions to those, and is sound
   abbrev pub Held : ℕ → S → S → History → Type 0
-  Held idle start sessions acts = Leads opens hears wants ends start acts sessions × IsSound idle acts
+  Held idle start sessions acts = Leads opens refuses hears wants ends start acts sessions × IsSound idle acts
 
-  -- what happens to the session of a place while connections are heard, and what is then kept; by the test,
-  -- whether it heard anything
-  abbrev pub Hearkens : {X : Type 0} → (X → Bool) → ℕ → ℕ → S → Talk → Result X Ending → S → Talk → Type 0
-  Hearkens hears_some place now old talk result new talk_new = (idle : ℕ) (start : S) (acts : History) → Held idle start old acts → stage acts ≡ Hearing → clock acts ≡ now
-      → Here (course acts place) (KeepsTalk talk)
-      → (after : History) × Stays place 0 acts after × (of_connections after ≡ of_connections acts) × Held idle start new after × Judged idle after place result talk_new
+  -- what happens to the session of a place while connections are heard, from what is kept of it to what is then kept;
+  -- by the test, whether it heard anything
+  abbrev pub Hearkens : {X : Type 0} → (X → Bool) → ℕ → ℕ → S → (Course → Type 0) → Result X Ending → S → (X → Course → Type 0) → Type 0
+  Hearkens hears_some place now old Kept result new Then = (idle : ℕ) (start : S) (acts : History) → Held idle start old acts → stage acts ≡ Hearing → clock acts ≡ now
+      → Here (course acts place) Kept
+      → (after : History) × Stays place 0 acts after × (of_connections after ≡ of_connections acts) × Held idle start new after × GoesOrCloses idle after place result Then
       × IfOk result (λ done. hears_some done ≡ true → InRound asks after place)
+
+  -- the session hears so many bytes of those that wait to be heard
+  abbrev pub HearsFrom : ℕ → ℕ → S → List ℕ → List ℕ → ℕ → Result ℕ Ending → S → List ℕ → ℕ → Type 0
+  HearsFrom place now old input output active result new output_new active_new = (over : Bool) →
+      Hearkens (λ _. true) place now old (Keeps input output active over) result new (λ count. Keeps (drop count input) output_new active_new over)
 
   module _ {C : Type 0} (has : C → History → Type 0) where
     -- all that is known of connections and sessions
     abbrev pub Has : ℕ → S → C → S → History → Type 0
-    Has idle start connections sessions acts = has connections (of_connections acts) × Leads opens hears wants ends start acts sessions × IsSound idle acts
+    Has idle start connections sessions acts = has connections (of_connections acts) × Leads opens refuses hears wants ends start acts sessions × IsSound idle acts
 
     -- what happens to a connection and its session, at this stage of a round, and what is then kept
     abbrev pub Attends : {X : Type 0} → Stage → ℕ → ℕ → C → S → Talk → Result X Ending → C → S → Talk → Type 0
     Attends when place now connections old talk result connections_new new talk_new = (idle : ℕ) (start : S) (acts : History) → Has idle start connections old acts
-        → stage acts ≡ when → clock acts ≡ now → Here (course acts place) (KeepsTalk talk)
+        → stage acts ≡ when → clock acts ≡ now → IsUnread place acts → Here (course acts place) (KeepsTalk talk)
         → (after : History) × Stays place 0 acts after × Has idle start connections_new new after × Judged idle after place result talk_new
         × IfOk result (λ done. Here (course after place) (IsAttended after place))
 
-    -- what happens at a place at this stage of a round, whatever is there, where so many connections come, and
-    -- what is then kept, and so of the round
-    abbrev pub Serves : Stage → ℕ → ℕ → Option ℕ → ℕ → ℕ → (History → Type 0) → C → S → Option Talk → C → S → Option Talk → Type 0
-    Serves when idle now stop place came Turn connections old slot connections_new new slot_new = (start : S) (acts : History) → Has idle start connections old acts
-        → stage acts ≡ when → clock acts ≡ now → stopped acts ≡ stop → Fits slot (course acts place)
+    -- what happens at a place at this stage of a round that is ready for it, whatever is there, where so many
+    -- connections come, and what is then kept, and so of the round
+    abbrev pub Serves : Stage → ℕ → ℕ → Option ℕ → ℕ → ℕ → (History → Type 0) → (History → Type 0) → C → S → Option Talk → C → S → Option Talk → Type 0
+    Serves when idle now stop place came Ready Turn connections old slot connections_new new slot_new = (start : S) (acts : History) → Has idle start connections old acts
+        → stage acts ≡ when → clock acts ≡ now → stopped acts ≡ stop → Ready acts → Fits slot (course acts place)
         → (after : History) × Stays place came acts after × Has idle start connections_new new after × Fits slot_new (course after place) × Turn after
 
     -- the same at all places; so many more connections may be taken before, and so many after
-    abbrev pub Tours : Stage → ℕ → ℕ → Option ℕ → ℕ → ℕ → (History → Type 0) → C → S → List (Option Talk) → C → S → List (Option Talk) → Type 0
-    Tours when idle now stop left left_new Turn connections old places connections_new new places_new = (start : S) (acts : History) → Has idle start connections old acts
-        → stage acts ≡ when → clock acts ≡ now → stopped acts ≡ stop → FitAll places acts
-        → (after : History) × Passes left left_new acts after × Has idle start connections_new new after × FitAll places_new after × Turn after
+    abbrev pub Tours : Stage → ℕ → ℕ → Option ℕ → ℕ → ℕ → (History → Type 0) → (History → Type 0) → C → S → List (Option Talk) → C → S → List (Option Talk) → Type 0
+    Tours when idle now stop left left_new Ready Turn connections old places connections_new new places_new = (start : S) (acts : History) → Has idle start connections old acts
+        → stage acts ≡ when → clock acts ≡ now → stopped acts ≡ stop → Ready acts → FitAll places acts
+        → (after : History) × Passes (length places) left left_new acts after × Has idle start connections_new new after × FitAll places_new after × Turn after
 
     -- one round
     abbrev pub Turns : ℕ → Option ℕ → ℕ → C → S → List (Option Talk) → Option ℕ → ℕ → C → S → List (Option Talk) → Type 0

@@ -1,6 +1,8 @@
 -- What happens to connections and to their sessions, and what a history of it leads to.
 use Rattle.std.specs.Prelude.{◌≡◌, ℕ, List, [], ◌∷◌, ◌++◌, ◌==◌, Bool, true, false, Option, Some, None, if◌then◌else◌}
 use Rattle.connections.specs.declared.ending.Ending.{Ending}
+use Rattle.connections.specs.declared.ending.SessionFault.{SessionFault}
+use Rattle.connections.specs.declared.ending.SessionFault.TheVariants.{Memory, Refused}
 
 -- what happens to one connection or to its session
 pub data Deed : Type 0 where
@@ -8,6 +10,8 @@ pub data Deed : Type 0 where
   Comes : Deed
   -- the session is opened
   Opens : Deed
+  -- the session cannot be opened
+  Refuses : SessionFault → Deed
   -- these bytes are read
   Reads : List ℕ → Deed
   -- the peer sends no more
@@ -16,8 +20,10 @@ pub data Deed : Type 0 where
   IsSilent : Deed
   -- the session hears this part, and is answered so
   Hears : List ℕ → List ℕ → Deed
-  -- memory is wanting for a part
-  Wants : Deed
+  -- memory is wanting for this part
+  Wants : List ℕ → Deed
+  -- memory is wanting to keep what was read and not heard
+  Lacks : Deed
   -- the connection takes these bytes
   Takes : List ℕ → Deed
   -- the connection takes nothing now
@@ -30,7 +36,7 @@ pub data Deed : Type 0 where
   Closes : Ending → Deed
 
 -- what happens: a round begins, at a time; a stop is ordered, or none is so far; what was answered is put on its disk,
--- or is not; no connection waits to be taken; or something happens at a place
+-- or is not; no connection waits that can be taken; or something happens at a place
 pub data Act : Type 0 where
   At : ℕ → Act
   Ordered : Act
@@ -52,15 +58,18 @@ pub record Course : Type 0 where
   pub heard : List ℕ
   pub answered : List ℕ
   pub taken : List ℕ
-  -- when it last completed a message or took a byte, or else was taken
+  -- when its session was last answered, or it took a byte, or else was taken
   pub active : ℕ
   pub is_over : Bool
   pub has_failed : Bool
+  -- memory was wanting
   pub is_wanting : Bool
+  -- its session was not opened, though memory was not wanting
+  pub is_refused : Bool
 
 -- a connection that is just taken
 abbrev pub taken_at : ℕ → Course
-taken_at now = record { is_open = false; read = []; heard = []; answered = []; taken = []; active = now; is_over = false; has_failed = false; is_wanting = false }
+taken_at now = record { is_open = false; read = []; heard = []; answered = []; taken = []; active = now; is_over = false; has_failed = false; is_wanting = false; is_refused = false }
 
 -- the time of the last answer: now, unless the answer is empty
 abbrev pub if_answered : List ℕ → ℕ → ℕ → ℕ
@@ -71,11 +80,14 @@ if_answered (byte ∷ more) now before = now
 abbrev pub went_on : Deed → ℕ → Course → Option Course
 went_on Comes now course = Some (taken_at now)
 went_on Opens now course = Some (record course { is_open = true })
+went_on (Refuses Memory) now course = Some (record course { is_wanting = true })
+went_on (Refuses Refused) now course = Some (record course { is_refused = true })
 went_on (Reads bytes) now course = Some (record course { read = course.read ++ bytes })
 went_on IsOver now course = Some (record course { is_over = true })
 went_on IsSilent now course = Some course
 went_on (Hears part reply) now course = Some (record course { heard = course.heard ++ part; answered = course.answered ++ reply; active = if_answered reply now course.active })
-went_on Wants now course = Some (record course { is_wanting = true })
+went_on (Wants part) now course = Some (record course { is_wanting = true })
+went_on Lacks now course = Some (record course { is_wanting = true })
 went_on (Takes bytes) now course = Some (record course { taken = course.taken ++ bytes; active = now })
 went_on TakesNone now course = Some course
 went_on Fails now course = Some (record course { has_failed = true })
@@ -87,11 +99,13 @@ abbrev pub done_at : Deed → ℕ → Option Course → Option Course
 done_at deed now (Some course) = went_on deed now course
 done_at Comes now None = Some (taken_at now)
 done_at Opens now None = None
+done_at (Refuses why) now None = None
 done_at (Reads bytes) now None = None
 done_at IsOver now None = None
 done_at IsSilent now None = None
 done_at (Hears part reply) now None = None
-done_at Wants now None = None
+done_at (Wants part) now None = None
+done_at Lacks now None = None
 done_at (Takes bytes) now None = None
 done_at TakesNone now None = None
 done_at Fails now None = None
@@ -160,11 +174,13 @@ of_connections (GoesOn ∷ before) = GoesOn ∷ of_connections before
 of_connections (NoneWaits ∷ before) = NoneWaits ∷ of_connections before
 of_connections (On place Comes ∷ before) = On place Comes ∷ of_connections before
 of_connections (On place Opens ∷ before) = of_connections before
+of_connections (On place (Refuses why) ∷ before) = of_connections before
 of_connections (On place (Reads bytes) ∷ before) = On place (Reads bytes) ∷ of_connections before
 of_connections (On place IsOver ∷ before) = On place IsOver ∷ of_connections before
 of_connections (On place IsSilent ∷ before) = On place IsSilent ∷ of_connections before
 of_connections (On place (Hears part reply) ∷ before) = of_connections before
-of_connections (On place Wants ∷ before) = of_connections before
+of_connections (On place (Wants part) ∷ before) = of_connections before
+of_connections (On place Lacks ∷ before) = of_connections before
 of_connections (On place (Takes bytes) ∷ before) = On place (Takes bytes) ∷ of_connections before
 of_connections (On place TakesNone ∷ before) = On place TakesNone ∷ of_connections before
 of_connections (On place Fails ∷ before) = On place Fails ∷ of_connections before
@@ -172,7 +188,7 @@ of_connections (On place Ends ∷ before) = of_connections before
 of_connections (On place (Closes why) ∷ before) = On place (Closes why) ∷ of_connections before
 
 -- what happens to sessions leads from these to those
-module _ {S : Type 0} (opens : S → ℕ → S → Type 0) (hears : S → ℕ → List ℕ → List ℕ → S → Type 0) (wants ends : S → ℕ → S → Type 0) where
+module _ {S : Type 0} (opens : S → ℕ → S → Type 0) (refuses : S → ℕ → SessionFault → Type 0) (hears : S → ℕ → List ℕ → List ℕ → S → Type 0) (wants : S → ℕ → List ℕ → S → Type 0) (ends : S → ℕ → S → Type 0) where
   abbrev pub Leads : S → History → S → Type 0
   Leads start [] after = after ≡ start
   Leads start (At now ∷ before) after = Leads start before after
@@ -182,11 +198,13 @@ module _ {S : Type 0} (opens : S → ℕ → S → Type 0) (hears : S → ℕ �
   Leads start (NoneWaits ∷ before) after = Leads start before after
   Leads start (On place Comes ∷ before) after = Leads start before after
   Leads start (On place Opens ∷ before) after = (middle : S) × Leads start before middle × opens middle place after
+  Leads start (On place (Refuses why) ∷ before) after = Leads start before after × refuses after place why
   Leads start (On place (Reads bytes) ∷ before) after = Leads start before after
   Leads start (On place IsOver ∷ before) after = Leads start before after
   Leads start (On place IsSilent ∷ before) after = Leads start before after
   Leads start (On place (Hears part reply) ∷ before) after = (middle : S) × Leads start before middle × hears middle place part reply after
-  Leads start (On place Wants ∷ before) after = (middle : S) × Leads start before middle × wants middle place after
+  Leads start (On place (Wants part) ∷ before) after = (middle : S) × Leads start before middle × wants middle place part after
+  Leads start (On place Lacks ∷ before) after = Leads start before after
   Leads start (On place (Takes bytes) ∷ before) after = Leads start before after
   Leads start (On place TakesNone ∷ before) after = Leads start before after
   Leads start (On place Fails ∷ before) after = Leads start before after

@@ -3,7 +3,8 @@ use Rattle.std.specs.Prelude.{◌≡◌, ◌≢◌, ◌⊎◌, ◌+◌, ◌≤�
 use Rattle.connections.specs.declared.ending.Ending.{Ending}
 use Rattle.connections.specs.declared.ending.Ending.TheVariants.{Done, Fault, Idle, Stopped, Unsynced, Memory, Refused}
 use Rattle.connections.specs.declared.limits.TheConstants.{PIECE_SIZE, FULL_OUTPUT, LAST_MILLISECONDS}
-use Rattle.connections.specs.Histories.{At, Ordered, GoesOn, Syncs, NoneWaits, On, Deed, Comes, Opens, Reads, IsOver, IsSilent, Hears, Wants, Takes, TakesNone, Fails, Ends, Closes, History, Course, Hearing, Telling, clock, course, stage, stopped}
+use Rattle.connections.specs.Histories.{At, Ordered, GoesOn, Syncs, NoneWaits, On, Deed, Comes, Opens, Refuses, Reads, IsOver, IsSilent, Hears, Wants, Lacks, Takes, TakesNone, Fails, Ends, Closes, History, Course, Hearing, Telling, clock, course, stage, stopped}
+use Rattle.connections.specs.Rounds.{reads, IsUnread}
 
 -- there is a connection, and this is so of it
 abbrev pub Here : Option Course → (Course → Type 0) → Type 0
@@ -26,9 +27,13 @@ HasRoom course = length course.answered ≤ length course.taken + FULL_OUTPUT
 abbrev pub AreNext : List ℕ → List ℕ → List ℕ → Type 0
 AreNext bytes all done = (rest : List ℕ) × (all ≡ done ++ (bytes ++ rest))
 
--- a connection may be read from: nothing that was read waits, and its answers leave room
+-- a connection may be read from: nothing that was read waits, its answers leave room, and memory was not wanting
 abbrev pub MayRead : Course → Type 0
-MayRead course = (course.is_open ≡ true) × IsHeard course × HasRoom course × (course.is_over ≡ false)
+MayRead course = (course.is_open ≡ true) × IsHeard course × HasRoom course × (course.is_over ≡ false) × (course.is_wanting ≡ false)
+
+-- a session may hear these bytes: they are the next ones, its answers leave room, and memory was not wanting
+abbrev pub MayHear : Course → List ℕ → Type 0
+MayHear course part = (course.is_open ≡ true) × HasRoom course × (course.is_wanting ≡ false) × (1 ≤ length part) × AreNext part course.read course.heard
 
 -- why a connection is closed, where a connection may be idle for so long
 abbrev pub IsReason : ℕ → History → Ending → Course → Type 0
@@ -37,24 +42,29 @@ IsReason idle before Fault course = course.has_failed ≡ true
 IsReason idle before Idle course = (1 ≤ idle) × (course.active + idle ≤ clock before)
 IsReason idle before Stopped course = (since : ℕ) × (stopped before ≡ Some since) × (IsTold course ⊎ (since + LAST_MILLISECONDS ≤ clock before))
 IsReason idle before Unsynced course = (stage before ≡ Telling false) × (course.answered ≢ course.taken)
-IsReason idle before Memory course = ⊤
-IsReason idle before Refused course = course.heard ≡ []
+IsReason idle before Memory course = course.is_wanting ≡ true
+IsReason idle before Refused course = course.is_refused ≡ true
 
 -- this is the time of a deed, at a place with this connection, after what happened
 abbrev pub IsDue : ℕ → History → Deed → Option Course → Type 0
 IsDue idle before Comes there = (there ≡ None) × (stage before ≡ Hearing) × (stopped before ≡ None)
 IsDue idle before Opens there = Here there (λ course. (course.is_open ≡ false) × (course.read ≡ []))
+IsDue idle before (Refuses why) there = Here there (λ course. (course.is_open ≡ false) × (course.read ≡ []))
 IsDue idle before (Reads bytes) there = Here there (λ course. MayRead course × (stage before ≡ Hearing) × (1 ≤ length bytes) × (length bytes ≤ PIECE_SIZE))
 IsDue idle before IsOver there = Here there (λ course. MayRead course × (stage before ≡ Hearing))
 IsDue idle before IsSilent there = Here there (λ course. MayRead course × (stage before ≡ Hearing))
-IsDue idle before (Hears part reply) there = Here there (λ course. (course.is_open ≡ true) × HasRoom course × (stage before ≡ Hearing)
-    × (1 ≤ length part) × AreNext part course.read course.heard)
-IsDue idle before Wants there = Here there (λ course. course.is_open ≡ true)
+IsDue idle before (Hears part reply) there = Here there (λ course. MayHear course part × (stage before ≡ Hearing))
+IsDue idle before (Wants part) there = Here there (λ course. MayHear course part × (stage before ≡ Hearing))
+IsDue idle before Lacks there = Here there (λ course. (course.is_open ≡ true) × (course.read ≢ course.heard) × (stage before ≡ Hearing))
 IsDue idle before (Takes bytes) there = Here there (λ course. (stage before ≡ Telling true) × (1 ≤ length bytes) × AreNext bytes course.answered course.taken)
 IsDue idle before TakesNone there = Here there (λ course. (stage before ≡ Telling true) × (course.answered ≢ course.taken))
 IsDue idle before Fails there = Here there (λ course. ⊤)
 IsDue idle before Ends there = Here there (λ course. course.is_open ≡ true)
 IsDue idle before (Closes why) there = Here there (λ course. (course.is_open ≡ false) × IsReason idle before why course)
+
+-- no connection is asked a second time in a round for what it sends
+abbrev pub IsOnce : History → ℕ → Deed → Type 0
+IsOnce before place deed = reads deed ≡ true → IsUnread place before
 
 -- Each deed had its time. What was answered is put on its disk at most once in a round, once all are heard.
 abbrev pub IsSound : ℕ → History → Type 0
@@ -64,4 +74,4 @@ IsSound idle (Ordered ∷ before) = IsSound idle before
 IsSound idle (Syncs kept ∷ before) = (stage before ≡ Hearing) × IsSound idle before
 IsSound idle (GoesOn ∷ before) = (stopped before ≡ None) × IsSound idle before
 IsSound idle (NoneWaits ∷ before) = (stage before ≡ Hearing) × (stopped before ≡ None) × IsSound idle before
-IsSound idle (On place deed ∷ before) = IsDue idle before deed (course before place) × IsSound idle before
+IsSound idle (On place deed ∷ before) = (IsDue idle before deed (course before place) × IsOnce before place deed) × IsSound idle before

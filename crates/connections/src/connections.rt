@@ -28,7 +28,7 @@ pub enum Writing {
 }
 
 /// Connections, each in a place of its own, which is free until one is taken there. No call but `wait`
-/// waits.
+/// waits for a peer, and none but `sync` for a disk.
 pub trait Connections {
     // These acts have happened to the connections, the latest first.
     ghost has: { Self → List Act → Type 0 };
@@ -43,7 +43,7 @@ pub trait Connections {
         ensures yes { result ≡ true → (acts : List Act) → has self.old acts → has self.new (Ordered ∷ acts) }
         ensures no { result ≡ false → (acts : List Act) → has self.old acts → has self.new (GoesOn ∷ acts) };
 
-    /// Takes the next connection, if one waits, into a free place.
+    /// Takes the next connection, if one waits and can be taken now, into a free place.
     fn take(&mut self, place: usize) -> bool
         ensures yes { result ≡ true → (acts : List Act) → has self.old acts → has self.new (On place Comes ∷ acts) }
         ensures no { result ≡ false → (acts : List Act) → has self.old acts → has self.new (NoneWaits ∷ acts) };

@@ -1,12 +1,12 @@
 //! Many connections at once, in one thread: a loop over a set of connections, each of which has a session of
 //! its own.
 //!
-//! Callers can rely on this, whatever the connections do: each session is opened, hears what was read of its
-//! connection, in order and each byte once, and is ended; a connection takes a beginning of what its session
-//! was answered, and the whole of it if it was closed as done; nothing is read or heard while a session is
-//! owed more than 64 KiB; and no answer of a round leaves before the sync of that round (`IsSound`). Each round
-//! gives each connection its turn to send and to take, and none that waits finds a place left free (`IsFair`). The
-//! loop returns once it is over (`HasEnded`).
+//! Callers can rely on this, whatever the connections do: a session hears a beginning of what was read of its
+//! connection, in order and each byte once, and a connection takes a beginning of what its session was
+//! answered; both are whole if it was closed as done. Nothing is read or heard while more than 64 KiB of
+//! answers wait, nor once memory was wanting; and no answer of a round leaves before the sync of that round
+//! (`IsSound`). Each round gives each connection its turn to send and to take, and none that waits finds a
+//! place left free (`IsFair`). The loop returns once it is over (`HasEnded`).
 #![tactic(auto)]
 
 mod connections;

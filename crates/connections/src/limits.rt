@@ -14,6 +14,9 @@ pub(crate) const PIECE_SIZE: usize = 4096;
 /// nothing.
 pub(crate) const FULL_OUTPUT: usize = 65536;
 
+/// Of the output of a connection that took all, room for so many bytes is kept for its next answers.
+pub(crate) const KEPT_ROOM: usize = 4096;
+
 /// For how many milliseconds after an order to stop answers may still be taken.
 pub(crate) const LAST_MILLISECONDS: u64 = 5000;
 

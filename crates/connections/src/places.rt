@@ -1,12 +1,13 @@
 //! All places, one after another, in each part of a round.
 
-ghost use Rattle.std.specs.Prelude.{◌≡◌, ◌⊎◌, ◌↔◌, ℕ, None, IsTrue, IfOk, get_or, length};
+ghost use Rattle.std.specs.Prelude.{◌≡◌, ◌⊎◌, ◌↔◌, ℕ, None, IsTrue, IfOk, get_or, length, ⊤};
 ghost use Rattle.connections.specs.Fairness.{AreAttended, AreServed, AreUsed, NoneWaited};
-ghost use Rattle.connections.specs.Fitting.{AreFree, Tours, size_of};
+ghost use Rattle.connections.specs.Fitting.{AreFree, AreUnread, Tours, size_of};
 ghost use Rattle.connections.specs.Histories.{Hearing, Telling};
 
 use crate::Sessions;
 use crate::connections::Connections;
+use crate::limits::PIECE_SIZE;
 use crate::slots::{Round, Work, hear_at, take_at, tell_at};
 use crate::talk::Talk;
 use std::alloc::{AllocError, Global};
@@ -67,7 +68,7 @@ pub(crate) fn take_all<S: Sessions, C: Connections>(
     work: &mut Work,
 ) -> u64
     requires { round.stopped ≡ None }
-    ensures { Tours S.opens S.hears S.wants S.ends C.has Hearing round.idle round.now round.stopped left result (λ after. (result ≡ 0) ⊎ NoneWaited after ⊎ AreUsed (length places.old) after) connections.old sessions.old places.old connections.new sessions.new places.new }
+    ensures { Tours S.opens S.refuses S.hears S.wants S.ends C.has Hearing round.idle round.now round.stopped left result AreUnread (λ after. ((result ≡ 0) ⊎ NoneWaited after ⊎ AreUsed (length places.old) after) × AreUnread after) connections.old sessions.old places.old connections.new sessions.new places.new }
 {
     let mut left = left;
     for place in 0..places.len() {
@@ -100,9 +101,10 @@ pub(crate) fn hear_all<S: Sessions, C: Connections>(
     sessions: &mut S,
     connections: &mut C,
     round: Round,
+    room: &mut [u8; PIECE_SIZE],
     work: &mut Work,
 )
-    ensures { Tours S.opens S.hears S.wants S.ends C.has Hearing round.idle round.now round.stopped 0 0 AreAttended connections.old sessions.old places.old connections.new sessions.new places.new }
+    ensures { Tours S.opens S.refuses S.hears S.wants S.ends C.has Hearing round.idle round.now round.stopped 0 0 AreUnread AreAttended connections.old sessions.old places.old connections.new sessions.new places.new }
 {
     for place in 0..places.len() {
         hear_at(
@@ -112,6 +114,7 @@ pub(crate) fn hear_all<S: Sessions, C: Connections>(
             connections,
             place,
             round,
+            room,
             work,
         );
     }
@@ -126,7 +129,7 @@ pub(crate) fn tell_all<S: Sessions, C: Connections>(
     round: Round,
     work: &mut Work,
 )
-    ensures { Tours S.opens S.hears S.wants S.ends C.has (Telling round.is_synced) round.idle round.now round.stopped 0 0 (AreServed round.idle) connections.old sessions.old places.old connections.new sessions.new places.new }
+    ensures { Tours S.opens S.refuses S.hears S.wants S.ends C.has (Telling round.is_synced) round.idle round.now round.stopped 0 0 (λ _. ⊤) (AreServed round.idle) connections.old sessions.old places.old connections.new sessions.new places.new }
 {
     for place in 0..places.len() {
         tell_at(

@@ -3,14 +3,14 @@
 //! have become free, and there may be more to read.
 
 ghost use Rattle.std.specs.Prelude.{◌≡◌, ◌≢◌, ◌⊎◌, ◌↔◌, ℕ, [], ◌∷◌, None, IsTrue, get_or, length};
-ghost use Rattle.connections.specs.Endings.{AreWithin, HasEnded, IsStopped, most_comers};
+ghost use Rattle.connections.specs.Endings.{AreInside, AreWithin, HasEnded, IsStopped, most_comers};
 ghost use Rattle.connections.specs.Fairness.{AreAttended, AreUsed, IsFair, IsWhole, NoneOrdered, NoneWaited};
-ghost use Rattle.connections.specs.Fitting.{AreFree, Has, Knows, MayOrder, Tours, Turns, size_of};
+ghost use Rattle.connections.specs.Fitting.{AreFree, AreUnread, Has, Knows, MayOrder, Tours, Turns, size_of};
 ghost use Rattle.connections.specs.Histories.{History, Hearing, clock, stopped};
 ghost use Rattle.connections.specs.Telling.{TellsMemory};
 
 use crate::connections::Connections;
-use crate::limits::LONGEST_WAIT;
+use crate::limits::{LONGEST_WAIT, PIECE_SIZE};
 use crate::places::{Places, are_free, hear_all, take_all, tell_all};
 use crate::slots::{Round, Work};
 use crate::talk::Talk;
@@ -44,7 +44,7 @@ fn take_new<S: Sessions, C: Connections>(
     left: u64,
     work: &mut Work,
 ) -> u64
-    ensures { Tours S.opens S.hears S.wants S.ends C.has Hearing round.idle round.now round.stopped left result (λ after. IsStopped after ⊎ (result ≡ 0) ⊎ NoneWaited after ⊎ AreUsed (length places.old) after) connections.old sessions.old places.old connections.new sessions.new places.new }
+    ensures { Tours S.opens S.refuses S.hears S.wants S.ends C.has Hearing round.idle round.now round.stopped left result AreUnread (λ after. (IsStopped after ⊎ (result ≡ 0) ⊎ NoneWaited after ⊎ AreUsed (length places.old) after) × AreUnread after) connections.old sessions.old places.old connections.new sessions.new places.new }
 {
     if round.stopped.is_some() {
         return left;
@@ -59,14 +59,15 @@ fn hear_new<S: Sessions, C: Connections>(
     sessions: &mut S,
     connections: &mut C,
     round: Round,
+    room: &mut [u8; PIECE_SIZE],
     work: &mut Work,
 )
-    ensures { Tours S.opens S.hears S.wants S.ends C.has Hearing round.idle round.now round.stopped 0 0 (λ after. IsStopped after ⊎ AreAttended after) connections.old sessions.old places.old connections.new sessions.new places.new }
+    ensures { Tours S.opens S.refuses S.hears S.wants S.ends C.has Hearing round.idle round.now round.stopped 0 0 AreUnread (λ after. IsStopped after ⊎ AreAttended after) connections.old sessions.old places.old connections.new sessions.new places.new }
 {
     if round.stopped.is_some() {
         return;
     }
-    hear_all(alloc, places, sessions, connections, round, work);
+    hear_all(alloc, places, sessions, connections, round, room, work);
 }
 
 /// Writes a line for each connection that was closed for want of memory. One that cannot be written is
@@ -141,8 +142,9 @@ fn turn<S: Sessions, C: Connections>(
     sessions: &mut S,
     connections: &mut C,
     last: State,
+    room: &mut [u8; PIECE_SIZE],
 ) -> State
-    ensures turns { Turns S.opens S.hears S.wants S.ends C.has last.round.idle last.round.stopped last.left connections.old sessions.old places.old result.round.stopped result.left connections.new sessions.new places.new }
+    ensures turns { Turns S.opens S.refuses S.hears S.wants S.ends C.has last.round.idle last.round.stopped last.left connections.old sessions.old places.old result.round.stopped result.left connections.new sessions.new places.new }
     ensures same { result.round.idle ≡ last.round.idle }
 {
     let now = connections.wait(last.pause());
@@ -163,7 +165,7 @@ fn turn<S: Sessions, C: Connections>(
         last.left,
         &mut work,
     );
-    hear_new(alloc, places, sessions, connections, round, &mut work);
+    hear_new(alloc, places, sessions, connections, round, room, &mut work);
     round.is_synced = connections.sync();
     tell_all(alloc, places, sessions, connections, round, &mut work);
     State { round, work, left }
@@ -181,13 +183,15 @@ fn turn_all<S: Sessions, C: Connections, E: Write>(
 )
     requires { (place : ℕ) → get_or places.old place None ≡ None }
     ensures tells { TellsMemory (E.contents errors.old) (E.contents errors.new) }
-    ensures happens { C.has connections.old [] → (acts : History) × Has S.opens S.hears S.wants S.ends C.has limits.idle sessions.old connections.new sessions.new acts × AreWithin limits.count acts × HasEnded limits.count acts
-        × IsFair limits.idle limits.count (length places.old) acts × IsWhole limits.idle acts }
+    ensures happens { C.has connections.old [] → (acts : History) × Has S.opens S.refuses S.hears S.wants S.ends C.has limits.idle sessions.old connections.new sessions.new acts × AreWithin limits.count acts × HasEnded limits.count acts
+        × IsFair limits.idle limits.count (length places.old) acts × IsWhole limits.idle acts × AreInside (length places.old) acts }
 {
     let mut state = State::new(limits);
+    // Pieces are read into this one room: what is heard at once is kept nowhere else.
+    let mut room = [0; PIECE_SIZE];
     // Every loop of Rattle has an end: this one's is past any life of a server.
     for _round in 0..u64::MAX {
-        state = turn(alloc, places, sessions, connections, state);
+        state = turn(alloc, places, sessions, connections, state, &mut room);
         tell_wanting(errors, state.work.wanting);
         if is_finished(state, places) {
             return;
@@ -210,8 +214,8 @@ pub fn answer_all<S: Sessions, C: Connections, E: Write>(
 )
     requires { AreFree places }
     ensures tells { TellsMemory (E.contents errors.old) (E.contents errors.new) }
-    ensures happens { C.has connections.old [] → (acts : History) × Has S.opens S.hears S.wants S.ends C.has limits.idle sessions.old connections.new sessions.new acts × AreWithin limits.count acts × HasEnded limits.count acts
-        × IsFair limits.idle limits.count (size_of places) acts × IsWhole limits.idle acts }
+    ensures happens { C.has connections.old [] → (acts : History) × Has S.opens S.refuses S.hears S.wants S.ends C.has limits.idle sessions.old connections.new sessions.new acts × AreWithin limits.count acts × HasEnded limits.count acts
+        × IsFair limits.idle limits.count (size_of places) acts × IsWhole limits.idle acts × AreInside (size_of places) acts }
 {
     let mut places = places;
     turn_all(

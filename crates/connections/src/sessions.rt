@@ -1,4 +1,5 @@
-ghost use Rattle.std.specs.Prelude.{◌≡◌, ◌≢◌, ◌≤◌, ◌++◌, ℕ, List, [], take, length, IfOk, OnOk, OnErr};
+ghost use Rattle.std.specs.Prelude.{◌≡◌, ◌≢◌, ◌≤◌, ◌++◌, ℕ, List, [], take, length, IfErr, IfOk, OnOk, OnErr};
+ghost use Rattle.connections.specs.declared.ending.SessionFault.{SessionFault};
 
 use crate::SessionFault;
 
@@ -7,12 +8,15 @@ pub trait Sessions {
     // The sessions before, the number of one, and the sessions once it is opened.
     ghost opens: { Self → ℕ → Self → Type 0 };
 
+    // The sessions, the number of one that cannot be opened, and why.
+    ghost refuses: { Self → ℕ → SessionFault → Type 0 };
+
     // The sessions before, the number of one, the part that it hears, what it is answered, and the sessions
     // after.
     ghost hears: { Self → ℕ → List ℕ → List ℕ → Self → Type 0 };
 
-    // The sessions before, the number of one for whose part memory was wanting, and the sessions after.
-    ghost wants: { Self → ℕ → Self → Type 0 };
+    // The sessions before, the number of one, the part for which memory was wanting, and the sessions after.
+    ghost wants: { Self → ℕ → List ℕ → Self → Type 0 };
 
     // The sessions before, the number of one, and the sessions once it is ended.
     ghost ends: { Self → ℕ → Self → Type 0 };
@@ -24,14 +28,14 @@ pub trait Sessions {
     /// `Refused` if its number is in use or too many are open; `Memory`. Nothing is done.
     fn open(&mut self, session: usize) -> Result<(), SessionFault>
         ensures ok { OnOk result (opens self.old session self.new) }
-        ensures err { OnErr result (self.new ≡ self.old) };
+        ensures err { IfErr result (λ fault. (self.new ≡ self.old) × refuses self.old session fault) };
 
     /// Has a session hear a part of the bytes, from their front on, of so many that it returns. What it is
     /// answered is appended to the output.
     ///
     /// # Errors
     ///
-    /// `Memory`, and the session is to be ended.
+    /// `Memory`, or `Refused` if its number is not in use. The session is to be ended.
     fn hear(
         &mut self,
         session: usize,
@@ -42,7 +46,7 @@ pub trait Sessions {
         ensures ok { IfOk result (λ count. (1 ≤ count) × (count ≤ length bytes.now)
             × (reply : List ℕ) × hears self.old session (take count bytes.now) reply self.new
             × (output.new.items ≡ output.old.items ++ reply)) }
-        ensures err { OnErr result (wants self.old session self.new) };
+        ensures err { OnErr result ((count : ℕ) × (1 ≤ count) × (count ≤ length bytes.now) × wants self.old session (take count bytes.now) self.new) };
 
     /// Ends a session.
     fn end(&mut self, session: usize)

@@ -1,12 +1,14 @@
 //! One place: what happens to the connection there, if there is one, in each part of a round.
 
-ghost use Rattle.std.specs.Prelude.{◌≡◌, ◌↔◌, ℕ, List, true, false, None, Some, IsTrue, IfOk, IfErr};
+ghost use Rattle.std.specs.Prelude.{◌≡◌, ◌↔◌, ℕ, List, true, false, None, Some, IsTrue, IfOk, IfErr, ⊤};
+ghost use Rattle.connections.specs.Rounds.{IsUnread};
 ghost use Rattle.connections.specs.Fairness.{IfThere, IsAttended, IsNotDue, IsServed};
-ghost use Rattle.connections.specs.Fitting.{Adds, Has, IsOpeningFault, HasTried, Judged, KeepsTalk, Knows, Serves, Stays, came_by};
+ghost use Rattle.connections.specs.Fitting.{Adds, Has, HasTried, Judged, KeepsTalk, Knows, Serves, Stays, came_by, ending_of};
 ghost use Rattle.connections.specs.Histories.{History, Hearing, Telling, clock, course, stage, stopped};
 ghost use Rattle.connections.specs.Soundness.{Here, IsReason};
 
 use crate::connections::Connections;
+use crate::limits::PIECE_SIZE;
 use crate::talk::Talk;
 use crate::{Ending, SessionFault, Sessions};
 use std::alloc::Global;
@@ -22,14 +24,16 @@ pub(crate) struct Work {
     pub(crate) wanting: u64,
 }
 
-/// Where a round stands, and what it goes by.
+/// What a round goes by. Times are in milliseconds.
 #[derive(Clone, Copy, Debug, PartialEq, Eq)]
 pub(crate) struct Round {
+    /// When it began.
     pub(crate) now: u64,
+    /// For how long a connection may be idle; 0 for ever.
     pub(crate) idle: u64,
-    /// When a stop was ordered.
+    /// When a stop was ordered, if one was.
     pub(crate) stopped: Option<u64>,
-    /// Whether the answers of this round may leave.
+    /// Whether what was answered is on its disk, so that it may leave.
     pub(crate) is_synced: bool,
 }
 
@@ -60,9 +64,9 @@ fn close<S: Sessions, C: Connections>(
     place: usize,
     why: Ending,
 )
-    ensures { (idle : ℕ) (start : S) (acts : History) → Has S.opens S.hears S.wants S.ends C.has idle start connections.old sessions.old acts
+    ensures { (idle : ℕ) (start : S) (acts : History) → Has S.opens S.refuses S.hears S.wants S.ends C.has idle start connections.old sessions.old acts
         → Here (course acts place) (λ of. (of.is_open ≡ true) × IsReason idle acts why of)
-        → (after : History) × Stays place 0 acts after × Has S.opens S.hears S.wants S.ends C.has idle start connections.new sessions.new after × (course after place ≡ None) }
+        → (after : History) × Stays place 0 acts after × Has S.opens S.refuses S.hears S.wants S.ends C.has idle start connections.new sessions.new after × (course after place ≡ None) }
 {
     sessions.end(place);
     connections.close(place, why);
@@ -70,7 +74,7 @@ fn close<S: Sessions, C: Connections>(
 
 /// Why a connection is closed whose session was not opened.
 fn ending_of(fault: SessionFault) -> Ending
-    ensures { IsOpeningFault result }
+    ensures { result ≡ ending_of fault }
 {
     match fault {
         SessionFault::Memory => Ending::Memory,
@@ -91,7 +95,7 @@ pub(crate) fn take_at<S: Sessions, C: Connections>(
 ) -> bool
     requires free { slot.old ≡ None }
     requires goes_on { round.stopped ≡ None }
-    ensures { Serves S.opens S.hears S.wants S.ends C.has Hearing round.idle round.now round.stopped place (came_by result) (HasTried result place) connections.old sessions.old slot.old connections.new sessions.new slot.new }
+    ensures { Serves S.opens S.refuses S.hears S.wants S.ends C.has Hearing round.idle round.now round.stopped place (came_by result) (IsUnread place) (λ after. HasTried result place after × IsUnread place after) connections.old sessions.old slot.old connections.new sessions.new slot.new }
 {
     if !connections.take(place) {
         return false;
@@ -119,14 +123,15 @@ pub(crate) fn hear_at<S: Sessions, C: Connections>(
     connections: &mut C,
     place: usize,
     round: Round,
+    room: &mut [u8; PIECE_SIZE],
     work: &mut Work,
 )
-    ensures { Serves S.opens S.hears S.wants S.ends C.has Hearing round.idle round.now round.stopped place 0 (λ after. IfThere (course after place) (IsAttended after place)) connections.old sessions.old slot.old connections.new sessions.new slot.new }
+    ensures { Serves S.opens S.refuses S.hears S.wants S.ends C.has Hearing round.idle round.now round.stopped place 0 (IsUnread place) (λ after. IfThere (course after place) (IsAttended after place)) connections.old sessions.old slot.old connections.new sessions.new slot.new }
 {
     let Some(talk) = slot else {
         return;
     };
-    match talk.attend(alloc, sessions, connections, place, round.now) {
+    match talk.attend(alloc, sessions, connections, place, round.now, room) {
         Ok(has_done) => work.is_busy = work.is_busy || has_done,
         Err(why) => {
             work.close(why);
@@ -146,7 +151,7 @@ pub(crate) fn tell_at<S: Sessions, C: Connections>(
     round: Round,
     work: &mut Work,
 )
-    ensures { Serves S.opens S.hears S.wants S.ends C.has (Telling round.is_synced) round.idle round.now round.stopped place 0 (λ after. IfThere (course after place) (IsServed round.idle after place)) connections.old sessions.old slot.old connections.new sessions.new slot.new }
+    ensures { Serves S.opens S.refuses S.hears S.wants S.ends C.has (Telling round.is_synced) round.idle round.now round.stopped place 0 (λ _. ⊤) (λ after. IfThere (course after place) (IsServed round.idle after place)) connections.old sessions.old slot.old connections.new sessions.new slot.new }
 {
     let Some(talk) = slot else {
         return;

@@ -2,14 +2,14 @@
 //! the rest waits, and nothing is read before it is heard.
 
 ghost use Rattle.std.specs.Prelude.{◌≡◌, ◌≢◌, ◌⊎◌, ◌↔◌, ◌<◌, ◌≤◌, ◌++◌, [], ℕ, List, length, drop, IsTrue, IfOk, IfErr, OnOk, Some, true, false};
-ghost use Rattle.connections.specs.Fairness.{InRound, asks, offers};
-ghost use Rattle.connections.specs.Fitting.{Adds, Attends, Hearkens, IsDone, IsIdleDue, IsJudged, IsStopDue, Judged, KeepsTalk, Knows};
+ghost use Rattle.connections.specs.Rounds.{InRound, asks, offers};
+ghost use Rattle.connections.specs.Fitting.{Adds, Attends, Hearkens, HearsFrom, IsDone, IsIdleDue, IsJudged, IsStopDue, Judged, Keeps, KeepsTalk, Knows};
 ghost use Rattle.connections.specs.Histories.{History, Hearing, Telling, clock, course, stage, stopped};
 ghost use Rattle.connections.specs.Soundness.{Here, MayRead};
 ghost use Rattle.connections.specs.declared.limits.TheConstants.{FULL_OUTPUT};
 
 use crate::connections::{Connections, Reading, Writing};
-use crate::limits::{FULL_OUTPUT, LAST_MILLISECONDS, PIECE_SIZE};
+use crate::limits::{FULL_OUTPUT, KEPT_ROOM, LAST_MILLISECONDS, PIECE_SIZE};
 use crate::{Ending, Sessions};
 use std::alloc::Global;
 
@@ -20,7 +20,7 @@ pub(crate) struct Talk {
     input: Vec<u8>,
     /// What was answered and not yet taken.
     output: Vec<u8>,
-    /// When it last completed a message or took a byte, or else was taken.
+    /// When its session was last answered, or it took a byte, or else was taken.
     active: u64,
     /// The peer sends no more.
     is_over: bool,
@@ -59,80 +59,68 @@ impl Talk {
         self.input.is_empty() && !self.is_over && self.has_room()
     }
 
-    /// Reads a piece, and says whether anything came.
-    fn read_piece<C: Connections>(
-        &mut self,
-        alloc: Global,
-        connections: &mut C,
-        place: usize,
-    ) -> Result<bool, Ending>
-        requires { self.old.input.items ≡ [] }
-        ensures reads { (idle : ℕ) (acts : History) → Knows C.has idle connections.old acts → stage acts ≡ Hearing
-            → Here (course acts place) (λ of. KeepsTalk self.old of × MayRead of)
-            → (after : History) × Adds place acts after × Knows C.has idle connections.new after × Judged idle after place result self.new
-            × IfOk result (λ _. InRound asks after place) }
-        ensures nothing { result ≡ Ok false → self.new ≡ self.old }
-    {
-        let mut room = [0; PIECE_SIZE];
-        match connections.read(place, &mut room) {
-            Reading::Bytes(count) => match Vec::from_slice(alloc, &room[..count]) {
-                Ok(input) => {
-                    self.input = input;
-                    Ok(true)
-                }
-                Err(_) => Err(Ending::Memory),
-            },
-            Reading::End => {
-                self.is_over = true;
-                Ok(true)
-            }
-            Reading::Wait => Ok(false),
-            Reading::Fault => Err(Ending::Fault),
-        }
-    }
-
-    /// Has the session hear the next part of what was read.
-    fn hear_part<S: Sessions>(
-        &mut self,
-        alloc: Global,
-        sessions: &mut S,
-        place: usize,
-        now: u64,
-    ) -> Result<(), Ending>
-        requires some { self.old.input.items ≢ [] }
-        requires room { length self.old.output.items ≤ FULL_OUTPUT }
-        ensures hears { Hearkens S.opens S.hears S.wants S.ends (λ _. true) place now sessions.old self.old result sessions.new self.new }
-        ensures shorter { OnOk result (length self.new.input.items < length self.old.input.items) }
-    {
-        let size = self.output.len();
-        let count = match sessions.hear(place, &self.input, &mut self.output) {
-            Ok(count) => count,
-            Err(_) => return Err(Ending::Memory),
-        };
-        self.active = active_after(size, self.output.len(), now, self.active);
-        drop_front(alloc, &mut self.input, count);
-        Ok(())
-    }
-
-    /// Has the session hear what was read, as long as its answers have room. Says whether it heard
+    /// Has the session hear what waits to be heard, as long as its answers have room. Says whether it heard
     /// anything.
-    fn hear<S: Sessions>(
+    fn hear_rest<S: Sessions>(
         &mut self,
         alloc: Global,
         sessions: &mut S,
         place: usize,
         now: u64,
     ) -> Result<bool, Ending>
-        ensures hears { Hearkens S.opens S.hears S.wants S.ends (λ done. done) place now sessions.old self.old result sessions.new self.new }
+        ensures hears { Hearkens S.opens S.refuses S.hears S.wants S.ends (λ done. done) place now sessions.old (KeepsTalk self.old) result sessions.new (λ _. KeepsTalk self.new) }
         ensures all { IfOk result (λ _. (self.new.input.items ≡ []) ⊎ (FULL_OUTPUT < length self.new.output.items)) }
         ensures nothing { result ≡ Ok false → self.new ≡ self.old }
     {
-        let mut has_heard = false;
-        while !self.input.is_empty() && self.has_room() {
-            self.hear_part(alloc, sessions, place, now)?;
-            has_heard = true;
+        if self.input.is_empty() || !self.has_room() {
+            return Ok(false);
         }
-        Ok(has_heard)
+        let heard = hear_parts(
+            sessions,
+            place,
+            now,
+            &self.input,
+            &mut self.output,
+            &mut self.active,
+        )?;
+        drop_front(alloc, &mut self.input, heard);
+        Ok(true)
+    }
+
+    /// Has the session hear bytes that were just read, as long as its answers have room, and keeps the
+    /// rest.
+    fn hear_new<S: Sessions>(
+        &mut self,
+        alloc: Global,
+        sessions: &mut S,
+        place: usize,
+        now: u64,
+        bytes: &[u8],
+    ) -> Result<(), Ending>
+        requires none { self.old.input.items ≡ [] }
+        requires some { bytes.now ≢ [] }
+        requires room { length self.old.output.items ≤ FULL_OUTPUT }
+        ensures hears { Hearkens S.opens S.refuses S.hears S.wants S.ends (λ _. true) place now sessions.old (Keeps bytes.now self.old.output.items self.old.active self.old.is_over) result sessions.new (λ _. KeepsTalk self.new) }
+        ensures all { IfOk result (λ _. (self.new.input.items ≡ []) ⊎ (FULL_OUTPUT < length self.new.output.items)) }
+    {
+        let heard = hear_parts(
+            sessions,
+            place,
+            now,
+            bytes,
+            &mut self.output,
+            &mut self.active,
+        )?;
+        if heard == bytes.len() {
+            return Ok(());
+        }
+        match Vec::from_slice(alloc, bytes.split_at(heard).1) {
+            Ok(rest) => {
+                self.input = rest;
+                Ok(())
+            }
+            Err(_) => Err(Ending::Memory),
+        }
     }
 
     /// Reads a piece, if none waits and its answers have room, and has the session hear it. Says whether
@@ -144,17 +132,25 @@ impl Talk {
         connections: &mut C,
         place: usize,
         now: u64,
+        room: &mut [u8; PIECE_SIZE],
     ) -> Result<bool, Ending>
-        ensures { Attends S.opens S.hears S.wants S.ends C.has Hearing place now connections.old sessions.old self.old result connections.new sessions.new self.new }
+        ensures { Attends S.opens S.refuses S.hears S.wants S.ends C.has Hearing place now connections.old sessions.old self.old result connections.new sessions.new self.new }
     {
         if !self.may_read() {
-            return self.hear(alloc, sessions, place, now);
+            return self.hear_rest(alloc, sessions, place, now);
         }
-        if !self.read_piece(alloc, connections, place)? {
-            return Ok(false);
+        match connections.read(place, room) {
+            Reading::Bytes(count) => {
+                self.hear_new(alloc, sessions, place, now, &room[..count])?;
+                Ok(true)
+            }
+            Reading::End => {
+                self.is_over = true;
+                Ok(true)
+            }
+            Reading::Wait => Ok(false),
+            Reading::Fault => Err(Ending::Fault),
         }
-        self.hear(alloc, sessions, place, now)?;
-        Ok(true)
     }
 
     /// Writes what the connection takes of the output, and says whether it took any.
@@ -259,6 +255,53 @@ impl Talk {
     }
 }
 
+/// Has a session hear the next part of the bytes, and says how many bytes the part has.
+fn hear_part<S: Sessions>(
+    sessions: &mut S,
+    place: usize,
+    now: u64,
+    bytes: &[u8],
+    output: &mut Vec<u8>,
+    active: &mut u64,
+) -> Result<usize, Ending>
+    requires some { bytes.now ≢ [] }
+    requires room { length output.old.items ≤ FULL_OUTPUT }
+    ensures hears { HearsFrom S.opens S.refuses S.hears S.wants S.ends place now sessions.old bytes.now output.old.items active.old result sessions.new output.new.items active.new }
+    ensures count { IfOk result (λ count. (1 ≤ count) × (count ≤ length bytes.now)) }
+{
+    let size = output.len();
+    let count = match sessions.hear(place, bytes, output) {
+        Ok(count) => count,
+        Err(_) => return Err(Ending::Memory),
+    };
+    *active = active_after(size, output.len(), now, *active);
+    Ok(count)
+}
+
+/// Has a session hear the bytes, part by part, as long as its answers have room. Returns how many it heard.
+fn hear_parts<S: Sessions>(
+    sessions: &mut S,
+    place: usize,
+    now: u64,
+    bytes: &[u8],
+    output: &mut Vec<u8>,
+    active: &mut u64,
+) -> Result<usize, Ending>
+    requires some { bytes.now ≢ [] }
+    requires room { length output.old.items ≤ FULL_OUTPUT }
+    ensures hears { HearsFrom S.opens S.refuses S.hears S.wants S.ends place now sessions.old bytes.now output.old.items active.old result sessions.new output.new.items active.new }
+    ensures count { IfOk result (λ count. count ≤ length bytes.now) }
+    ensures all { IfOk result (λ count. (count ≡ length bytes.now) ⊎ (FULL_OUTPUT < length output.new.items)) }
+{
+    let mut heard = hear_part(sessions, place, now, bytes, output, active)?;
+    while heard < bytes.len() && output.len() <= FULL_OUTPUT {
+        let rest = bytes.split_at(heard).1;
+        let count = hear_part(sessions, place, now, rest, output, active)?;
+        heard += count;
+    }
+    Ok(heard)
+}
+
 /// When a connection was last active, whose output had and now has so many bytes.
 fn active_after(size: usize, grown: usize, now: u64, active: u64) -> u64
     ensures longer { size < grown → result ≡ now }
@@ -267,13 +310,13 @@ fn active_after(size: usize, grown: usize, now: u64, active: u64) -> u64
     if grown > size { now } else { active }
 }
 
-/// Drops the first bytes. Where none are left, their room is given back.
+/// Drops the first bytes. Where none are left, a large room is given back.
 fn drop_front(alloc: Global, bytes: &mut Vec<u8>, count: usize)
     requires { count ≤ length bytes.old.items }
     ensures { bytes.new.items ≡ drop count bytes.old.items }
 {
     let left = bytes.len() - count;
-    if left == 0 {
+    if left == 0 && bytes.capacity() > KEPT_ROOM {
         *bytes = Vec::new(alloc);
         return;
     }

@@ -94,9 +94,11 @@ impl Sessions for Echoes {
 
     ghost opens = { λ _ _ _. ⊤ };
 
+    ghost refuses = { λ _ _ _. ⊤ };
+
     ghost hears = { λ _ _ _ _ _. ⊤ };
 
-    ghost wants = { λ _ _ _. ⊤ };
+    ghost wants = { λ _ _ _ _. ⊤ };
 
     ghost ends = { λ _ _ _. ⊤ };
 

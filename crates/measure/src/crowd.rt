@@ -14,13 +14,15 @@ pub(crate) struct Crowd {
     /// The names of the directory's page.
     pub(crate) names: usize,
     pub(crate) connections: usize,
+    /// The look-ups that each connection has in flight.
+    pub(crate) in_flight: usize,
     /// The look-ups of a step.
     pub(crate) frames: usize,
     /// The rounds.
     pub(crate) rounds: usize,
 }
 
-/// The clients, and how many nanoseconds each look-up of a step took.
+/// The clients, and how many nanoseconds the look-ups of a step took that were in flight together.
 #[derive(Drop)]
 struct Clients {
     clients: Vec<Client>,
@@ -29,35 +31,49 @@ struct Clients {
 }
 
 impl Clients {
-    /// Each sends one of the requests, of which so many are behind.
-    fn send(&mut self, clock: &impl Clock, requests: &Requests, behind: usize) -> Result<()> {
+    /// Each sends so many of the requests, of which so many are behind.
+    fn send(
+        &mut self,
+        clock: &impl Clock,
+        requests: &Requests,
+        behind: usize,
+        count: usize,
+    ) -> Result<()> {
         self.starts.clear();
-        for (number, client) in self.clients.iter_mut().enumerate() {
+        let mut behind = behind;
+        for client in &mut self.clients {
             self.starts.push(Instant::now(clock)?)?;
-            client.send(requests.next(behind.saturating_add(number), 1))?;
+            client.send(requests.next(behind, count))?;
+            behind = behind.saturating_add(count);
         }
         Ok(())
     }
 
-    /// Each takes its reply. Counts the bytes.
-    fn take(&mut self, clock: &impl Clock) -> Result<u64> {
+    /// Each takes so many replies, whose time is that of the last. Counts the bytes.
+    fn take(&mut self, clock: &impl Clock, count: usize) -> Result<u64> {
         let mut bytes: u64 = 0;
         for (client, start) in self.clients.iter_mut().zip(self.starts.iter()) {
-            bytes = bytes.saturating_add(client.take_one()?);
+            bytes = bytes.saturating_add(client.take_replies(count)?);
             let nanos = start.elapsed(clock)?.as_nanos();
             self.times.push(u64::try_from(nanos).unwrap_or(u64::MAX))?;
         }
         Ok(bytes)
     }
 
-    /// The requests, one of each client at a time, and as many of each. Counts the bytes of the replies.
-    fn ask(&mut self, clock: &impl Clock, requests: &Requests, frames: usize) -> Result<u64> {
+    /// The requests, so many of each client at a time, and as many of each. Counts the bytes of the replies.
+    fn ask(
+        &mut self,
+        clock: &impl Clock,
+        requests: &Requests,
+        frames: usize,
+        in_flight: usize,
+    ) -> Result<u64> {
         let mut bytes: u64 = 0;
         self.times.clear();
-        let connections = self.clients.len();
-        for batch in 0..frames.checked_div(connections).unwrap_or(0) {
-            self.send(clock, requests, batch.saturating_mul(connections))?;
-            bytes = bytes.saturating_add(self.take(clock)?);
+        let batch = self.clients.len().saturating_mul(in_flight);
+        for number in 0..frames.checked_div(batch).unwrap_or(0) {
+            self.send(clock, requests, number.saturating_mul(batch), in_flight)?;
+            bytes = bytes.saturating_add(self.take(clock, in_flight)?);
         }
         Ok(bytes)
     }
@@ -100,7 +116,8 @@ where
         let entries = entries_of(alloc, &sessions, Kind::LookUp, round)?;
         let requests = Requests::new(alloc, Kind::LookUp, &entries)?;
         end_step(rt, alloc, requests.size() as u64)?;
-        end_step(rt, alloc, clients.ask(rt, &requests, entries.len())?)?;
+        let bytes = clients.ask(rt, &requests, entries.len(), wanted.in_flight)?;
+        end_step(rt, alloc, bytes)?;
         clients.times.sort()?;
         for part in [50, 99, 100] {
             end_step(rt, alloc, clients.time_at(part))?;

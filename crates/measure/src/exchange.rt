@@ -127,17 +127,19 @@ impl Client {
         Ok(())
     }
 
-    /// Takes the reply to one request, and counts its bytes.
-    pub(crate) fn take_one(&mut self) -> Result<u64> {
+    /// Takes the replies to so many requests, and counts their bytes.
+    pub(crate) fn take_replies(&mut self, count: usize) -> Result<u64> {
         let mut room = [0; ROOM];
         let mut bytes: u64 = 0;
+        let mut answered: usize = 0;
         for _ in 0..u64::MAX {
+            if answered >= count {
+                break;
+            }
             let read = self.stream.read(&mut room)?;
             ensure!(read != 0, "the server closed the connection");
             bytes = bytes.saturating_add(read as u64);
-            if self.take(&room[..read])? > 0 {
-                break;
-            }
+            answered = answered.saturating_add(self.take(&room[..read])?);
         }
         Ok(bytes)
     }
@@ -247,24 +249,28 @@ where
     Ok(())
 }
 
-/// A frame of so many bytes.
-fn frame_of(alloc: Global, bytes: usize) -> Result<Vec<u8>, AllocError> {
+/// So many frames of so many bytes.
+fn frames_of(alloc: Global, bytes: usize, count: usize) -> Result<Vec<u8>, AllocError> {
     let length = u32::try_from(bytes.saturating_sub(4)).unwrap_or(u32::MAX);
-    let mut frame = Vec::from_slice(alloc, &length.to_be_bytes())?;
-    for _ in 4..bytes {
-        frame.push(0)?;
+    let mut frames = Vec::new(alloc);
+    for _ in 0..count {
+        frames.extend_from_slice(&length.to_be_bytes())?;
+        for _ in 4..bytes {
+            frames.push(0)?;
+        }
     }
-    Ok(frame)
+    Ok(frames)
 }
 
-/// Answers so many connections: a reply of so many bytes for each request of so many, whatever is in it, of
-/// each connection in turn. The one step tells the port.
+/// Answers so many connections: a reply of so many bytes for each request of so many, whatever is in it, and of
+/// each connection in turn those that it has in flight. The one step tells the port.
 pub(crate) fn answer<R>(
     rt: &R,
     alloc: Global,
     request: usize,
     reply: usize,
     connections: usize,
+    in_flight: usize,
 ) -> Result<()>
 where
     R: Print + Input + Net<Listener = TcpListener, Stream = TcpStream>,
@@ -277,14 +283,14 @@ where
         stream.set_nodelay(true)?;
         streams.push(stream)?;
     }
-    let mut room = frame_of(alloc, request)?;
-    let frame = frame_of(alloc, reply)?;
+    let mut room = frames_of(alloc, request, in_flight)?;
+    let frames = frames_of(alloc, reply, in_flight)?;
     for _ in 0..u64::MAX {
         for stream in &mut streams {
             if stream.read_exact(&mut room).is_err() {
                 return Ok(());
             }
-            stream.write_all(&frame)?;
+            stream.write_all(&frames)?;
         }
     }
     Ok(())

@@ -242,18 +242,19 @@ where
             };
             exchange::measure_look_ups(rt, alloc, &wanted)?;
         }
-        ("crowd", &[port, names, connections, frames, rounds]) => {
+        ("crowd", &[port, names, connections, in_flight, frames, rounds]) => {
             let wanted = crowd::Crowd {
                 port,
                 names,
                 connections,
+                in_flight,
                 frames,
                 rounds,
             };
             crowd::measure(rt, alloc, &wanted)?;
         }
-        ("answer", &[request, reply, connections]) => {
-            exchange::answer(rt, alloc, request, reply, connections)?;
+        ("answer", &[request, reply, connections, in_flight]) => {
+            exchange::answer(rt, alloc, request, reply, connections, in_flight)?;
         }
         _ => return Ok(false),
     }

@@ -1,5 +1,5 @@
 -- What is answered to many connections at once is answered one message after another.
-use Rattle.std.proofs.Common.{ℕ, List, [], ◌∷◌, ◌++◌, true, false, Result, Ok, Err, refl, sym, ap, subst, inl, inr}
+use Rattle.std.proofs.Common.{◌≡◌, ◌≢◌, ℕ, ◌≤◌, List, [], ◌∷◌, ◌++◌, length, true, false, None, Some, Result, Ok, Err, refl, sym, ap, subst, ◌∙◌, arith, inl, inr}
 use Rattle.wire.specs.Frames.{Frame}
 use Rattle.hub.specs.Events.{Happening, Open, Bytes, End, HubState, number}
 use Rattle.hub.specs.Exchanges.{Exchange}
@@ -8,9 +8,14 @@ use Rattle.hub.specs.declared.hub_refusal.HubRefusal.TheVariants.{TooManySession
 use Rattle.hub.specs.Happenings.{Happens, Passes}
 use Rattle.hub.specs.Runs.{lines, AllAnswered, Line}
 use Rattle.hub.proofs.Running.{answered_append}
-use Rattle.connections.specs.Histories.{At, Ordered, GoesOn, Syncs, NoneWaits, On, Comes, Opens, Reads, IsOver, IsSilent, Hears, Wants, Takes, TakesNone, Fails, Ends, Closes, History, Leads}
-use Rattle.server.specs.Sessions.{AreLines, Ended, Heard, Opened, Wanted}
+use Rattle.connections.specs.Histories.{At, Ordered, GoesOn, Syncs, NoneWaits, On, Comes, Opens, Refuses, Reads, IsOver, IsSilent, Hears, Wants, Lacks, Takes, TakesNone, Fails, Ends, Closes, History}
+use Rattle.server.specs.Sessions.{AreLines, Ended, HubLeads, Loses, Unopened, Wanted, session_fault}
 use Rattle.server.proofs.Conversing.{all_replied}
+
+-- there are some bytes
+pub some_bytes : (bytes : List ℕ) → bytes ≢ [] → 1 ≤ length bytes
+some_bytes [] some = absurd (some refl)
+some_bytes (byte ∷ more) some = omega arith
 
 module _ {S : Type 0} (answers : S → Frame → List ℕ → S → Type 0) where
   passes_answered : (before : HubState S) (it : Happening) (xs : List Exchange) (after : HubState S) → Passes answers before it xs after
@@ -24,11 +29,11 @@ module _ {S : Type 0} (answers : S → Frame → List ℕ → S → Type 0) wher
   passes_answered before (End session) xs after (inr (is, (none, does))) =
       subst (λ (ys : List Exchange). AllAnswered answers before.service (lines session ys) after.service) (sym none) (ap (λ (h : HubState S). h.service) does)
 
-  wanted_answered : (before : HubState S) (session : ℕ) (after : HubState S) → Wanted answers before session after
-      → (xs : List Exchange) × AllAnswered answers before.service (lines session xs) after.service
-  wanted_answered before session after (inl same) = ([], ap (λ (h : HubState S). h.service) same)
-  wanted_answered before session after (inr (part, xs, (held, left, here, set, exchanged, leaves))) =
-      (xs, all_replied answers session before.service _ xs after.service left exchanged)
+  loses_answered : (before : HubState S) (session : ℕ) (part : List ℕ) (xs : List Exchange) (after : HubState S) → Loses answers before session part xs after
+      → AllAnswered answers before.service (lines session xs) after.service
+  loses_answered before session part xs after (inl (none, same)) =
+      subst (λ (ys : List Exchange). AllAnswered answers before.service (lines session ys) after.service) (sym none) (ap (λ (h : HubState S). h.service) same)
+  loses_answered before session part xs after (inr (held, left, here, set, exchanged, leaves)) = all_replied answers session before.service _ xs after.service left exchanged
 
   -- ---- one event
 
@@ -45,33 +50,46 @@ module _ {S : Type 0} (answers : S → Frame → List ℕ → S → Type 0) wher
   ended before session output (Err (Memory false)) after grown (takes, is, same, kept) = absurd takes
   ended before session output (Err (Memory true)) after grown (other, piece, xs, it, answered, kept) = absurd cc
 
+  pub unopened : (before : HubState S) (session : ℕ) (output grown : List ℕ) (why : HubRefusal) (after : HubState S)
+      → Happens answers before (Open session) output (Err why) after grown → (after ≡ before) × Unopened before session (session_fault why)
+  unopened before session output grown TooManySessions after (is, same, kept) = (same, inr (λ none. absurd (let wrong : Some TooManySessions ≡ None = sym is ∙ none in cc)))
+  unopened before session output grown SessionOpen after (is, same, kept) = (same, inr (λ none. absurd (let wrong : Some SessionOpen ≡ None = sym is ∙ none in cc)))
+  unopened before session output grown NoSession after (is, same, kept) = (same, inr (λ none. absurd (let wrong : Some NoSession ≡ None = sym is ∙ none in cc)))
+  unopened before session output grown (Memory false) after (takes, is, same, kept) = (same, tt)
+  unopened before session output grown (Memory true) after (other, piece, xs, it, answered, kept) = absurd cc
+
+  pub wanted : (before : HubState S) (session : ℕ) (part output grown : List ℕ) (why : HubRefusal) (after : HubState S)
+      → Happens answers before (Bytes session part) output (Err why) after grown → Wanted answers before session part after
+  wanted before session part output grown TooManySessions after (is, same, kept) = ([], inl (refl, same))
+  wanted before session part output grown SessionOpen after (is, same, kept) = ([], inl (refl, same))
+  wanted before session part output grown NoSession after (is, same, kept) = ([], inl (refl, same))
+  wanted before session part output grown (Memory false) after (takes, is, same, kept) = ([], inl (refl, same))
+  wanted before session part output grown (Memory true) after (number, piece, xs, it, answered, kept) =
+      let same_number : session ≡ number = cc in
+      let same_piece : part ≡ piece = cc in
+      rw (same_number, same_piece) (xs, inr answered)
+
   -- ---- a history
 
   module _ {X : Type 0} (hub_of : X → HubState S) where
-    abbrev pub HubLeads : X → History → X → Type 0
-    HubLeads = Leads (λ before session after. Opened answers (hub_of before) session (hub_of after))
-        (λ before session part reply after. Heard answers (hub_of before) session part reply (hub_of after))
-        (λ before session after. Wanted answers (hub_of before) session (hub_of after))
-        (λ before session after. Ended answers (hub_of before) session (hub_of after))
-
     abbrev Told : X → History → X → Type 0
-    Told start acts after = (ls : List Line) × AreLines acts ls × AllAnswered answers (hub_of start).service ls (hub_of after).service
+    Told start acts after = (ls : List Line) × AreLines answers (hub_of start) acts (hub_of after) ls × AllAnswered answers (hub_of start).service ls (hub_of after).service
 
     both : (start middle after : X) (one two : List Line) → AllAnswered answers (hub_of start).service one (hub_of middle).service
         → AllAnswered answers (hub_of middle).service two (hub_of after).service → AllAnswered answers (hub_of start).service (one ++ two) (hub_of after).service
     both start middle after one two first second = answered_append answers (hub_of start).service one (hub_of middle).service two (hub_of after).service first second
 
     -- an event without a message
-    still : (start middle after : X) (acts : History) → Told start acts middle → AllAnswered answers (hub_of middle).service [] (hub_of after).service → Told start acts after
-    still start middle after acts (ls, are, told) same = (ls, are, subst (λ (s : S). AllAnswered answers (hub_of start).service ls s) (sym same) told)
+    still : (start middle after : X) (ls : List Line) → AllAnswered answers (hub_of start).service ls (hub_of middle).service → AllAnswered answers (hub_of middle).service [] (hub_of after).service
+        → AllAnswered answers (hub_of start).service ls (hub_of after).service
+    still start middle after ls told same = subst (λ (s : S). AllAnswered answers (hub_of start).service ls s) (sym same) told
 
-    ended_still : (start middle after : X) (acts : History) (place : ℕ) → Told start acts middle → Ended answers (hub_of middle) place (hub_of after) → Told start acts after
-    ended_still start middle after acts place told (inl passes) =
-        still start middle after acts told (passes_answered (hub_of middle) (End place) [] (hub_of after) passes)
-    ended_still start middle after acts place told (inr (much, same)) = still start middle after acts told (ap (λ (h : HubState S). h.service) same)
+    ended_none : (middle after : X) (place : ℕ) → Ended answers (hub_of middle) place (hub_of after) → AllAnswered answers (hub_of middle).service [] (hub_of after).service
+    ended_none middle after place (inl passes) = passes_answered (hub_of middle) (End place) [] (hub_of after) passes
+    ended_none middle after place (inr (much, same)) = ap (λ (h : HubState S). h.service) same
 
-    pub crowd_answered : (start : X) (acts : History) (after : X) → HubLeads start acts after → Told start acts after
-    crowd_answered start [] after same = ([], refl, ap (λ (x : X). (hub_of x).service) same)
+    pub crowd_answered : (start : X) (acts : History) (after : X) → HubLeads answers hub_of start acts after → Told start acts after
+    crowd_answered start [] after same = ([], (ap hub_of same, refl), ap (λ (x : X). (hub_of x).service) same)
     crowd_answered start (At now ∷ acts) after leads = crowd_answered start acts after leads
     crowd_answered start (Ordered ∷ acts) after leads = crowd_answered start acts after leads
     crowd_answered start (Syncs kept ∷ acts) after leads = crowd_answered start acts after leads
@@ -79,25 +97,32 @@ module _ {S : Type 0} (answers : S → Frame → List ℕ → S → Type 0) wher
     crowd_answered start (NoneWaits ∷ acts) after leads = crowd_answered start acts after leads
     crowd_answered start (On place Comes ∷ acts) after leads = crowd_answered start acts after leads
     crowd_answered start (On place Opens ∷ acts) after (middle, leads, does) =
-        still start middle after acts (crowd_answered start acts middle leads) (passes_answered (hub_of middle) (Open place) [] (hub_of after) does)
+        let earlier = crowd_answered start acts middle leads in (
+          earlier.0,
+          (hub_of middle, earlier.1, does),
+          still start middle after earlier.0 earlier.2 (passes_answered (hub_of middle) (Open place) [] (hub_of after) does),
+        )
+    crowd_answered start (On place (Refuses why) ∷ acts) after (leads, refuses) = crowd_answered start acts after leads
     crowd_answered start (On place (Reads bytes) ∷ acts) after leads = crowd_answered start acts after leads
     crowd_answered start (On place IsOver ∷ acts) after leads = crowd_answered start acts after leads
     crowd_answered start (On place IsSilent ∷ acts) after leads = crowd_answered start acts after leads
     crowd_answered start (On place (Hears part reply) ∷ acts) after (middle, leads, (xs, does, is)) =
         let earlier = crowd_answered start acts middle leads in (
           earlier.0 ++ lines place xs,
-          (earlier.0, xs, earlier.1, refl, is),
+          (hub_of middle, earlier.0, xs, earlier.1, does, is, refl),
           both start middle after earlier.0 (lines place xs) earlier.2 (passes_answered (hub_of middle) (Bytes place part) xs (hub_of after) does),
         )
-    crowd_answered start (On place Wants ∷ acts) after (middle, leads, does) =
-        let earlier = crowd_answered start acts middle leads in
-        let lost = wanted_answered (hub_of middle) place (hub_of after) does in (
-          earlier.0 ++ lines place lost.0,
-          (earlier.0, lost.0, earlier.1, refl),
-          both start middle after earlier.0 (lines place lost.0) earlier.2 lost.1,
+    crowd_answered start (On place (Wants part) ∷ acts) after (middle, leads, (lost, does)) =
+        let earlier = crowd_answered start acts middle leads in (
+          earlier.0 ++ lines place lost,
+          (hub_of middle, earlier.0, lost, earlier.1, does, refl),
+          both start middle after earlier.0 (lines place lost) earlier.2 (loses_answered (hub_of middle) place part lost (hub_of after) does),
         )
+    crowd_answered start (On place Lacks ∷ acts) after leads = crowd_answered start acts after leads
     crowd_answered start (On place (Takes bytes) ∷ acts) after leads = crowd_answered start acts after leads
     crowd_answered start (On place TakesNone ∷ acts) after leads = crowd_answered start acts after leads
     crowd_answered start (On place Fails ∷ acts) after leads = crowd_answered start acts after leads
-    crowd_answered start (On place Ends ∷ acts) after (middle, leads, does) = ended_still start middle after acts place (crowd_answered start acts middle leads) does
+    crowd_answered start (On place Ends ∷ acts) after (middle, leads, does) =
+        let earlier = crowd_answered start acts middle leads in
+        (earlier.0, (hub_of middle, earlier.1, does), still start middle after earlier.0 earlier.2 (ended_none middle after place does))
     crowd_answered start (On place (Closes why) ∷ acts) after leads = crowd_answered start acts after leads

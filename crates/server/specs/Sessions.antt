@@ -1,15 +1,15 @@
 -- The sessions of a hub, as the loop over connections uses them.
-use Rattle.std.specs.Prelude.{◌≡◌, ◌⊎◌, ◌^◌, ◌≤◌, ◌++◌, ℕ, List, [], ◌∷◌, false}
+use Rattle.std.specs.Prelude.{◌≡◌, ◌≢◌, ◌⊎◌, ◌^◌, ◌≤◌, ◌++◌, ℕ, List, [], ◌∷◌, false, None, ⊤}
 use Rattle.wire.specs.Frames.{Frame}
 use Rattle.connections.specs.declared.ending.SessionFault.{SessionFault}
 use Rattle.connections.specs.declared.ending.SessionFault.TheVariants as fault
 use Rattle.hub.specs.declared.hub_refusal.HubRefusal.{HubRefusal}
 use Rattle.hub.specs.declared.hub_refusal.HubRefusal.TheVariants.{TooManySessions, SessionOpen, NoSession, Memory}
-use Rattle.hub.specs.Events.{Open, Bytes, End, HubState}
+use Rattle.hub.specs.Events.{Open, Bytes, End, HubState, due}
 use Rattle.hub.specs.Exchanges.{Exchange, replies}
 use Rattle.hub.specs.Happenings.{Answered, Passes}
 use Rattle.hub.specs.Runs.{lines, Line}
-use Rattle.connections.specs.Histories.{At, Ordered, GoesOn, Syncs, NoneWaits, On, Comes, Opens, Reads, IsOver, IsSilent, Hears, Wants, Takes, TakesNone, Fails, Ends, Closes, History}
+use Rattle.connections.specs.Histories.{At, Ordered, GoesOn, Syncs, NoneWaits, On, Comes, Opens, Refuses, Reads, IsOver, IsSilent, Hears, Wants, Lacks, Takes, TakesNone, Fails, Ends, Closes, History, Leads}
 
 -- only want of memory is told as such
 abbrev pub session_fault : HubRefusal → SessionFault
@@ -17,6 +17,11 @@ session_fault TooManySessions = fault.Refused
 session_fault SessionOpen = fault.Refused
 session_fault NoSession = fault.Refused
 session_fault (Memory taken) = fault.Memory
+
+-- why a session is not opened: its number has more than 32 bits, the hub refuses it, or memory is wanting
+abbrev pub Unopened : {S : Type 0} → HubState S → ℕ → SessionFault → Type 0
+Unopened before session fault.Memory = ⊤
+Unopened before session fault.Refused = (2 ^ 32 ≤ session) ⊎ (due before.sessions (Open session) ≢ None)
 
 module _ {S : Type 0} (answers : S → Frame → List ℕ → S → Type 0) where
   -- the event of an opening passes
@@ -27,34 +32,47 @@ module _ {S : Type 0} (answers : S → Frame → List ℕ → S → Type 0) wher
   abbrev pub Heard : HubState S → ℕ → List ℕ → List ℕ → HubState S → Type 0
   Heard before session part reply after = (exchanges : List Exchange) × Passes answers before (Bytes session part) exchanges after × (reply ≡ replies exchanges)
 
-  -- nothing was done of a part; or it was taken, and memory was wanting for a reply
-  abbrev pub Wanted : HubState S → ℕ → HubState S → Type 0
-  Wanted before session after = (after ≡ before)
-      ⊎ ((part : List ℕ) × (exchanges : List Exchange) × Answered answers before session part false exchanges after)
+  -- nothing was done of this part; or it was taken, these messages were answered, and memory was wanting for a reply
+  abbrev pub Loses : HubState S → ℕ → List ℕ → List Exchange → HubState S → Type 0
+  Loses before session part exchanges after = ((exchanges ≡ []) × (after ≡ before)) ⊎ Answered answers before session part false exchanges after
+
+  abbrev pub Wanted : HubState S → ℕ → List ℕ → HubState S → Type 0
+  Wanted before session part after = (exchanges : List Exchange) × Loses before session part exchanges after
 
   -- that of an end passes; a session's number has 32 bits
   abbrev pub Ended : HubState S → ℕ → HubState S → Type 0
   Ended before session after = Passes answers before (End session) [] after ⊎ ((2 ^ 32 ≤ session) × (after ≡ before))
 
--- The messages of what happened, each with its reply, as lines of the hub: what a session is answered to a part is the
--- replies to the messages that it completes. Where memory is wanting for a part, its replies reach nobody.
-abbrev pub AreLines : History → List Line → Type 0
-AreLines [] all = all ≡ []
-AreLines (At now ∷ before) all = AreLines before all
-AreLines (Ordered ∷ before) all = AreLines before all
-AreLines (GoesOn ∷ before) all = AreLines before all
-AreLines (Syncs kept ∷ before) all = AreLines before all
-AreLines (NoneWaits ∷ before) all = AreLines before all
-AreLines (On place Comes ∷ before) all = AreLines before all
-AreLines (On place Opens ∷ before) all = AreLines before all
-AreLines (On place (Reads bytes) ∷ before) all = AreLines before all
-AreLines (On place IsOver ∷ before) all = AreLines before all
-AreLines (On place IsSilent ∷ before) all = AreLines before all
-AreLines (On place (Hears part reply) ∷ before) all = (earlier : List Line) × (exchanges : List Exchange)
-    × AreLines before earlier × (all ≡ earlier ++ lines place exchanges) × (reply ≡ replies exchanges)
-AreLines (On place Wants ∷ before) all = (earlier : List Line) × (lost : List Exchange) × AreLines before earlier × (all ≡ earlier ++ lines place lost)
-AreLines (On place (Takes bytes) ∷ before) all = AreLines before all
-AreLines (On place TakesNone ∷ before) all = AreLines before all
-AreLines (On place Fails ∷ before) all = AreLines before all
-AreLines (On place Ends ∷ before) all = AreLines before all
-AreLines (On place (Closes why) ∷ before) all = AreLines before all
+  -- what happens to sessions leads from this hub to that one
+  abbrev pub HubLeads : {X : Type 0} → (X → HubState S) → X → History → X → Type 0
+  HubLeads hub_of = Leads (λ before session after. Opened (hub_of before) session (hub_of after)) (λ before session why. Unopened (hub_of before) session why)
+      (λ before session part reply after. Heard (hub_of before) session part reply (hub_of after))
+      (λ before session part after. Wanted (hub_of before) session part (hub_of after))
+      (λ before session after. Ended (hub_of before) session (hub_of after))
+
+  -- The messages of what happened from this hub to that one, each with its reply, as lines of the hub: what a session is
+  -- answered to a part is the replies to the messages that its stream completes with these bytes. Where memory is
+  -- wanting for a part, its replies reach nobody.
+  abbrev pub AreLines : HubState S → History → HubState S → List Line → Type 0
+  AreLines start [] after all = (after ≡ start) × (all ≡ [])
+  AreLines start (At now ∷ before) after all = AreLines start before after all
+  AreLines start (Ordered ∷ before) after all = AreLines start before after all
+  AreLines start (GoesOn ∷ before) after all = AreLines start before after all
+  AreLines start (Syncs kept ∷ before) after all = AreLines start before after all
+  AreLines start (NoneWaits ∷ before) after all = AreLines start before after all
+  AreLines start (On place Comes ∷ before) after all = AreLines start before after all
+  AreLines start (On place Opens ∷ before) after all = (middle : HubState S) × AreLines start before middle all × Opened middle place after
+  AreLines start (On place (Refuses why) ∷ before) after all = AreLines start before after all
+  AreLines start (On place (Reads bytes) ∷ before) after all = AreLines start before after all
+  AreLines start (On place IsOver ∷ before) after all = AreLines start before after all
+  AreLines start (On place IsSilent ∷ before) after all = AreLines start before after all
+  AreLines start (On place (Hears part reply) ∷ before) after all = (middle : HubState S) × (earlier : List Line) × (exchanges : List Exchange) × AreLines start before middle earlier
+      × Passes answers middle (Bytes place part) exchanges after × (reply ≡ replies exchanges) × (all ≡ earlier ++ lines place exchanges)
+  AreLines start (On place (Wants part) ∷ before) after all = (middle : HubState S) × (earlier : List Line) × (lost : List Exchange) × AreLines start before middle earlier
+      × Loses middle place part lost after × (all ≡ earlier ++ lines place lost)
+  AreLines start (On place Lacks ∷ before) after all = AreLines start before after all
+  AreLines start (On place (Takes bytes) ∷ before) after all = AreLines start before after all
+  AreLines start (On place TakesNone ∷ before) after all = AreLines start before after all
+  AreLines start (On place Fails ∷ before) after all = AreLines start before after all
+  AreLines start (On place Ends ∷ before) after all = (middle : HubState S) × AreLines start before middle all × Ended middle place after
+  AreLines start (On place (Closes why) ∷ before) after all = AreLines start before after all

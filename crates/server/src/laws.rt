@@ -2,7 +2,13 @@ ghost use Rattle.std.specs.Prelude.{ℕ, List};
 ghost use Rattle.hub.specs.DeskRuns.{IsWell, ShowHonestRun};
 ghost use Rattle.hub.specs.Desks.{DeskState, DeskAnswers};
 ghost use Rattle.hub.specs.Exchanges.{Exchange};
+ghost use Rattle.hub.specs.Events.{HubState};
+ghost use Rattle.hub.specs.Runs.{Line};
+ghost use Rattle.connections.specs.Histories.{course, History};
+ghost use Rattle.connections.specs.Laws.{AreInOrder};
+ghost use Rattle.connections.specs.Soundness.{IsSound};
 ghost use Rattle.server.specs.Serving.{all_lines, AllServed};
+ghost use Rattle.server.specs.Sessions.{AreLines, HubLeads};
 
 use book::Keeper;
 use nodehash::NodeHash;
@@ -10,13 +16,28 @@ use rand_core::Rng;
 use sigiface::Signer;
 use vrfiface::Vuf;
 
-/// Sessions that are served one after another, each as `serve` ensures and as `listen` has them served,
-/// are sessions of one hub: their messages show one run of its directory. The users behind all of them
-/// see of it what those of an honest provider see.
+/// Sessions that are served one after another, each as `serve` ensures, are sessions of one hub: their
+/// messages show one run of its directory. The users behind all of them see of it what those of an honest
+/// provider see.
 pub fn sessions_show_one_run<H: NodeHash, V: Vuf, S: Signer, G: Rng, K: Keeper>()
     ensures { (before after : DeskState G K) (served : List (ℕ × List Exchange))
         → IsWell H.digest_of V.value_of S.signature_of G.stream V.accepted S.verified before
         → IsWell H.digest_of V.value_of S.signature_of G.stream V.accepted S.verified after
         → AllServed (DeskAnswers H.digest_of V.value_of S.signature_of G.stream K.kept K.failed) before served after
         → ShowHonestRun H.digest_of V.value_of S.signature_of G.stream K.kept K.failed V.accepted S.verified before (all_lines served) after }
+{}
+
+/// What happens where connections are answered by the sessions of a hub, as `answer_all` of `connections`
+/// ensures for any connections, shows one run of its directory, as `Hub::run` does: each connection takes a
+/// beginning of what its session was answered, in order, and that is the replies to the messages in the bytes
+/// that were read of it. The users behind all of them see of the run what those of an honest provider see.
+pub fn crowds_show_one_run<H: NodeHash, V: Vuf, S: Signer, G: Rng, K: Keeper>()
+    ensures { (before after : HubState (DeskState G K)) (idle : ℕ) (acts : History)
+        → IsWell H.digest_of V.value_of S.signature_of G.stream V.accepted S.verified before.service
+        → IsWell H.digest_of V.value_of S.signature_of G.stream V.accepted S.verified after.service
+        → HubLeads (DeskAnswers H.digest_of V.value_of S.signature_of G.stream K.kept K.failed) (λ hub. hub) before acts after
+        → IsSound idle acts
+        → ((place : ℕ) → AreInOrder (course acts place))
+        × ((lines : List Line) × AreLines (DeskAnswers H.digest_of V.value_of S.signature_of G.stream K.kept K.failed) before acts after lines
+        × ShowHonestRun H.digest_of V.value_of S.signature_of G.stream K.kept K.failed V.accepted S.verified before.service lines after.service) }
 {}

@@ -3,18 +3,21 @@
 // connection reads and takes is in the contract of the loop (`answer_all` of `connections`), for connections of
 // which contracts know it. `scripts/listen.sh` covers the rest.
 ghost use Rattle.std.specs.Prelude.{◌≡◌, ◌≢◌, ◌↔◌, List, [], Err, IfErr, None, OnOk};
-ghost use Rattle.connections.specs.Endings.{AreWithin, HasEnded};
+ghost use Rattle.connections.specs.Endings.{AreInside, AreWithin, HasEnded};
 ghost use Rattle.connections.specs.Fairness.{IsFair, IsWhole};
 ghost use Rattle.connections.specs.Fitting.{size_of, AreFree};
 ghost use Rattle.connections.specs.Histories.{History, of_connections};
 ghost use Rattle.connections.specs.Soundness.{IsSound};
 ghost use Rattle.connections.specs.Telling.{TellsMemory};
-ghost use Rattle.hub.specs.Desks.{DeskState};
+ghost use Rattle.hub.specs.Desks.{DeskAnswers, DeskState};
 ghost use Rattle.hub.specs.Runs.{Line};
+ghost use Rattle.nodehash.specs.Sha256.{sha256};
 ghost use Rattle.rand_chacha.specs.ChaCha.{ChaCha};
+ghost use Rattle.sigiface.specs.StandIn.{keyed_signature};
+ghost use Rattle.vrfiface.specs.StandIns.{keyed_value};
 ghost use Rattle.textio.specs.declared.program_fault.ProgramFault.TheVariants.{BadHex};
 ghost use Rattle.server.specs.DirectoryOptions.{values_of};
-ghost use Rattle.server.specs.Directories.{keys_of};
+ghost use Rattle.server.specs.Directories.{keys_of, salts};
 ghost use Rattle.server.specs.Listening.{ListenTells, TellsAddress, TellsKept, TellsLine};
 ghost use Rattle.server.specs.Programs.{ShownBy};
 ghost use Rattle.server.specs.Sessions.{AreLines};
@@ -56,7 +59,7 @@ fn tell_address<E: Write>(
 }
 
 /// Answers connections by the sessions of a hub. Each connection takes a beginning of the replies to its own
-/// messages, and the messages of all show one run of the directory, as those of `Hub::run` do.
+/// messages, which are those in the bytes that its session heard, and the messages of all show one run of the directory, as those of `Hub::run` do.
 fn answer_crowd<K, C, E>(
     alloc: Global,
     places: Places,
@@ -73,7 +76,8 @@ where
     ensures tells { TellsMemory (E.contents errors.old) (E.contents errors.new) }
     ensures shown { C.has connections.old [] → (acts : History) × C.has connections.new (of_connections acts) × IsSound limits.idle acts
         × AreWithin limits.count acts × HasEnded limits.count acts
-        × IsFair limits.idle limits.count (size_of places) acts × IsWhole limits.idle acts × ((lines : List Line) × AreLines acts lines × ShownBy K.kept K.failed sessions.old.hub.service lines sessions.new.hub.service) }
+        × IsFair limits.idle limits.count (size_of places) acts × IsWhole limits.idle acts × AreInside (size_of places) acts
+        × ((lines : List Line) × AreLines (DeskAnswers sha256 keyed_value keyed_signature salts K.kept K.failed) sessions.old.hub acts sessions.new.hub lines × ShownBy K.kept K.failed sessions.old.hub.service lines sessions.new.hub.service) }
 {
     // What the two calls of `head` ensure: the book is sound before and after, and the provider's
     // functions keep their laws.

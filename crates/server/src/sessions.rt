@@ -57,13 +57,15 @@ fn fault_of(refusal: HubRefusal) -> SessionFault
 }
 
 impl<D: Service + Drop> Sessions for HubSessions<D> {
-    ghost use Rattle.server.specs.Sessions.{Ended, Heard, Opened, Wanted};
+    ghost use Rattle.server.specs.Sessions.{Ended, Heard, Opened, Unopened, Wanted};
 
     ghost opens = { λ before session after. Opened D.answers before.hub session after.hub };
 
+    ghost refuses = { λ before session why. Unopened before.hub session why };
+
     ghost hears = { λ before session part reply after. Heard D.answers before.hub session part reply after.hub };
 
-    ghost wants = { λ before session after. Wanted D.answers before.hub session after.hub };
+    ghost wants = { λ before session part after. Wanted D.answers before.hub session part after.hub };
 
     ghost ends = { λ before session after. Ended D.answers before.hub session after.hub };
 

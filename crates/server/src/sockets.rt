@@ -13,7 +13,7 @@ use mio::net::{TcpListener, TcpStream};
 use mio::{Events, Interest, Poll, Token};
 use std::alloc::Global;
 use std::io::{self, BufRead, Error, ErrorKind, Read, Write};
-use std::net::{Net, SocketAddr, ToSocketAddrs};
+use std::net::{Net, Shutdown, SocketAddr, ToSocketAddrs};
 use std::time::{Clock, Duration, Instant};
 
 /// The most reports that one wait gives. More come with the next one.
@@ -21,6 +21,11 @@ const MOST_EVENTS: usize = 1024;
 
 /// How often an `accept` is tried in one call that was interrupted, or whose connection had gone.
 const MOST_TRIES: usize = 64;
+
+/// How many bytes are passed over at once, and how often, where a connection is closed that may send more.
+const DRAINED_SIZE: usize = 4096;
+
+const MOST_DRAINS: usize = 64;
 
 /// The token of the listener. Those of connections are their places.
 const LISTENER: Token = Token(usize::MAX);
@@ -145,12 +150,33 @@ impl Socket {
         }
         match write_some(&mut self.stream, bytes) {
             Ok(0) => Writing::Fault,
-            Ok(count) => Writing::Took(count),
+            Ok(count) => {
+                // Fewer bytes than there were: when it takes more, that is reported.
+                if count < bytes.len() && !self.is_closing {
+                    self.may_write = false;
+                }
+                Writing::Took(count)
+            }
             Err(error) if error.kind() == ErrorKind::WouldBlock => {
                 self.may_write = false;
                 Writing::Wait
             }
             Err(_) => Writing::Fault,
+        }
+    }
+
+    /// Sends no more, and passes over what has come: a socket that is closed with bytes unread is reset, and
+    /// its peer may lose answers that it has not read yet. One that takes nothing may be reset.
+    fn finish(&mut self) {
+        if !self.may_write || self.stream.shutdown(Shutdown::Write).is_err() {
+            return;
+        }
+        let mut room = [0; DRAINED_SIZE];
+        for _ in 0..MOST_DRAINS {
+            match read_some(&mut self.stream, &mut room) {
+                Ok(0) | Err(_) => return,
+                Ok(_) => {}
+            }
         }
     }
 }
@@ -266,7 +292,7 @@ impl<N: Net + Clock, R: BufRead> Connections for Sockets<'_, N, R> {
                         self.may_take = false;
                         return false;
                     }
-                    // No file handle is free, as it may be. The next round tries again.
+                    // It failed, where no file handle is free for one. A later round tries again.
                     _ => return false,
                 },
             }
@@ -288,10 +314,22 @@ impl<N: Net + Clock, R: BufRead> Connections for Sockets<'_, N, R> {
         }
     }
 
-    fn close(&mut self, place: usize, _why: Ending) {
-        if let Some(socket) = self.places.get_mut(place) {
-            *socket = None;
+    fn close(&mut self, place: usize, why: Ending) {
+        let Some(slot) = self.places.get_mut(place) else {
+            return;
+        };
+        if let Some(socket) = slot {
+            match why {
+                // All is read, or nothing more can be.
+                Ending::Done | Ending::Fault => {}
+                Ending::Idle
+                | Ending::Stopped
+                | Ending::Unsynced
+                | Ending::Memory
+                | Ending::Refused => socket.finish(),
+            }
         }
+        *slot = None;
     }
 
     fn sync(&mut self) -> bool {

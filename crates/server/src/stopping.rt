@@ -60,13 +60,15 @@ impl<'a, R: BufRead> StopInput<'a, R> {
         self.input.is_none() || !self.may_read
     }
 
-    /// Passes over what can be read, and says whether the input has ended. One that cannot be read has.
+    /// Passes over what can be read, and says whether the input has ended. One that cannot be read has. This
+    /// is said once.
     pub(crate) fn has_ended(&mut self, registry: &Registry) -> bool {
         for _ in 0..READS_AT_ONCE {
             if self.waits() {
                 return false;
             }
             if self.read_once() {
+                self.forget();
                 return true;
             }
             if self.readiness == Readiness::Reported {
@@ -78,11 +80,17 @@ impl<'a, R: BufRead> StopInput<'a, R> {
                     Interest::READABLE,
                 );
                 if again.is_err() {
+                    self.forget();
                     return true;
                 }
             }
         }
         false
+    }
+
+    /// Nothing more comes of the input, so nothing of it can be read.
+    fn forget(&mut self) {
+        self.input = None;
     }
 
     /// Passes over what one read gives, and says whether the input has ended.

@@ -1,9 +1,9 @@
 use Rattle.connections.specs.Fairness.{AreUsed}
-use Rattle.connections.specs.Fitting.{Tours}
+use Rattle.connections.specs.Fitting.{AreUnread, Tours}
 use Rattle.connections.specs.Histories.{Hearing}
 use Rattle.connections.proofs.places.take_all.Given as goal
 
 -- the places so far have had their turn
 abbrev pub invariant-loop-place : goal.invariant-loop-place
-invariant-loop-place g l = Tours g.S.Sessions.opens g.S.Sessions.hears g.S.Sessions.wants g.S.Sessions.ends g.C.Connections.has Hearing l.round.idle l.round.now l.round.stopped l.fn.left l.left (AreUsed l.place)
+invariant-loop-place g l = Tours g.S.Sessions.opens g.S.Sessions.refuses g.S.Sessions.hears g.S.Sessions.wants g.S.Sessions.ends g.C.Connections.has Hearing l.round.idle l.round.now l.round.stopped l.fn.left l.left AreUnread (λ acts. AreUsed l.place acts × AreUnread acts)
     l.fn.connections l.fn.sessions l.fn.places l.connections l.sessions l.places

@@ -18,6 +18,7 @@ returns-clause-shown g c = λ has.
       happened.3,
       happened.4,
       happened.5,
+      happened.6,
       (
         told.0,
         told.1,

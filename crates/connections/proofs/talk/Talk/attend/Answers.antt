@@ -1,42 +1,84 @@
-use Rattle.std.proofs.Common.{◌≡◌, ◌≤◌, [], length, Err, Ok, IsTrue, false, true, ap, ◌∙◌, rules}
-use Rattle.connections.specs.declared.talk.Talk.{Talk}
-use Rattle.connections.proofs.Hearing.{attends_both, attends_first, attends_last}
-use Rattle.connections.proofs.Steps.{may_read}
+use Rattle.std.proofs.Common.{◌≡◌, ◌≤◌, List, ℕ, [], take, length, Err, Ok, IsTrue, false, true, refl, rules, arith}
+use Rattle.std.proofs.lemmas.Grind.{common_steps}
+use Rattle.connections.specs.declared.ending.Ending.TheVariants.{Fault}
+use Rattle.connections.specs.Rounds.{asks}
+use Rattle.connections.specs.Fitting.{Keeps, KeepsTalk}
+use Rattle.connections.specs.Histories.{Fails, IsOver, IsSilent, Reads, Course, History, of_connections}
+use Rattle.connections.proofs.Hearing.{attends_both, attends_first, attends_last, attends_stop}
+use Rattle.connections.proofs.Steps.{come_to, here_so, may_read, next_fail, next_over, next_read, next_silent}
 use Rattle.connections.proofs.talk.Talk.attend.Goals as goal
 
 pub returns-then-not-may_read : goal.returns-then-not-may_read
 returns-then-not-may_read g c =
-    attends_last g.S.Sessions.opens g.S.Sessions.hears g.S.Sessions.wants g.S.Sessions.ends g.C.Connections.has c.args.place c.args.now c.args.connections.now c.args.sessions.now c.args.self.now c.hear.result c.hear.new.sessions c.hear.new.self
-    c.hear.ensures.hears c.hear.ensures.all c.hear.ensures.nothing (λ ready. search (rules, c.may_read.ensures.1 ready))
+    attends_last g.S.Sessions.opens g.S.Sessions.refuses g.S.Sessions.hears g.S.Sessions.wants g.S.Sessions.ends g.C.Connections.has c.args.place c.args.now c.args.connections.now c.args.sessions.now c.args.self.now c.hear_rest.result c.hear_rest.new.sessions c.hear_rest.new.self
+    c.hear_rest.ensures.hears c.hear_rest.ensures.all c.hear_rest.ensures.nothing (λ ready. search (rules, c.may_read.ensures.1 ready))
 
-pub returns-in_err-read_piece : goal.returns-in_err-read_piece
-returns-in_err-read_piece g c =
-    let passed : c.from_residual.result ≡ Err c.in_err-read_piece.field-0.0 = search rules in
+pub returns-in_err-hear_new-in-Bytes : goal.returns-in_err-hear_new-in-Bytes
+returns-in_err-hear_new-in-Bytes g c =
+    let passed : c.from_residual.result ≡ Err c.in_err-hear_new-in-Bytes.field-0.0 = search rules in
     let yes : IsTrue c.may_read.result = search rules in
     let ready : (c.args.self.now.input.items ≡ []) × (c.args.self.now.is_over ≡ false) × (length c.args.self.now.output.items ≤ 65536) = c.may_read.ensures.0 yes in
-    rw passed (attends_first g.S.Sessions.opens g.S.Sessions.hears g.S.Sessions.wants g.S.Sessions.ends g.C.Connections.has c.args.place c.args.now c.args.connections.now c.args.sessions.now c.args.self.now c.read_piece.new.connections (Err c.in_err-read_piece.field-0.0) c.read_piece.new.self
-    (λ idle acts knows hearing here. c.in_err-read_piece.ensures.reads idle acts knows hearing (may_read _ _ _ _ _ ready.0 ready.1 ready.2 here)) tt)
+    let count : (1 ≤ c.in-Bytes.count) × (c.in-Bytes.count ≤ length c.read.new.room) = c.read.ensures.count c.in-Bytes.count c.in-Bytes.is in
+    let room : length c.read.new.room ≡ 4096 = search rules in
+    let bytes : List ℕ = take c.in-Bytes.count c.read.new.room in
+    let some : 1 ≤ length bytes = grind (arith, common_steps) in
+    let few : length bytes ≤ 4096 = grind (arith, common_steps) in
+    rw passed (attends_stop g.S.Sessions.opens g.S.Sessions.refuses g.S.Sessions.hears g.S.Sessions.wants g.S.Sessions.ends g.C.Connections.has c.args.place c.args.now c.args.connections.now c.args.sessions.now c.args.self.now c.read.new.self
+    (Keeps bytes c.args.self.now.output.items c.args.self.now.active c.args.self.now.is_over) c.in_err-hear_new-in-Bytes.field-0.0 c.hear_new.new.sessions c.hear_new.new.self
+    (λ (idle : ℕ) (acts : History) knows hearing unread here.
+    let a = come_to g.C.Connections.has idle c.args.place acts c.args.connections.now c.read.new.self (Reads bytes) _ tt
+    (c.read.ensures.bytes c.in-Bytes.count c.in-Bytes.is (of_connections acts)) knows
+    (next_read idle acts c.args.place bytes c.args.self.now.input.items _ _ _ unread hearing some few (may_read _ _ _ _ _ ready.0 ready.1 ready.2 here)) in
+    (a.0, a.1, a.2, a.3, a.4 asks refl))
+    c.in_err-hear_new-in-Bytes.ensures.hears)
 
-pub returns-then-not-branch : goal.returns-then-not-branch
-returns-then-not-branch g c =
+pub returns-in_ok-hear_new-in-Bytes : goal.returns-in_ok-hear_new-in-Bytes
+returns-in_ok-hear_new-in-Bytes g c =
     let yes : IsTrue c.may_read.result = search rules in
     let ready : (c.args.self.now.input.items ≡ []) × (c.args.self.now.is_over ≡ false) × (length c.args.self.now.output.items ≤ 65536) = c.may_read.ensures.0 yes in
-    let same : c.read_piece.new.self ≡ c.args.self.now = search rules in
-    attends_first g.S.Sessions.opens g.S.Sessions.hears g.S.Sessions.wants g.S.Sessions.ends g.C.Connections.has c.args.place c.args.now c.args.connections.now c.args.sessions.now c.args.self.now c.read_piece.new.connections (Ok false) c.read_piece.new.self
-    (λ idle acts knows hearing here. c.in_ok-read_piece.ensures.reads idle acts knows hearing (may_read _ _ _ _ _ ready.0 ready.1 ready.2 here))
-    (ap (λ (t : Talk). t.input.items) same ∙ ready.0)
+    let count : (1 ≤ c.in-Bytes.count) × (c.in-Bytes.count ≤ length c.read.new.room) = c.read.ensures.count c.in-Bytes.count c.in-Bytes.is in
+    let room : length c.read.new.room ≡ 4096 = search rules in
+    let bytes : List ℕ = take c.in-Bytes.count c.read.new.room in
+    let some : 1 ≤ length bytes = grind (arith, common_steps) in
+    let few : length bytes ≤ 4096 = grind (arith, common_steps) in
+    attends_both g.S.Sessions.opens g.S.Sessions.refuses g.S.Sessions.hears g.S.Sessions.wants g.S.Sessions.ends g.C.Connections.has c.args.place c.args.now c.args.connections.now c.args.sessions.now c.args.self.now c.read.new.self
+    (Keeps bytes c.args.self.now.output.items c.args.self.now.active c.args.self.now.is_over) c.hear_new.new.sessions c.hear_new.new.self
+    (λ (idle : ℕ) (acts : History) knows hearing unread here.
+    let a = come_to g.C.Connections.has idle c.args.place acts c.args.connections.now c.read.new.self (Reads bytes) _ tt
+    (c.read.ensures.bytes c.in-Bytes.count c.in-Bytes.is (of_connections acts)) knows
+    (next_read idle acts c.args.place bytes c.args.self.now.input.items _ _ _ unread hearing some few (may_read _ _ _ _ _ ready.0 ready.1 ready.2 here)) in
+    (a.0, a.1, a.2, a.3, a.4 asks refl))
+    c.in_ok-hear_new-in-Bytes.ensures.hears c.in_ok-hear_new-in-Bytes.ensures.all
 
-pub returns-in_err-hear : goal.returns-in_err-hear
-returns-in_err-hear g c =
-    let passed : c.from_residual-in_err-hear.result ≡ Err c.in_err-hear.field-0.0 = search rules in
+pub returns-in-End : goal.returns-in-End
+returns-in-End g c =
     let yes : IsTrue c.may_read.result = search rules in
     let ready : (c.args.self.now.input.items ≡ []) × (c.args.self.now.is_over ≡ false) × (length c.args.self.now.output.items ≤ 65536) = c.may_read.ensures.0 yes in
-    rw passed (attends_both g.S.Sessions.opens g.S.Sessions.hears g.S.Sessions.wants g.S.Sessions.ends g.C.Connections.has c.args.place c.args.now c.args.connections.now c.args.sessions.now c.args.self.now c.read_piece.new.connections c.read_piece.new.self true (Err c.in_err-hear.field-0.0) c.hear-2.new.sessions c.hear-2.new.self
-    (λ idle acts knows hearing here. c.in_ok-read_piece.ensures.reads idle acts knows hearing (may_read _ _ _ _ _ ready.0 ready.1 ready.2 here)) c.in_err-hear.ensures.hears tt)
+    attends_first g.S.Sessions.opens g.S.Sessions.refuses g.S.Sessions.hears g.S.Sessions.wants g.S.Sessions.ends g.C.Connections.has c.args.place c.args.now c.args.connections.now c.args.sessions.now c.args.self.now c.read.new.self (Ok true) (record c.args.self.now { is_over = true })
+    (λ idle acts knows hearing unread here.
+    let a = come_to g.C.Connections.has idle c.args.place acts c.args.connections.now c.read.new.self IsOver _ tt
+    (c.read.ensures.end c.in-End.is (of_connections acts)) knows
+    (next_over idle acts c.args.place _ _ _ _ unread hearing (may_read _ _ _ _ _ ready.0 ready.1 ready.2 here)) in
+    (a.0, a.1, a.2, a.3, a.4 asks refl))
+    ready.0
 
-pub returns : goal.returns
-returns g c =
+pub returns-in-Wait : goal.returns-in-Wait
+returns-in-Wait g c =
     let yes : IsTrue c.may_read.result = search rules in
     let ready : (c.args.self.now.input.items ≡ []) × (c.args.self.now.is_over ≡ false) × (length c.args.self.now.output.items ≤ 65536) = c.may_read.ensures.0 yes in
-    attends_both g.S.Sessions.opens g.S.Sessions.hears g.S.Sessions.wants g.S.Sessions.ends g.C.Connections.has c.args.place c.args.now c.args.connections.now c.args.sessions.now c.args.self.now c.read_piece.new.connections c.read_piece.new.self true (Ok c.in_ok-hear.field-0) c.hear-2.new.sessions c.hear-2.new.self
-    (λ idle acts knows hearing here. c.in_ok-read_piece.ensures.reads idle acts knows hearing (may_read _ _ _ _ _ ready.0 ready.1 ready.2 here)) c.in_ok-hear.ensures.hears c.in_ok-hear.ensures.all
+    attends_first g.S.Sessions.opens g.S.Sessions.refuses g.S.Sessions.hears g.S.Sessions.wants g.S.Sessions.ends g.C.Connections.has c.args.place c.args.now c.args.connections.now c.args.sessions.now c.args.self.now c.read.new.self (Ok false) c.args.self.now
+    (λ idle acts knows hearing unread here.
+    let a = come_to g.C.Connections.has idle c.args.place acts c.args.connections.now c.read.new.self IsSilent _ tt
+    (c.read.ensures.wait c.in-Wait.is (of_connections acts)) knows
+    (next_silent idle acts c.args.place _ _ _ _ unread hearing (may_read _ _ _ _ _ ready.0 ready.1 ready.2 here)) in
+    (a.0, a.1, a.2, a.3, a.4 asks refl))
+    ready.0
+
+pub returns-in-Fault : goal.returns-in-Fault
+returns-in-Fault g c =
+    attends_first g.S.Sessions.opens g.S.Sessions.refuses g.S.Sessions.hears g.S.Sessions.wants g.S.Sessions.ends g.C.Connections.has c.args.place c.args.now c.args.connections.now c.args.sessions.now c.args.self.now c.read.new.self (Err Fault) c.args.self.now
+    (λ idle acts knows hearing unread here.
+    let a = come_to g.C.Connections.has idle c.args.place acts c.args.connections.now c.read.new.self Fails _ tt
+    (c.read.ensures.fault c.in-Fault.is (of_connections acts)) knows
+    (next_fail idle acts c.args.place (here_so _ _ _ (λ (of : Course) (keeps : KeepsTalk c.args.self.now of). keeps.is_open) here)) in
+    (a.0, a.1, a.2, a.3, tt)) tt

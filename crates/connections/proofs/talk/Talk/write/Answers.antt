@@ -1,6 +1,6 @@
 use Rattle.std.proofs.Common.{◌≡◌, ◌≤◌, ◌++◌, List, ℕ, length, take, drop, arith, refl, sym}
 use Rattle.std.proofs.lemmas.Grind.{common_steps}
-use Rattle.connections.specs.Fairness.{offers}
+use Rattle.connections.specs.Rounds.{offers}
 use Rattle.connections.specs.Fitting.{KeepsTalk}
 use Rattle.connections.specs.Histories.{Fails, Takes, TakesNone, Course, of_connections}
 use Rattle.connections.proofs.Steps.{come_to, here_so, next_fail, next_take, next_take_none}

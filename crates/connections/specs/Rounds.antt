@@ -1,0 +1,85 @@
+-- What happened in a round so far.
+use Rattle.std.specs.Prelude.{◌≡◌, ◌⊎◌, ℕ, [], ◌∷◌, Bool, true, false}
+use Rattle.connections.specs.Histories.{At, Ordered, GoesOn, Syncs, NoneWaits, On, Deed, Comes, Opens, Refuses, Reads, IsOver, IsSilent, Hears, Wants, Lacks, Takes, TakesNone, Fails, Ends, Closes, History}
+
+-- a connection was asked for what it sends, or its session heard some of it
+abbrev pub asks : Deed → Bool
+asks Comes = false
+asks Opens = false
+asks (Refuses why) = false
+asks (Reads bytes) = true
+asks IsOver = true
+asks IsSilent = true
+asks (Hears part reply) = true
+asks (Wants part) = false
+asks Lacks = false
+asks (Takes bytes) = false
+asks TakesNone = false
+asks Fails = false
+asks Ends = false
+asks (Closes why) = false
+
+-- a connection was asked for what it sends
+abbrev pub reads : Deed → Bool
+reads Comes = false
+reads Opens = false
+reads (Refuses why) = false
+reads (Reads bytes) = true
+reads IsOver = true
+reads IsSilent = true
+reads (Hears part reply) = false
+reads (Wants part) = false
+reads Lacks = false
+reads (Takes bytes) = false
+reads TakesNone = false
+reads Fails = false
+reads Ends = false
+reads (Closes why) = false
+
+-- a connection was offered what its session was answered
+abbrev pub offers : Deed → Bool
+offers Comes = false
+offers Opens = false
+offers (Refuses why) = false
+offers (Reads bytes) = false
+offers IsOver = false
+offers IsSilent = false
+offers (Hears part reply) = false
+offers (Wants part) = false
+offers Lacks = false
+offers (Takes bytes) = true
+offers TakesNone = true
+offers Fails = false
+offers Ends = false
+offers (Closes why) = false
+
+-- a connection was closed
+abbrev pub closes : Deed → Bool
+closes Comes = false
+closes Opens = false
+closes (Refuses why) = false
+closes (Reads bytes) = false
+closes IsOver = false
+closes IsSilent = false
+closes (Hears part reply) = false
+closes (Wants part) = false
+closes Lacks = false
+closes (Takes bytes) = false
+closes TakesNone = false
+closes Fails = false
+closes Ends = false
+closes (Closes why) = true
+
+-- in this round, such a deed happened at a place
+abbrev pub InRound : (Deed → Bool) → History → ℕ → Type 0
+InRound is [] place = ⊥
+InRound is (At now ∷ before) place = ⊥
+InRound is (Ordered ∷ before) place = InRound is before place
+InRound is (Syncs kept ∷ before) place = InRound is before place
+InRound is (GoesOn ∷ before) place = InRound is before place
+InRound is (NoneWaits ∷ before) place = InRound is before place
+InRound is (On other deed ∷ before) place = ((other ≡ place) × (is deed ≡ true)) ⊎ InRound is before place
+
+-- in this round, the connection at a place was not asked for what it sends
+abbrev pub IsUnread : ℕ → History → Type 0
+IsUnread place acts = ¬ InRound reads acts place

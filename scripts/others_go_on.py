@@ -1,0 +1,46 @@
+"""Compares the answers to questions on many connections with the stored ones, where one allocation failed.
+
+    scripts/others_go_on.py QUESTIONS ANSWERS STORED
+
+Where memory is wanting for a connection, it is closed, and a line tells of it; all others go on. So at most one answer
+differs, and in it at most one connection, which is closed for want of memory. Where a line could not be told, one less is.
+If more connections come than there are places, the next one is taken sooner; there, and where an answer has only the
+digest of what it tells, the lines are counted alone. The status is 0 if that is so.
+"""
+
+import re
+import sys
+
+FEW = 8
+LINE = "out of memory|"
+
+
+def parts(question, answer):
+    """What is told of each connection, and the number of lines."""
+    places = int(question.split()[1])
+    comers = sum(int(count) for count in re.findall(r" come (\d+)", question))
+    words = answer.split(" ")
+    count = comers if comers <= min(FEW, places) else 0
+    each = [words[3 * place : 3 * place + 3] for place in range(count)]
+    return each, answer.count(LINE)
+
+
+def go_on(question, answer, stored):
+    each, lines = parts(question, answer)
+    wanted, before = parts(question, stored)
+    lost = [told for told, was in zip(each, wanted) if told != was]
+    if not lost and each:
+        return lines == before - 1
+    return all(told[1] == "memory" for told in lost) and len(lost) <= 1 and lines == before + 1
+
+
+def main():
+    questions, answers, stored = ([line for line in open(name, encoding="ascii").read().split("\n") if line] for name in sys.argv[1:])
+    questions = [line for line in questions if not line.startswith("#")]
+    if not len(questions) == len(answers) == len(stored):
+        return 1
+    differ = [lines for lines in zip(questions, answers, stored) if lines[1] != lines[2]]
+    return 0 if len(differ) <= 1 and all(go_on(*lines) for lines in differ) else 1
+
+
+sys.exit(main())
