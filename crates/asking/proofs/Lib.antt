@@ -1,2 +1,4 @@
+pub mod Moved
 pub mod Placed
 pub mod Telling
+pub mod Whole

@@ -2,8 +2,10 @@ pub mod Answering
 pub mod AskOptions
 pub mod Checking
 pub mod Exchanges
+pub mod Following
 pub mod Refused
 pub mod Stopping
 pub mod Testing
 pub mod Told
+pub mod Unanswered
 pub mod Watching

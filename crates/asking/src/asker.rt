@@ -1,4 +1,4 @@
-ghost use Rattle.std.specs.Prelude.{◌≡◌, Err, IfErr, IfOk, Ok};
+ghost use Rattle.std.specs.Prelude.{◌≡◌, [], Err, IfErr, IfOk, Ok};
 ghost use Rattle.client.specs.Starting.{Starts};
 
 use client::{Client, Refusal};
@@ -67,6 +67,8 @@ where
         root: &[u8],
     ) -> Result<Self, Refusal>
         ensures ok { IfOk result (λ asker. Starts S.verified key root.now (Ok asker.client)) }
+        ensures keys { IfOk result (λ asker. (asker.key ≡ key) × (asker.token ≡ token)) }
+        ensures none { IfOk result (λ asker. (asker.monitors.items ≡ []) × (asker.marks.items ≡ []) × (asker.earlier.items ≡ []) × (asker.changes.items ≡ [])) }
         ensures err { IfErr result (λ why. Starts S.verified key root.now (Err why)) }
     {
         match Client::start(alloc, &checks.verifier, key, root) {

@@ -1,8 +1,11 @@
 // A question over a stream: what the client makes of its reply, and what follows from it.
-ghost use Rattle.std.specs.Prelude.{OnOk};
+ghost use Rattle.std.specs.Prelude.{IfOk, OnOk};
+ghost use Rattle.wire.specs.Frames.{Frame};
 ghost use Rattle.wire.specs.FrameViews.{frame_seen};
 ghost use Rattle.play.specs.Spoken.{ask_seen};
+ghost use Rattle.asking.specs.Answering.{with_token};
 ghost use Rattle.asking.specs.Checking.{HearsFrame};
+ghost use Rattle.asking.specs.Exchanges.{Exchanges, HoldsFrame};
 ghost use Rattle.asking.specs.Told.{Told, Tells};
 
 use crate::answering::{answers, request_of};
@@ -107,7 +110,9 @@ where
         &self,
         stream: &mut T,
         ask: &Ask,
-    ) -> Result<Vec<u8>, AskFault> {
+    ) -> Result<Vec<u8>, AskFault>
+        ensures { IfOk result (λ bytes. (frame : Frame) → HoldsFrame bytes.items frame → Exchanges T.contents T.remaining stream.old (with_token (self.now).token (ask_seen ask.now)) frame stream.new) }
+    {
         exchange(self.alloc, stream, &request_of(ask, self.token))
     }
 }

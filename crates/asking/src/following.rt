@@ -1,4 +1,8 @@
 // The client and its monitors take the roots that are new.
+ghost use Rattle.std.specs.Prelude.{◌≡◌, OnOk};
+ghost use Rattle.std.specs.List.{AllZip};
+ghost use Rattle.asking.specs.Following.{AllUpdate, MonitorUpdates};
+ghost use Rattle.asking.specs.Unanswered.{Stays};
 
 use crate::answering::body_of;
 use crate::checking::tell_client;
@@ -68,7 +72,11 @@ where
     }
 
     /// Hands a list of new roots to the client and the monitors.
-    fn take(&mut self, list: &[u8], said: &mut Said) -> Result<(), AskFault> {
+    fn take(&mut self, list: &[u8], said: &mut Said) -> Result<(), AskFault>
+        ensures updates { OnOk result (AllUpdate H.digest_of S.verified list.now (self.old).client (self.old).monitors.items (self.new).client (self.new).monitors.items) }
+        ensures said { OnOk result (said.new ≡ said.old) }
+        ensures stays { OnOk result (Stays self.old self.new) }
+    {
         let checks = &mut self.checks;
         match self.client.update(&mut checks.hash, &checks.verifier, list) {
             Ok(()) => update_all(self.alloc, &mut self.monitors, checks, list, said),
@@ -92,12 +100,35 @@ where
     H: NodeHash + Drop,
     V: VufCheck + Drop,
     S: Verifier + Drop,
+    ensures updates { OnOk result (AllZip (MonitorUpdates H.digest_of S.verified list.now) monitors.old monitors.new) }
+    ensures said { OnOk result (said.new ≡ said.old) }
 {
-    for monitor in monitors {
-        if let Err(why) = monitor.update(&mut checks.hash, &checks.verifier, list) {
-            tell_client(alloc, b"client refuses root", why, said)?;
-            return Err(AskFault::Stopped);
-        }
+    for monitor in monitors.iter_mut() {
+        update(alloc, monitor, checks, list, said)?;
     }
     Ok(())
+}
+
+/// Hands a list of new roots to a monitor.
+fn update<H, V, S>(
+    alloc: Global,
+    monitor: &mut Monitor<H, V, S>,
+    checks: &mut Checks<H, V, S>,
+    list: &[u8],
+    said: &mut Said,
+) -> Result<(), AskFault>
+where
+    H: NodeHash + Drop,
+    V: VufCheck + Drop,
+    S: Verifier + Drop,
+    ensures updates { OnOk result (MonitorUpdates H.digest_of S.verified list.now monitor.old monitor.new) }
+    ensures said { OnOk result (said.new ≡ said.old) }
+{
+    match monitor.update(&mut checks.hash, &checks.verifier, list) {
+        Ok(()) => Ok(()),
+        Err(why) => {
+            tell_client(alloc, b"client refuses root", why, said)?;
+            Err(AskFault::Stopped)
+        }
+    }
 }
