@@ -26,6 +26,7 @@ import time
 
 DIRECTORYD = "crates/directoryd/out/directoryd"
 MEASURE = "crates/measure/out/measure"
+LOAD = "bench/out/load"
 BEFORE = os.environ.get("BEFORE", "")
 # What `rt run` builds by, unless crates.txt says otherwise.
 BUILD = "x86-64-v2, by LLVM at -O3"
@@ -85,12 +86,11 @@ HUB_REQUESTS = {"head": 5, "look-up": 31, "registration": 57}
 # The frames of one piece that a feed takes, the frames of a step, and the runs.
 FEED_FRAMES, FEED_TAKEN, FEED_RUNS = (64, 1_024, 16_384), 1 << 23, 20
 # The requests that a client has in flight, those of a step, and the rounds. The token is that of the
-# client in the crate `measure`, and the keys are those of its directory.
+# client in `load.rs`, and the keys are those of the directory in the crate `measure`.
 IN_FLIGHT, SERVE_FRAMES, SERVE_ROUNDS = 64, 8_000, 9
-# The connections that ask at once, one look-up each at a time; about the look-ups of a step, and the rounds. And those that
-# are idle once they asked for the head.
-# How many connections, and how many look-ups each has in flight.
-CROWDS = (1, 1), (16, 1), (256, 1), (256, 4), (256, 64), (1_000, 1)
+# The connections that ask at once, each with so many look-ups in flight; about the look-ups of a step, and the rounds. And
+# the connections that are idle once they asked for the head.
+CROWDS = ((1, 1), (16, 1), (256, 1), (256, 4), (256, 64), (1_000, 1))
 CROWD_FRAMES, CROWD_ROUNDS, IDLE_CONNECTIONS = 8_000, 5, 900
 SERVE_KEYS = {"sign-key": "01", "vuf-key": "02", "salt-key": "00", "token": "04"}
 
@@ -920,11 +920,11 @@ def processor_time(process):
 
 
 class Side:
-    """A run of the crate `measure`, whose steps are taken one by one and timed by the clock. Another
-    process, which answers it, may be watched meanwhile."""
+    """A run of the crate `measure` or of `load.rs`, whose steps are taken one by one and timed by the
+    clock. Another process, which answers it, may be watched meanwhile."""
 
     def __init__(self, *words, server=None):
-        words = [MEASURE, *map(str, words)]
+        words = list(map(str, words))
         self.process = subprocess.Popen(words, bufsize=0, stdin=subprocess.PIPE, stdout=subprocess.PIPE)
         self.server = server
         self.number = look(self.process)[0]
@@ -964,9 +964,9 @@ class Loopback:
         self.memory = [self.look()]
         self.idle = self.idle_bytes()
         words = [HUB_NAMES, SERVE_FRAMES, IN_FLIGHT, SERVE_ROUNDS]
-        self.client = Side("ask", port, *words, server=self.server)
+        self.client = Side(LOAD, "ask", port, *words, server=self.server)
         self.memory.append(self.look())
-        self.hub = Side("hub", HUB_NAMES, SERVE_FRAMES, PIECES[0], SERVE_ROUNDS)
+        self.hub = Side(MEASURE, "hub", HUB_NAMES, SERVE_FRAMES, PIECES[0], SERVE_ROUNDS)
         self.answer = self.bare = None
         self.times, self.used, self.bytes = {}, {}, {}
         for _ in range(SERVE_ROUNDS):
@@ -1029,10 +1029,10 @@ class Loopback:
         """The bare exchange: as many bytes as the look-ups of a step before had."""
         if self.bare is None:
             reply = round(self.bytes["look-up", 1][0] / SERVE_FRAMES)
-            self.answer = Side("answer", HUB_REQUESTS["look-up"], reply, 1, 1)
+            self.answer = Side(LOAD, "answer", HUB_REQUESTS["look-up"], reply, 1)
             self.answer.process.stdin.write(b"\n")
             words = [self.answer.number, HUB_NAMES, SERVE_FRAMES, SERVE_ROUNDS]
-            self.bare = Side("exchange", *words, server=self.answer.process)
+            self.bare = Side(LOAD, "exchange", *words, server=self.answer.process)
         self.keep(("look-up", "bare"), self.bare.asked())
 
     def row(self, request, which, name):
@@ -1049,19 +1049,19 @@ class Loopback:
 
 
 class Crowd:
-    """So many connections, each with so many look-ups in flight: of a server that listens on a port, and of a bare
-    exchange of as many bytes, whose replies have so many. Each is asked in turn."""
+    """So many connections, each with so many look-ups in flight: of a server that listens on a port, and of a bare exchange
+    of as many bytes, whose replies have so many. Each is asked in turn."""
 
     def __init__(self, connections, in_flight, server, port, reply):
         self.connections, self.in_flight = connections, in_flight
-        self.answer = Side("answer", HUB_REQUESTS["look-up"], reply, connections, in_flight)
+        self.answer = Side(LOAD, "answer", HUB_REQUESTS["look-up"], reply, connections)
         self.answer.process.stdin.write(b"\n")
-        # As many of each connection.
-        batch = connections * in_flight
-        self.frames = max(CROWD_FRAMES // batch, 1) * batch
-        words = [HUB_NAMES, connections, in_flight, self.frames, CROWD_ROUNDS]
-        self.sides = {"": Side("crowd", port, *words, server=server)}
-        self.sides["bare"] = Side("crowd", self.answer.number, *words, server=self.answer.process)
+        # As many of each connection, as often as it takes.
+        together = connections * in_flight
+        self.frames = max(1, CROWD_FRAMES // together) * together
+        words = [HUB_NAMES, connections, self.frames, CROWD_ROUNDS, in_flight]
+        self.sides = {"": Side(LOAD, "crowd", port, *words, server=server)}
+        self.sides["bare"] = Side(LOAD, "crowd", self.answer.number, *words, server=self.answer.process)
         self.rates = {name: [] for name in self.sides}
         self.times = {name: ([], [], []) for name in self.sides}
 
@@ -1097,7 +1097,7 @@ def crowds(loop):
         crowd.end()
         rows += crowd.rows(wanted)
     head = ["connections", "in flight", "", "a second", "part", "50th", "99th", "worst", "99th of the 50th"]
-    title = f"look-ups by many connections, and their part of the rate of one with {IN_FLIGHT} in flight; us"
+    title = f"look-ups by many connections, so many of each in flight, and their part of the rate of one with {IN_FLIGHT}; us"
     table(title, head, rows)
     print(f"\nan idle connection: {loop.idle / 1024:.1f} KiB of resident memory")
 

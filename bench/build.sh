@@ -1,5 +1,6 @@
-# For the scripts beside this one: proves and builds the programs of these crates, each where it has
-# changed: build CRATE..
+# For the scripts beside this one.
+
+# Proves and builds the programs of these crates, each where it has changed: build CRATE..
 build() {
     local crate log
     log=$(mktemp)
@@ -15,4 +16,10 @@ build() {
         fi
     done
     rm -f "$log"
+}
+
+# Builds the clients of a server, plain Rust with its std alone.
+build_load() {
+    mkdir -p bench/out
+    rustc -O --edition 2021 -o bench/out/load bench/load.rs
 }

@@ -1,54 +1,32 @@
-use crate::digests::take_digests;
-use crate::replies::tree_around;
+use crate::digests::{INTERIOR_BYTES, LEAF_BYTES, take_all};
+use crate::pages::Pages;
 use crate::roots::{
     BODY_BYTES, KEYED_BYTES, SIGNED_BYTES, after, bodies, first_body, hash_of, provider,
     provider_vuf, signed,
 };
-use crate::steps::end_step;
-use anyhow::{Context, Result};
+use crate::run::Run;
 use auditor::{Auditor, Evidence, Observed, judge};
-use commit::{commit, commit_text};
-use encoding::{Hash32, KeyData, Name, ProofText};
+use encoding::{Hash32, KeyData};
 use nodehash::Sha256Hash;
-use proofs::{BrokenPromise, End, make};
+use proofs::BrokenPromise;
 use rootchain::{Body, Promise, RootEvidence, SignedPromise};
 use sigiface::{KeyedSign, Signer};
-use std::alloc::{AllocError, Global};
-use vrfiface::{Vuf, index_of};
+use std::alloc::Global;
 
 /// The bytes of a root with the stand-in's signature.
 const ROOT_BYTES: usize = BODY_BYTES + 2 + 32;
 
-/// The bytes of the text of a leaf, and of that of an interior node.
-const LEAF_BYTES: usize = 101;
-
-const INTERIOR_BYTES: usize = 64;
-
-/// What is measured of an auditor.
-#[derive(Clone, Copy)]
-pub(crate) struct Audits {
-    /// The roots of the chain.
-    pub(crate) roots: usize,
-    /// The roots that then extend it, and as many of its roots that are observed once more.
-    pub(crate) more: usize,
-    /// The siblings of the proof that shows a broken promise, at most 256.
-    pub(crate) siblings: usize,
-    /// How often each piece of evidence is judged.
-    pub(crate) times: usize,
-    /// The digests of each length that are timed before and after.
-    pub(crate) digests: usize,
-}
-
 /// The bytes of a chain of so many signed roots, one behind the other.
-fn chain(alloc: Global, roots: usize) -> Result<Vec<u8>, AllocError> {
-    let mut bytes = Vec::with_capacity(alloc, roots.saturating_mul(ROOT_BYTES))?;
-    for body in bodies(alloc, first_body(), roots)? {
-        bytes.extend_from_slice(signed(body).write().bytes())?;
+fn chain(alloc: Global, roots: usize) -> Option<Vec<u8>> {
+    let bodies = bodies(alloc, first_body(Hash32::default()), roots)?;
+    let mut bytes = Vec::with_capacity(alloc, roots.saturating_mul(ROOT_BYTES)).ok()?;
+    for body in &bodies {
+        bytes.extend_from_slice(signed(*body).write().bytes()).ok()?;
     }
-    Ok(bytes)
+    Some(bytes)
 }
 
-/// An auditor, and what it counts by.
+/// An auditor of the provider, and what it counts by.
 #[derive(Drop)]
 struct Watch {
     auditor: Auditor<Sha256Hash, KeyedSign>,
@@ -69,48 +47,44 @@ impl Watch {
         }
     }
 
-    fn observe(&mut self, root: &[u8]) -> Result<Observed> {
-        Ok(
-            self.auditor
-                .observe(&mut self.hash, &self.verifier, &self.key, root)?,
-        )
+    /// Observes a root, and says whether the chain had it.
+    fn observe(&mut self, root: &[u8]) -> Option<bool> {
+        match self
+            .auditor
+            .observe(&mut self.hash, &self.verifier, &self.key, root)
+            .ok()?
+        {
+            Observed::Started | Observed::Extended => Some(false),
+            Observed::Known => Some(true),
+            _ => None,
+        }
     }
 
     /// Observes these roots, and counts those that the chain begins with or that extend it.
-    fn observe_all(&mut self, roots: &[u8]) -> Result<u64> {
+    fn observe_all(&mut self, roots: &[u8]) -> Option<u64> {
         let mut taken: u64 = 0;
         for root in roots.chunks_exact(ROOT_BYTES) {
-            if let Observed::Started | Observed::Extended = self.observe(root)? {
+            if !self.observe(root)? {
                 taken = taken.saturating_add(1);
             }
         }
-        Ok(taken)
+        Some(taken)
     }
 
     /// Observes so many of these roots, each far from the one before, and counts those that are known.
-    fn observe_again(&mut self, roots: &[u8], times: usize) -> Result<u64> {
+    fn observe_again(&mut self, roots: &[u8], times: usize) -> Option<u64> {
         let count = (roots.len() / ROOT_BYTES).max(1);
         let mut place: usize = 0;
         let mut known: u64 = 0;
         for _ in 0..times {
             place = place.wrapping_add(7919) % count;
             let start = place.saturating_mul(ROOT_BYTES);
-            let end = start.saturating_add(ROOT_BYTES);
-            let root = roots.get(start..end).context("no root is there")?;
-            if let Observed::Known = self.observe(root)? {
+            if self.observe(roots.get(start..start.saturating_add(ROOT_BYTES))?)? {
                 known = known.saturating_add(1);
             }
         }
-        Ok(known)
+        Some(known)
     }
-}
-
-/// Evidence, and the lengths of the texts whose digests it takes to judge it, those of the stand-ins
-/// among them.
-#[derive(Drop)]
-struct Case {
-    evidence: Evidence,
-    lengths: Vec<usize>,
 }
 
 /// The body of the same epoch with another root.
@@ -121,92 +95,57 @@ fn forked(body: &Body) -> Body {
     }
 }
 
-/// A fork, a broken link and a skipped epoch.
-fn cases_of_roots(alloc: Global) -> Result<Vec<Case>, AllocError> {
-    let third = after(&first_body(), 2);
+/// A fork, a broken link and a skipped epoch, which begin with the same root.
+fn evidence_of_roots() -> [RootEvidence; 3] {
+    let third = after(&first_body(Hash32::default()), 2);
     let seventh = after(&third, 4);
-    let cases = [
-        (
-            RootEvidence::Fork(signed(seventh), signed(forked(&seventh))),
-            0,
-        ),
-        (
-            RootEvidence::Link(signed(seventh), signed(after(&forked(&seventh), 2))),
-            1,
-        ),
-        (
-            RootEvidence::Skip(signed(seventh), signed(after(&third, 6))),
-            0,
-        ),
-    ];
-    let mut all = Vec::with_capacity(alloc, 4)?;
-    for (roots, bodies) in cases {
-        let mut lengths = Vec::from_slice(alloc, &[SIGNED_BYTES, SIGNED_BYTES])?;
-        if bodies == 1 {
-            lengths.push(BODY_BYTES)?;
-        }
-        let evidence = Evidence::Root(roots);
-        all.push(Case { evidence, lengths })?;
-    }
-    Ok(all)
+    [
+        RootEvidence::Fork(signed(seventh), signed(forked(&seventh))),
+        RootEvidence::Link(signed(seventh), signed(after(&forked(&seventh), 2))),
+        RootEvidence::Skip(signed(seventh), signed(after(&third, 6))),
+    ]
 }
 
-/// A promise that was broken: the next root's tree has another key at the name, below so many siblings.
-fn broken_case(alloc: Global, siblings: usize) -> Result<Case> {
-    let hash = &mut Sha256Hash::new();
-    let vuf = provider_vuf();
-    let name = Name::new(b"somebody")?;
-    let promised = KeyData::new(&[7; 32])?;
-    let key = KeyData::new(&[8; 32])?;
-    let salt = Hash32::new([9; 32]);
-    let value = vuf.value(&name);
-    let index = index_of(hash, value.bytes());
-    let commitment = commit(hash, &salt, &name, &key);
-    let tree = tree_around(alloc, hash, &[(index, commitment)], siblings)?;
-
-    let first = first_body();
+/// A promise that was broken: the next page, on which a name of 16 bytes is below so many siblings, has
+/// another key for it.
+fn broken_promise(alloc: Global, siblings: usize) -> Option<BrokenPromise> {
+    let pages = Pages::new(alloc, 1, siblings, 1)?;
+    let held = pages.held(0)?;
+    let first = first_body(Hash32::default());
     let mut second = after(&first, 1);
-    second.root = tree.root();
-    second.nonce = Hash32::default();
-    let end = End::Present { salt, key: &key };
-    let reply = make(&second, &value, &end, &tree.path(&index));
-    let mut proof = ProofText::new();
-    proof.push_slice(reply.bytes());
-
+    second.root = pages.body(0)?.root;
     let promise = Promise {
         epoch: first.epoch,
         body_hash: hash_of(&first),
-        index,
-        name,
-        key: promised,
+        index: held.index,
+        name: held.name.copied(),
+        key: KeyData::new(&[7; 32]).ok()?,
     };
-    let text = promise.write();
-    let mut lengths = vec![in alloc; INTERIOR_BYTES; siblings]?;
-    lengths.push(KEYED_BYTES.saturating_add(text.bytes().len()))?;
-    lengths.push(SIGNED_BYTES)?;
-    lengths.push(KEYED_BYTES.saturating_add(promise.name.bytes().len()))?;
-    lengths.push(value.bytes().len())?;
-    lengths.push(commit_text(&salt, &promise.name, &key).bytes().len())?;
-    lengths.push(LEAF_BYTES)?;
-    let signature = provider().sign(text.bytes());
-    let evidence = Evidence::Broken(BrokenPromise {
+    let signature = provider().sign(promise.write().bytes());
+    Some(BrokenPromise {
         promise: SignedPromise { promise, signature },
         root: signed(second),
-        proof,
-    });
-    Ok(Case { evidence, lengths })
+        proof: pages.reply(held, &second),
+    })
 }
 
-/// Takes the digests of texts of these lengths, so often.
-pub(crate) fn take_all(room: &mut [u8], lengths: &[usize], times: usize) -> Result<u64> {
-    let mut last: u64 = 0;
-    for _ in 0..times {
-        for length in lengths {
-            let text = room.get_mut(..*length).context("the text is too long")?;
-            last = take_digests(text, 1);
-        }
-    }
-    Ok(last)
+/// The lengths of the texts whose digests it takes to judge the broken promise: its own, the root's, those
+/// of the value and the index, the commitment, the leaf, and the nodes above it.
+fn lengths_of(alloc: Global, broken: &BrokenPromise, siblings: usize) -> Option<Vec<usize>> {
+    let promise = &broken.promise.promise;
+    let name = promise.name.bytes().len();
+    let text = promise.write().bytes().len();
+    let mut lengths = vec![in alloc; INTERIOR_BYTES; siblings].ok()?;
+    let others = [
+        KEYED_BYTES.saturating_add(text),
+        SIGNED_BYTES,
+        KEYED_BYTES.saturating_add(name),
+        32,
+        name.saturating_add(38 + 32),
+        LEAF_BYTES,
+    ];
+    lengths.extend_from_slice(&others).ok()?;
+    Some(lengths)
 }
 
 /// Judges the evidence so often, and counts how often it holds.
@@ -224,45 +163,80 @@ fn judge_all(evidence: &Evidence, times: usize) -> u64 {
     held
 }
 
-/// The steps: digests of bodies, and of what is signed of them; a chain observed; more roots that extend
-/// it; roots of it once more; for each kind of evidence the digests of its texts, and its judging; and
-/// the first digests again.
-pub(crate) fn measure(rt: &(impl Print + Input), alloc: Global, wanted: &Audits) -> Result<()> {
-    let roots = chain(alloc, wanted.roots.saturating_add(wanted.more))?;
-    let split = wanted.roots.saturating_mul(ROOT_BYTES).min(roots.len());
-    let (first, more) = roots.split_at(split);
-    let mut cases = cases_of_roots(alloc)?;
-    cases.push(broken_case(alloc, wanted.siblings)?)?;
-    let mut watch = Watch::new(alloc);
-    let mut room = [0; 512];
+/// The steps of evidence: the digests of texts of these lengths, the stand-ins' among them; and its judging.
+fn measure_evidence(
+    rt: &(impl Print + Input),
+    run: &mut Run,
+    evidence: &Evidence,
+    lengths: &[usize],
+    times: usize,
+) {
+    run.end_step(rt, take_all(lengths, times));
+    run.end_step(rt, Some(judge_all(evidence, times)));
+}
 
-    end_step(rt, alloc, 0)?;
-    end_step(
-        rt,
-        alloc,
-        take_all(&mut room, &[BODY_BYTES], wanted.digests)?,
-    )?;
-    end_step(
-        rt,
-        alloc,
-        take_all(&mut room, &[SIGNED_BYTES], wanted.digests)?,
-    )?;
-    end_step(rt, alloc, watch.observe_all(first)?)?;
-    end_step(rt, alloc, watch.observe_all(more)?)?;
-    end_step(rt, alloc, watch.observe_again(&roots, wanted.more)?)?;
-    for case in &cases {
-        end_step(rt, alloc, take_all(&mut room, &case.lengths, wanted.times)?)?;
-        end_step(rt, alloc, judge_all(&case.evidence, wanted.times))?;
-    }
-    end_step(
-        rt,
-        alloc,
-        take_all(&mut room, &[BODY_BYTES], wanted.digests)?,
-    )?;
-    end_step(
-        rt,
-        alloc,
-        take_all(&mut room, &[SIGNED_BYTES], wanted.digests)?,
-    )?;
-    Ok(())
+/// The steps of the evidence of two roots, of each kind.
+fn measure_roots(rt: &(impl Print + Input), run: &mut Run, times: usize) {
+    let [fork, link, skip] = evidence_of_roots();
+    let lengths = [SIGNED_BYTES, SIGNED_BYTES, BODY_BYTES];
+    measure_evidence(rt, run, &Evidence::Root(fork), &lengths[..2], times);
+    measure_evidence(rt, run, &Evidence::Root(link), &lengths, times);
+    measure_evidence(rt, run, &Evidence::Root(skip), &lengths[..2], times);
+}
+
+/// The steps of a broken promise.
+fn measure_promise(
+    rt: &(impl Print + Input),
+    run: &mut Run,
+    siblings: usize,
+    times: usize,
+) -> Option<()> {
+    let broken = broken_promise(run.alloc(), siblings)?;
+    let lengths = lengths_of(run.alloc(), &broken, siblings)?;
+    measure_evidence(rt, run, &Evidence::Broken(broken), &lengths, times);
+    Some(())
+}
+
+/// The steps of digests: of bodies, and of what is signed of them.
+pub(crate) fn measure_bodies(rt: &(impl Print + Input), run: &mut Run, digests: usize) {
+    run.end_step(rt, take_all(&[BODY_BYTES], digests));
+    run.end_step(rt, take_all(&[SIGNED_BYTES], digests));
+}
+
+/// The steps of a chain: so many roots observed; the others, which extend it; and as many of them all once
+/// more.
+fn measure_chain(
+    rt: &(impl Print + Input),
+    run: &mut Run,
+    roots: &[u8],
+    first: usize,
+    more: usize,
+) {
+    let mut watch = Watch::new(run.alloc());
+    let (first, others) = roots.split_at(first.saturating_mul(ROOT_BYTES).min(roots.len()));
+    run.end_step(rt, watch.observe_all(first));
+    run.end_step(rt, watch.observe_all(others));
+    run.end_step(rt, watch.observe_again(roots, more));
+}
+
+/// `audit ROOTS MORE SIBLINGS TIMES DIGESTS`. The steps: digests of bodies; a chain of so many roots
+/// observed, and more that extend it; for each kind of evidence the digests of its texts, and its judging,
+/// so often; and the first digests again.
+pub(crate) fn measure(
+    rt: &(impl Print + Input),
+    run: &mut Run,
+    roots: [usize; 2],
+    siblings: usize,
+    times: usize,
+    digests: usize,
+) -> Option<()> {
+    let [first, more] = roots;
+    let roots = chain(run.alloc(), first.saturating_add(more))?;
+    run.end_step(rt, Some(0));
+    measure_bodies(rt, run, digests);
+    measure_chain(rt, run, &roots, first, more);
+    measure_roots(rt, run, times);
+    measure_promise(rt, run, siblings, times)?;
+    measure_bodies(rt, run, digests);
+    Some(())
 }

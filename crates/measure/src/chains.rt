@@ -1,21 +1,10 @@
-use crate::steps::end_step;
-use anyhow::{Result, bail};
+use crate::roots::{after, first_body, provider, signed};
+use crate::run::Run;
 use encoding::Hash32;
 use nodehash::{NodeHash, Sha256Hash};
-use rootchain::{Body, Chain, Compare, RootEvidence, SignedRoot};
+use rootchain::{Chain, Compare, RootEvidence};
 use sigiface::{KeyedSign, Signer};
 use std::alloc::Global;
-
-/// What is measured of two chains of one key.
-#[derive(Clone, Copy)]
-pub(crate) struct Histories {
-    /// The roots of each chain.
-    pub(crate) roots: usize,
-    /// How many of the first roots both chains have.
-    pub(crate) shared: usize,
-    /// How often the chains are compared.
-    pub(crate) rounds: usize,
-}
 
 /// A chain, and its bodies as one byte string.
 #[derive(Drop)]
@@ -24,42 +13,34 @@ struct History {
     bytes: Vec<u8>,
 }
 
-/// A root with this body.
-fn signed(signer: &KeyedSign, body: Body) -> SignedRoot {
-    let signature = signer.sign(body.write().bytes());
-    SignedRoot { body, signature }
+impl History {
+    /// The chain of the first root alone, whose nonce has this byte.
+    fn new(alloc: Global, byte: u8) -> Option<History> {
+        let signer = provider();
+        let mut body = first_body(Hash32::default());
+        body.nonce = Hash32::new([byte; 32]);
+        let bytes = Vec::from_slice(alloc, body.write().bytes()).ok()?;
+        let chain = Chain::start(alloc, &signer, signer.public(), signed(body)).ok()?;
+        Some(History { chain, bytes })
+    }
+
+    /// Extends the chain by a root, whose nonce has this byte.
+    fn extend(&mut self, byte: u8) -> Option<()> {
+        let mut body = after(&self.chain.head().body, 1);
+        body.nonce = Hash32::new([byte; 32]);
+        self.bytes.extend_from_slice(body.write().bytes()).ok()?;
+        let mut hash = Sha256Hash::new();
+        self.chain.extend(&mut hash, &provider(), signed(body)).ok()
+    }
 }
 
-impl History {
-    /// The chain of an epoch after the other. The roots that are not shared have this byte in their
-    /// nonces.
-    fn new(alloc: Global, wanted: &Histories, byte: u8) -> Result<History> {
-        let signer = KeyedSign::new(Hash32::default());
-        let mut hash = Sha256Hash::new();
-        let nonce = |number: usize| {
-            Hash32::new([if number < wanted.shared { 0 } else { byte }; 32])
-        };
-        let mut body = Body {
-            epoch: 1,
-            previous_epoch: 0,
-            root: Hash32::default(),
-            previous_hash: Hash32::default(),
-            nonce: nonce(0),
-            vuf_key: Hash32::default(),
-        };
-        let first = signed(&signer, body);
-        let mut chain = Chain::start(alloc, &signer, signer.public(), first)?;
-        let mut bytes = Vec::from_slice(alloc, body.write().bytes())?;
-        for number in 1..wanted.roots {
-            body.previous_hash = hash.digest(body.write().bytes());
-            body.previous_epoch = body.epoch;
-            body.epoch = body.epoch.saturating_add(1);
-            body.nonce = nonce(number);
-            chain.extend(&mut hash, &signer, signed(&signer, body))?;
-            bytes.extend_from_slice(body.write().bytes())?;
-        }
-        Ok(History { chain, bytes })
+/// A chain of so many roots. The first ones, so many, have zero in their nonces, and the others this byte.
+fn history_of(alloc: Global, roots: usize, shared: usize, byte: u8) -> Option<History> {
+    let mut history = History::new(alloc, if shared > 0 { 0 } else { byte })?;
+    for number in 1..roots {
+        history.extend(if number < shared { 0 } else { byte })?;
     }
+    Some(history)
 }
 
 /// Compares the byte strings, and counts how often they are equal. Each round starts at another byte,
@@ -87,7 +68,7 @@ fn epoch_of(answer: &Compare) -> u64 {
 
 /// Compares the chains, first and second in turn, and adds up the epochs of their forks. Each comparison
 /// takes at most one digest.
-fn compare_chains(one: &History, other: &History, rounds: usize) -> Result<u64> {
+fn compare_chains(one: &History, other: &History, rounds: usize) -> Option<u64> {
     let mut hash = Sha256Hash::new();
     let mut epochs: u64 = 0;
     for round in 0..rounds {
@@ -97,24 +78,30 @@ fn compare_chains(one: &History, other: &History, rounds: usize) -> Result<u64> 
             (other, one)
         };
         if *one.chain.key() != *other.chain.key() {
-            bail!("the chains are of two providers");
+            return None;
         }
         let answer = Chain::compare(&mut hash, &one.chain, &other.chain);
         epochs = epochs.saturating_add(epoch_of(&answer));
     }
     if hash.count() > rounds as u64 {
-        bail!("a comparison took more than one digest");
+        return None;
     }
-    Ok(epochs)
+    Some(epochs)
 }
 
-/// The steps: the bodies of both chains compared as byte strings, so often; then the chains.
-pub(crate) fn measure(rt: &(impl Print + Input), alloc: Global, wanted: &Histories) -> Result<()> {
-    let one = History::new(alloc, wanted, 1)?;
-    let other = History::new(alloc, wanted, 2)?;
-    end_step(rt, alloc, one.bytes.len() as u64)?;
-    let equal = compare_bytes(&one.bytes, &other.bytes, wanted.rounds);
-    end_step(rt, alloc, equal)?;
-    end_step(rt, alloc, compare_chains(&one, &other, wanted.rounds)?)?;
-    Ok(())
+/// `chains ROOTS SHARED ROUNDS`. The steps: the bodies of two chains of one key compared as byte strings,
+/// so often; then the chains. Both have so many roots, and as many of the first ones are the same.
+pub(crate) fn measure(
+    rt: &(impl Print + Input),
+    run: &mut Run,
+    roots: usize,
+    shared: usize,
+    rounds: usize,
+) -> Option<()> {
+    let one = history_of(run.alloc(), roots, shared, 1)?;
+    let other = history_of(run.alloc(), roots, shared, 2)?;
+    run.end_step(rt, Some(one.bytes.len() as u64));
+    run.end_step(rt, Some(compare_bytes(&one.bytes, &other.bytes, rounds)));
+    run.end_step(rt, compare_chains(&one, &other, rounds));
+    Some(())
 }

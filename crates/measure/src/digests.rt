@@ -1,7 +1,10 @@
-use crate::steps::end_step;
-use anyhow::Result;
+use crate::run::Run;
 use sha2::{Digest, Sha256};
-use std::alloc::Global;
+
+/// The length of a leaf's text, the longest text that a tree digests, and that of an interior node's.
+pub(crate) const LEAF_BYTES: usize = 101;
+
+pub(crate) const INTERIOR_BYTES: usize = 64;
 
 /// Takes so many digests of a text, and returns the first byte of the last one. Each digest's first
 /// byte goes into the text before the next, so that every digest is needed.
@@ -16,15 +19,33 @@ pub(crate) fn take_digests(text: &mut [u8], count: usize) -> u64 {
     u64::from(first)
 }
 
-/// The one step: so many digests of a text of so many bytes.
+/// The step of so many digests of the text of a leaf.
+pub(crate) fn measure_leaves(rt: &(impl Print + Input), run: &mut Run, count: usize) {
+    let mut text = [0; LEAF_BYTES];
+    run.end_step(rt, Some(take_digests(&mut text, count)));
+}
+
+/// Takes the digests of texts of these lengths, so often. The longest has 512 bytes.
+pub(crate) fn take_all(lengths: &[usize], times: usize) -> Option<u64> {
+    let mut room = [0; 512];
+    let mut last: u64 = 0;
+    for _ in 0..times {
+        for length in lengths {
+            last = take_digests(room.get_mut(..*length)?, 1);
+        }
+    }
+    Some(last)
+}
+
+/// `digests BYTES COUNT`. The one step: so many digests of a text of so many bytes.
 pub(crate) fn measure(
     rt: &(impl Print + Input),
-    alloc: Global,
+    run: &mut Run,
     bytes: usize,
     count: usize,
-) -> Result<()> {
-    let mut text = vec![in alloc; 0; bytes]?;
-    end_step(rt, alloc, 0)?;
-    end_step(rt, alloc, take_digests(&mut text, count))?;
-    Ok(())
+) -> Option<()> {
+    let mut text = vec![in run.alloc(); 0; bytes].ok()?;
+    run.end_step(rt, Some(0));
+    run.end_step(rt, Some(take_digests(&mut text, count)));
+    Some(())
 }

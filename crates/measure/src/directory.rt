@@ -1,34 +1,15 @@
-use crate::digests::take_digests;
-use crate::steps::end_step;
-use crate::tree::LEAF_BYTES;
-use anyhow::{Context, Result};
+use crate::digests::measure_leaves;
+use crate::roots::{provider, provider_vuf};
+use crate::run::Run;
 use encoding::Hash32;
 use epochs::{Directory, Keeper, NoKeeper};
 use nodehash::Sha256Hash;
 use rand_chacha::ChaCha20Rng;
 use rand_core::SeedableRng;
-use rootchain::SignedPromise;
-use sha2::{Digest, Sha256};
+use rootchain::{SignedPromise, SignedRoot};
 use sigiface::KeyedSign;
 use std::alloc::Global;
 use vrfiface::KeyedVuf;
-
-/// What is measured of a directory.
-#[derive(Clone, Copy)]
-pub(crate) struct Epochs {
-    /// The names, which are all registered in the first epoch.
-    pub(crate) names: usize,
-    /// The names whose keys are changed in each later epoch.
-    pub(crate) changes: usize,
-    /// The later epochs.
-    pub(crate) rounds: usize,
-    /// The look-ups of a step.
-    pub(crate) look_ups: usize,
-    /// The steps of look-ups at the head, and as many at an old epoch.
-    pub(crate) look_up_rounds: usize,
-    /// The digests that are timed before and after.
-    pub(crate) digests: usize,
-}
 
 /// A directory as a provider would run it.
 pub(crate) type Provided = Directory<Sha256Hash, KeyedVuf, KeyedSign, ChaCha20Rng>;
@@ -39,27 +20,11 @@ pub(crate) const FIRST: u64 = 2;
 /// The rotations of a directory.
 const ROTATIONS: u8 = 3;
 
-/// The provider's signatures.
-pub(crate) fn signer() -> KeyedSign {
-    KeyedSign::new(Hash32::new([1; 32]))
-}
-
-/// The provider's verifiable function.
-pub(crate) fn vuf() -> KeyedVuf {
-    KeyedVuf::new(Hash32::new([2; 32]))
-}
-
 /// A directory at epoch 1, without a name.
-pub(crate) fn new_directory(alloc: Global) -> Result<Provided> {
-    Ok(Directory::new(
-        alloc,
-        1,
-        Hash32::default(),
-        Sha256Hash::new(),
-        vuf(),
-        signer(),
-        ChaCha20Rng::from_seed([0; 32]),
-    )?)
+pub(crate) fn new_directory(alloc: Global) -> Option<Provided> {
+    let (hash, salts) = (Sha256Hash::new(), ChaCha20Rng::from_seed([0; 32]));
+    let nonce = Hash32::default();
+    Directory::new(alloc, 1, nonce, hash, provider_vuf(), provider(), salts).ok()
 }
 
 /// A number that this one is spread to, so that neighbours lie far apart.
@@ -80,127 +45,153 @@ pub(crate) fn key_of(number: u64, epoch: u64) -> [u8; 32] {
     key
 }
 
-/// The sum with the first byte of a promise's signature, so that the compiler has to make it.
-fn with_promise(sum: u64, signed: &SignedPromise) -> u64 {
-    let first = signed.signature.bytes().first().copied().unwrap_or(0);
-    sum.wrapping_add(u64::from(first))
+/// The first byte of a promise's signature, so that the compiler has to make it.
+fn first_of(signed: &SignedPromise) -> u64 {
+    u64::from(signed.signature.bytes().first().copied().unwrap_or(0))
 }
 
-/// Registers so many names.
+/// The first byte of the root of a new page.
+fn root_byte(root: &SignedRoot) -> u64 {
+    u64::from(root.body.root.bytes().first().copied().unwrap_or(0))
+}
+
+/// Registers so many names. Adds up a byte of each promise.
 pub(crate) fn register_all<K: Keeper>(
     directory: &mut Provided,
     keeper: &mut K,
     names: usize,
-) -> Result<u64> {
-    let mut sum = 0;
+) -> Option<u64> {
+    let mut sum: u64 = 0;
     for number in 0..names as u64 {
-        let promise = directory.register(keeper, &name_of(number), &key_of(number, 1))?;
-        sum = with_promise(sum, &promise);
+        let promise = directory
+            .register(keeper, &name_of(number), &key_of(number, 1))
+            .ok()?;
+        sum = sum.wrapping_add(first_of(&promise));
     }
-    Ok(sum)
+    Some(sum)
 }
 
-/// Changes the keys of the names of these numbers.
-fn change_all(directory: &mut Provided, numbers: &[u64], epoch: u64) -> Result<u64> {
-    let mut sum = 0;
+/// Changes the keys of the names of these numbers. Adds up a byte of each promise.
+fn change_all(directory: &mut Provided, numbers: &[u64], epoch: u64) -> Option<u64> {
+    let mut sum: u64 = 0;
     for number in numbers {
-        let key = key_of(*number, epoch);
-        let promise = directory.change(&mut NoKeeper, &name_of(*number), &key)?;
-        sum = with_promise(sum, &promise);
+        let promise = directory
+            .change(&mut NoKeeper, &name_of(*number), &key_of(*number, epoch))
+            .ok()?;
+        sum = sum.wrapping_add(first_of(&promise));
     }
-    Ok(sum)
+    Some(sum)
 }
 
-/// Closes the epoch, and returns the first byte of the new root.
+/// Closes the epoch, and returns a byte of the new root.
 pub(crate) fn close<K: Keeper>(
     directory: &mut Provided,
     keeper: &mut K,
     epoch: u64,
-) -> Result<u64> {
-    let root = directory.close(keeper, epoch)?;
-    let first = root.body.root.bytes().first().copied().unwrap_or(0);
-    Ok(u64::from(first))
+) -> Option<u64> {
+    Some(root_byte(&directory.close(keeper, epoch).ok()?))
 }
 
-/// Ends the epoch under this nonce, and returns the first byte of the new root.
-fn rotate(directory: &mut Provided, epoch: u64, nonce: u8) -> Result<u64> {
-    let root = directory.rotate(&mut NoKeeper, epoch, Hash32::new([nonce; 32]))?;
-    let first = root.body.root.bytes().first().copied().unwrap_or(0);
-    Ok(u64::from(first))
+/// Ends the epoch under this nonce, and returns a byte of the new root.
+fn rotate(directory: &mut Provided, epoch: u64, nonce: u8) -> Option<u64> {
+    let nonce = Hash32::new([nonce; 32]);
+    Some(root_byte(&directory.rotate(&mut NoKeeper, epoch, nonce).ok()?))
 }
 
 /// Looks names up in the page of an epoch, and counts the bytes of the replies.
-fn look_up_all(directory: &mut Provided, numbers: &[u64], epoch: u64) -> Result<u64> {
+fn look_up_all(directory: &mut Provided, numbers: &[u64], epoch: u64) -> Option<u64> {
     let mut bytes: u64 = 0;
     for number in numbers {
-        let reply = directory.lookup(&name_of(*number), epoch)?;
+        let reply = directory.lookup(&name_of(*number), epoch).ok()?;
         bytes = bytes.saturating_add(reply.bytes().len() as u64);
     }
-    Ok(bytes)
+    Some(bytes)
 }
 
 /// So many numbers of names that differ, where there are as many names: those of a round.
-fn numbers_of_round(
-    alloc: Global,
-    wanted: &Epochs,
-    round: usize,
-    count: usize,
-) -> Result<Vec<u64>> {
-    let names = wanted.names as u64;
+fn numbers_of_round(alloc: Global, names: usize, round: usize, count: usize) -> Option<Vec<u64>> {
+    let names = names as u64;
     let step = names.checked_div(count as u64).unwrap_or(1).max(1);
-    let mut numbers = Vec::with_capacity(alloc, count)?;
+    let mut numbers = Vec::with_capacity(alloc, count).ok()?;
     let mut number = round as u64;
     for _ in 0..count {
-        number = number.checked_rem(names).context("there is no name")?;
-        numbers.push(number)?;
+        number = number.checked_rem(names)?;
+        numbers.push(number).ok()?;
         number = number.wrapping_add(step);
     }
-    Ok(numbers)
+    Some(numbers)
 }
+
+/// How many names there are, how many of them are asked in a round, and the rounds.
+type Rounds = (usize, usize, usize);
 
 /// The steps of look-ups in the page of an epoch, each of other names.
-fn look_up_rounds(
+fn measure_look_ups(
     rt: &(impl Print + Input),
-    alloc: Global,
+    run: &mut Run,
     directory: &mut Provided,
-    wanted: &Epochs,
+    wanted: Rounds,
     epoch: u64,
-) -> Result<()> {
-    for round in 0..wanted.look_up_rounds {
-        let numbers = numbers_of_round(alloc, wanted, round, wanted.look_ups)?;
-        end_step(rt, alloc, look_up_all(directory, &numbers, epoch)?)?;
+) -> Option<()> {
+    let (names, count, rounds) = wanted;
+    for round in 0..rounds {
+        let numbers = numbers_of_round(run.alloc(), names, round, count)?;
+        run.end_step(rt, look_up_all(directory, &numbers, epoch));
     }
-    Ok(())
+    Some(())
 }
 
-/// The steps: digests; the names registered; the epoch closed; in each round its numbers made,
-/// some keys changed, and the epoch closed; look-ups at the head; look-ups of the same names at the
-/// first epoch with names; rotations; digests again.
-pub(crate) fn measure(rt: &(impl Print + Input), alloc: Global, wanted: &Epochs) -> Result<()> {
-    let mut text = [0; LEAF_BYTES];
-    let mut directory = new_directory(alloc)?;
-    end_step(rt, alloc, 0)?;
-    end_step(rt, alloc, take_digests(&mut text, wanted.digests))?;
-    end_step(
-        rt,
-        alloc,
-        register_all(&mut directory, &mut NoKeeper, wanted.names)?,
-    )?;
-    end_step(rt, alloc, close(&mut directory, &mut NoKeeper, FIRST)?)?;
-    for round in 0..wanted.rounds {
-        let numbers = numbers_of_round(alloc, wanted, round, wanted.changes)?;
+/// The steps of epochs: in each its numbers made, their keys changed, and the epoch closed.
+fn measure_changes(
+    rt: &(impl Print + Input),
+    run: &mut Run,
+    directory: &mut Provided,
+    wanted: Rounds,
+) -> Option<()> {
+    let (names, count, rounds) = wanted;
+    for round in 0..rounds {
+        let numbers = numbers_of_round(run.alloc(), names, round, count)?;
         let epoch = FIRST.wrapping_add(1).wrapping_add(round as u64);
-        end_step(rt, alloc, 0)?;
-        end_step(rt, alloc, change_all(&mut directory, &numbers, epoch)?)?;
-        end_step(rt, alloc, close(&mut directory, &mut NoKeeper, epoch)?)?;
+        run.end_step(rt, Some(0));
+        run.end_step(rt, change_all(directory, &numbers, epoch));
+        run.end_step(rt, close(directory, &mut NoKeeper, epoch));
     }
-    look_up_rounds(rt, alloc, &mut directory, wanted, 0)?;
-    look_up_rounds(rt, alloc, &mut directory, wanted, FIRST)?;
-    let closed = FIRST.wrapping_add(wanted.rounds as u64);
+    Some(())
+}
+
+/// The steps of rotations, after the epoch that was closed last.
+fn measure_rotations(
+    rt: &(impl Print + Input),
+    run: &mut Run,
+    directory: &mut Provided,
+    closed: u64,
+) {
     for number in 1..=ROTATIONS {
         let epoch = closed.wrapping_add(u64::from(number));
-        end_step(rt, alloc, rotate(&mut directory, epoch, number)?)?;
+        run.end_step(rt, rotate(directory, epoch, number));
     }
-    end_step(rt, alloc, take_digests(&mut text, wanted.digests))?;
-    Ok(())
+}
+
+/// `epochs NAMES CHANGES ROUNDS LOOK_UPS LOOK_UP_ROUNDS DIGESTS`. The steps: digests; the names registered;
+/// the epoch closed; in each round some keys changed and the epoch closed; look-ups at the head; look-ups of
+/// the same names at the first epoch with names; rotations; digests again.
+pub(crate) fn measure(
+    rt: &(impl Print + Input),
+    run: &mut Run,
+    changes: Rounds,
+    look_ups: Rounds,
+    digests: usize,
+) -> Option<()> {
+    let (names, _, rounds) = changes;
+    let mut directory = new_directory(run.alloc())?;
+    run.end_step(rt, Some(0));
+    measure_leaves(rt, run, digests);
+    run.end_step(rt, register_all(&mut directory, &mut NoKeeper, names));
+    run.end_step(rt, close(&mut directory, &mut NoKeeper, FIRST));
+    measure_changes(rt, run, &mut directory, changes)?;
+    measure_look_ups(rt, run, &mut directory, look_ups, 0)?;
+    measure_look_ups(rt, run, &mut directory, look_ups, FIRST)?;
+    measure_rotations(rt, run, &mut directory, FIRST.wrapping_add(rounds as u64));
+    measure_leaves(rt, run, digests);
+    Some(())
 }

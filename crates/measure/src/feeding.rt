@@ -1,40 +1,41 @@
-use crate::steps::end_step;
-use anyhow::Result;
-use commands::Query;
+use crate::run::Run;
+use crate::sessions::write_head;
 use std::alloc::Global;
-use wire::{Feed, FeedRefusal, Next, Request};
+use wire::{Feed, Next};
 
-/// What is measured of a feed.
-#[derive(Clone, Copy)]
-pub(crate) struct Pieces {
-    /// The frames of a piece, each of which asks for the head.
-    pub(crate) frames: usize,
-    /// How often the piece comes.
-    pub(crate) times: usize,
-}
-
-/// Takes all frames of a piece that comes so often, and counts them.
-fn take_frames(feed: &mut Feed, piece: &[u8], wanted: &Pieces) -> Result<u64, FeedRefusal> {
+/// Takes so many frames of a piece that comes so often, and counts them.
+fn take_frames(feed: &mut Feed, piece: &[u8], frames: usize, times: usize) -> Option<u64> {
     let mut taken: u64 = 0;
-    for _ in 0..wanted.times {
-        feed.feed(piece)?;
-        for _ in 0..wanted.frames {
+    for _ in 0..times {
+        feed.feed(piece).ok()?;
+        for _ in 0..frames {
             if matches!(feed.next(), Next::Frame(..)) {
                 taken = taken.wrapping_add(1);
             }
         }
     }
-    Ok(taken)
+    Some(taken)
 }
 
-/// The one step: the frames of a piece that comes so often.
-pub(crate) fn measure(rt: &(impl Print + Input), alloc: Global, wanted: &Pieces) -> Result<()> {
+/// A piece of so many frames, each of which asks for the head.
+fn piece_of(alloc: Global, frames: usize) -> Option<Vec<u8>> {
     let mut piece = Vec::new(alloc);
-    for _ in 0..wanted.frames {
-        Request::Query(Query::Head).write(&mut piece)?;
+    for _ in 0..frames {
+        write_head(&mut piece)?;
     }
-    let mut feed = Feed::new(alloc);
-    end_step(rt, alloc, 0)?;
-    end_step(rt, alloc, take_frames(&mut feed, &piece, wanted)?)?;
-    Ok(())
+    Some(piece)
+}
+
+/// `feed FRAMES TIMES`. The one step: so many frames of a piece that comes so often.
+pub(crate) fn measure(
+    rt: &(impl Print + Input),
+    run: &mut Run,
+    frames: usize,
+    times: usize,
+) -> Option<()> {
+    let piece = piece_of(run.alloc(), frames)?;
+    let mut feed = Feed::new(run.alloc());
+    run.end_step(rt, Some(0));
+    run.end_step(rt, take_frames(&mut feed, &piece, frames, times));
+    Some(())
 }

@@ -1,8 +1,7 @@
-use crate::digests::take_digests;
-use crate::directory::{FIRST, Provided, close, new_directory, register_all, signer, vuf};
-use crate::steps::end_step;
-use crate::tree::LEAF_BYTES;
-use anyhow::{Result, bail};
+use crate::digests::measure_leaves;
+use crate::directory::{FIRST, Provided, close, new_directory, register_all};
+use crate::roots::{provider, provider_vuf};
+use crate::run::Run;
 use encoding::Hash32;
 use epochs::{Keeper, NoKeeper, Record};
 use journal::{Journal, Opened, open};
@@ -24,62 +23,68 @@ fn start() -> Record {
     Record::Start {
         epoch: 1,
         nonce: Hash32::default(),
-        signing_key: signer().public(),
-        vuf_key: vuf().public(),
+        signing_key: provider().public(),
+        vuf_key: provider_vuf().public(),
     }
 }
 
-/// Registers the names and closes the epoch, in a directory that is kept in this room.
+/// The steps of a directory: so many names registered, and the epoch closed.
+fn fill<K: Keeper>(
+    rt: &(impl Print + Input),
+    run: &mut Run,
+    directory: &mut Provided,
+    keeper: &mut K,
+    names: usize,
+) {
+    run.end_step(rt, register_all(directory, keeper, names));
+    run.end_step(rt, close(directory, keeper, FIRST));
+}
+
+/// The same steps of a directory that is kept in this room.
 fn keep(
     rt: &(impl Print + Input),
-    alloc: Global,
+    run: &mut Run,
     room: &mut [u8],
     names: usize,
-) -> Result<Provided> {
-    let mut directory = new_directory(alloc)?;
+) -> Option<Provided> {
+    let mut directory = new_directory(run.alloc())?;
     let mut journal = Journal::new(room);
-    journal.keep(&start())?;
-    end_step(rt, alloc, 0)?;
-    end_step(
-        rt,
-        alloc,
-        register_all(&mut directory, &mut journal, names)?,
-    )?;
-    end_step(rt, alloc, close(&mut directory, &mut journal, FIRST)?)?;
-    Ok(directory)
+    journal.keep(&start()).ok()?;
+    run.end_step(rt, Some(0));
+    fill(rt, run, &mut directory, &mut journal, names);
+    Some(directory)
 }
 
 /// Opens a journal of whole records. The step's number is that of the bytes that were taken.
-fn reopen(rt: &(impl Print + Input), alloc: Global, bytes: &[u8]) -> Result<()> {
-    let salts = ChaCha20Rng::from_seed([0; 32]);
-    match open(alloc, bytes, Sha256Hash::new(), vuf(), signer(), salts)? {
-        Opened::Nothing => bail!("there is no start"),
-        Opened::Directory(_directory, taken) => Ok(end_step(rt, alloc, taken as u64)?),
+fn reopen(rt: &(impl Print + Input), run: &mut Run, bytes: &[u8]) -> Option<()> {
+    let (hash, salts) = (Sha256Hash::new(), ChaCha20Rng::from_seed([0; 32]));
+    match open(run.alloc(), bytes, hash, provider_vuf(), provider(), salts).ok()? {
+        Opened::Nothing => None,
+        Opened::Directory(_directory, taken) => {
+            run.end_step(rt, Some(taken as u64));
+            Some(())
+        }
     }
 }
 
-/// The steps: digests; the names registered without a journal, and the epoch closed; the names
-/// registered with a journal in memory, and the epoch closed; the journal opened; digests again. All
-/// directories stay until the end, so that none takes the memory of another.
+/// `journal NAMES DIGESTS`. The steps: digests; the names registered without a journal, and the epoch
+/// closed; the names registered with a journal in memory, and the epoch closed; the journal opened; digests
+/// again. Both directories stay until the journal is opened, so that none takes the memory of another.
 pub(crate) fn measure(
     rt: &(impl Print + Input),
-    alloc: Global,
+    run: &mut Run,
     names: usize,
     digests: usize,
-) -> Result<()> {
-    let mut text = [0; LEAF_BYTES];
+) -> Option<()> {
     let size = names.saturating_mul(NAME_BYTES).saturating_add(OTHER_BYTES);
-    let mut room = vec![in alloc; 0; size]?;
-    let mut plain = new_directory(alloc)?;
-    end_step(rt, alloc, 0)?;
-    end_step(rt, alloc, take_digests(&mut text, digests))?;
-    end_step(rt, alloc, register_all(&mut plain, &mut NoKeeper, names)?)?;
-    end_step(rt, alloc, close(&mut plain, &mut NoKeeper, FIRST)?)?;
-    let kept = keep(rt, alloc, &mut room, names)?;
-    end_step(rt, alloc, 0)?;
-    reopen(rt, alloc, &room)?;
-    drop(kept);
-    drop(plain);
-    end_step(rt, alloc, take_digests(&mut text, digests))?;
-    Ok(())
+    let mut room = vec![in run.alloc(); 0; size].ok()?;
+    let mut plain = new_directory(run.alloc())?;
+    run.end_step(rt, Some(0));
+    measure_leaves(rt, run, digests);
+    fill(rt, run, &mut plain, &mut NoKeeper, names);
+    let _kept = keep(rt, run, &mut room, names)?;
+    run.end_step(rt, Some(0));
+    reopen(rt, run, &room)?;
+    measure_leaves(rt, run, digests);
+    Some(())
 }

@@ -1,58 +1,39 @@
-use crate::pages::{
-    Answered, Following, Pages, Sizes, answered_at, check_all, keep_looks, look_all,
-};
-use crate::roots::provider_vuf;
-use crate::steps::end_step;
-use anyhow::Result;
-use std::alloc::Global;
+use crate::pages::{Following, Pages, check_all, look_all};
+use crate::run::Run;
 
-/// What is measured of the looks of a client.
-#[derive(Clone, Copy)]
-pub(crate) struct Looks {
-    pub(crate) sizes: Sizes,
-    /// The epochs at which all names were looked up before.
-    pub(crate) epochs: usize,
-    /// The epochs after them, at each of which all names are looked up again.
-    pub(crate) rounds: usize,
-}
-
-/// The steps of a round: its replies made, read and checked, looked at by the client, and read and checked
-/// once more.
+/// The steps of a round: the replies of the root of this place made, read and checked, looked at by the
+/// client, and read and checked once more.
 fn measure_round(
     rt: &(impl Print + Input),
-    alloc: Global,
-    client: &mut Following,
-    look_ups: &[Answered],
-) -> Result<()> {
-    let vuf = provider_vuf();
-    end_step(rt, alloc, 0)?;
-    end_step(rt, alloc, check_all(look_ups, &vuf)?)?;
-    end_step(rt, alloc, look_all(client, look_ups, &vuf)?)?;
-    end_step(rt, alloc, check_all(look_ups, &vuf)?)?;
-    Ok(())
-}
-
-/// The steps of a client without a look: the looks of the first epochs, and then the rounds.
-fn measure_client(
-    rt: &(impl Print + Input),
-    alloc: Global,
+    run: &mut Run,
     client: &mut Following,
     pages: &Pages,
-    wanted: &Looks,
-) -> Result<()> {
-    end_step(rt, alloc, 0)?;
-    let bytes = keep_looks(client, pages, (0, wanted.sizes.names), wanted.epochs)?;
-    end_step(rt, alloc, bytes)?;
-    for round in 0..wanted.rounds {
-        let look_ups = answered_at(alloc, pages, wanted.epochs.saturating_add(round))?;
-        measure_round(rt, alloc, client, &look_ups)?;
-    }
-    Ok(())
+    place: usize,
+) -> Option<()> {
+    let look_ups = pages.answered_at(run.alloc(), place)?;
+    run.end_step(rt, Some(0));
+    run.end_step(rt, check_all(&look_ups));
+    run.end_step(rt, look_all(client, &look_ups));
+    run.end_step(rt, check_all(&look_ups));
+    Some(())
 }
 
-/// The steps of `measure_client`.
-pub(crate) fn measure(rt: &(impl Print + Input), alloc: Global, wanted: &Looks) -> Result<()> {
-    let pages = Pages::new(alloc, &wanted.sizes)?;
-    let mut client = pages.client(alloc)?;
-    measure_client(rt, alloc, &mut client, &pages, wanted)
+/// `looks NAMES SIBLINGS ROOTS EPOCHS ROUNDS`. The steps of a client that has so many roots: looks of all
+/// names at the first epochs; and in each round those of `measure_round`, at one more epoch.
+pub(crate) fn measure(
+    rt: &(impl Print + Input),
+    run: &mut Run,
+    sizes: [usize; 3],
+    epochs: usize,
+    rounds: usize,
+) -> Option<()> {
+    let [names, siblings, roots] = sizes;
+    let pages = Pages::new(run.alloc(), names, siblings, roots)?;
+    let mut client = pages.client(run.alloc())?;
+    run.end_step(rt, Some(0));
+    run.end_step(rt, pages.keep_looks(&mut client, (0, names), epochs));
+    for round in 0..rounds {
+        measure_round(rt, run, &mut client, &pages, epochs.saturating_add(round))?;
+    }
+    Some(())
 }

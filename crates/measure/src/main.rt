@@ -1,5 +1,4 @@
-//! What bench/ measures. The first argument chooses a program, and its numbers follow. Those that ask
-//! or answer over loopback are no part of `all`.
+//! What bench/ measures. The first argument chooses a program, and its numbers follow.
 //!
 //! A program runs in steps. At the end of each it prints a number that depends on the step's work,
 //! so that the compiler cannot leave the work out, and waits for a line. Meanwhile bench/bench.py
@@ -9,10 +8,8 @@
 mod auditing;
 mod chains;
 mod changes;
-mod crowd;
 mod digests;
 mod directory;
-mod exchange;
 mod feeding;
 mod keeping;
 mod looking;
@@ -20,19 +17,16 @@ mod pages;
 mod reconciling;
 mod replies;
 mod roots;
+mod run;
 mod sessions;
-mod steps;
 mod texts;
 mod tree;
 mod updating;
 mod watching;
-mod whole;
 
 use anyhow::{Context, Result, bail};
-use std::alloc::Global;
+use run::Run;
 use std::env;
-use std::net::{Net, TcpListener, TcpStream};
-use std::time::Clock;
 
 const USAGE: &str = "usage: measure digests BYTES COUNT | texts COUNT ROUNDS \
     | tree GROWN MORE DIGESTS | whole ITEMS TIMES DIGESTS \
@@ -41,9 +35,7 @@ const USAGE: &str = "usage: measure digests BYTES COUNT | texts COUNT ROUNDS \
     | journal NAMES DIGESTS | hub NAMES FRAMES PIECE ROUNDS | feed FRAMES TIMES \
     | audit ROOTS MORE SIBLINGS TIMES DIGESTS | updates BEFORE LISTS DIGESTS PIECE \
     | looks NAMES SIBLINGS ROOTS EPOCHS ROUNDS | watch SIBLINGS EPOCHS ROUNDS \
-    | clients SIBLINGS NAMES SHARED EPOCHS ROUNDS | all \
-    | ask PORT NAMES FRAMES IN_FLIGHT ROUNDS | exchange PORT NAMES FRAMES ROUNDS \
-    | crowd PORT NAMES CONNECTIONS FRAMES ROUNDS | answer REQUEST REPLY CONNECTIONS";
+    | clients SIBLINGS NAMES SHARED EPOCHS ROUNDS | all";
 
 /// The number that this word writes.
 fn number(word: &str) -> Result<usize> {
@@ -51,252 +43,114 @@ fn number(word: &str) -> Result<usize> {
         .context(format_args!("reading {word:?}"))
 }
 
-/// Runs the program of this name on these numbers.
-fn run(rt: &(impl Print + Input), alloc: Global, program: &str, numbers: &[usize]) -> Result<()> {
-    match (program, numbers) {
-        ("digests", &[bytes, count]) => digests::measure(rt, alloc, bytes, count),
-        ("texts", &[count, rounds]) => texts::measure(rt, alloc, count, rounds),
-        ("tree", &[grown, more, digests]) => {
-            let inserts = tree::Inserts {
-                grown,
-                more,
-                digests,
-            };
-            tree::measure(rt, alloc, &inserts)
-        }
-        ("whole", &[items, times, digests]) => {
-            let lists = whole::Lists {
-                items,
-                times,
-                digests,
-            };
-            whole::measure(rt, alloc, &lists)
-        }
+/// Runs the program of this name on these numbers. `None` where there is no such program, or something
+/// failed.
+fn program(rt: &(impl Print + Input), run: &mut Run, name: &str, numbers: &[usize]) -> Option<()> {
+    match (name, numbers) {
+        ("digests", &[bytes, count]) => digests::measure(rt, run, bytes, count),
+        ("texts", &[count, rounds]) => texts::measure(rt, run, count, rounds),
+        ("tree", &[grown, more, digests]) => tree::measure(rt, run, grown, more, digests),
+        ("whole", &[items, times, digests]) => changes::measure_whole(
+            rt, run, items, times, digests,
+        ),
         ("changes", &[items, changes, lists, rounds, digests]) => {
-            let wanted = changes::Changes {
-                items,
-                changes,
-                lists,
-                rounds,
-                digests,
-            };
-            changes::measure(rt, alloc, &wanted)
+            changes::measure(rt, run, [items, changes, lists], rounds, digests)
         }
         ("replies", &[siblings, replies, rounds, digests]) => {
-            let look_ups = replies::LookUps {
-                siblings,
-                replies,
-                rounds,
-                digests,
-            };
-            replies::measure(rt, alloc, &look_ups)
+            replies::measure(rt, run, siblings, replies, rounds, digests)
         }
-        ("chains", &[roots, shared, rounds]) => {
-            let histories = chains::Histories {
-                roots,
-                shared,
-                rounds,
-            };
-            chains::measure(rt, alloc, &histories)
-        }
-        _ => run_on_directory(rt, alloc, program, numbers),
+        ("chains", &[roots, shared, rounds]) => chains::measure(rt, run, roots, shared, rounds),
+        _ => program_of_provider(rt, run, name, numbers),
     }
 }
 
-/// Runs the program of this name on these numbers, if it is one of those on a directory and its
-/// sessions.
-fn run_on_directory(
+/// The same of those on a directory and its sessions.
+fn program_of_provider(
     rt: &(impl Print + Input),
-    alloc: Global,
-    program: &str,
+    run: &mut Run,
+    name: &str,
     numbers: &[usize],
-) -> Result<()> {
-    match (program, numbers) {
+) -> Option<()> {
+    match (name, numbers) {
         ("epochs", &[names, changes, rounds, look_ups, look_up_rounds, digests]) => {
-            let wanted = directory::Epochs {
-                names,
-                changes,
-                rounds,
-                look_ups,
-                look_up_rounds,
-                digests,
-            };
-            directory::measure(rt, alloc, &wanted)
+            let (changes, look_ups) = ((names, changes, rounds), (names, look_ups, look_up_rounds));
+            directory::measure(rt, run, changes, look_ups, digests)
         }
-        ("journal", &[names, digests]) => keeping::measure(rt, alloc, names, digests),
+        ("journal", &[names, digests]) => keeping::measure(rt, run, names, digests),
         ("hub", &[names, frames, piece, rounds]) => {
-            let wanted = sessions::Sessions {
-                names,
-                frames,
-                piece,
-                rounds,
-            };
-            sessions::measure(rt, alloc, &wanted)
+            sessions::measure(rt, run, (names, frames), piece, rounds)
         }
-        ("feed", &[frames, times]) => {
-            let wanted = feeding::Pieces { frames, times };
-            feeding::measure(rt, alloc, &wanted)
-        }
-        _ => run_on_auditor(rt, alloc, program, numbers),
+        ("feed", &[frames, times]) => feeding::measure(rt, run, frames, times),
+        _ => program_of_others(rt, run, name, numbers),
     }
 }
 
-/// Runs the program of this name on these numbers, if it is the one on an auditor.
-fn run_on_auditor(
+/// The same of those on auditors, clients and monitors.
+fn program_of_others(
     rt: &(impl Print + Input),
-    alloc: Global,
-    program: &str,
+    run: &mut Run,
+    name: &str,
     numbers: &[usize],
-) -> Result<()> {
-    match (program, numbers) {
+) -> Option<()> {
+    match (name, numbers) {
         ("audit", &[roots, more, siblings, times, digests]) => {
-            let wanted = auditing::Audits {
-                roots,
-                more,
-                siblings,
-                times,
-                digests,
-            };
-            auditing::measure(rt, alloc, &wanted)
+            auditing::measure(rt, run, [roots, more], siblings, times, digests)
         }
-        _ => run_on_clients(rt, alloc, program, numbers),
-    }
-}
-
-/// Runs the program of this name on these numbers, if it is one of those on clients and monitors.
-fn run_on_clients(
-    rt: &(impl Print + Input),
-    alloc: Global,
-    program: &str,
-    numbers: &[usize],
-) -> Result<()> {
-    match (program, numbers) {
         ("looks", &[names, siblings, roots, epochs, rounds]) => {
-            let sizes = pages::Sizes {
-                names,
-                siblings,
-                roots,
-            };
-            let wanted = looking::Looks {
-                sizes,
-                epochs,
-                rounds,
-            };
-            looking::measure(rt, alloc, &wanted)
+            looking::measure(rt, run, [names, siblings, roots], epochs, rounds)
         }
         ("updates", &[before, lists, digests, piece]) => {
-            let wanted = updating::Updates {
-                before,
-                lists,
-                digests,
-                piece,
-            };
-            updating::measure(rt, alloc, &wanted)
+            updating::measure(rt, run, before, lists, digests, piece)
         }
-        ("watch", &[siblings, epochs, rounds]) => {
-            let wanted = watching::Watches {
-                siblings,
-                epochs,
-                rounds,
-            };
-            watching::measure(rt, alloc, &wanted)
-        }
+        ("watch", &[siblings, epochs, rounds]) => watching::measure(
+            rt, run, siblings, epochs, rounds,
+        ),
         ("clients", &[siblings, names, shared, epochs, rounds]) => {
-            let wanted = reconciling::Clients {
-                siblings,
-                names,
-                shared,
-                epochs,
-                rounds,
-            };
-            reconciling::measure(rt, alloc, &wanted)
+            reconciling::measure(rt, run, [siblings, names, shared], epochs, rounds)
         }
-        _ => bail!("{USAGE}"),
+        _ => None,
     }
-}
-
-/// Runs the program of this name on these numbers, if it is one of those over loopback, and says
-/// whether it is.
-fn run_over_loopback<R>(rt: &R, alloc: Global, program: &str, numbers: &[usize]) -> Result<bool>
-where
-    R: Print + Input + Clock + Net<Listener = TcpListener, Stream = TcpStream>,
-{
-    match (program, numbers) {
-        ("ask", &[port, names, frames, in_flight, rounds]) => {
-            let wanted = exchange::Asked {
-                port,
-                names,
-                frames,
-                in_flight,
-                rounds,
-            };
-            exchange::measure(rt, alloc, &wanted)?;
-        }
-        ("exchange", &[port, names, frames, rounds]) => {
-            let wanted = exchange::Asked {
-                port,
-                names,
-                frames,
-                in_flight: 1,
-                rounds,
-            };
-            exchange::measure_look_ups(rt, alloc, &wanted)?;
-        }
-        ("crowd", &[port, names, connections, in_flight, frames, rounds]) => {
-            let wanted = crowd::Crowd {
-                port,
-                names,
-                connections,
-                in_flight,
-                frames,
-                rounds,
-            };
-            crowd::measure(rt, alloc, &wanted)?;
-        }
-        ("answer", &[request, reply, connections, in_flight]) => {
-            exchange::answer(rt, alloc, request, reply, connections, in_flight)?;
-        }
-        _ => return Ok(false),
-    }
-    Ok(true)
 }
 
 /// Runs each program once, on small numbers: this shows that they still work.
-fn run_all(rt: &(impl Print + Input), alloc: Global) -> Result<()> {
-    run(rt, alloc, "digests", &[64, 3])?;
-    run(rt, alloc, "texts", &[9, 1])?;
-    run(rt, alloc, "tree", &[5, 2, 1])?;
-    run(rt, alloc, "whole", &[5, 2, 1])?;
-    run(rt, alloc, "changes", &[5, 3, 2, 2, 1])?;
-    run(rt, alloc, "replies", &[4, 3, 2, 1])?;
-    run(rt, alloc, "chains", &[5, 3, 2])?;
-    run(rt, alloc, "epochs", &[5, 3, 2, 4, 2, 1])?;
-    run(rt, alloc, "journal", &[5, 1])?;
-    run(rt, alloc, "hub", &[5, 3, 16, 2])?;
-    run(rt, alloc, "feed", &[3, 2])?;
-    run(rt, alloc, "audit", &[5, 3, 2, 2, 1])?;
-    run(rt, alloc, "looks", &[3, 12, 4, 2, 2])?;
-    run(rt, alloc, "updates", &[1, 2, 1, 0])?;
-    run(rt, alloc, "updates", &[1, 2, 1, 64])?;
-    run(rt, alloc, "watch", &[12, 2, 2])?;
-    run(rt, alloc, "clients", &[12, 3, 1, 2, 2])
+fn all(rt: &(impl Print + Input), run: &mut Run) -> Option<()> {
+    program(rt, run, "digests", &[64, 3])?;
+    program(rt, run, "texts", &[9, 1])?;
+    program(rt, run, "tree", &[5, 2, 1])?;
+    program(rt, run, "whole", &[5, 2, 1])?;
+    program(rt, run, "changes", &[5, 3, 2, 2, 1])?;
+    program(rt, run, "replies", &[4, 3, 2, 1])?;
+    program(rt, run, "chains", &[5, 3, 2])?;
+    program(rt, run, "epochs", &[5, 3, 2, 4, 2, 1])?;
+    program(rt, run, "journal", &[5, 1])?;
+    program(rt, run, "hub", &[5, 3, 16, 2])?;
+    program(rt, run, "feed", &[3, 2])?;
+    program(rt, run, "audit", &[5, 3, 2, 2, 1])?;
+    program(rt, run, "looks", &[3, 12, 4, 2, 2])?;
+    program(rt, run, "updates", &[1, 2, 1, 0])?;
+    program(rt, run, "updates", &[1, 2, 1, 64])?;
+    program(rt, run, "watch", &[12, 2, 2])?;
+    program(rt, run, "clients", &[12, 3, 1, 2, 2])
 }
 
 fn main(rt: HostRuntime) -> Result<()> {
     let alloc = rt.alloc();
     let words: Vec<String> = env::args(&rt)?.collect(alloc)?;
-    let [_, program, rest @ ..] = words.as_slice() else {
+    let [_, name, rest @ ..] = words.as_slice() else {
         bail!("{USAGE}");
     };
-    if program.as_str() == "all" {
-        return run_all(&rt, alloc);
-    }
     let mut numbers = Vec::with_capacity(alloc, rest.len())?;
     for word in rest {
         numbers.push(number(word)?)?;
     }
-    if run_over_loopback(&rt, alloc, program, &numbers)? {
-        return Ok(());
+    let mut run = Run::new(alloc);
+    let ended = if name.as_str() == "all" {
+        all(&rt, &mut run)
+    } else {
+        program(&rt, &mut run, name, &numbers)
+    };
+    if ended.is_none() || run.has_failed() {
+        bail!("the program failed, or is none of these; {USAGE}");
     }
-    run(&rt, alloc, program, &numbers)
+    Ok(())
 }

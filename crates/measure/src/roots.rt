@@ -1,9 +1,8 @@
-use anyhow::{Result, bail};
 use encoding::Hash32;
 use nodehash::{NodeHash, Sha256Hash};
 use rootchain::{Body, MAX_ROOTS, SignedRoot, write_list};
 use sigiface::{KeyedSign, Signer};
-use std::alloc::{AllocError, Global};
+use std::alloc::Global;
 use vrfiface::KeyedVuf;
 
 /// The bytes of a body, and those that the stand-in digests to sign it: a letter and a key before it.
@@ -27,13 +26,14 @@ pub(crate) fn hash_of(body: &Body) -> Hash32 {
     Sha256Hash::new().digest(body.write().bytes())
 }
 
-pub(crate) fn first_body() -> Body {
+/// The body of epoch 1, with this root of the tree.
+pub(crate) fn first_body(root: Hash32) -> Body {
     Body {
         epoch: 1,
         previous_epoch: 0,
-        root: Hash32::new([3; 32]),
+        root,
         previous_hash: Hash32::default(),
-        nonce: Hash32::new([4; 32]),
+        nonce: Hash32::default(),
         vuf_key: Hash32::new([2; 32]),
     }
 }
@@ -54,30 +54,34 @@ pub(crate) fn signed(body: Body) -> SignedRoot {
 }
 
 /// So many bodies, of which each follows the one before it by an epoch.
-pub(crate) fn bodies(alloc: Global, first: Body, count: usize) -> Result<Vec<Body>, AllocError> {
-    let mut bodies = Vec::with_capacity(alloc, count)?;
+pub(crate) fn bodies(alloc: Global, first: Body, count: usize) -> Option<Vec<Body>> {
+    let mut bodies = Vec::with_capacity(alloc, count).ok()?;
     let mut body = first;
     for _ in 0..count {
-        bodies.push(body)?;
+        bodies.push(body).ok()?;
         body = after(&body, 1);
     }
-    Ok(bodies)
+    Some(bodies)
+}
+
+/// The list of the signed roots of these bodies, at most as many as a list may have.
+fn list_of(alloc: Global, bodies: &[Body]) -> Option<Vec<u8>> {
+    let mut roots = Vec::with_capacity(alloc, bodies.len()).ok()?;
+    for body in bodies {
+        roots.push(signed(*body)).ok()?;
+    }
+    let mut list = Vec::new(alloc);
+    if roots.len() <= MAX_ROOTS {
+        write_list(&roots, &mut list).ok()?;
+    }
+    Some(list)
 }
 
 /// The lists of the signed roots of these bodies, each with as many as a list may have.
-pub(crate) fn lists(alloc: Global, bodies: &[Body]) -> Result<Vec<Vec<u8>>> {
+pub(crate) fn lists_of(alloc: Global, bodies: &[Body]) -> Option<Vec<Vec<u8>>> {
     let mut lists = Vec::new(alloc);
     for part in bodies.chunks(MAX_ROOTS) {
-        let mut roots = Vec::with_capacity(alloc, part.len())?;
-        for body in part {
-            roots.push(signed(*body))?;
-        }
-        if roots.len() > MAX_ROOTS {
-            bail!("the list is too long");
-        }
-        let mut list = Vec::new(alloc);
-        write_list(&roots, &mut list)?;
-        lists.push(list)?;
+        lists.push(list_of(alloc, part)?).ok()?;
     }
-    Ok(lists)
+    Some(lists)
 }

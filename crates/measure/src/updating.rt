@@ -1,107 +1,75 @@
-use crate::auditing::take_all;
-use crate::pages::Following;
-use crate::roots::{BODY_BYTES, SIGNED_BYTES, bodies, first_body, lists, provider, signed};
-use crate::steps::end_step;
-use anyhow::{Result, bail};
-use client::Client;
+use crate::auditing::measure_bodies;
+use crate::pages::{Following, started};
+use crate::roots::{bodies, first_body, lists_of, provider};
+use crate::run::Run;
+use encoding::Hash32;
 use nodehash::Sha256Hash;
 use rootchain::{MAX_ROOTS, RootFeed};
-use sigiface::Signer;
-use std::alloc::Global;
 
-/// What is measured of the updates of a client.
-#[derive(Clone, Copy)]
-pub(crate) struct Updates {
-    /// The lists of 64 roots that the client has before.
-    pub(crate) before: usize,
-    /// The lists of 64 roots that it then takes, and takes once more.
-    pub(crate) lists: usize,
-    /// The digests of each length that are timed before and after.
-    pub(crate) digests: usize,
-    /// The bytes of the pieces in which a list comes, or 0 if it comes whole.
-    pub(crate) piece: usize,
-}
-
-/// The client takes these lists, in pieces of so many bytes. Returns the epoch of its head.
-fn update_all(client: &mut Following, lists: &[Vec<u8>], piece: usize) -> Result<u64> {
+/// The client takes a list in pieces of so many bytes.
+fn update_in_pieces(client: &mut Following, list: &[u8], piece: usize) -> Option<()> {
     let mut hash = Sha256Hash::new();
-    let verifier = provider();
-    for list in lists {
-        if piece == 0 {
-            client.update(&mut hash, &verifier, list)?;
-        } else {
-            update_in_pieces(client, &mut hash, list, piece)?;
-        }
-    }
-    Ok(client.chain().head().body.epoch)
-}
-
-fn update_in_pieces(
-    client: &mut Following,
-    hash: &mut Sha256Hash,
-    list: &[u8],
-    piece: usize,
-) -> Result<()> {
     let verifier = provider();
     let mut feed = RootFeed::new();
     for bytes in list.chunks(piece.max(1)) {
         // A `?` would clear the room of a refusal at each call.
         if client
-            .update_from(hash, &verifier, &mut feed, bytes)
+            .update_from(&mut hash, &verifier, &mut feed, bytes)
             .is_err()
         {
-            bail!("a piece was refused");
+            return None;
         }
     }
-    Ok(())
+    Some(())
 }
 
-/// The steps of digests: of bodies, and of what is signed of them.
-fn measure_digests(rt: &(impl Print + Input), alloc: Global, digests: usize) -> Result<()> {
-    let mut room = [0; SIGNED_BYTES];
-    for length in [BODY_BYTES, SIGNED_BYTES] {
-        end_step(rt, alloc, take_all(&mut room, &[length], digests)?)?;
+/// The client takes these lists, in pieces of so many bytes, or whole if the number is 0. Returns the epoch
+/// of its head.
+fn update_all(client: &mut Following, lists: &[Vec<u8>], piece: usize) -> Option<u64> {
+    let mut hash = Sha256Hash::new();
+    let verifier = provider();
+    for list in lists {
+        if piece == 0 {
+            client.update(&mut hash, &verifier, list).ok()?;
+        } else {
+            update_in_pieces(client, list, piece)?;
+        }
     }
-    Ok(())
+    Some(client.chain().head().body.epoch)
 }
 
-/// The steps of updates: the first lists taken; the further lists taken; and these once more.
-fn measure_updates(
-    rt: &(impl Print + Input),
-    alloc: Global,
-    client: &mut Following,
-    before: &[Vec<u8>],
-    more: &[Vec<u8>],
-    piece: usize,
-) -> Result<()> {
-    end_step(rt, alloc, update_all(client, before, 0)?)?;
-    for _ in 0..2 {
-        end_step(rt, alloc, update_all(client, more, piece)?)?;
-    }
-    Ok(())
-}
-
-/// The steps: digests; updates of a client that has the first of these roots; digests again.
+/// The steps of a client that has the first root: digests; so many of the lists taken whole; the others
+/// taken in pieces of so many bytes, and once more; digests again.
 fn measure_lists(
     rt: &(impl Print + Input),
-    alloc: Global,
+    run: &mut Run,
     lists: &[Vec<u8>],
-    wanted: &Updates,
-) -> Result<()> {
-    let (before, more) = lists.split_at(wanted.before.min(lists.len()));
-    let verifier = provider();
-    let first = signed(first_body()).write();
-    let mut client = Client::start(alloc, &verifier, verifier.public(), first.bytes())?;
-    end_step(rt, alloc, 0)?;
-    measure_digests(rt, alloc, wanted.digests)?;
-    measure_updates(rt, alloc, &mut client, before, more, wanted.piece)?;
-    measure_digests(rt, alloc, wanted.digests)
+    words: [usize; 3],
+) -> Option<()> {
+    let [before, digests, piece] = words;
+    let (before, more) = lists.split_at(before.min(lists.len()));
+    let mut client = started(run.alloc(), first_body(Hash32::default()))?;
+    run.end_step(rt, Some(0));
+    measure_bodies(rt, run, digests);
+    run.end_step(rt, update_all(&mut client, before, 0));
+    run.end_step(rt, update_all(&mut client, more, piece));
+    run.end_step(rt, update_all(&mut client, more, piece));
+    measure_bodies(rt, run, digests);
+    Some(())
 }
 
-/// The steps of `measure_lists`.
-pub(crate) fn measure(rt: &(impl Print + Input), alloc: Global, wanted: &Updates) -> Result<()> {
-    let count = wanted.before.saturating_add(wanted.lists);
-    let bodies = bodies(alloc, first_body(), count.saturating_mul(MAX_ROOTS))?;
-    let lists = lists(alloc, &bodies)?;
-    measure_lists(rt, alloc, &lists, wanted)
+/// `updates BEFORE LISTS DIGESTS PIECE`. The steps of `measure_lists`, of a client that has so many lists of
+/// 64 roots before, and then takes so many.
+pub(crate) fn measure(
+    rt: &(impl Print + Input),
+    run: &mut Run,
+    before: usize,
+    lists: usize,
+    digests: usize,
+    piece: usize,
+) -> Option<()> {
+    let count = before.saturating_add(lists).saturating_mul(MAX_ROOTS);
+    let bodies = bodies(run.alloc(), first_body(Hash32::default()), count)?;
+    let lists = lists_of(run.alloc(), &bodies)?;
+    measure_lists(rt, run, &lists, [before, digests, piece])
 }
