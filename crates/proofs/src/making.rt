@@ -28,13 +28,7 @@ pub fn make(body: &Body, value: &Small, end: &End<'_>, path: &Path) -> ProofText
 const FRONT_ROOM: usize = 2500;
 
 /// Appends a reply up to its siblings, with the number of these, into room that is there.
-pub fn write_front(
-    output: &mut Vec<u8>,
-    body: &Body,
-    value: &Small,
-    end: &End<'_>,
-    siblings: usize,
-)
+pub fn write_front(output: &mut Vec<u8>, body: &Body, value: &Small, end: &End<'_>, siblings: usize)
     requires few { siblings ≤ 256 }
     requires room { vec_len output.old + 2500 ≤ vec_capacity output.old }
     ensures value { output.new.items ≡ output.old.items ++ front_bytes body.now value.now (end_given end.now) siblings }

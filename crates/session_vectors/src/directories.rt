@@ -336,7 +336,8 @@ fn compare_written<H, V>(
     name: &[u8],
     epoch: u64,
     proof: &[u8],
-) where
+)
+where
     H: NodeHash + Drop,
     V: Vuf + Drop,
 {

@@ -5,8 +5,8 @@ ghost use Rattle.wire.specs.Frames.{frame_bytes, frame_head};
 ghost use Rattle.wire.specs.Responses.{proof_frame};
 ghost use Rattle.wire.specs.declared.frame.TheConstants.{MAX_FRAME_LEN};
 
-use byteorder::{BigEndian, ByteOrder};
 use crate::kind_bytes::PROOF;
+use byteorder::{BigEndian, ByteOrder};
 use std::alloc::AllocError;
 
 /// Reserves the room of a frame, and appends what stands before its body. An `Err` appends nothing,

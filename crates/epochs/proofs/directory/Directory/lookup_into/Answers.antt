@@ -45,13 +45,13 @@ returns-clause-reads g c =
     let size : length c.write_siblings.new.output.items ≡ length c.args.output.now.items + length text = ap length whole ∙ length-append c.args.output.now.items text in (
       text,
       rw (← c.self.view_is, ← c.in-Ok.ensures.value)
-      (lookup_reads _ _ _ _ c.self.invariant.0 c.in-Ok.name c.args.epoch c.in-Some.page c.index.result.now c.index-tree.result.now c.address_in-address.result.value index
-      siblings end found text
-      (rw (← c.in-Ok.ensures.value) at (c.in-Ok.ensures.limits.0 refl)) (rw (← c.self.view_is) at c.in-Some.ensures.page) (rw (← c.self.view_is) at c.in-Some.ensures.within)
-      c.index.ensures c.index-tree.ensures (ap (λ (address : Address). address.value) own) (ap (λ (address : Address). address.index) own ∙ ap g.H.NodeHash.digest_of (sym (ap (λ (address : Address). address.value) own)))
-      path
-      (c.shown_in-shown.ensures ∙ chosen-borrowed (binding_at c.in-Some.page) (λ history. history.now.versions) c.find-history.result _ c.in-Ok.name c.self.invariant.0.histories (rw c.bytes.ensures.value at c.find-history.ensures.versions))
-      refl),
+          (lookup_reads _ _ _ _ c.self.invariant.0 c.in-Ok.name c.args.epoch c.in-Some.page c.index.result.now c.index-tree.result.now c.address_in-address.result.value index
+          siblings end found text
+          (rw (← c.in-Ok.ensures.value) at (c.in-Ok.ensures.limits.0 refl)) (rw (← c.self.view_is) at c.in-Some.ensures.page) (rw (← c.self.view_is) at c.in-Some.ensures.within)
+          c.index.ensures c.index-tree.ensures (ap (λ (address : Address). address.value) own) (ap (λ (address : Address). address.index) own ∙ ap g.H.NodeHash.digest_of (sym (ap (λ (address : Address). address.value) own)))
+          path
+          (c.shown_in-shown.ensures ∙ chosen-borrowed (binding_at c.in-Some.page) (λ history. history.now.versions) c.find-history.result _ c.in-Ok.name c.self.invariant.0.histories (rw c.bytes.ensures.value at c.find-history.ensures.versions))
+          refl),
       omega (arith, c.write_siblings.ensures.len, c.write_front_of.ensures.len, size),
       whole,
     )

@@ -18,21 +18,21 @@ returns g c =
     rw (← c.self.view_is)
     (elim c.match-lookup_into.branch [
       | in-Ok w ↦
-        let reads = w.in-Ok.ensures.reads in
-        let text : List ℕ = reads.0 in
-        let whole : c.lookup_into.new.output.items ≡ (before ++ frame_head (proof_frame []).kind 0) ++ text = reads.3 ∙ ap (λ (front : List ℕ). front ++ text) begun in
-        let written : c.match-lookup_into.output.items ≡ before ++ frame_bytes (proof_frame text) = ap (λ (output : Vec ℕ Global). output.items) w.output-is ∙ w.end_proof.ensures before text start whole in
-        read_turned g.H.NodeHash.digest_of g.V.Vuf.value_of g.S.Signer.signature_of g.R.Rng.stream g.K.Keeper.kept g.K.Keeper.failed
-        c.self.inside.directory c.self.inside.keeper c.self.inside.token (Lookup c.args.name.now c.args.epoch) _ c.lookup_into.new.self _ (reply.Found text) reads.1 c.lookup_into.ensures.stays c.lookup_into.ensures.keys written
+          let reads = w.in-Ok.ensures.reads in
+          let text : List ℕ = reads.0 in
+          let whole : c.lookup_into.new.output.items ≡ (before ++ frame_head (proof_frame []).kind 0) ++ text = reads.3 ∙ ap (λ (front : List ℕ). front ++ text) begun in
+          let written : c.match-lookup_into.output.items ≡ before ++ frame_bytes (proof_frame text) = ap (λ (output : Vec ℕ Global). output.items) w.output-is ∙ w.end_proof.ensures before text start whole in
+          read_turned g.H.NodeHash.digest_of g.V.Vuf.value_of g.S.Signer.signature_of g.R.Rng.stream g.K.Keeper.kept g.K.Keeper.failed
+          c.self.inside.directory c.self.inside.keeper c.self.inside.token (Lookup c.args.name.now c.args.epoch) _ c.lookup_into.new.self _ (reply.Found text) reads.1 c.lookup_into.ensures.stays c.lookup_into.ensures.keys written
       | in-Err w ↦
-        let reads = w.in-Err.ensures.reads in
-        let cut : w.truncate.new.self.items ≡ before =
-        w.truncate.ensures.items ∙ ap (λ (output : Vec ℕ Global). take c.len-start.result output.items) reads.1
-        ∙ ap (take c.len-start.result) begun ∙ ap (λ (n : ℕ). take n (before ++ frame_head (proof_frame []).kind 0)) (sym start) ∙ take-append_seam before (frame_head (proof_frame []).kind 0) in
-        let number : w.number.result ≡ refusal_number w.in-Err.why = search rules in
-        let written : c.match-lookup_into.output.items ≡ before ++ refused_frame (refusal_number w.in-Err.why) =
-        ap (λ (output : Vec ℕ Global). output.items) w.output-is ∙ w.write_refused.ensures ∙ ap (λ (front : List ℕ). front ++ refused_frame w.number.result) cut
-        ∙ ap (λ (code : ℕ). before ++ refused_frame code) number in
-        read_turned g.H.NodeHash.digest_of g.V.Vuf.value_of g.S.Signer.signature_of g.R.Rng.stream g.K.Keeper.kept g.K.Keeper.failed
-        c.self.inside.directory c.self.inside.keeper c.self.inside.token (Lookup c.args.name.now c.args.epoch) _ c.lookup_into.new.self _ (reply.Refused w.in-Err.why) reads.0 c.lookup_into.ensures.stays c.lookup_into.ensures.keys written
+          let reads = w.in-Err.ensures.reads in
+          let cut : w.truncate.new.self.items ≡ before =
+          w.truncate.ensures.items ∙ ap (λ (output : Vec ℕ Global). take c.len-start.result output.items) reads.1
+          ∙ ap (take c.len-start.result) begun ∙ ap (λ (n : ℕ). take n (before ++ frame_head (proof_frame []).kind 0)) (sym start) ∙ take-append_seam before (frame_head (proof_frame []).kind 0) in
+          let number : w.number.result ≡ refusal_number w.in-Err.why = search rules in
+          let written : c.match-lookup_into.output.items ≡ before ++ refused_frame (refusal_number w.in-Err.why) =
+          ap (λ (output : Vec ℕ Global). output.items) w.output-is ∙ w.write_refused.ensures ∙ ap (λ (front : List ℕ). front ++ refused_frame w.number.result) cut
+          ∙ ap (λ (code : ℕ). before ++ refused_frame code) number in
+          read_turned g.H.NodeHash.digest_of g.V.Vuf.value_of g.S.Signer.signature_of g.R.Rng.stream g.K.Keeper.kept g.K.Keeper.failed
+          c.self.inside.directory c.self.inside.keeper c.self.inside.token (Lookup c.args.name.now c.args.epoch) _ c.lookup_into.new.self _ (reply.Refused w.in-Err.why) reads.0 c.lookup_into.ensures.stays c.lookup_into.ensures.keys written
     ])

@@ -69,10 +69,15 @@ returns g c =
     let node = c.loop-node.node.now in
     let held : contents node ≡ agreeing i (length inv.siblings) items = inv.items ∙ ap (λ n. agreeing i n items) (sym inv.long) in
     record {
-      path = (inv.siblings, end_of i (agreeing i (length inv.siblings) items), record {
-        level = record { few = rw (← held) (length-childless node c.in_default.not-Interior); least = λ n p. inv.more n (omega (arith, p, inv.long)) };
-        beside = λ k p. inv.beside k (omega (arith, p, inv.long));
-        last = refl;
-      }, inv.written);
+      path = (
+        inv.siblings,
+        end_of i (agreeing i (length inv.siblings) items),
+        record {
+          level = record { few = rw (← held) (length-childless node c.in_default.not-Interior); least = λ n p. inv.more n (omega (arith, p, inv.long)) };
+          beside = λ k p. inv.beside k (omega (arith, p, inv.long));
+          last = refl;
+        },
+        inv.written,
+      );
       len = omega (arith, inv.grown, inv.fits);
     }
