@@ -4,10 +4,11 @@ use Rattle.std.specs.Io.KnownBytes.{Appends, Consumes}
 use Rattle.wire.specs.Frames.{Frame, frame_bytes, read_frame}
 use Rattle.wire.specs.Requests.{RequestContent, request_frame}
 
--- the bytes begin with this frame, and are this frame
+-- the bytes begin with this frame
 abbrev pub HoldsFrame : List ℕ → Frame → Type 0
 HoldsFrame bytes frame = (left : List ℕ) × (read_frame bytes ≡ Ok (frame, left))
 
+-- the bytes are this frame
 abbrev pub IsOneFrame : List ℕ → Frame → Type 0
 IsOneFrame bytes frame = read_frame bytes ≡ Ok (frame, [])
 

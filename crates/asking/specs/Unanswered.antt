@@ -37,4 +37,4 @@ GivesBody asked frame before None after = (told : Told) × IsUnanswered asked fr
 
 -- what does not change between two answers
 abbrev pub Stays : {H V S : Type 0} → Asker H V S → Asker H V S → Type 0
-Stays before after = (after.key ≡ before.key) × (after.token ≡ before.token) × (after.marks ≡ before.marks) × (after.earlier ≡ before.earlier)
+Stays before after = (after.key ≡ before.key) × (after.token ≡ before.token) × (after.marks ≡ before.marks) × (after.earlier ≡ before.earlier) × (after.changes ≡ before.changes)

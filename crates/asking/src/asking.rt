@@ -5,7 +5,7 @@ ghost use Rattle.wire.specs.FrameViews.{frame_seen};
 ghost use Rattle.play.specs.Spoken.{ask_seen};
 ghost use Rattle.asking.specs.Answering.{with_token};
 ghost use Rattle.asking.specs.Checking.{HearsFrame};
-ghost use Rattle.asking.specs.Exchanges.{Exchanges, HoldsFrame};
+ghost use Rattle.asking.specs.Exchanges.{Exchanges, HoldsFrame, IsOneFrame};
 ghost use Rattle.asking.specs.Told.{Told, Tells};
 
 use crate::answering::{answers, request_of};
@@ -111,7 +111,8 @@ where
         stream: &mut T,
         ask: &Ask,
     ) -> Result<Vec<u8>, AskFault>
-        ensures { IfOk result (λ bytes. (frame : Frame) → HoldsFrame bytes.items frame → Exchanges T.contents T.remaining stream.old (with_token (self.now).token (ask_seen ask.now)) frame stream.new) }
+        ensures whole { IfOk result (λ bytes. (frame : Frame) × IsOneFrame bytes.items frame) }
+        ensures sent { IfOk result (λ bytes. (frame : Frame) → HoldsFrame bytes.items frame → Exchanges T.contents T.remaining stream.old (with_token (self.now).token (ask_seen ask.now)) frame stream.new) }
     {
         exchange(self.alloc, stream, &request_of(ask, self.token))
     }

@@ -111,7 +111,8 @@ pub(crate) fn exchange<T: Read + Write>(
     stream: &mut T,
     request: &Request<'_>,
 ) -> Result<Vec<u8>, AskFault>
-    ensures { IfOk result (λ bytes. (frame : Frame) → HoldsFrame bytes.items frame → Exchanges T.contents T.remaining stream.old (request_seen request.now) frame stream.new) }
+    ensures whole { IfOk result (λ bytes. (frame : Frame) × IsOneFrame bytes.items frame) }
+    ensures sent { IfOk result (λ bytes. (frame : Frame) → HoldsFrame bytes.items frame → Exchanges T.contents T.remaining stream.old (request_seen request.now) frame stream.new) }
 {
     send(alloc, stream, request)?;
     read_reply(alloc, stream)

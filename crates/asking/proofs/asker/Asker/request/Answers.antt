@@ -4,7 +4,7 @@ use Rattle.wire.specs.Requests.{RequestContent}
 use Rattle.asking.specs.Exchanges.{Exchanges, HoldsFrame}
 use Rattle.asking.proofs.asker.Asker.request.Goals as goal
 
-pub returns : goal.returns
-returns g c =
+pub returns-clause-sent : goal.returns-clause-sent
+returns-clause-sent g c =
     subst (λ (asked : RequestContent). IfOk c.exchange.result (λ (bytes : Vec ℕ Global). (frame : Frame) → HoldsFrame bytes.items frame → Exchanges g.T.Write.contents g.T.Read.remaining c.args.stream.now asked frame c.exchange.new.stream))
-    c.request_of.ensures c.exchange.ensures
+    c.request_of.ensures c.exchange.ensures.sent
