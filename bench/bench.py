@@ -1029,7 +1029,7 @@ class Loopback:
         """The bare exchange: as many bytes as the look-ups of a step before had."""
         if self.bare is None:
             reply = round(self.bytes["look-up", 1][0] / SERVE_FRAMES)
-            self.answer = Side(LOAD, "answer", HUB_REQUESTS["look-up"], reply, 1)
+            self.answer = Side(LOAD, "answer", HUB_REQUESTS["look-up"], reply, 1, 1)
             self.answer.process.stdin.write(b"\n")
             words = [self.answer.number, HUB_NAMES, SERVE_FRAMES, SERVE_ROUNDS]
             self.bare = Side(LOAD, "exchange", *words, server=self.answer.process)
@@ -1049,17 +1049,17 @@ class Loopback:
 
 
 class Crowd:
-    """So many connections, each with so many look-ups in flight: of a server that listens on a port, and of a bare exchange
-    of as many bytes, whose replies have so many. Each is asked in turn."""
+    """So many connections, each with so many look-ups at a time: of a server that listens on a port, and of a bare
+    exchange of as many bytes, whose replies have so many. Each is asked in turn."""
 
-    def __init__(self, connections, in_flight, server, port, reply):
-        self.connections, self.in_flight = connections, in_flight
-        self.answer = Side(LOAD, "answer", HUB_REQUESTS["look-up"], reply, connections)
+    def __init__(self, connections, together, server, port, reply):
+        self.connections, self.together = connections, together
+        self.answer = Side(LOAD, "answer", HUB_REQUESTS["look-up"], reply, connections, together)
         self.answer.process.stdin.write(b"\n")
         # As many of each connection, as often as it takes.
-        together = connections * in_flight
-        self.frames = max(1, CROWD_FRAMES // together) * together
-        words = [HUB_NAMES, connections, self.frames, CROWD_ROUNDS, in_flight]
+        of_all = connections * together
+        self.frames = max(1, CROWD_FRAMES // of_all) * of_all
+        words = [HUB_NAMES, connections, self.frames, CROWD_ROUNDS, together]
         self.sides = {"": Side(LOAD, "crowd", port, *words, server=server)}
         self.sides["bare"] = Side(LOAD, "crowd", self.answer.number, *words, server=self.answer.process)
         self.rates = {name: [] for name in self.sides}
@@ -1081,7 +1081,7 @@ class Crowd:
         for name, rates in self.rates.items():
             rate = statistics.median(rates)
             middle, late, worst = (statistics.median(times) / 1e3 for times in self.times[name])
-            row = [f"{self.connections:,}", f"{self.in_flight}", name, f"{rate:,.0f}", f"{rate / wanted:.2f}"]
+            row = [f"{self.connections:,}", f"{self.together}", name, f"{rate:,.0f}", f"{rate / wanted:.2f}"]
             yield [*row, f"{middle:,.0f}", f"{late:,.0f}", f"{worst:,.0f}", f"{late / middle:.1f}"]
 
 
@@ -1090,14 +1090,14 @@ def crowds(loop):
     wanted = 1 / statistics.median(loop.times["look-up", IN_FLIGHT])
     reply = round(loop.bytes["look-up", 1][0] / SERVE_FRAMES)
     rows = []
-    for connections, in_flight in CROWDS:
-        crowd = Crowd(connections, in_flight, loop.server, loop.port, reply)
+    for connections, together in CROWDS:
+        crowd = Crowd(connections, together, loop.server, loop.port, reply)
         for _ in range(CROWD_ROUNDS):
             crowd.round()
         crowd.end()
         rows += crowd.rows(wanted)
-    head = ["connections", "in flight", "", "a second", "part", "50th", "99th", "worst", "99th of the 50th"]
-    title = f"look-ups by many connections, so many of each in flight, and their part of the rate of one with {IN_FLIGHT}; us"
+    head = ["connections", "at a time", "", "a second", "part", "50th", "99th", "worst", "99th of the 50th"]
+    title = f"look-ups by many connections, so many of each at a time, and their part of the rate of one with {IN_FLIGHT} in flight; us"
     table(title, head, rows)
     print(f"\nan idle connection: {loop.idle / 1024:.1f} KiB of resident memory")
 

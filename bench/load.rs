@@ -13,7 +13,7 @@ use std::time::Instant;
 
 const USAGE: &str =
     "usage: load ask PORT NAMES FRAMES IN_FLIGHT ROUNDS | exchange PORT NAMES FRAMES ROUNDS \
-    | crowd PORT NAMES CONNECTIONS FRAMES ROUNDS IN_FLIGHT | answer REQUEST REPLY CONNECTIONS";
+    | crowd PORT NAMES CONNECTIONS FRAMES ROUNDS TOGETHER | answer REQUEST REPLY CONNECTIONS TOGETHER";
 
 /// The operator's token.
 const TOKEN: [u8; 32] = [4; 32];
@@ -45,7 +45,7 @@ fn name_of(number: u64) -> [u8; 16] {
     ((u128::from(spread) << 64) | u128::from(number)).to_be_bytes()
 }
 
-/// The first key of the name of this number.
+/// The key of the name of this number.
 fn key_of(number: u64) -> [u8; 32] {
     let mut key = [7; 32];
     key[..16].copy_from_slice(&((u128::from(number) << 64) | 1).to_be_bytes());
@@ -283,13 +283,13 @@ impl Crowd {
     }
 
     /// The requests, of each client so many at a time, and as many of each. Counts the bytes of the replies.
-    fn ask(&mut self, requests: &Requests, in_flight: usize) -> io::Result<u64> {
+    fn ask(&mut self, requests: &Requests, together: usize) -> io::Result<u64> {
         let mut bytes = 0;
         self.times.clear();
-        let together = self.clients.len() * in_flight;
-        for batch in 0..requests.count() / together.max(1) {
-            self.send(requests, batch * together, in_flight)?;
-            bytes += self.take(in_flight)?;
+        let of_all = self.clients.len() * together;
+        for batch in 0..requests.count() / of_all.max(1) {
+            self.send(requests, batch * of_all, together)?;
+            bytes += self.take(together)?;
         }
         self.times.sort_unstable();
         Ok(bytes)
@@ -311,7 +311,7 @@ fn crowd(
     connections: u64,
     frames: u64,
     rounds: u64,
-    in_flight: usize,
+    together: usize,
 ) -> Result<(), Box<dyn Error>> {
     let clients = (0..connections)
         .map(|_| Client::new(port))
@@ -328,7 +328,7 @@ fn crowd(
             &numbers_of(Kind::LookUp, names, frames, round),
         );
         end_step(requests.size as u64)?;
-        end_step(crowd.ask(&requests, in_flight)?)?;
+        end_step(crowd.ask(&requests, together)?)?;
         for part in [50, 99, 100] {
             end_step(crowd.time_at(part))?;
         }
@@ -343,9 +343,14 @@ fn frame_of(bytes: usize) -> Vec<u8> {
     frame
 }
 
-/// Answers so many connections: a reply of so many bytes for each request of so many, whatever is in it, of each
-/// connection in turn. The one step tells the port.
-fn answer(request: usize, reply: usize, connections: u64) -> Result<(), Box<dyn Error>> {
+/// Answers so many connections, each in turn: so many requests, of so many bytes each, whatever is in them, with as
+/// many replies of so many bytes. The one step tells the port.
+fn answer(
+    request: usize,
+    reply: usize,
+    connections: u64,
+    together: usize,
+) -> Result<(), Box<dyn Error>> {
     let listener = TcpListener::bind("127.0.0.1:0")?;
     end_step(u64::from(listener.local_addr()?.port()))?;
     let mut streams = Vec::new();
@@ -354,15 +359,17 @@ fn answer(request: usize, reply: usize, connections: u64) -> Result<(), Box<dyn 
         stream.set_nodelay(true)?;
         streams.push(stream);
     }
-    let (mut room, frame) = (frame_of(request), frame_of(reply));
-    loop {
+    let mut requests = vec![0; request * together];
+    let replies = frame_of(reply).repeat(together);
+    while !streams.is_empty() {
         for stream in &mut streams {
-            if stream.read_exact(&mut room).is_err() {
+            if stream.read_exact(&mut requests).is_err() {
                 return Ok(());
             }
-            stream.write_all(&frame)?;
+            stream.write_all(&replies)?;
         }
     }
+    Ok(())
 }
 
 fn run(program: &str, numbers: &[u64]) -> Result<(), Box<dyn Error>> {
@@ -373,17 +380,20 @@ fn run(program: &str, numbers: &[u64]) -> Result<(), Box<dyn Error>> {
         ("exchange", &[port, names, frames, rounds]) => {
             exchange(port as usize, names, frames, rounds)
         }
-        ("crowd", &[port, names, connections, frames, rounds, in_flight]) => crowd(
+        ("crowd", &[port, names, connections, frames, rounds, together]) => crowd(
             port as usize,
             names,
             connections,
             frames,
             rounds,
-            in_flight as usize,
+            together as usize,
         ),
-        ("answer", &[request, reply, connections]) => {
-            answer(request as usize, reply as usize, connections)
-        }
+        ("answer", &[request, reply, connections, together]) => answer(
+            request as usize,
+            reply as usize,
+            connections,
+            together as usize,
+        ),
         _ => Err(USAGE.into()),
     }
 }

@@ -3,7 +3,7 @@
 pub struct Limits {
     /// How many connections are taken; 0 for no end.
     pub count: u64,
-    /// For how many milliseconds a connection may complete no message and take no byte; 0 for ever.
+    /// For how many milliseconds a session may be answered nothing and its connection take no byte; 0 for ever.
     pub idle: u64,
 }
 
@@ -14,7 +14,7 @@ pub(crate) const PIECE_SIZE: usize = 4096;
 /// nothing.
 pub(crate) const FULL_OUTPUT: usize = 65536;
 
-/// Of the output of a connection that took all, room for so many bytes is kept for its next answers.
+/// Of a buffer that is emptied, room for so many bytes is kept for what comes next.
 pub(crate) const KEPT_ROOM: usize = 4096;
 
 /// For how many milliseconds after an order to stop answers may still be taken.

@@ -30,7 +30,7 @@ pub fn sessions_show_one_run<H: NodeHash, V: Vuf, S: Signer, G: Rng, K: Keeper>(
 /// What happens where connections are answered by the sessions of a hub, as `answer_all` of `connections`
 /// ensures for any connections, shows one run of its directory, as `Hub::run` does: each connection takes a
 /// beginning of what its session was answered, in order, and that is the replies to the messages in the bytes
-/// that were read of it. The users behind all of them see of the run what those of an honest provider see.
+/// that its session heard. The users behind all of them see of the run what those of an honest provider see.
 pub fn crowds_show_one_run<H: NodeHash, V: Vuf, S: Signer, G: Rng, K: Keeper>()
     ensures { (before after : HubState (DeskState G K)) (idle : ℕ) (acts : History)
         → IsWell H.digest_of V.value_of S.signature_of G.stream V.accepted S.verified before.service

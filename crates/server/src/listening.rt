@@ -59,7 +59,8 @@ fn tell_address<E: Write>(
 }
 
 /// Answers connections by the sessions of a hub. Each connection takes a beginning of the replies to its own
-/// messages, which are those in the bytes that its session heard, and the messages of all show one run of the directory, as those of `Hub::run` do.
+/// messages, which are those in the bytes that its session heard, and the messages of all show one run of the
+/// directory, as those of `Hub::run` do.
 fn answer_crowd<K, C, E>(
     alloc: Global,
     places: Places,

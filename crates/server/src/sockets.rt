@@ -292,7 +292,7 @@ impl<N: Net + Clock, R: BufRead> Connections for Sockets<'_, N, R> {
                         self.may_take = false;
                         return false;
                     }
-                    // It failed, where no file handle is free for one. A later round tries again.
+                    // Perhaps no file handle is free. A later round tries again.
                     _ => return false,
                 },
             }

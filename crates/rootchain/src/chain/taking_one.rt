@@ -1,6 +1,6 @@
 //! One root of a list. A refusal may have two roots in it, and a function that makes one clears the room for
-//! it whenever it is called. So what kind of root it is, is told first, by a small value; a refusal is
-//! written into a place of the caller's, by functions that are called for nothing else.
+//! it whenever it is called. So a small value first says what kind of root it is; a refusal is written into a
+//! place of the caller's, by functions that are called for nothing else.
 ghost use Rattle.std.specs.Prelude.{◌≡◌, ◌+◌, ◌≤◌, false, IfErr};
 ghost use Rattle.std.specs.List.{AllByRecursion};
 ghost use Rattle.rootchain.specs.declared.chain.placing.Place.TheVariants as place;
@@ -28,7 +28,7 @@ enum Kind {
     Next,
     /// It names the head's epoch as the one before, but not the hash of the head's body.
     NotNamed,
-    /// Its place tells.
+    /// Its place decides.
     Other,
 }
 
