@@ -1,2 +1,5 @@
+pub mod Going
+pub mod Moved
 pub mod Placed
 pub mod Telling
+pub mod Whole

@@ -1,5 +1,6 @@
 // Whether a reply answers what was asked. Only then it is checked.
-ghost use Rattle.std.specs.Prelude.{◌≡◌, ◌↔◌, IsTrue, OnOk, codes};
+ghost use Rattle.std.specs.Prelude.{◌≡◌, ◌↔◌, codes, option_map, IfOk, IsTrue, OnOk};
+ghost use Rattle.wire.specs.FrameViews.{frame_seen};
 ghost use Rattle.wire.specs.Refusals.{read_refusal_number};
 ghost use Rattle.wire.specs.Requests.{request_seen};
 ghost use Rattle.wire.specs.Responses.{response_seen, Refused};
@@ -7,6 +8,7 @@ ghost use Rattle.play.specs.Hearing.{response_text};
 ghost use Rattle.play.specs.Spoken.{ask_seen};
 ghost use Rattle.asking.specs.Answering.{with_token, Answers};
 ghost use Rattle.asking.specs.Refused.{refuses_text};
+ghost use Rattle.asking.specs.Scenes.{miss_told, GivesBody};
 ghost use Rattle.asking.specs.Told.{refused, Tells};
 
 use crate::said::{Said, directory_words};
@@ -90,23 +92,34 @@ pub(crate) fn body_of<'a>(
     ask: &Ask,
     frame: &FrameView<'a>,
     said: &mut Said,
-) -> Result<Option<&'a [u8]>, AllocError> {
+) -> Result<Option<&'a [u8]>, AllocError>
+    ensures { IfOk result (λ body. GivesBody (ask_seen ask.now) (frame_seen frame.now) said.old (option_map (λ bytes. bytes.now) body) said.new) }
+{
     match Response::read(frame.kind, frame.body) {
-        Ok(Response::Refused(code)) => {
-            tell_refused(code, said)?;
-            Ok(None)
-        }
         Ok(response) => {
             if answers(ask, &response) {
                 return Ok(Some(frame.body));
             }
-            said.refuse_other()?;
+            tell_miss(response, said)?;
             Ok(None)
         }
         Err(why) => {
             tell_unread(alloc, why, said)?;
             Ok(None)
         }
+    }
+}
+
+/// Tells a response that does not answer what was asked: a refusal of the directory, or one to something else.
+fn tell_miss(response: Response<'_>, said: &mut Said) -> Result<(), AllocError>
+    ensures { OnOk result (Tells said.old (miss_told (response_seen response.entry)) said.new) }
+{
+    match response {
+        Response::Refused(code) => tell_refused(code, said),
+        Response::Promise(_) => said.refuse_other(),
+        Response::Proof(_) => said.refuse_other(),
+        Response::Roots(_) => said.refuse_other(),
+        Response::Root(_) => said.refuse_other(),
     }
 }
 

@@ -1,14 +1,15 @@
 // A request goes out as one frame, and the next frame of the stream is its reply. Not a byte behind it is
 // read.
-ghost use Rattle.std.specs.Prelude.{IfOk, OnOk};
+ghost use Rattle.std.specs.Prelude.{◌≡◌, ◌++◌, length, IfOk, OnOk};
 ghost use Rattle.std.specs.Io.KnownBytes.{Appends, Consumes};
-ghost use Rattle.wire.specs.Frames.{frame_bytes};
+ghost use Rattle.encoding.specs.Bytes.{IsBytes};
+ghost use Rattle.wire.specs.Frames.{frame_bytes, Frame};
 ghost use Rattle.wire.specs.FrameViews.{frame_seen};
 ghost use Rattle.wire.specs.Requests.{request_frame, request_seen};
-ghost use Rattle.asking.specs.Exchanges.{HoldsFrame};
+ghost use Rattle.asking.specs.Exchanges.{Exchanges, HoldsFrame, IsOneFrame};
 
 use crate::AskFault;
-use std::alloc::Global;
+use std::alloc::{AllocError, Global};
 use std::io::{Read, Write};
 use textio::write_text;
 use wire::{FrameView, Front, MAX_FRAME_LEN, Request, front_of};
@@ -39,7 +40,8 @@ fn read_length<R: Read>(reader: &mut R) -> Result<[u8; LENGTH], AskFault>
 
 /// Reads so many bytes.
 fn read_rest<R: Read>(alloc: Global, reader: &mut R, size: usize) -> Result<Vec<u8>, AskFault>
-    ensures { IfOk result (λ rest. Consumes (R.remaining reader.old) (R.remaining reader.new) rest.items) }
+    ensures read { IfOk result (λ rest. Consumes (R.remaining reader.old) (R.remaining reader.new) rest.items) }
+    ensures size { IfOk result (λ rest. length rest.items ≡ size) }
 {
     let mut rest = Vec::new(alloc);
     rest.resize(size, 0)?;
@@ -55,7 +57,8 @@ fn read_rest<R: Read>(alloc: Global, reader: &mut R, size: usize) -> Result<Vec<
 ///
 /// `NoReply` if the stream ends or fails before, or has a length that no frame has; `OutOfMemory`.
 pub(crate) fn read_reply<R: Read>(alloc: Global, reader: &mut R) -> Result<Vec<u8>, AskFault>
-    ensures { IfOk result (λ bytes. Consumes (R.remaining reader.old) (R.remaining reader.new) bytes.items) }
+    ensures read { IfOk result (λ bytes. Consumes (R.remaining reader.old) (R.remaining reader.new) bytes.items) }
+    ensures whole { IfOk result (λ bytes. (frame : Frame) × IsOneFrame bytes.items frame) }
 {
     let length = read_length(reader)?;
     let size = u32::from_be_bytes(length) as usize;
@@ -63,9 +66,19 @@ pub(crate) fn read_reply<R: Read>(alloc: Global, reader: &mut R) -> Result<Vec<u
         return Err(AskFault::NoReply);
     }
     let rest = read_rest(alloc, reader, size)?;
+    Ok(joined(alloc, length, &rest)?)
+}
+
+/// The bytes of a length, and those behind it.
+fn joined(alloc: Global, front: [u8; LENGTH], rest: &[u8]) -> Result<Vec<u8>, AllocError>
+    ensures items { IfOk result (λ bytes. bytes.items ≡ front ++ rest.now) }
+    ensures size { length front ≡ 4 }
+    ensures front { IsBytes front }
+    ensures behind { IsBytes rest.now }
+{
     let mut bytes = Vec::new(alloc);
-    bytes.extend_from_slice(&length)?;
-    bytes.extend_from_slice(&rest)?;
+    bytes.extend_from_slice(&front)?;
+    bytes.extend_from_slice(rest)?;
     Ok(bytes)
 }
 
@@ -97,7 +110,9 @@ pub(crate) fn exchange<T: Read + Write>(
     alloc: Global,
     stream: &mut T,
     request: &Request<'_>,
-) -> Result<Vec<u8>, AskFault> {
+) -> Result<Vec<u8>, AskFault>
+    ensures { IfOk result (λ bytes. (frame : Frame) → HoldsFrame bytes.items frame → Exchanges T.contents T.remaining stream.old (request_seen request.now) frame stream.new) }
+{
     send(alloc, stream, request)?;
     read_reply(alloc, stream)
 }

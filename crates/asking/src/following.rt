@@ -1,4 +1,9 @@
 // The client and its monitors take the roots that are new.
+ghost use Rattle.std.specs.Prelude.{◌≡◌, ℕ, IfOk, OnOk};
+ghost use Rattle.std.specs.List.{AllZip};
+ghost use Rattle.asking.specs.Exchanges.{Exchanges};
+ghost use Rattle.asking.specs.Following.{AllUpdate, Follows, MonitorUpdates, TakesList};
+ghost use Rattle.asking.specs.Scenes.{scene, Stays};
 
 use crate::answering::body_of;
 use crate::checking::tell_client;
@@ -31,7 +36,10 @@ where
         &mut self,
         stream: &mut T,
         said: &mut Said,
-    ) -> Result<(), AskFault> {
+    ) -> Result<(), AskFault>
+        ensures follows { OnOk result ((count : ℕ) × Follows H.digest_of S.verified (Exchanges T.contents T.remaining) count (scene self.old said.old stream.old) (scene self.new said.new stream.new)) }
+        ensures stays { OnOk result (Stays self.old self.new) }
+    {
         // Every loop of Rattle has an end: this one's is past any chain.
         for _ in 0..u64::MAX {
             if !self.take_list(stream, said)? {
@@ -46,7 +54,10 @@ where
         &mut self,
         stream: &mut T,
         said: &mut Said,
-    ) -> Result<bool, AskFault> {
+    ) -> Result<bool, AskFault>
+        ensures takes { IfOk result (λ went. TakesList H.digest_of S.verified (Exchanges T.contents T.remaining) (scene self.old said.old stream.old) went (scene self.new said.new stream.new)) }
+        ensures stays { OnOk result (Stays self.old self.new) }
+    {
         let Some(from) = self.head().checked_add(1) else {
             return Ok(false);
         };
@@ -68,7 +79,11 @@ where
     }
 
     /// Hands a list of new roots to the client and the monitors.
-    fn take(&mut self, list: &[u8], said: &mut Said) -> Result<(), AskFault> {
+    fn take(&mut self, list: &[u8], said: &mut Said) -> Result<(), AskFault>
+        ensures updates { OnOk result (AllUpdate H.digest_of S.verified list.now (self.old).client (self.old).monitors.items (self.new).client (self.new).monitors.items) }
+        ensures said { OnOk result (said.new ≡ said.old) }
+        ensures stays { OnOk result (Stays self.old self.new) }
+    {
         let checks = &mut self.checks;
         match self.client.update(&mut checks.hash, &checks.verifier, list) {
             Ok(()) => update_all(self.alloc, &mut self.monitors, checks, list, said),
@@ -92,12 +107,35 @@ where
     H: NodeHash + Drop,
     V: VufCheck + Drop,
     S: Verifier + Drop,
+    ensures updates { OnOk result (AllZip (MonitorUpdates H.digest_of S.verified list.now) monitors.old monitors.new) }
+    ensures said { OnOk result (said.new ≡ said.old) }
 {
-    for monitor in monitors {
-        if let Err(why) = monitor.update(&mut checks.hash, &checks.verifier, list) {
-            tell_client(alloc, b"client refuses root", why, said)?;
-            return Err(AskFault::Stopped);
-        }
+    for monitor in monitors.iter_mut() {
+        update(alloc, monitor, checks, list, said)?;
     }
     Ok(())
+}
+
+/// Hands a list of new roots to a monitor.
+fn update<H, V, S>(
+    alloc: Global,
+    monitor: &mut Monitor<H, V, S>,
+    checks: &mut Checks<H, V, S>,
+    list: &[u8],
+    said: &mut Said,
+) -> Result<(), AskFault>
+where
+    H: NodeHash + Drop,
+    V: VufCheck + Drop,
+    S: Verifier + Drop,
+    ensures updates { OnOk result (MonitorUpdates H.digest_of S.verified list.now monitor.old monitor.new) }
+    ensures said { OnOk result (said.new ≡ said.old) }
+{
+    match monitor.update(&mut checks.hash, &checks.verifier, list) {
+        Ok(()) => Ok(()),
+        Err(why) => {
+            tell_client(alloc, b"client refuses root", why, said)?;
+            Err(AskFault::Stopped)
+        }
+    }
 }

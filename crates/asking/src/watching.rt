@@ -1,7 +1,12 @@
 // The monitors of names.
-ghost use Rattle.std.specs.Prelude.{◌≡◌, IfOk, OnOk};
+ghost use Rattle.std.specs.Prelude.{◌≡◌, ◌-◌, ℕ, length, slice_get, IfOk, OnOk, Some};
+ghost use Rattle.std.specs.List.{AllZip};
+ghost use Rattle.rootchain.specs.declared.signed_promise.SignedPromise.{SignedPromise};
+ghost use Rattle.asking.specs.Asking.{HandsTo};
+ghost use Rattle.asking.specs.Exchanges.{Exchanges};
+ghost use Rattle.asking.specs.Scenes.{scene, Stays};
 ghost use Rattle.asking.specs.Told.{Tells};
-ghost use Rattle.asking.specs.Watching.{step_told, WatchesEpoch};
+ghost use Rattle.asking.specs.Watching.{step_told, GoesOn, StepsOnce, StepsThrough, WatchesEpoch};
 
 use crate::answering::body_of;
 use crate::checking::tell_client;
@@ -54,7 +59,10 @@ where
         &mut self,
         stream: &mut T,
         said: &mut Said,
-    ) -> Result<(), AskFault> {
+    ) -> Result<(), AskFault>
+        ensures goes { OnOk result (GoesOn H.digest_of V.accepted (Exchanges T.contents T.remaining) (self.old).marks.items (scene self.old said.old stream.old) (scene self.new said.new stream.new)) }
+        ensures stays { OnOk result (Stays self.old self.new) }
+    {
         for place in 0..self.monitors.len() {
             self.step_through(stream, place, said)?;
         }
@@ -127,7 +135,9 @@ where
     /// Notes the last promise that the client kept, of which these are the bytes, as one for a change of its own,
     /// and gives it to each monitor of its name.
     pub(crate) fn hand_out(&mut self, promise: &[u8]) -> Result<(), AllocError>
-        ensures { (self.new).client ≡ (self.old).client }
+        ensures client { (self.new).client ≡ (self.old).client }
+        ensures hands { OnOk result ((signed : SignedPromise) → slice_get (self.old).client.promises (length (self.old).client.promises - 1) ≡ Some signed → AllZip (HandsTo H.digest_of V.accepted S.verified signed promise.now) (self.old).monitors.items (self.new).monitors.items) }
+        ensures stays { OnOk result (Stays self.old self.new) }
     {
         match self.client.promises().last() {
             Some(signed) => {
@@ -144,14 +154,17 @@ where
         stream: &mut T,
         place: usize,
         said: &mut Said,
-    ) -> Result<(), AskFault> {
+    ) -> Result<(), AskFault>
+        ensures steps { OnOk result ((count : ℕ) × StepsThrough H.digest_of V.accepted (Exchanges T.contents T.remaining) count (scene self.old said.old stream.old) place (scene self.new said.new stream.new)) }
+        ensures stays { OnOk result (Stays self.old self.new) }
+    {
         // Every loop of Rattle has an end: this one's is past any chain.
         for _ in 0..u64::MAX {
             if !self.step(stream, place, said)? {
                 return Ok(());
             }
         }
-        Ok(())
+        Err(AskFault::NoReply)
     }
 
     /// Lets a monitor watch its next epoch. Returns whether it had one, and its client accepted the proof.
@@ -160,7 +173,10 @@ where
         stream: &mut T,
         place: usize,
         said: &mut Said,
-    ) -> Result<bool, AskFault> {
+    ) -> Result<bool, AskFault>
+        ensures steps { IfOk result (λ went. StepsOnce H.digest_of V.accepted (Exchanges T.contents T.remaining) (scene self.old said.old stream.old) place went (scene self.new said.new stream.new)) }
+        ensures stays { OnOk result (Stays self.old self.new) }
+    {
         let Some(monitor) = self.monitors.get(place) else {
             return Ok(false);
         };
@@ -246,15 +262,34 @@ where
     H: NodeHash + Drop,
     V: VufCheck + Drop,
     S: Verifier + Drop,
+    ensures { OnOk result (AllZip (HandsTo H.digest_of V.accepted S.verified signed.now promise.now) monitors.old monitors.new) }
 {
-    for monitor in monitors {
-        if *monitor.name() == signed.promise.name {
-            let key = &signed.promise.key;
-            let handed = monitor.expect_change(&mut checks.hash, &checks.verifier, key, promise);
-            if handed == Err(Refusal::Client(client::Refusal::Memory)) {
-                return Err(AllocError);
-            }
-        }
+    for monitor in monitors.iter_mut() {
+        hand_one(monitor, checks, signed, promise)?;
+    }
+    Ok(())
+}
+
+/// Gives a promise to a monitor, if it is one of its name.
+fn hand_one<H, V, S>(
+    monitor: &mut Monitor<H, V, S>,
+    checks: &mut Checks<H, V, S>,
+    signed: &SignedPromise,
+    promise: &[u8],
+) -> Result<(), AllocError>
+where
+    H: NodeHash + Drop,
+    V: VufCheck + Drop,
+    S: Verifier + Drop,
+    ensures { OnOk result (HandsTo H.digest_of V.accepted S.verified signed.now promise.now monitor.old monitor.new) }
+{
+    if *monitor.name() != signed.promise.name {
+        return Ok(());
+    }
+    let key = &signed.promise.key;
+    let handed = monitor.expect_change(&mut checks.hash, &checks.verifier, key, promise);
+    if handed == Err(Refusal::Client(client::Refusal::Memory)) {
+        return Err(AllocError);
     }
     Ok(())
 }

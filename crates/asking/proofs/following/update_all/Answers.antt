@@ -1,0 +1,22 @@
+use Rattle.std.proofs.Common.{◌∙◌, subst, arith, refl, slice_index_or}
+use Rattle.std.proofs.lemmas.List.{get_or_default}
+use Rattle.monitor.specs.Monitors.{Monitor}
+use Rattle.asking.specs.Following.{MonitorUpdates}
+use Rattle.asking.proofs.Moved.{moved-begin, moved-end, moved-step}
+use Rattle.asking.proofs.following.update_all.Goals as goal
+
+pub loop-monitor-init : goal.loop-monitor-init
+loop-monitor-init g c = (moved-begin (MonitorUpdates g.H.NodeHash.digest_of g.S.Verifier.verified c.args.list.now) c.args.monitors.now, refl)
+
+pub loop-monitor-preserved : goal.loop-monitor-preserved
+loop-monitor-preserved g c = (
+  moved-step (MonitorUpdates g.H.NodeHash.digest_of g.S.Verifier.verified c.args.list.now) c.args.monitors.now c.loop-monitor.monitors c.loop-monitor.monitor-index c.update.new.monitor (omega arith)
+  (λ d. subst (λ (one : Monitor). MonitorUpdates g.H.NodeHash.digest_of g.S.Verifier.verified c.args.list.now one c.update.new.monitor)
+  (get_or_default c.loop-monitor.monitors c.loop-monitor.monitor-index c.monitor-item.result d (omega arith)) c.in_ok-update.ensures.updates) c.loop-monitor.invariant.0,
+  c.in_ok-update.ensures.said ∙ c.loop-monitor.invariant.1,
+)
+
+pub returns-clause-updates : goal.returns-clause-updates
+returns-clause-updates g c =
+    moved-end (MonitorUpdates g.H.NodeHash.digest_of g.S.Verifier.verified c.args.list.now) c.args.monitors.now c.loop-monitor.monitors c.loop-monitor.monitor-index c.loop-monitor.auto.monitors
+    c.loop-monitor-test.false c.loop-monitor.invariant.0

@@ -1,0 +1,52 @@
+-- Where a client stands between two exchanges, and what comes of one.
+use Rattle.std.specs.Prelude.{◌≡◌, ◌⊎◌, ℕ, List, Option, Some, None, Result, Err, codes}
+use Rattle.client.specs.Clients.{Client}
+use Rattle.monitor.specs.Monitors.{Monitor}
+use Rattle.wire.specs.Frames.{Frame}
+use Rattle.wire.specs.Refusals.{read_refusal_number}
+use Rattle.wire.specs.Requests.{RequestContent}
+use Rattle.wire.specs.Responses.{ResponseContent, Promise, Proof, Roots, Root, Refused, Responds, ReadsResponse}
+use Rattle.wire.specs.declared.refusals.ReadRefusal.{ReadRefusal}
+use Rattle.play.specs.Hearing.{response_text}
+use Rattle.asking.specs.declared.asker.Asker.{Asker}
+use Rattle.asking.specs.declared.said.Said.{Said}
+use Rattle.asking.specs.Answering.{Answers}
+use Rattle.asking.specs.Refused.{other_reply, refuses_text}
+use Rattle.asking.specs.Told.{Told, Tells, refused, told_by}
+
+-- the client and the monitors, what was told so far, and the stream to the directory
+pub record Scene (T : Type 0) : Type 0 where
+  pub client : Client
+  pub monitors : List Monitor
+  pub told : Told
+  pub stream : T
+
+abbrev pub scene : {H V S T : Type 0} → Asker H V S → Said → T → Scene T
+scene asker said stream = record { client = asker.client; monitors = asker.monitors.items; told = told_by said; stream = stream }
+
+-- a frame that is a response, and answers what was asked
+abbrev pub IsAnswered : RequestContent → Frame → Type 0
+IsAnswered asked frame = (responded : ResponseContent) × Responds frame.kind frame.body responded × Answers asked responded
+
+-- what is told of a response that is no answer: a refusal of the directory, or one to something else
+abbrev pub miss_told : ResponseContent → Told
+miss_told (Refused code) = refused (response_text (Refused code))
+miss_told (Promise signed) = other_reply
+miss_told (Proof reply) = other_reply
+miss_told (Roots roots) = other_reply
+miss_told (Root root) = other_reply
+
+-- what is told of a frame that is no answer to what was asked
+abbrev pub IsUnanswered : RequestContent → Frame → Told → Type 0
+IsUnanswered asked frame told =
+    ((responded : ResponseContent) × Responds frame.kind frame.body responded × (¬ Answers asked responded) × (told ≡ miss_told responded))
+    ⊎ ((why : ReadRefusal) × ReadsResponse frame.kind frame.body (Err why) × (told ≡ refused (refuses_text (codes "client refuses reply") (read_refusal_number why))))
+
+-- the body of a frame that answers what was asked, with nothing told; or none, and why
+abbrev pub GivesBody : RequestContent → Frame → Said → Option (List ℕ) → Said → Type 0
+GivesBody asked frame before (Some body) after = IsAnswered asked frame × (body ≡ frame.body) × (after ≡ before)
+GivesBody asked frame before None after = (told : Told) × IsUnanswered asked frame told × Tells before told after
+
+-- what does not change between two answers
+abbrev pub Stays : {H V S : Type 0} → Asker H V S → Asker H V S → Type 0
+Stays before after = (after.key ≡ before.key) × (after.token ≡ before.token) × (after.marks ≡ before.marks) × (after.earlier ≡ before.earlier)
