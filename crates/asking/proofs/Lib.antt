@@ -1,4 +1,5 @@
 pub mod Going
+pub mod Listed
 pub mod Moved
 pub mod Placed
 pub mod Telling
