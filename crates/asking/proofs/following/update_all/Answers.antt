@@ -11,8 +11,8 @@ loop-monitor-init g c = (moved-begin (MonitorUpdates g.H.NodeHash.digest_of g.S.
 pub loop-monitor-preserved : goal.loop-monitor-preserved
 loop-monitor-preserved g c = (
   moved-step (MonitorUpdates g.H.NodeHash.digest_of g.S.Verifier.verified c.args.list.now) c.args.monitors.now c.loop-monitor.monitors c.loop-monitor.monitor-index c.update.new.monitor (omega arith)
-  (λ d. subst (λ (one : Monitor). MonitorUpdates g.H.NodeHash.digest_of g.S.Verifier.verified c.args.list.now one c.update.new.monitor)
-  (get_or_default c.loop-monitor.monitors c.loop-monitor.monitor-index c.monitor-item.result d (omega arith)) c.in_ok-update.ensures.updates) c.loop-monitor.invariant.0,
+      (λ d. subst (λ (one : Monitor). MonitorUpdates g.H.NodeHash.digest_of g.S.Verifier.verified c.args.list.now one c.update.new.monitor)
+      (get_or_default c.loop-monitor.monitors c.loop-monitor.monitor-index c.monitor-item.result d (omega arith)) c.in_ok-update.ensures.updates) c.loop-monitor.invariant.0,
   c.in_ok-update.ensures.said ∙ c.loop-monitor.invariant.1,
 )
 

@@ -20,10 +20,11 @@ loop-preserved g c =
     let stay = c.in_ok-take_list.ensures.stays in
     let stayed = c.loop.invariant.stays in
     record {
-      follows = λ count after f. c.loop.invariant.follows (suc count) after
-          (scene c.take_list.new.self c.take_list.new.said c.take_list.new.stream,
-          subst (λ (t : Bool). TakesList g.H.NodeHash.digest_of g.S.Verifier.verified (Exchanges g.T.Write.contents g.T.Read.remaining) (scene c.loop.self c.loop.said c.loop.stream) t (scene c.take_list.new.self c.take_list.new.said c.take_list.new.stream))
-          went c.in_ok-take_list.ensures.takes,
-          f);
+      follows = λ count after f. c.loop.invariant.follows (suc count) after (
+        scene c.take_list.new.self c.take_list.new.said c.take_list.new.stream,
+        subst (λ (t : Bool). TakesList g.H.NodeHash.digest_of g.S.Verifier.verified (Exchanges g.T.Write.contents g.T.Read.remaining) (scene c.loop.self c.loop.said c.loop.stream) t (scene c.take_list.new.self c.take_list.new.said c.take_list.new.stream))
+            went c.in_ok-take_list.ensures.takes,
+        f,
+      );
       stays = (stay.0 ∙ stayed.0, stay.1 ∙ stayed.1, stay.2 ∙ stayed.2, stay.3 ∙ stayed.3);
     }
