@@ -3,4 +3,5 @@ pub mod Listed
 pub mod Moved
 pub mod Placed
 pub mod Telling
+pub mod Tested
 pub mod Whole

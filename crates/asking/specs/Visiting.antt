@@ -14,9 +14,15 @@ use Rattle.asking.specs.Scenes.{Scene, IsAnswered, IsUnanswered}
 use Rattle.asking.specs.Testing.{due_told, was_kept}
 use Rattle.asking.specs.Told.{Told, onto}
 
--- the name has a mark of an earlier run, and no monitor in this one
+-- the name has a mark of an earlier run; a monitor in this one; the first, and not the second
+abbrev pub IsMarked : List Mark → List ℕ → Type 0
+IsMarked marks name = (mark : Mark) × Contains marks mark × (mark.name ≡ name)
+
+abbrev pub IsWatched : List Monitor → List ℕ → Type 0
+IsWatched monitors name = (monitor : Monitor) × Contains monitors monitor × (monitor.name ≡ name)
+
 abbrev pub Waits : List Mark → List Monitor → List ℕ → Type 0
-Waits marks monitors name = ((mark : Mark) × Contains marks mark × (mark.name ≡ name)) × ((monitor : Monitor) → Contains monitors monitor → ¬ (monitor.name ≡ name))
+Waits marks monitors name = IsMarked marks name × ¬ IsWatched monitors name
 
 module _ (hash : List ℕ → List ℕ) (accepted : List ℕ → List ℕ → List ℕ → Type 0) where
   -- what a frame that came for a look-up shows of the promise for the name: no answer, or what comes of the test

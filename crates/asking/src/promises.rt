@@ -7,9 +7,10 @@ ghost use Rattle.asking.specs.Refused.{refuses_text};
 ghost use Rattle.asking.specs.Scenes.{scene, Stays};
 ghost use Rattle.asking.specs.Testing.{TellsDue};
 ghost use Rattle.asking.specs.Told.{refused, Tells};
-ghost use Rattle.asking.specs.Visiting.{TestsAll, TestsName, Visits, Waits};
+ghost use Rattle.asking.specs.Visiting.{IsMarked, IsWatched, TestsAll, TestsName, Visits, Waits};
 
 use crate::answering::body_of;
+use crate::asker::Mark;
 use crate::checking::{tell_client, tell_evidence};
 use crate::exchange::frame_in;
 use crate::said::OTHER_INDEX;
@@ -17,6 +18,7 @@ use crate::{AskFault, Asker, Checks, Said};
 use auditor::Evidence;
 use client::{Client, Due};
 use encoding::Name;
+use monitor::Monitor;
 use nodehash::NodeHash;
 use play::{Ask, push_hex};
 use proofs::BrokenPromise;
@@ -82,8 +84,7 @@ where
     fn waits_for_monitor(&self, name: &Name) -> bool
         ensures { IsTrue result ↔ Waits (self.now).marks.items (self.now).monitors.items name.now }
     {
-        self.marks.iter().any(|mark| mark.name == *name)
-            && !self.monitors.iter().any(|monitor| monitor.name() == name)
+        is_marked(&self.marks, name) && !is_watched(&self.monitors, name)
     }
 
     /// Tests the promise of a name that is due, if there is one. Returns whether it was found kept.
@@ -110,6 +111,24 @@ where
         let checks = &mut self.checks;
         Ok(tell_due(self.alloc, &mut self.client, checks, name, found, said)?)
     }
+}
+
+/// Whether a name was watched in an earlier run.
+fn is_marked(marks: &[Mark], name: &Name) -> bool
+    ensures { IsTrue result ↔ IsMarked marks.now name.now }
+{
+    marks.iter().any(|mark| mark.name == *name)
+}
+
+/// Whether a name is watched in this run.
+fn is_watched<H, V, S>(monitors: &[Monitor<H, V, S>], name: &Name) -> bool
+where
+    H: NodeHash + Drop,
+    V: VufCheck + Drop,
+    S: Verifier + Drop,
+    ensures { IsTrue result ↔ IsWatched monitors.now name.now }
+{
+    monitors.iter().any(|monitor| monitor.name() == name)
 }
 
 /// Tells that a promise was not kept, by the evidence of it.
