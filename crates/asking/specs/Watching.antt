@@ -32,6 +32,12 @@ module _ (hash : List ℕ → List ℕ) (accepted : List ℕ → List ℕ → Li
   abbrev pub WatchesEpoch : Monitor → ℕ → List ℕ → Said → Bool → Said → Monitor → Type 0
   WatchesEpoch before epoch reply said went now after = (told : Told) × Watches before epoch reply went told after × Tells said told now
 
+  -- the monitor at a place watches an epoch by a reply, if there is one
+  abbrev pub WatchesAt : List Monitor → ℕ → ℕ → List ℕ → Said → Bool → Said → List Monitor → Type 0
+  WatchesAt before place epoch reply said went now after =
+      ((slice_get before place ≡ None) × (went ≡ false) × (now ≡ said) × (after ≡ before))
+      ⊎ ((monitor : Monitor) × (watched : Monitor) × (slice_get before place ≡ Some monitor) × WatchesEpoch monitor epoch reply said went now watched × (after ≡ slice_set before place watched))
+
   -- what a frame that came for a look-up shows a monitor
   abbrev pub ShowsEpoch : Monitor → ℕ → RequestContent → Frame → Bool → Told → Monitor → Type 0
   ShowsEpoch before epoch asked frame went told after =

@@ -6,7 +6,7 @@ ghost use Rattle.asking.specs.Asking.{HandsTo};
 ghost use Rattle.asking.specs.Exchanges.{Exchanges};
 ghost use Rattle.asking.specs.Scenes.{scene, Stays};
 ghost use Rattle.asking.specs.Told.{Tells};
-ghost use Rattle.asking.specs.Watching.{step_told, GoesOn, StepsOnce, StepsThrough, WatchesEpoch};
+ghost use Rattle.asking.specs.Watching.{step_told, GoesOn, StepsOnce, StepsThrough, WatchesAt, WatchesEpoch};
 
 use crate::answering::body_of;
 use crate::checking::tell_client;
@@ -308,11 +308,12 @@ where
     H: NodeHash + Drop,
     V: VufCheck + Drop,
     S: Verifier + Drop,
+    ensures { IfOk result (λ went. WatchesAt H.digest_of V.accepted monitors.old place epoch reply.now said.old went said.new monitors.new) }
 {
-    match monitors.get_mut(place) {
-        Some(monitor) => watch_epoch(alloc, monitor, checks, epoch, reply, said),
-        None => Ok(false),
+    if monitors.len() <= place {
+        return Ok(false);
     }
+    watch_epoch(alloc, &mut monitors[place], checks, epoch, reply, said)
 }
 
 /// Tells what a step of a monitor found.
