@@ -1,3 +1,4 @@
+pub mod Asked
 pub mod Going
 pub mod Listed
 pub mod Moved

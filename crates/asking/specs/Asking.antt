@@ -22,18 +22,18 @@ use Rattle.asking.specs.Told.{Told, onto}
 use Rattle.asking.specs.Watching.{GoesOn}
 
 -- the epoch of a response
-abbrev pub epoch_in : ResponseContent → ℕ
-epoch_in (Promise signed) = signed.promise.epoch
-epoch_in (Proof reply) = reply.body.epoch
-epoch_in (Root root) = root.body.epoch
-epoch_in (Roots roots) = 0
-epoch_in (Refused code) = 0
+abbrev pub response_epoch : ResponseContent → ℕ
+response_epoch (Promise signed) = signed.promise.epoch
+response_epoch (Proof reply) = reply.body.epoch
+response_epoch (Root root) = root.body.epoch
+response_epoch (Roots roots) = 0
+response_epoch (Refused code) = 0
 
 -- the epoch of a frame that answers what was asked, or 0
 abbrev pub SpeaksOf : RequestContent → Frame → ℕ → Type 0
 SpeaksOf asked frame epoch =
     ((responded : ResponseContent) × Responds frame.kind frame.body responded
-    × ((Answers asked responded × (epoch ≡ epoch_in responded)) ⊎ ((¬ Answers asked responded) × (epoch ≡ 0))))
+    × ((Answers asked responded × (epoch ≡ response_epoch responded)) ⊎ ((¬ Answers asked responded) × (epoch ≡ 0))))
     ⊎ (((why : ReadRefusal) × ReadsResponse frame.kind frame.body (Err why)) × (epoch ≡ 0))
 
 module _ (hash : List ℕ → List ℕ) (accepted verified : List ℕ → List ℕ → List ℕ → Type 0) where

@@ -1,11 +1,11 @@
 // A question over a stream: what the client makes of its reply, and what follows from it.
-ghost use Rattle.std.specs.Prelude.{IfOk, OnOk};
+ghost use Rattle.std.specs.Prelude.{◌≡◌, IfOk, OnOk};
 ghost use Rattle.wire.specs.Frames.{Frame};
 ghost use Rattle.wire.specs.FrameViews.{frame_seen};
 ghost use Rattle.wire.specs.Responses.{response_seen};
 ghost use Rattle.play.specs.Spoken.{ask_seen};
 ghost use Rattle.asking.specs.Answering.{with_token};
-ghost use Rattle.asking.specs.Asking.{epoch_in, Asks, CatchesUp, GoesOnAbove, Hands, SpeaksOf};
+ghost use Rattle.asking.specs.Asking.{response_epoch, Asks, CatchesUp, GoesOnAbove, Hands, SpeaksOf};
 ghost use Rattle.asking.specs.Checking.{HearsFrame};
 ghost use Rattle.asking.specs.Exchanges.{Exchanges, HoldsFrame};
 ghost use Rattle.asking.specs.Scenes.{scene, Stays};
@@ -40,7 +40,7 @@ fn epoch_of(ask: &Ask, frame: &FrameView<'_>) -> u64
 
 /// The epoch of a response, or 0 if it has none.
 fn epoch_in(response: &Response<'_>) -> u64
-    ensures { result ≡ epoch_in (response_seen response.now) }
+    ensures { result ≡ response_epoch (response_seen response.now) }
 {
     match response {
         Response::Promise(signed) => signed.promise.epoch,
