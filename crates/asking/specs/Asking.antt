@@ -49,7 +49,7 @@ module _ (hash : List ℕ → List ℕ) (accepted verified : List ℕ → List �
       ((length after ≤ length before) × (monitors' ≡ monitors))
       ⊎ ((length before < length after) × ((signed : SignedPromise) × (slice_get after (length after - 1) ≡ Some signed) × AllZip (HandsTo signed promise) monitors monitors'))
   Hands (Query question) promise before after monitors monitors' = monitors' ≡ monitors
-  Hands (Turn token epoch nonce) promise before after monitors monitors' = monitors' ≡ monitors
+  Hands (Turn _ _ _) promise before after monitors monitors' = monitors' ≡ monitors
 
   module _ {T : Type 0} (exchanged : T → RequestContent → Frame → T → Type 0) where
     -- the chain has a root of this epoch or a later one, or all roots that are new are taken
