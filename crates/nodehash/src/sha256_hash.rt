@@ -1,5 +1,6 @@
-//! SHA-256, whose digests are counted. Of many texts four are digested at once, in the order of the list,
-//! if each of the four has two blocks; those of another length, and the last ones, one by one.
+//! SHA-256, whose digests are counted. Of many texts four are digested at once: first those of 64 bytes,
+//! which take less if no other is among the four, and then the others with what is left of these. The last
+//! ones, fewer than four, are digested one by one.
 ghost use Rattle.std.specs.Prelude.{◌≡◌, ◌↔◌, ℕ, [], ◌∷◌, ◌+◌, ◌≤◌, length, take, map, IsTrue};
 ghost use Rattle.sha2.specs.Sha256.{sha256};
 ghost use Rattle.lanes.specs.TwoBlocks.{HasTwoBlocks};
@@ -62,22 +63,44 @@ fn digest_four(a: &NodeText, b: &NodeText, c: &NodeText, d: &NodeText) -> [Hash3
     ]
 }
 
-/// Fills the next four places with the digests of the texts there.
-fn digest_group(texts: &[NodeText], out: &mut [Hash32], first: usize)
-    requires fits { first + 4 ≤ length texts.now }
-    requires sizes { length out.old ≡ length texts.now }
-    ensures { take first out.old ≡ map sha256 (take first texts.now) → take (first + 4) out.new ≡ map sha256 (take (first + 4) texts.now) }
-{
+/// Fills four places with the digests of the texts there.
+fn digest_group(texts: &[NodeText], out: &mut [Hash32], places: &[usize; 4]) {
     let [a, b, c, d] = digest_four(
-        &texts[first],
-        &texts[first + 1],
-        &texts[first + 2],
-        &texts[first + 3],
+        &texts[places[0]],
+        &texts[places[1]],
+        &texts[places[2]],
+        &texts[places[3]],
     );
-    out[first] = a;
-    out[first + 1] = b;
-    out[first + 2] = c;
-    out[first + 3] = d;
+    out[places[0]] = a;
+    out[places[1]] = b;
+    out[places[2]] = c;
+    out[places[3]] = d;
+}
+
+/// Fills the places of the texts that have 64 bytes, or of those that have not, four at a time. The first
+/// `count` of `waiting` are places that still wait to be filled; returns how many wait then.
+fn digest_kind(
+    texts: &[NodeText],
+    out: &mut [Hash32],
+    blocks: bool,
+    waiting: &mut [usize; 4],
+    count: usize,
+) -> usize
+    requires { count < 4 }
+    ensures { result < 4 }
+{
+    let mut count = count;
+    for (place, text) in texts.iter().enumerate() {
+        if (text.bytes().len() == 64) == blocks {
+            waiting[count] = place;
+            count += 1;
+            if count == 4 {
+                digest_group(texts, out, &*waiting);
+                count = 0;
+            }
+        }
+    }
+    count
 }
 
 /// The count after this many digests more.
@@ -100,12 +123,11 @@ impl NodeHash for Sha256Hash {
     }
 
     fn digest_all(&mut self, texts: &[NodeText], out: &mut [Hash32]) {
-        let groups = texts.len() / 4;
-        'groups: for group in 0..groups {
-            digest_group(texts, out, 4 * group);
-        }
-        'rest: for place in 4 * groups..texts.len() {
-            out[place] = Hash32::new(Sha256::digest(texts[place].bytes()));
+        let mut waiting = [0; 4];
+        let count = digest_kind(texts, out, true, &mut waiting, 0);
+        let count = digest_kind(texts, out, false, &mut waiting, count);
+        for place in &waiting[..count] {
+            out[*place] = Hash32::new(Sha256::digest(texts[*place].bytes()));
         }
         self.count = counted(self.count, texts.len());
     }
