@@ -1,7 +1,6 @@
 -- An input that is audited, line by line.
 use Rattle.std.proofs.Common.{◌≡◌, ℕ, ◌*◌, ◌≤◌, List, [], ◌∷◌, ◌++◌, length, take, Option, None, Some, IfSome, Result, Ok, Err, refl, sym, ap, subst, ◌∙◌, inl, inr, arith, append_assoc, append-nil, take_all, length-take-le}
 use Rattle.std.proofs.lemmas.Bool.{cases_lt}
-use Rattle.std.specs.Prelude.{⊤, IsSomeAnd}
 use Rattle.std.specs.Io.KnownBytes.{Appends}
 use Rattle.std.proofs.KnownBytes.{Appends-nil, Appends-trans}
 use Rattle.hex.specs.Hex.{decode_of}
@@ -13,11 +12,12 @@ use Rattle.rootchain.specs.declared.refusal.Refusal.TheVariants.{Malformed}
 use Rattle.rootchain.specs.declared.signed_root.SignedRoot.{SignedRoot}
 use Rattle.textio.specs.Lines.{lines_of, TakesLine}
 use Rattle.textio.specs.Output.{WritesBeginning}
+use Rattle.textio.specs.Pieces.{LosesPart}
 use Rattle.textio.specs.declared.program_fault.ProgramFault.TheVariants.{CannotRead, CannotWrite, OutOfMemory}
 use Rattle.auditor.specs.declared.auditor.Observed.{Observed}
 use Rattle.auditor.specs.Chains.{Chains}
 use Rattle.rootchain.specs.SignedRoots.{SpellsRoot}
-use Rattle.audits.specs.Auditing.{answer_line, answer_lines, AnswersFirst, Audits, AuditsInput, IsAnswer, ObservesDecoded, ObservesLine}
+use Rattle.audits.specs.Auditing.{answer_line, answer_lines, AreRead, AreTaken, Audits, AuditsInput, IsAnswer, ObservesDecoded, ObservesLine}
 use Rattle.rootchain.specs.SignedRoots.{signed_root_bytes}
 use Rattle.rootchain.proofs.Sizes.{root_few}
 
@@ -36,22 +36,11 @@ too_long bytes root long (is, formed) =
     let same : length bytes ≡ length (signed_root_bytes root) = ap length is in
     omega (arith, long, most, same)
 
--- known bytes lose these lines
-abbrev pub TakesLines : Option (List ℕ) → Option (List ℕ) → List (List ℕ) → Type 0
-TakesLines None left lines = ⊤
-TakesLines (Some input) left lines = IsSomeAnd left (λ rest. lines_of input ≡ lines ++ lines_of rest)
-
-takes_none : (input : Option (List ℕ)) → TakesLines input input []
+takes_none : (input : Option (List ℕ)) → AreTaken input input []
 takes_none None = tt
 takes_none (Some input) = refl
 
-takes_first : (input left : Option (List ℕ)) (lines : List (List ℕ)) → TakesLines input left lines
-    → (later : List (List ℕ)) × IfSome input (λ bytes. lines_of bytes ≡ lines ++ later)
-takes_first None left lines takes = ([], tt)
-takes_first (Some input) None lines takes = absurd takes
-takes_first (Some input) (Some rest) lines takes = (lines_of rest, takes)
-
-takes_all : (input left rest : Option (List ℕ)) (lines : List (List ℕ)) → TakesLines input left lines → TakesLine 809 left rest None
+takes_all : (input left rest : Option (List ℕ)) (lines : List (List ℕ)) → AreTaken input left lines → TakesLine 809 left rest None
     → IfSome input (λ bytes. lines_of bytes ≡ lines)
 takes_all None left rest lines takes line = tt
 takes_all (Some input) None rest lines takes line = absurd takes
@@ -85,8 +74,8 @@ module _ (hash : List ℕ → List ℕ) (verified : List ℕ → List ℕ → Li
   ]
 
   -- one line more is taken
-  takes_more : (input left rest : Option (List ℕ)) (lines : List (List ℕ)) (kept : List ℕ) → TakesLines input left lines → TakesLine 809 left rest (Some kept)
-      → (line : List ℕ) × Does kept line × TakesLines input rest (lines ++ line ∷ [])
+  takes_more : (input left rest : Option (List ℕ)) (lines : List (List ℕ)) (kept : List ℕ) → AreTaken input left lines → TakesLine 809 left rest (Some kept)
+      → (line : List ℕ) × Does kept line × AreTaken input rest (lines ++ line ∷ [])
   takes_more None left rest lines kept takes line = (kept, λ before answer after observes. observes, tt)
   takes_more (Some input) None rest lines kept takes line = absurd takes
   takes_more (Some input) (Some left) None lines kept takes line = absurd line
@@ -109,29 +98,26 @@ module _ (hash : List ℕ → List ℕ) (verified : List ℕ → List ℕ → Li
   -- the lines so far are answered, and the answers are written
   abbrev pub Midway : Option (List ℕ) → Option (List ℕ) → Chains → Option (List ℕ) → Option (List ℕ) → Type 0
   Midway input old now left new = (lines : List (List ℕ)) × (answers : List Answer)
-      × TakesLines input left lines × Audits hash verified key [] lines answers now × Appends old new (answer_lines answers)
+      × AreTaken input left lines × Audits hash verified key [] lines answers now × Appends old new (answer_lines answers)
 
   pub begun : (input old : Option (List ℕ)) → Midway input old [] input old
   begun input old = ([], [], takes_none input, (refl, refl), Appends-nil old)
 
   module _ (input old : Option (List ℕ)) (now : Chains) (left new : Option (List ℕ)) where
-    -- the first lines are answered
-    pub first : (midway : Midway input old now left new) → AnswersFirst hash verified key input midway.1
-    first (lines, answers, takes, audits, wrote) = let later = takes_first input left lines takes in (lines, later.0, now, later.1, audits)
+    -- a read failed, perhaps within a line
+    pub unread : Midway input old now left new → (rest : Option (List ℕ)) → LosesPart left rest → AuditsInput hash verified key input rest old (Err CannotRead) new
+    unread (lines, answers, takes, audits, wrote) rest part = (lines, answers, now, (left, takes, part), audits, wrote)
 
-    pub unread : Midway input old now left new → AuditsInput hash verified key input old (Err CannotRead) new
-    unread midway = (midway.1, first midway, midway.4)
-
-    pub no_memory : Midway input old now left new → AuditsInput hash verified key input old (Err OutOfMemory) new
-    no_memory midway = (midway.1, first midway, midway.4)
-
-    pub ended : Midway input old now left new → (rest : Option (List ℕ)) → TakesLine 809 left rest None → AuditsInput hash verified key input old (Ok tt) new
+    pub ended : Midway input old now left new → (rest : Option (List ℕ)) → TakesLine 809 left rest None → AuditsInput hash verified key input rest old (Ok tt) new
     ended (lines, answers, takes, audits, wrote) rest none = (answers, (lines, now, takes_all input left rest lines takes none, audits), wrote)
 
     -- a line is answered, and its answer is written, or less of it
     module _ (rest : Option (List ℕ)) (kept : List ℕ) (took : TakesLine 809 left rest (Some kept)) (after : Chains) (said : List ℕ) where
       abbrev IsSaid : Type 0
       IsSaid = (answer : Answer) × ObservesLine hash verified key now kept answer after × IsAnswer hash verified key answer × (said ≡ answer_line answer)
+
+      pub no_memory : Midway input old now left new → AuditsInput hash verified key input rest old (Err OutOfMemory) new
+      no_memory (lines, answers, takes, audits, wrote) = let line = takes_more input left rest lines kept takes took in (lines, line.0, answers, now, line.2, audits, wrote)
 
       pub gone_on : (told : Option (List ℕ)) → IsSaid → Midway input old now left new → Appends new told said → Midway input old after rest told
       gone_on told (answer, observes, is, tells) (lines, answers, takes, audits, wrote) more =
@@ -144,19 +130,17 @@ module _ (hash : List ℕ → List ℕ) (verified : List ℕ → List ℕ → Li
                 (Appends-trans old new told (answer_lines answers) said wrote more),
           )
 
-      pub unwritten : (told : Option (List ℕ)) → IsSaid → Midway input old now left new → WritesBeginning new told said → AuditsInput hash verified key input old (Err CannotWrite) told
-      unwritten told (answer, observes, is, tells) (lines, answers, takes, audits, wrote) (unsaid, some, (front, split, appended)) =
-          let line = takes_more input left rest lines kept takes took in
-          let later = takes_first input rest (lines ++ line.0 ∷ []) line.2 in (
-            answers ++ answer ∷ [],
-            (lines ++ line.0 ∷ [], later.0, after, later.1, audits_more [] lines answers now line.0 answer after audits (line.1 now answer after observes) is),
-            (
-              unsaid,
-              some,
-              (
-                answer_lines answers ++ front,
-                answer_lines_more answers answer ∙ ap (λ (t : List ℕ). answer_lines answers ++ t) (sym tells ∙ split) ∙ sym (append_assoc (answer_lines answers) front unsaid),
-                Appends-trans old new told (answer_lines answers) front wrote appended,
-              ),
-            ),
+      pub unwritten : (told : Option (List ℕ)) → IsSaid → Midway input old now left new → WritesBeginning new told said → AuditsInput hash verified key input rest old (Err CannotWrite) told
+      unwritten told (answer, observes, is, tells) (lines, answers, takes, audits, wrote) less =
+          let line = takes_more input left rest lines kept takes took in (
+            lines,
+            line.0,
+            answers,
+            answer,
+            after,
+            line.2,
+            audits_more [] lines answers now line.0 answer after audits (line.1 now answer after observes) is,
+            new,
+            wrote,
+            subst (WritesBeginning new told) tells less,
           )

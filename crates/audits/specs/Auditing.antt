@@ -1,5 +1,5 @@
 -- What `audit` answers to the lines of an input (CONIKS, section 4; the lines are this directory's own).
-use Rattle.std.specs.Prelude.{◌≡◌, ℕ, List, [], ◌∷◌, ◌++◌, Option, None, Some, Result, Ok, Err, IfSome, codes, decimal, ⊤}
+use Rattle.std.specs.Prelude.{◌≡◌, ℕ, List, [], ◌∷◌, ◌++◌, Option, None, Some, Result, Ok, Err, IfSome, IsSomeAnd, codes, decimal, ⊤}
 use Rattle.std.specs.Io.KnownBytes.{Appends, Keeps}
 use Rattle.hex.specs.Hex.{decode_of}
 use Rattle.hex.specs.declared.error.FromHexError.{FromHexError}
@@ -10,6 +10,7 @@ use Rattle.rootchain.specs.Refusals.{refusal_number}
 use Rattle.textio.specs.Digits.{hex32}
 use Rattle.textio.specs.Lines.{lines_of}
 use Rattle.textio.specs.Output.{WritesBeginning}
+use Rattle.textio.specs.Pieces.{LosesPart}
 use Rattle.textio.specs.declared.program_fault.ProgramFault.{ProgramFault}
 use Rattle.textio.specs.declared.program_fault.ProgramFault.TheVariants.{BadHex, CannotRead, CannotWrite, OutOfMemory}
 use Rattle.auditor.specs.declared.auditor.Observed.{Observed}
@@ -33,6 +34,15 @@ answer_line (Err why) = codes "refused " ++ decimal (refusal_number why) ++ 10 �
 abbrev pub answer_lines : List (Result Observed Refusal) → List ℕ
 answer_lines [] = []
 answer_lines (answer ∷ answers) = answer_line answer ++ answer_lines answers
+
+-- known bytes lose these lines
+abbrev pub AreTaken : Option (List ℕ) → Option (List ℕ) → List (List ℕ) → Type 0
+AreTaken None left lines = ⊤
+AreTaken (Some input) left lines = IsSomeAnd left (λ rest. lines_of input ≡ lines ++ lines_of rest)
+
+-- and less than one more
+abbrev pub AreRead : Option (List ℕ) → Option (List ℕ) → List (List ℕ) → Type 0
+AreRead input left lines = (ready : Option (List ℕ)) × AreTaken input ready lines × LosesPart ready left
 
 module _ (hash : List ℕ → List ℕ) (verified : List ℕ → List ℕ → List ℕ → Type 0) (key : List ℕ) where
   -- the bytes of a line are observed; a line that gives none is not a signed root
@@ -61,24 +71,24 @@ module _ (hash : List ℕ → List ℕ) (verified : List ℕ → List ℕ → Li
   abbrev pub AnswersAll : Option (List ℕ) → List (Result Observed Refusal) → Type 0
   AnswersAll input answers = (lines : List (List ℕ)) × (after : Chains) × IfSome input (λ bytes. lines_of bytes ≡ lines) × Audits [] lines answers after
 
-  -- and to the first lines
-  abbrev pub AnswersFirst : Option (List ℕ) → List (Result Observed Refusal) → Type 0
-  AnswersFirst input answers = (lines later : List (List ℕ)) × (after : Chains)
-      × IfSome input (λ bytes. lines_of bytes ≡ lines ++ later) × Audits [] lines answers after
+  -- What comes of an input, of which this is left: a line is written for each of its lines. Or for each that was
+  -- read, if a read failed, but not for part of a line; or for all but the last, if memory ran out there; or less
+  -- of that of the last, if a write failed.
+  abbrev pub AuditsInput : Option (List ℕ) → Option (List ℕ) → Option (List ℕ) → Result (Unit {0}) ProgramFault → Option (List ℕ) → Type 0
+  AuditsInput input left old (Ok done) new = (answers : List (Result Observed Refusal)) × AnswersAll input answers × Appends old new (answer_lines answers)
+  AuditsInput input left old (Err CannotRead) new = (lines : List (List ℕ)) × (answers : List (Result Observed Refusal)) × (after : Chains)
+      × AreRead input left lines × Audits [] lines answers after × Appends old new (answer_lines answers)
+  AuditsInput input left old (Err OutOfMemory) new = (lines : List (List ℕ)) × (line : List ℕ) × (answers : List (Result Observed Refusal)) × (after : Chains)
+      × AreTaken input left (lines ++ line ∷ []) × Audits [] lines answers after × Appends old new (answer_lines answers)
+  AuditsInput input left old (Err CannotWrite) new = (lines : List (List ℕ)) × (line : List ℕ) × (answers : List (Result Observed Refusal)) × (answer : Result Observed Refusal) × (after : Chains)
+      × AreTaken input left (lines ++ line ∷ []) × Audits [] (lines ++ line ∷ []) (answers ++ answer ∷ []) after
+      × (told : Option (List ℕ)) × Appends old told (answer_lines answers) × WritesBeginning told new (answer_line answer)
+  AuditsInput input left old (Err _) new = ⊥
 
-  -- What comes of an input: a line is written for each of its lines; or for the first ones, if a read
-  -- failed or memory ran out; or a beginning of that, if a write failed.
-  abbrev pub AuditsInput : Option (List ℕ) → Option (List ℕ) → Result (Unit {0}) ProgramFault → Option (List ℕ) → Type 0
-  AuditsInput input old (Ok done) new = (answers : List (Result Observed Refusal)) × AnswersAll input answers × Appends old new (answer_lines answers)
-  AuditsInput input old (Err CannotRead) new = (answers : List (Result Observed Refusal)) × AnswersFirst input answers × Appends old new (answer_lines answers)
-  AuditsInput input old (Err OutOfMemory) new = (answers : List (Result Observed Refusal)) × AnswersFirst input answers × Appends old new (answer_lines answers)
-  AuditsInput input old (Err CannotWrite) new = (answers : List (Result Observed Refusal)) × AnswersFirst input answers × WritesBeginning old new (answer_lines answers)
-  AuditsInput input old (Err _) new = ⊥
+-- what comes of a key's text and an input, of which this is left
+abbrev pub AuditsUnder : Option (List ℕ) → Option (List ℕ) → Option (List ℕ) → Option (List ℕ) → Result (Unit {0}) ProgramFault → Option (List ℕ) → Type 0
+AuditsUnder None input left old result new = (result ≡ Err BadHex) × Keeps old new
+AuditsUnder (Some key) input left old result new = AuditsInput sha256 KeyedVerifies key input left old result new
 
--- what comes of a key's text and an input
-abbrev pub AuditsUnder : Option (List ℕ) → Option (List ℕ) → Option (List ℕ) → Result (Unit {0}) ProgramFault → Option (List ℕ) → Type 0
-AuditsUnder None input old result new = (result ≡ Err BadHex) × Keeps old new
-AuditsUnder (Some key) input old result new = AuditsInput sha256 KeyedVerifies key input old result new
-
-abbrev pub AuditsText : List ℕ → Option (List ℕ) → Option (List ℕ) → Result (Unit {0}) ProgramFault → Option (List ℕ) → Type 0
+abbrev pub AuditsText : List ℕ → Option (List ℕ) → Option (List ℕ) → Option (List ℕ) → Result (Unit {0}) ProgramFault → Option (List ℕ) → Type 0
 AuditsText key = AuditsUnder (hex32 key)

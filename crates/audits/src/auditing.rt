@@ -88,7 +88,7 @@ fn audit_under<H: NodeHash + Drop, S: Verifier + Drop, R: BufRead, W: Write>(
     reader: &mut R,
     writer: &mut W,
 ) -> Result<(), ProgramFault>
-    ensures { AuditsInput H.digest_of S.verified key.now (R.remaining reader.old) (W.contents writer.old) result (W.contents writer.new) }
+    ensures { AuditsInput H.digest_of S.verified key.now (R.remaining reader.old) (R.remaining reader.new) (W.contents writer.old) result (W.contents writer.new) }
 {
     let mut auditor: Auditor<H, S> = Auditor::new(alloc);
     // Every loop of Rattle has an end: this one's is past any input.
@@ -108,16 +108,16 @@ fn audit_under<H: NodeHash + Drop, S: Verifier + Drop, R: BufRead, W: Write>(
 ///
 /// # Errors
 ///
-/// `BadHex`, before anything is read, if the key's text is not 64 hexadecimal digits; `CannotRead` and
-/// `OutOfMemory`, with an answer written to each line before; `CannotWrite`, with a beginning of the
-/// answers written.
+/// `BadHex`, before anything is read, if the key's text is not 64 hexadecimal digits; `CannotRead`, with an
+/// answer written to each line that was read; `OutOfMemory` and `CannotWrite`, with one to each but the last
+/// line that was read, and of `CannotWrite` less than the whole answer to that.
 pub fn audit<R: BufRead, W: Write>(
     alloc: Global,
     order: AuditOrder<'_>,
     reader: &mut R,
     writer: &mut W,
 ) -> Result<(), ProgramFault>
-    ensures audits { AuditsText order.entry.key.now (R.remaining reader.old) (W.contents writer.old) result (W.contents writer.new) }
+    ensures audits { AuditsText order.entry.key.now (R.remaining reader.old) (R.remaining reader.new) (W.contents writer.old) result (W.contents writer.new) }
     ensures unread { result ≡ Err BadHex → (reader.new ≡ reader.old) × (writer.new ≡ writer.old) }
 {
     let key = Hash32::new(option_hex32(order.key)?);

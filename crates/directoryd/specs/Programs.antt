@@ -73,7 +73,8 @@ AsksKeyed asked keys out out-new err err-new outcome =
 abbrev pub Obeys : Task → Option (List ℕ) → Option (List ℕ) → Option (List ℕ) → Option (List ℕ) → Option (List ℕ) → Result ℕ ProgramFault → Type 0
 Obeys (the_root asked) input out out-new err err-new outcome = EndsAt 0 (λ input said. root_answer asked input ≡ said) input out out-new outcome × Keeps err err-new
 Obeys (the_path index asked) input out out-new err err-new outcome = EndsAt 0 (Proves asked.hash (nonce_of asked.nonce) (hex32 index)) input out out-new outcome × Keeps err err-new
-Obeys (the_audit key) input out out-new err err-new outcome = IsZero outcome × Keeps err err-new × AuditsText key input out (without_status outcome) out-new
+Obeys (the_audit key) input out out-new err err-new outcome = IsZero outcome × Keeps err err-new
+    × (left : Option (List ℕ)) × AuditsText key input left out (without_status outcome) out-new
 Obeys (the_verdict key file) input out out-new err err-new outcome = Keeps err err-new
     × (verdict : Result Verdict ProgramFault) × (outcome ≡ verdict_outcome verdict) × JudgesAt key out verdict out-new
 Obeys the_script input out out-new err err-new outcome = IsZero outcome × Keeps err err-new

@@ -23,3 +23,7 @@ IsPiece most End taken old new = (taken ≡ []) × (new ≡ old)
 abbrev pub TakesPiece : ℕ → Step → Option (List ℕ) → Option (List ℕ) → List ℕ → List ℕ → Type 0
 TakesPiece most step input left old new = (taken : List ℕ) × IsPiece most step taken old new × Consumes input left taken
     × (step ≡ End → IsAtEnd input)
+
+-- known bytes lose less than their first line
+abbrev pub LosesPart : Option (List ℕ) → Option (List ℕ) → Type 0
+LosesPart input left = (part : List ℕ) × IsInLine part × Consumes input left part

@@ -3,8 +3,9 @@
 // line of any length takes no memory, and a caller who keeps one byte more than its longest good line
 // can tell that a line is longer.
 ghost use Rattle.std.specs.Prelude.{◌≡◌, ◌↔◌, ◌-◌, ◌<◌, ◌≤◌, ◌++◌, length, take, IfOk, IfErr};
+ghost use Rattle.std.specs.Io.KnownBytes.{Keeps};
 ghost use Rattle.textio.specs.Lines.{TakesLine};
-ghost use Rattle.textio.specs.Pieces.{IsPiece, TakesPiece};
+ghost use Rattle.textio.specs.Pieces.{IsPiece, LosesPart, TakesPiece};
 
 use crate::stream_fault::{StreamFault, after_error};
 use encoding::FixedText;
@@ -61,7 +62,7 @@ fn take_step<const MOST: usize, R: BufRead>(
     line: &mut FixedText<MOST>,
 ) -> Result<Step, StreamFault>
     ensures ok { IfOk result (λ step. TakesPiece MOST step (R.remaining reader.old) (R.remaining reader.new) line.old line.new) }
-    ensures err { IfErr result (λ fault. fault ≡ StreamFault.CannotRead) }
+    ensures err { IfErr result (λ fault. (fault ≡ StreamFault.CannotRead) × Keeps (R.remaining reader.old) (R.remaining reader.new)) }
 {
     let shown = match reader.fill_buf() {
         Ok(shown) => shown,
@@ -81,13 +82,13 @@ fn take_step<const MOST: usize, R: BufRead>(
 ///
 /// # Errors
 ///
-/// `CannotRead`.
+/// `CannotRead`. Then less than a line was taken.
 pub fn next_line<const MOST: usize, R: BufRead>(
     reader: &mut R,
 ) -> Result<Option<FixedText<MOST>>, StreamFault>
     requires { 0 < MOST }
     ensures ok { IfOk result (λ line. TakesLine MOST (R.remaining reader.old) (R.remaining reader.new) line) }
-    ensures err { IfErr result (λ fault. fault ≡ StreamFault.CannotRead) }
+    ensures err { IfErr result (λ fault. (fault ≡ StreamFault.CannotRead) × LosesPart (R.remaining reader.old) (R.remaining reader.new)) }
 {
     let mut line = FixedText::new();
     // Every loop of Rattle has an end: this one's is past any input.
