@@ -3,7 +3,7 @@ use Rattle.std.specs.Prelude.{ℕ, List, Option, Some, None, nat_le, is_some, le
 use Rattle.std.specs.Ordering.{nat_cmp}
 use Rattle.std.specs.BTreeMap.{is_at}
 use Rattle.std.specs.Map.{lookup}
-use Rattle.wire.specs.Streams.{Remainder}
+use Rattle.wire.specs.Streams.{Remainder, part_of}
 use Rattle.hub.specs.declared.event.Event.{Event}
 use Rattle.hub.specs.declared.event.Event.TheVariants as event
 use Rattle.hub.specs.declared.hub_refusal.HubRefusal.{HubRefusal}
@@ -33,6 +33,11 @@ BySession X = List (ℕ × X)
 
 abbrev pub at : {X : Type 0} → BySession X → ℕ → Option X
 at sessions session = lookup (is_at (nat_cmp session)) sessions
+
+-- how many of so many bytes are the next part of a session's stream: all, where it is not open
+abbrev pub next_part : Option Remainder → ℕ → ℕ
+next_part None count = count
+next_part (Some held) count = part_of held count
 
 -- the refusal that applies, memory aside: at most 1,024 sessions are open
 abbrev pub due : {X : Type 0} → BySession X → Happening → Option HubRefusal

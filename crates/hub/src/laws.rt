@@ -1,10 +1,16 @@
-ghost use Rattle.std.specs.Prelude.{◌++◌, ℕ, List};
+ghost use Rattle.std.specs.Prelude.{◌≡◌, ◌++◌, ℕ, List};
 ghost use Rattle.wire.specs.Streams.{Remainder};
 ghost use Rattle.hub.specs.Exchanges.{Exchange, Exchanges};
 ghost use Rattle.hub.specs.Laws.{RunsTellTheirOwn, SessionsHearTheirOwn};
 ghost use Rattle.hub.specs.Runs.{lines, AllAnswered, Line};
+ghost use Rattle.hub.specs.declared.sessions.TheConstants.{MAX_SESSIONS};
 
 use crate::Service;
+
+/// At most 1,024 sessions are open at once.
+pub fn limit_has_its_value()
+    ensures { MAX_SESSIONS ≡ 1024 }
+{}
 
 /// The messages of a session are those of its own streams, whatever the other sessions send, and
 /// also where it is ended and opened again: of each stream those of its pieces, joined. The session

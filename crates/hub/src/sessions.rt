@@ -9,7 +9,7 @@ ghost use Rattle.epochs.specs.DirectoryStates.{book, provider};
 ghost use Rattle.hub.specs.DeskRuns.{IsWell, ShowHonestRun};
 ghost use Rattle.hub.specs.Desks.{DeskAnswers};
 ghost use Rattle.wire.specs.Streams.{Remainder, EndsOne};
-ghost use Rattle.hub.specs.Events.{at, due, number, seen, Bytes as AreBytes, End as IsEnd, Open as IsOpen};
+ghost use Rattle.hub.specs.Events.{at, due, next_part, number, seen, Bytes as AreBytes, End as IsEnd, Open as IsOpen};
 ghost use Rattle.hub.specs.Exchanges.{Exchange, LacksRoom, replies};
 ghost use Rattle.hub.specs.Happenings.{Happens, HearsAt, IsPart, Passes};
 ghost use Rattle.hub.specs.Outputs.{pair_seen, AppendsUnless};
@@ -138,6 +138,7 @@ impl<D: Service + Drop> Hub<D> {
         ensures some { bytes.now ≢ [] → 1 ≤ result }
         ensures most { result ≤ length bytes.now }
         ensures one { (held : Remainder) → at (self.now).sessions session ≡ Some held → EndsOne held (take result bytes.now) }
+        ensures size { result ≡ next_part (at (self.now).sessions session) (length bytes.now) }
     {
         match self.sessions.get(&session) {
             Some(feed) => feed.part(bytes),

@@ -1,7 +1,7 @@
 -- A part of a stream that reaches no further than the end of a length, or of a frame, ends at most one message.
-use Rattle.std.proofs.Common.{◌≡◌, ℕ, ◌+◌, ◌-◌, ◌<◌, ◌≤◌, Bool, true, false, List, [], ◌∷◌, ◌++◌, length, take, drop, Ok, Err, refl, sym, ap, subst, ◌∙◌, append_assoc, length-append, length-drop, arith, inl, inr}
+use Rattle.std.proofs.Common.{◌≡◌, ℕ, ◌+◌, ◌-◌, ◌<◌, ◌≤◌, max, Bool, true, false, List, [], ◌∷◌, ◌++◌, length, take, drop, Ok, Err, refl, sym, ap, subst, ◌∙◌, append_assoc, length-append, length-drop, arith, inl, inr}
 use Rattle.std.proofs.Math.Nat.{lt_of_not-le}
-use Rattle.std.proofs.lemmas.Bool.{cases_lt}
+use Rattle.std.proofs.lemmas.Bool.{cases_lt, le-ltb, lt-ltb}
 use Rattle.encoding.specs.declared.fault.Fault.{Fault}
 use Rattle.encoding.specs.declared.fault.Fault.TheVariants.{Short}
 use Rattle.encoding.specs.Bytes.{IsBytes}
@@ -10,7 +10,7 @@ use Rattle.encoding.specs.Reading.{is_within, read_number}
 use Rattle.encoding.proofs.ByteLists.{IsBytes-append}
 use Rattle.encoding.proofs.Fields.{numbers_field, ok_is}
 use Rattle.wire.specs.Frames.{Frame, frame_size, read_frame}
-use Rattle.wire.specs.Streams.{Rest, Whole, BadFrame, EndsOne, IsSpent}
+use Rattle.wire.specs.Streams.{Rest, Whole, BadFrame, missing_of, EndsOne, IsSpent}
 use Rattle.wire.specs.declared.frame.TheConstants.{MAX_FRAME_LEN}
 use Rattle.wire.proofs.Faults.{field-more}
 use Rattle.wire.proofs.Frames.{frame_field, left_is, size_limits}
@@ -80,3 +80,17 @@ number_length bytes n rest e = elim (cases_lt (length bytes) 4) [
       let behind = ap (λ (x : ℕ × List ℕ). x.1) (ok_is (n, rest) (big_number 4 (take 4 bytes), drop 4 bytes) (sym e ∙ four_read bytes long)) in
       omega (arith, ap length behind, length-drop 4 bytes, long)
 ]
+
+-- the bytes that are missing to a frame whose length is there
+pub missing_frame : (held : List ℕ) (size : ℕ) (rest : List ℕ) (whole left result : ℕ) → read_number 4 held ≡ Ok (size, rest)
+    → whole ≡ 4 + size → left ≡ whole - length held → result ≡ max left 1 → result ≡ missing_of held
+unfolding missing_of
+missing_frame held size rest whole left result number w l r =
+    let long : 4 ≤ length held = omega (arith, number_length held size rest number) in
+    let same = ap (λ (x : ℕ × List ℕ). x.0) (ok_is (size, rest) (big_number 4 (take 4 held), drop 4 held) (sym number ∙ four_read held long)) in
+    rw (r, l, w, same, le-ltb (length held) 4 long) refl
+
+-- those that are missing to a length
+pub missing_length : (held : List ℕ) (whole left result : ℕ) → length held < 4 → whole ≡ 4 → left ≡ whole - length held → result ≡ max left 1 → result ≡ missing_of held
+unfolding missing_of
+missing_length held whole left result short w l r = rw (r, l, w, lt-ltb (length held) 4 short) refl

@@ -2,7 +2,7 @@
 //! moves only the place where the next one begins, and the bytes before it fall when the next piece comes.
 ghost use Rattle.std.specs.Prelude.{◌≡◌, ◌≢◌, ◌↔◌, ◌++◌, ◌<◌, ◌≤◌, [], ℕ, List, length, drop, take, IsTrue, IsOk, OnErr, OnOk, IsErrOf};
 ghost use Rattle.encoding.specs.Bytes.{IsBytes};
-ghost use Rattle.wire.specs.Streams.{Remainder, Rest, Failed, with_more, EndsOne, Waits};
+ghost use Rattle.wire.specs.Streams.{Remainder, Rest, Failed, missing_of, part_of, with_more, EndsOne, Waits};
 
 use crate::FeedRefusal;
 use crate::frame::{Front, front_of};
@@ -97,11 +97,13 @@ impl Feed {
     }
 
     /// How many of these bytes, from the front on, are the next part of the stream: the rest of a frame's
-    /// length, or the rest of its bytes, or as much of these as is there. A part ends at most one message.
+    /// length, or the rest of its bytes, or as much of these as is there; one byte behind a whole frame, and all
+    /// of a stream that failed. A part ends at most one message.
     pub fn part(&self, bytes: &[u8]) -> usize
         ensures some { bytes.now ≢ [] → 1 ≤ result }
         ensures most { result ≤ length bytes.now }
         ensures one { EndsOne self.now (take result bytes.now) }
+        ensures size { result ≡ part_of self.now (length bytes.now) }
     {
         if self.failed {
             return bytes.len();
@@ -136,6 +138,7 @@ impl Feed {
 fn missing(held: &[u8]) -> usize
     ensures some { 1 ≤ result }
     ensures one { (part : List ℕ) → IsBytes part → length part ≤ result → EndsOne (Rest held.now) part }
+    ensures missing { result ≡ missing_of held.now }
 {
     let whole = match Cursor::new(held).u32() {
         Ok(size) => LENGTH_SIZE + size as usize,

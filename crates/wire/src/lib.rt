@@ -31,7 +31,8 @@ pub use feed::{Feed, Next};
 pub use frame::{FrameView, Front, MAX_FRAME_LEN, front_of};
 pub use laws::{
     answers_are_read, body_spells_one_request, body_spells_one_response, cutting_does_not_matter,
-    frames_are_read, kinds_have_their_bytes, messages_are_computed, stream_splits_once,
+    frames_are_read, kinds_have_their_bytes, limits_have_their_values, messages_are_computed,
+    stream_splits_once,
 };
 pub use refusals::{FeedRefusal, ReadRefusal};
 pub use request::Request;
