@@ -1,5 +1,5 @@
 -- Records that are carried out one after another.
-use Rattle.std.proofs.Common.{◌≡◌, ◌≢◌, inl, inr, ℕ, ◌+◌, ◌≤◌, List, [], ◌∷◌, ◌++◌, length, length-append, append_assoc, Some, None, Ok, Err, refl, sym, ap, subst, ◌∙◌, arith, lit≤}
+use Rattle.std.proofs.Common.{◌≡◌, ◌≢◌, inl, inr, ℕ, ◌+◌, ◌≤◌, List, [], ◌∷◌, ◌++◌, length, length-append, append_assoc, Some, None, Ok, Err, IsSome, refl, sym, ap, subst, ◌∙◌, arith, lit≤}
 use Rattle.encoding.specs.Bytes.{IsBytes}
 use Rattle.encoding.specs.declared.fault.Fault.{Fault}
 use Rattle.encoding.specs.declared.fault.Fault.TheVariants.{Short}
@@ -81,7 +81,10 @@ module _ (by : List ℕ → List ℕ) where
       inr (kept, left, is, later, subst (λ (b : Book). replayed by b kept ≡ None) (sym same) none),
     )
     stopped kept left after OtherKeys read (same, none) = none
-    stopped kept left after Memory read (same, none) = tt
+    stopped kept left after Memory (is, later) (same, some) = (
+      subst (λ (b : Book). Leads by first whole b rest) (sym same) leads_here,
+      (kept, left, is, later, subst (λ (b : Book). IsSome (replayed by b kept)) (sym same) some),
+    )
 
     pub replaying_on : (kept : Record) (left : List ℕ) (after : Book) → (rest ≡ record_bytes kept ++ left) × IsLater kept → replayed by book kept ≡ Some after
         → Replaying whole first most (counter + 1) (taken + length (record_bytes kept)) left after

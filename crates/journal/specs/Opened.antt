@@ -1,5 +1,5 @@
 -- What comes of opening a journal, by what its bytes are.
-use Rattle.std.specs.Prelude.{◌≡◌, ◌<◌, ◌+◌, ℕ, List, length, None, Result, Ok, Err, ⊤}
+use Rattle.std.specs.Prelude.{◌≡◌, ◌<◌, ◌+◌, ℕ, List, length, None, Result, Ok, Err, IsSome}
 use Rattle.rand_core.specs.Stream.{Stream}
 use Rattle.book.specs.declared.record.Record.{Record}
 use Rattle.book.specs.Books.{Book}
@@ -10,7 +10,7 @@ use Rattle.journal.specs.declared.opening.Opened.{Opened}
 use Rattle.journal.specs.declared.opening.Opened.TheVariants.{Nothing, Directory}
 use Rattle.journal.specs.declared.refusal.Refusal.{Refusal}
 use Rattle.journal.specs.declared.refusal.Refusal.TheVariants.{BadRecord, OtherKeys, Memory}
-use Rattle.journal.specs.Openings.{HasKeys, HasOtherKeys, IsBad, IsBadNext, IsBegun, IsCut, Leads, OpensTo}
+use Rattle.journal.specs.Openings.{HasKeys, HasOtherKeys, IsBad, IsBadNext, IsBegun, IsCut, IsGoodNext, Leads, OpensTo}
 use Rattle.journal.specs.Records.{record_bytes, start_bytes, IsLater, IsStart}
 
 -- a directory of these keys may begin so
@@ -23,20 +23,20 @@ IsNotBegun signing_key vuf_key beginning BadRecord = beginning.epoch ≡ 0
 IsNotBegun signing_key vuf_key beginning OtherKeys = (0 < beginning.epoch) × (¬ HasKeys signing_key vuf_key beginning)
 IsNotBegun signing_key vuf_key beginning Memory = BeginsSo signing_key vuf_key beginning
 
--- why a record is not carried out on a book, or memory is wanting
+-- why a record is not carried out on a book; or memory is wanting, where the book does not refuse it
 abbrev pub IsNotReplayed : (List ℕ → List ℕ) → Book → Record → Refusal → Type 0
 IsNotReplayed index_of before kept BadRecord = replayed index_of before kept ≡ None
 IsNotReplayed index_of before kept OtherKeys = ⊥
-IsNotReplayed index_of before kept Memory = ⊤
+IsNotReplayed index_of before kept Memory = IsSome (replayed index_of before kept)
 
 -- The records at the front lead to a book, and what is left is a record that was cut short; or it is bad, as
--- the book stands; or memory is wanting.
+-- the book stands; or memory is wanting for the next record, which the book does not refuse.
 abbrev pub StopsAt : (List ℕ → List ℕ) → Book → List ℕ → Result ℕ Refusal → Book → List ℕ → Type 0
 StopsAt index_of before bytes (Ok taken) after rest =
     Leads index_of before bytes after rest × IsCut record_bytes IsLater rest × (length bytes ≡ taken + length rest)
 StopsAt index_of before bytes (Err BadRecord) after rest = Leads index_of before bytes after rest × IsBadNext index_of after rest
 StopsAt index_of before bytes (Err OtherKeys) after rest = ⊥
-StopsAt index_of before bytes (Err Memory) after rest = ⊤
+StopsAt index_of before bytes (Err Memory) after rest = Leads index_of before bytes after rest × IsGoodNext index_of after rest
 
 module _ (index_of : List ℕ → List ℕ) (signing_key vuf_key : List ℕ) (salts : Stream) where
   -- the bytes are no whole start; or they open to this directory, which has the keys of the start

@@ -1,6 +1,6 @@
 -- What a journal's bytes open to: the longest list of whole records that begins them, where the rest is a record
 -- of its place that was cut short.
-use Rattle.std.specs.Prelude.{◌≡◌, ◌≢◌, ◌⊎◌, ℕ, ◌+◌, ◌<◌, List, [], ◌++◌, length, Some, None}
+use Rattle.std.specs.Prelude.{◌≡◌, ◌≢◌, ◌⊎◌, ℕ, ◌+◌, ◌<◌, List, [], ◌++◌, length, Some, None, IsSome}
 use Rattle.std.specs.List.{AllByRecursion}
 use Rattle.rand_core.specs.Stream.{Stream}
 use Rattle.encoding.specs.Fields.{Begins}
@@ -38,6 +38,10 @@ module _ (index_of : List ℕ → List ℕ) where
   abbrev pub IsBadNext : Book → List ℕ → Type 0
   IsBadNext book rest = IsNone record_bytes IsLater rest
       ⊎ ((kept : Record) × (more : List ℕ) × (rest ≡ record_bytes kept ++ more) × IsLater kept × (replayed index_of book kept ≡ None))
+
+  -- the bytes begin with a later record whose command the book does not refuse
+  abbrev pub IsGoodNext : Book → List ℕ → Type 0
+  IsGoodNext book rest = (kept : Record) × (more : List ℕ) × (rest ≡ record_bytes kept ++ more) × IsLater kept × IsSome (replayed index_of book kept)
 
   module _ (signing_key vuf_key : List ℕ) (salts : Stream) where
     -- a start of these keys and later records stand at the front of the bytes, and lead to this book
