@@ -41,10 +41,10 @@ versions_of names name = unwrap_or (at names name) []
 abbrev pub with_version : Map (List Version) → List ℕ → Version → Map (List Version)
 with_version names name version = put names name (versions_of names name ++ version ∷ [])
 
--- what the entries of a map have, each at the bytes of its key
-abbrev pub at_bytes : {K X Y : Type 0} → (K → List ℕ) → (X → Y) → List (K × X) → Map Y
+-- what the entries of a map have, each at the bytes of its key, in the order of these
+unfoldable pub at_bytes : {K X Y : Type 0} → (K → List ℕ) → (X → Y) → List (K × X) → Map Y
 at_bytes bytes of [] = []
-at_bytes bytes of (entry ∷ entries) = (bytes entry.0, of entry.1) ∷ at_bytes bytes of entries
+at_bytes bytes of (entry ∷ entries) = put (at_bytes bytes of entries) (bytes entry.0) (of entry.1)
 
 -- why a change is not made: memory is wanting, or the keeper failed to keep its record
 abbrev pub IsUnkept : {K : Type 0} → (K → Record → K → Type 0) → K → Record → Refusal → K → Type 0

@@ -101,6 +101,8 @@ impl<H: NodeHash, V: Vuf, S: Signer, R: Rng> Directory<H, V, S, R> {
         trees.push(tree)?;
         let body_hash = hash_of(&mut hash, &text);
         let salt = next_salt(&mut salts);
+        // Secret to whoever lacks the key, and shown to nobody; no body is as short as this text.
+        let seed = signer.sign(b"names");
         Ok(Directory {
             alloc,
             hash,
@@ -108,7 +110,7 @@ impl<H: NodeHash, V: Vuf, S: Signer, R: Rng> Directory<H, V, S, R> {
             signer,
             salts,
             salt,
-            names: Names::new(alloc),
+            names: Names::new(alloc, seed.bytes()),
             waiting: BTreeMap::new(alloc),
             roots,
             trees,

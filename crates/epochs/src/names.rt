@@ -6,19 +6,20 @@ ghost use Rattle.epochs.specs.Versions.{AllBefore, AreHistories, IsUnkept, versi
 
 use crate::address::Address;
 use crate::history::{History, Version};
+use crate::seeded::Seeded;
 use book::{Keeper, Record, Refusal};
 use commands::Verb;
 use encoding::Name;
 use std::alloc::{AllocError, Global};
-use std::collections::BTreeMap;
-use std::collections::btree_map::Entry;
+use std::collections::HashMap;
+use std::collections::hash_map::Entry;
 use std::marker::Model;
 
 /// Names with their histories.
 #[derive(Drop)]
 pub(crate) struct Names {
     alloc: Global,
-    histories: BTreeMap<Vec<u8>, History>,
+    histories: HashMap<Vec<u8>, History, Seeded>,
 }
 
 impl Model for Names {
@@ -34,13 +35,13 @@ impl Model for Names {
 }
 
 impl Names {
-    /// No names.
-    pub(crate) fn new(alloc: Global) -> Names
+    /// No names. They are hashed behind this seed.
+    pub(crate) fn new(alloc: Global, seed: &[u8]) -> Names
         ensures { result ≡ record { versions = []; addresses = [] } }
     {
         Names {
             alloc,
-            histories: BTreeMap::new(alloc),
+            histories: HashMap::with_hasher(alloc, Seeded::new(seed)),
         }
     }
 
@@ -102,7 +103,7 @@ impl Names {
 // Adds a version of a name that most likely is there: no room is made for it.
 fn add_to_held<K: Keeper>(
     alloc: Global,
-    histories: &mut BTreeMap<Vec<u8>, History>,
+    histories: &mut HashMap<Vec<u8>, History, Seeded>,
     keeper: &mut K,
     what: &Record,
     name: &Name,
@@ -123,7 +124,7 @@ fn add_to_held<K: Keeper>(
 // Adds a version of a name that most likely is new: it is searched for once.
 fn add_to_new<K: Keeper>(
     alloc: Global,
-    histories: &mut BTreeMap<Vec<u8>, History>,
+    histories: &mut HashMap<Vec<u8>, History, Seeded>,
     keeper: &mut K,
     what: &Record,
     name: &Name,
@@ -147,10 +148,9 @@ fn add_to_new<K: Keeper>(
                     place.insert(history);
                     Ok(())
                 }
-                // Nothing says what the map is once a vacant entry is dropped with its key, so the
-                // history is put in and taken out again.
                 Err(_) => {
-                    let _ = place.insert_entry(history).remove();
+                    // What this ensures: the map is as it was.
+                    let _ = place.into_key();
                     Err(Refusal::KeepFailed)
                 }
             }
