@@ -35,13 +35,13 @@ impl Model for Names {
 }
 
 impl Names {
-    /// No names. They are hashed behind this seed.
-    pub(crate) fn new(alloc: Global, seed: &[u8]) -> Names
+    /// No names. They are hashed by these hashers.
+    pub(crate) fn new(alloc: Global, hashers: Seeded) -> Names
         ensures { result ≡ record { versions = []; addresses = [] } }
     {
         Names {
             alloc,
-            histories: HashMap::with_hasher(alloc, Seeded::new(seed)),
+            histories: HashMap::with_hasher(alloc, hashers),
         }
     }
 

@@ -3,7 +3,8 @@ use Rattle.std.specs.Prelude.{is_some}
 use Rattle.std.specs.Map.{lookup}
 use Rattle.book.specs.declared.refusal.Refusal.{Refusal}
 use Rattle.epochs.specs.Versions.{IsUnkept}
-use Rattle.epochs.proofs.Named.{added-there, named-put, test, versions-there}
+use Rattle.epochs.proofs.Hashed.{test}
+use Rattle.epochs.proofs.Named.{added-there, named-put, versions-there}
 use Rattle.epochs.proofs.names.add_to_held.Goals as goal
 
 pub add-requires : goal.add-requires

@@ -4,7 +4,8 @@ use Rattle.std.specs.declared.collections.hash_map.Entry.TheVariants.{Occupied, 
 use Rattle.book.specs.declared.refusal.Refusal.{Refusal}
 use Rattle.epochs.specs.Addresses.{named, with_history}
 use Rattle.epochs.specs.Versions.{IsUnkept}
-use Rattle.epochs.proofs.Named.{added-new, added-there, found_at, named-put_at, versions-there}
+use Rattle.epochs.proofs.Hashed.{found_at}
+use Rattle.epochs.proofs.Named.{added-new, added-there, named-put_at, versions-there}
 use Rattle.epochs.proofs.names.add_to_new.Goals as goal
 
 pub add-requires : goal.add-requires
@@ -31,7 +32,9 @@ returns-in-Ok g c =
     let is : c.in_ok-from_slice.field-0.items ≡ c.args.name.now = c.in_ok-from_slice.ensures.items ∙ c.bytes-2.ensures.value in
     let none = found_at (λ key. key.items) c.args.name.now c.in_ok-from_slice.field-0 es None is (rw c.in-Vacant.is at c.in_ok-place.ensures.found) in
     let same : c.insert.result.now ≡ record { address = c.args.address.now; versions = c.args.version ∷ [] } =
-        c.insert.ensures.value ∙ rw (c.push_reserved.ensures.items, c.in_ok-versions.ensures.items, c.in_ok-value.ensures.items, c.bytes.ensures.value) at c.new-history.ensures in
-    let set = map_with_value (Vacant c.in-Vacant.place) c.insert.result.now in
-    (search rules, added-new c.args.name.now c.args.address.now c.args.version (λ key. key.items) es set.entries _ none (search rules)
-      (named-put_at (λ key. key.items) c.args.name.now c.in_ok-from_slice.field-0 c.insert.result.now c.args.histories.now set is ((rw c.in-Vacant.is at c.in_ok-place.ensures.update).0 c.insert.result.now) ∙ ap (with_history (named (λ key. key.items) es) c.args.name.now) same))
+    c.insert.ensures.value ∙ rw (c.push_reserved.ensures.items, c.in_ok-versions.ensures.items, c.in_ok-value.ensures.items, c.bytes.ensures.value) at c.new-history.ensures in
+    let set = map_with_value (Vacant c.in-Vacant.place) c.insert.result.now in (
+      search rules,
+      added-new c.args.name.now c.args.address.now c.args.version (λ key. key.items) es set.entries _ none (search rules)
+          (named-put_at (λ key. key.items) c.args.name.now c.in_ok-from_slice.field-0 c.insert.result.now c.args.histories.now set is ((rw c.in-Vacant.is at c.in_ok-place.ensures.update).0 c.insert.result.now) ∙ ap (with_history (named (λ key. key.items) es) c.args.name.now) same),
+    )
