@@ -1,7 +1,8 @@
-ghost use Rattle.std.specs.Prelude.{◌≡◌, [], MatchResult};
+ghost use Rattle.std.specs.Prelude.{◌≡◌, ◌+◌, ◌≤◌, [], IsSome, MatchOption, MatchResult, option_and_then};
 ghost use Rattle.std.specs.Option.{option_map};
 ghost use Rattle.book.specs.Maps.{at};
 ghost use Rattle.epochs.specs.Addresses.{named, with_name};
+ghost use Rattle.epochs.specs.Histories.{binding_at};
 ghost use Rattle.epochs.specs.Versions.{AllBefore, AreHistories, IsUnkept, versions_of};
 
 use crate::address::Address;
@@ -10,10 +11,12 @@ use crate::seeded::Seeded;
 use book::{Keeper, Record, Refusal};
 use commands::Verb;
 use encoding::Name;
+use nodehash::NodeHash;
 use std::alloc::{AllocError, Global};
 use std::collections::HashMap;
 use std::collections::hash_map::Entry;
 use std::marker::Model;
+use vrfiface::Vuf;
 
 /// Names with their histories.
 #[derive(Drop)]
@@ -52,6 +55,28 @@ impl Names {
         ensures sound { AreHistories self.now.versions }
     {
         self.histories.get(name)
+    }
+
+    /// The address of a name, and what a page shows of it. Takes one digest, or none where the name has
+    /// a history.
+    pub(crate) fn look_up<H: NodeHash, V: Vuf>(
+        &self,
+        hash: &mut H,
+        vuf: &V,
+        name: &Name,
+        page: usize,
+    ) -> (Address, Option<&Version>)
+        ensures address { MatchOption (at self.now.addresses name.now)
+            (let value = V.value_of (V.public_key vuf.now) name.now in result.0 ≡ record { value = value; index = H.digest_of value })
+            (λ address. result.0 ≡ address) }
+        ensures shown { option_map (λ version. version.now.binding) result.1 ≡ option_and_then (binding_at page) (at self.now.versions name.now) }
+        ensures work { H.digests hash.new ≤ H.digests hash.old + 1 }
+        ensures spared { IsSome (at self.now.versions name.now) → hash.new ≡ hash.old }
+    {
+        match self.find(name.bytes()) {
+            Some(history) => (history.address(), history.shown(page)),
+            None => (Address::computed(hash, vuf, name), None),
+        }
     }
 
     /// Adds a version of a name after its others, once its record is kept. A name that is new is put
