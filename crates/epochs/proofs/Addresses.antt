@@ -50,10 +50,13 @@ module _ (provider : Provider) where
       by (Some kept) found = address-kept names.addresses name kept are found
 
   -- the address that a look-up takes: the one that is kept, or else the computed one
-  pub address_read : {X : Type 0} (P : Type 0) (Q : X → Type 0) (addresses : Map Address) (name : List ℕ) (of : X → Address) (found : Option X) (address : Address)
-      → AreAddresses provider addresses → option_map of found ≡ at addresses name → MatchOption found ((address ≡ address_of provider name) × P) (λ x. (address ≡ of x) × Q x) → address ≡ address_of provider name
-  address_read P Q addresses name of None address are is taken = taken.0
-  address_read P Q addresses name of (Some x) address are is taken = taken.0 ∙ address-kept addresses name (of x) are (sym is)
+  pub address_read : (addresses : Map Address) (name : List ℕ) (address : Address)
+      → AreAddresses provider addresses → MatchOption (at addresses name) (address ≡ address_of provider name) (λ kept. address ≡ kept) → address ≡ address_of provider name
+  address_read addresses name address are taken = by (at addresses name) refl taken
+    where
+      by : (o : Option Address) → at addresses name ≡ o → MatchOption o (address ≡ address_of provider name) (λ kept. address ≡ kept) → address ≡ address_of provider name
+      by None found same = same
+      by (Some kept) found same = same ∙ address-kept addresses name kept are found
 
 -- ---- what pages show
 
@@ -68,24 +71,18 @@ pub none-there : {X : Type 0} (found : Option X) (none : Bool) → is_some found
 none-there found none is true-is = sym (is ∙ ap not true-is)
 
 -- what is chosen of a name
-chosen-found : {X : Type 0} (f : List Version → Option X) (names : Map (List Version)) (name : List ℕ) → AreHistories names → (found : Option (List Version)) → found ≡ at names name
+pub chosen_found : {X : Type 0} (f : List Version → Option X) (names : Map (List Version)) (name : List ℕ) → AreHistories names → (found : Option (List Version)) → found ≡ at names name
     → option_and_then f found ≡ at (chosen f names) name
-chosen-found f names name are found is = ap (option_and_then f) is ∙ sym (at-chosen f names name are.names_ascend)
-
--- the same of what a search gave
-pub chosen-borrowed : {X Y : Type 0} (f : List Version → Option X) (of : Y → List Version) (found : Option Y) (names : Map (List Version)) (name : List ℕ) → AreHistories names → option_map of found ≡ at names name
-    → option_and_then (λ y. f (of y)) found ≡ at (chosen f names) name
-chosen-borrowed f of None names name are is = chosen-found f names name are None is
-chosen-borrowed f of (Some y) names name are is = chosen-found f names name are (Some (of y)) is
+chosen_found f names name are found is = ap (option_and_then f) is ∙ sym (at-chosen f names name are.names_ascend)
 
 module _ (provider : Provider) (parts : Parts) (salt : List ℕ) (left : Stream) (keeps : Keeps provider parts (book_of parts salt left)) (name : List ℕ) where
   -- of a name that has a history
   module _ (len : ℕ) (long : len ≡ length parts.roots) (versions : List Version) (is : Some versions ≡ at parts.names name) where
     pub waits_there : waiting len versions ≡ at (pending_of parts) name
-    waits_there = ap (λ (n : ℕ). waiting n versions) long ∙ chosen-found (waiting (length parts.roots)) parts.names name keeps.histories (Some versions) is
+    waits_there = ap (λ (n : ℕ). waiting n versions) long ∙ chosen_found (waiting (length parts.roots)) parts.names name keeps.histories (Some versions) is
 
     shows-there : binding_at (len - 1) versions ≡ at (last_of parts).bindings name
-    shows-there = ap (λ (n : ℕ). binding_at (n - 1) versions) long ∙ chosen-found (binding_at (length parts.roots - 1)) parts.names name keeps.histories (Some versions) is
+    shows-there = ap (λ (n : ℕ). binding_at (n - 1) versions) long ∙ chosen_found (binding_at (length parts.roots - 1)) parts.names name keeps.histories (Some versions) is
 
     pub is_waiting : {X : Type 0} (of : X → Binding) (found : Option X) (some : Bool) → some ≡ is_some found → option_map of found ≡ waiting len versions → some ≡ is_some (at (pending_of parts) name)
     is_waiting of found some some-is has = some-is ∙ same-some of found _ (has ∙ waits_there)
@@ -96,17 +93,19 @@ module _ (provider : Provider) (parts : Parts) (salt : List ℕ) (left : Stream)
   -- of one that has none
   module _ (none : None ≡ at parts.names name) where
     pub none_waits : None ≡ at (pending_of parts) name
-    none_waits = chosen-found (waiting (length parts.roots)) parts.names name keeps.histories None none
+    none_waits = chosen_found (waiting (length parts.roots)) parts.names name keeps.histories None none
 
     pub none_shown : None ≡ at (last_of parts).bindings name
-    none_shown = chosen-found (binding_at (length parts.roots - 1)) parts.names name keeps.histories None none
+    none_shown = chosen_found (binding_at (length parts.roots - 1)) parts.names name keeps.histories None none
 
     unheld : IsHeld (book_of parts salt left) name → ⊥
     unheld (inl some) = absurd (cc (ap is_some none_shown, some))
     unheld (inr some) = absurd (cc (ap is_some none_waits, some))
 
   -- a name that is held has a history
-  pub spared : {X H : Type 0} (P : Type 0) (Q : X → Type 0) (of : X → List Version) (found : Option X) (before after : H) → option_map of found ≡ at parts.names name → MatchOption found P (λ x. Q x × (after ≡ before))
-      → IsHeld (book_of parts salt left) name → after ≡ before
-  spared P Q of None before after is taken held = absurd (unheld is held)
-  spared P Q of (Some x) before after is taken held = taken.1
+  pub held_there : IsHeld (book_of parts salt left) name → is_some (at parts.names name) ≡ true
+  held_there held = by (at parts.names name) refl
+    where
+      by : (o : Option (List Version)) → at parts.names name ≡ o → is_some o ≡ true
+      by None is = absurd (unheld (sym is) held)
+      by (Some versions) is = refl

@@ -17,7 +17,7 @@ pub record Names : Type 0 where
   pub versions : Map (List Version)
   pub addresses : Map Address
 
--- those of the entries of a map, each at the bytes of its key
+-- those of the entries of a map, which stand in any order, each at the bytes of its key
 abbrev pub named : {K : Type 0} → (K → List ℕ) → List (K × History) → Names
 named bytes entries = record { versions = at_bytes bytes (λ history. history.versions) entries; addresses = at_bytes bytes (λ history. history.address) entries }
 

@@ -12,7 +12,7 @@ module _ {H V S R : Type 0} where
     names = inside.names.versions;
     roots = inside.roots.items;
     trees = inside.trees.items;
-    waiting = inside.waiting.entries;
+    waiting = inside.waiting;
     body_hash = inside.body_hash;
   }
 

@@ -7,6 +7,7 @@ use Rattle.std.specs.Option.{unwrap_or}
 use Rattle.book.specs.declared.record.Record.{Record}
 use Rattle.book.specs.declared.refusal.Refusal.{Refusal}
 use Rattle.book.specs.declared.refusal.Refusal.TheVariants.{Memory, KeepFailed}
+use Rattle.prefixtree.specs.Placement.{Items}
 use Rattle.epochs.specs.Histories.{Version}
 use Rattle.book.specs.Maps.{Map, at, put}
 use Rattle.encoding.specs.Bytes.{bytes_cmp}
@@ -41,10 +42,14 @@ versions_of names name = unwrap_or (at names name) []
 abbrev pub with_version : Map (List Version) → List ℕ → Version → Map (List Version)
 with_version names name version = put names name (versions_of names name ++ version ∷ [])
 
--- what the entries of a map have, each at the bytes of its key
-abbrev pub at_bytes : {K X Y : Type 0} → (K → List ℕ) → (X → Y) → List (K × X) → Map Y
+-- what the entries of a map have, each at the bytes of its key, in the order of these
+unfoldable pub at_bytes : {K X Y : Type 0} → (K → List ℕ) → (X → Y) → List (K × X) → Map Y
 at_bytes bytes of [] = []
-at_bytes bytes of (entry ∷ entries) = (bytes entry.0, of entry.1) ∷ at_bytes bytes of entries
+at_bytes bytes of (entry ∷ entries) = put (at_bytes bytes of entries) (bytes entry.0) (of entry.1)
+
+-- the items that the entries of a map are, in the order of their indices
+abbrev pub in_order : Items → Items
+in_order entries = at_bytes (λ index. index) (λ commitment. commitment) entries
 
 -- why a change is not made: memory is wanting, or the keeper failed to keep its record
 abbrev pub IsUnkept : {K : Type 0} → (K → Record → K → Type 0) → K → Record → Refusal → K → Type 0

@@ -6,16 +6,17 @@ ghost use Rattle.epochs.specs.Beginnings.{IsBeginRefusal};
 ghost use Rattle.epochs.specs.DirectoryStates.{book, provider};
 
 use crate::names::Names;
+use crate::seeded::Seeded;
 use crate::signing::{hash_of, next_salt, signed_root};
+use crate::waiting::Waiting;
 use book::Refusal;
-use encoding::{Hash32, Index};
+use encoding::Hash32;
 use nodehash::NodeHash;
 use prefixtree::Tree;
 use rand_core::Rng;
 use rootchain::{Body, SignedRoot};
 use sigiface::Signer;
 use std::alloc::Global;
-use std::collections::BTreeMap;
 use std::marker::Model;
 use vrfiface::Vuf;
 
@@ -35,8 +36,7 @@ pub struct Directory<H: NodeHash, V: Vuf, S: Signer, R: Rng> {
     /// The salt of the next accepted operation.
     salt: Hash32,
     names: Names,
-    /// An index and a commitment for each operation that waits for the next page.
-    waiting: BTreeMap<Index, Hash32>,
+    waiting: Waiting,
     /// The signed root of each page.
     roots: Vec<SignedRoot>,
     /// The tree of each page.
@@ -101,6 +101,8 @@ impl<H: NodeHash, V: Vuf, S: Signer, R: Rng> Directory<H, V, S, R> {
         trees.push(tree)?;
         let body_hash = hash_of(&mut hash, &text);
         let salt = next_salt(&mut salts);
+        // Secret to whoever lacks the key, and shown to nobody; no body is as short as this text.
+        let hashers = Seeded::new(signer.sign(b"names").bytes());
         Ok(Directory {
             alloc,
             hash,
@@ -108,8 +110,8 @@ impl<H: NodeHash, V: Vuf, S: Signer, R: Rng> Directory<H, V, S, R> {
             signer,
             salts,
             salt,
-            names: Names::new(alloc),
-            waiting: BTreeMap::new(alloc),
+            names: Names::new(alloc, hashers),
+            waiting: Waiting::new(alloc, hashers),
             roots,
             trees,
             body_hash,

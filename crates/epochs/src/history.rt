@@ -1,18 +1,15 @@
-ghost use Rattle.std.specs.Prelude.{◌≡◌, ◌<◌, ◌≤◌, ◌++◌, ◌∷◌, [], length, IfOk, MatchOption, MatchResult, option_and_then};
+ghost use Rattle.std.specs.Prelude.{◌≡◌, ◌<◌, ◌≤◌, ◌++◌, ◌∷◌, [], length, IfOk, MatchResult};
 ghost use Rattle.std.specs.List.Sorted.{IsPartitionPoint};
 ghost use Rattle.std.specs.Option.{option_map};
 ghost use Rattle.encoding.specs.Limits.{IsSmall};
-ghost use Rattle.nodehash.specs.Digests.{one_more};
 ghost use Rattle.epochs.specs.Histories.{binding_at, waiting};
 ghost use Rattle.epochs.specs.Versions.{AllBefore, Ascends, IsUnkept};
 
 use crate::address::Address;
 use book::{Keeper, Record, Refusal};
-use encoding::{Hash32, Index, KeyData, Name, Small};
-use nodehash::NodeHash;
+use encoding::{Hash32, Index, KeyData, Small};
 use std::alloc::{AllocError, Global};
 use std::marker::Model;
-use vrfiface::Vuf;
 
 /// A key that is bound to a name from one page on.
 #[derive(Drop)]
@@ -186,32 +183,5 @@ impl History {
         keeper.keep(what)?;
         self.versions.push_reserved(version);
         Ok(())
-    }
-}
-
-/// The address of a name: that of its history, or else computed, which takes one digest.
-pub(crate) fn address_in<H: NodeHash, V: Vuf>(
-    history: Option<&History>,
-    hash: &mut H,
-    vuf: &V,
-    name: &Name,
-) -> Address
-    ensures { MatchOption history.entry
-        (let value = V.value_of (V.public_key vuf.now) name.now in (result ≡ record { value = value; index = H.digest_of value }) × (H.digests hash.new ≡ one_more (H.digests hash.old)))
-        (λ history. (result ≡ history.now.address) × (hash.new ≡ hash.old)) }
-{
-    match history {
-        Some(history) => history.address(),
-        None => Address::computed(hash, vuf, name),
-    }
-}
-
-/// What a page shows of a name.
-pub(crate) fn shown_in(history: Option<&History>, page: usize) -> Option<&Version>
-    ensures { option_map (λ version. version.now.binding) result ≡ option_and_then (λ history. binding_at page history.now.versions) history.entry }
-{
-    match history {
-        Some(history) => history.shown(page),
-        None => None,
     }
 }

@@ -1,24 +1,28 @@
-ghost use Rattle.std.specs.Prelude.{◌≡◌, [], MatchResult};
+ghost use Rattle.std.specs.Prelude.{◌≡◌, ◌+◌, ◌≤◌, [], IsSome, MatchOption, MatchResult, option_and_then};
 ghost use Rattle.std.specs.Option.{option_map};
 ghost use Rattle.book.specs.Maps.{at};
 ghost use Rattle.epochs.specs.Addresses.{named, with_name};
+ghost use Rattle.epochs.specs.Histories.{binding_at};
 ghost use Rattle.epochs.specs.Versions.{AllBefore, AreHistories, IsUnkept, versions_of};
 
 use crate::address::Address;
 use crate::history::{History, Version};
+use crate::seeded::Seeded;
 use book::{Keeper, Record, Refusal};
 use commands::Verb;
 use encoding::Name;
+use nodehash::NodeHash;
 use std::alloc::{AllocError, Global};
-use std::collections::BTreeMap;
-use std::collections::btree_map::Entry;
+use std::collections::HashMap;
+use std::collections::hash_map::Entry;
 use std::marker::Model;
+use vrfiface::Vuf;
 
 /// Names with their histories.
 #[derive(Drop)]
 pub(crate) struct Names {
     alloc: Global,
-    histories: BTreeMap<Vec<u8>, History>,
+    histories: HashMap<Vec<u8>, History, Seeded>,
 }
 
 impl Model for Names {
@@ -34,13 +38,13 @@ impl Model for Names {
 }
 
 impl Names {
-    /// No names.
-    pub(crate) fn new(alloc: Global) -> Names
+    /// No names. They are hashed by these hashers.
+    pub(crate) fn new(alloc: Global, hashers: Seeded) -> Names
         ensures { result ≡ record { versions = []; addresses = [] } }
     {
         Names {
             alloc,
-            histories: BTreeMap::new(alloc),
+            histories: HashMap::with_hasher(alloc, hashers),
         }
     }
 
@@ -51,6 +55,28 @@ impl Names {
         ensures sound { AreHistories self.now.versions }
     {
         self.histories.get(name)
+    }
+
+    /// The address of a name, and what a page shows of it. Takes one digest, or none where the name has
+    /// a history.
+    pub(crate) fn look_up<H: NodeHash, V: Vuf>(
+        &self,
+        hash: &mut H,
+        vuf: &V,
+        name: &Name,
+        page: usize,
+    ) -> (Address, Option<&Version>)
+        ensures address { MatchOption (at self.now.addresses name.now)
+            (let value = V.value_of (V.public_key vuf.now) name.now in result.0 ≡ record { value = value; index = H.digest_of value })
+            (λ address. result.0 ≡ address) }
+        ensures shown { option_map (λ version. version.now.binding) result.1 ≡ option_and_then (binding_at page) (at self.now.versions name.now) }
+        ensures work { H.digests hash.new ≤ H.digests hash.old + 1 }
+        ensures spared { IsSome (at self.now.versions name.now) → hash.new ≡ hash.old }
+    {
+        match self.find(name.bytes()) {
+            Some(history) => (history.address(), history.shown(page)),
+            None => (Address::computed(hash, vuf, name), None),
+        }
     }
 
     /// Adds a version of a name after its others, once its record is kept. A name that is new is put
@@ -102,7 +128,7 @@ impl Names {
 // Adds a version of a name that most likely is there: no room is made for it.
 fn add_to_held<K: Keeper>(
     alloc: Global,
-    histories: &mut BTreeMap<Vec<u8>, History>,
+    histories: &mut HashMap<Vec<u8>, History, Seeded>,
     keeper: &mut K,
     what: &Record,
     name: &Name,
@@ -123,7 +149,7 @@ fn add_to_held<K: Keeper>(
 // Adds a version of a name that most likely is new: it is searched for once.
 fn add_to_new<K: Keeper>(
     alloc: Global,
-    histories: &mut BTreeMap<Vec<u8>, History>,
+    histories: &mut HashMap<Vec<u8>, History, Seeded>,
     keeper: &mut K,
     what: &Record,
     name: &Name,
@@ -147,10 +173,9 @@ fn add_to_new<K: Keeper>(
                     place.insert(history);
                     Ok(())
                 }
-                // Nothing says what the map is once a vacant entry is dropped with its key, so the
-                // history is put in and taken out again.
                 Err(_) => {
-                    let _ = place.insert_entry(history).remove();
+                    // What this ensures: the map is as it was.
+                    let _ = place.into_key();
                     Err(Refusal::KeepFailed)
                 }
             }

@@ -27,8 +27,8 @@ ghost use Rattle.epochs.specs.Versions.{AllBefore, IsUnkept, versions_of};
 use super::Directory;
 use crate::address::Address;
 use crate::history::Version;
-use crate::names::Names;
 use crate::signing::{hash_of, next_salt, signed_promise, signed_root};
+use crate::waiting::let_wait;
 use book::{Keeper, Record, Refusal};
 use commands::Verb;
 use commit::commit;
@@ -39,8 +39,6 @@ use rand_core::Rng;
 use rootchain::{Body, Promise, SignedPromise, SignedRoot};
 use sigiface::Signer;
 use std::alloc::{AllocError, Global};
-use std::collections::BTreeMap;
-use std::collections::btree_map::Entry;
 use vrfiface::Vuf;
 
 impl<H: NodeHash, V: Vuf, S: Signer, R: Rng> Directory<H, V, S, R> {
@@ -237,7 +235,7 @@ impl<H: NodeHash, V: Vuf, S: Signer, R: Rng> Directory<H, V, S, R> {
         ensures stays { self.new ≡ record self.old { digests = self.new.digests } }
         ensures work { self.new.digests ≤ self.old.digests + tree_digests (provider H.digest_of V.value_of S.signature_of self.old) self.old nonce.now }
     {
-        let changes = listed(self.alloc, &self.waiting)?;
+        let changes = self.waiting.items()?;
         let last = &self.trees[self.trees.len() - 1];
         changed_tree(self.alloc, &mut self.hash, last, nonce, &changes)
     }
@@ -291,7 +289,7 @@ impl<H: NodeHash, V: Vuf, S: Signer, R: Rng> Directory<H, V, S, R> {
         ensures free { let by = index_by (provider H.digest_of V.value_of S.signature_of self.now) in
             result ≡ false → (other : List ℕ) → IsHeld (book R.stream self.now) other → by other ≡ by name.now → other ≡ name.now }
     {
-        self.trees[self.trees.len() - 1].get(index).is_some() || self.waiting.contains_key(index)
+        self.trees[self.trees.len() - 1].get(index).is_some() || self.waiting.contains(index)
     }
 
     /// The address of a name that is new. Takes one digest.
@@ -485,45 +483,5 @@ fn changed_tree<H: NodeHash>(
     match nonce {
         None => tree.with_all(alloc, hash, changes),
         Some(nonce) => tree.renew_with_all(alloc, hash, *nonce, changes),
-    }
-}
-
-/// The entries of a map, as a list.
-fn listed(alloc: Global, waiting: &BTreeMap<Index, Hash32>) -> Result<Vec<Item>, AllocError>
-    ensures { IfOk result (λ items. items.items ≡ waiting.now.entries) }
-{
-    let mut items = Vec::with_capacity(alloc, waiting.len())?;
-    for (index, commitment) in waiting {
-        items.push((*index, *commitment))?;
-    }
-    Ok(items)
-}
-
-/// Adds a version to a name, and its commitment to what waits, once the record is kept.
-fn let_wait<K: Keeper>(
-    names: &mut Names,
-    waiting: &mut BTreeMap<Index, Hash32>,
-    keeper: &mut K,
-    what: &Record,
-    name: &Name,
-    address: &Address,
-    version: Version,
-    commitment: Hash32,
-) -> Result<(), Refusal>
-    requires later { AllBefore version.number (versions_of names.old.versions name.now) }
-    requires free { commitment_of waiting.old.entries (address.now).index ≡ None }
-    ensures { MatchResult result
-        (λ _. K.kept keeper.old what.now keeper.new
-        × (names.new ≡ with_name names.old name.now address.now version)
-        × (waiting.new.entries ≡ put_item waiting.old.entries (address.now).index commitment))
-        (λ why. (names.new ≡ names.old) × (waiting.new.entries ≡ waiting.old.entries) × IsUnkept K.failed keeper.old what.now why keeper.new) }
-{
-    match waiting.entry(address.index)? {
-        Entry::Vacant(place) => {
-            names.add(keeper, what, name, address, version)?;
-            place.insert(commitment);
-            Ok(())
-        }
-        Entry::Occupied(_) => unreachable!(),
     }
 }

@@ -16,7 +16,7 @@ ghost use Rattle.epochs.specs.Replied.{found, promised};
 
 use super::Directory;
 use crate::address::Address;
-use crate::history::{Version, address_in, shown_in};
+use crate::history::Version;
 use book::Refusal;
 use encoding::{Index, KeyData, Name, ProofText, Small};
 use nodehash::NodeHash;
@@ -70,10 +70,8 @@ impl<H: NodeHash, V: Vuf, S: Signer, R: Rng> Directory<H, V, S, R> {
         let Some(page) = self.page(epoch) else {
             return Err(Refusal::NoSuchEpoch);
         };
-        let history = self.names.find(name.bytes());
-        let address = address_in(history, &mut self.hash, &self.vuf, &name);
+        let (address, found) = self.names.look_up(&mut self.hash, &self.vuf, &name, page);
         let path = self.trees[page].path(&address.index);
-        let found = shown_in(history, page);
         Ok(reply_of(
             &self.roots[page].body,
             &address.value,
@@ -112,12 +110,10 @@ impl<H: NodeHash, V: Vuf, S: Signer, R: Rng> Directory<H, V, S, R> {
         let Some(page) = self.page(epoch) else {
             return Err(Refusal::NoSuchEpoch);
         };
-        let history = self.names.find(name.bytes());
-        let address = address_in(history, &mut self.hash, &self.vuf, &name);
+        let (address, found) = self.names.look_up(&mut self.hash, &self.vuf, &name, page);
         let tree = &self.trees[page];
         let (level, end) = tree.path_end(&address.index);
-        let shown = shown_in(history, page);
-        write_front_of(output, &self.roots[page].body, &address, end, level, shown);
+        write_front_of(output, &self.roots[page].body, &address, end, level, found);
         tree.write_siblings(&address.index, output);
         Ok(())
     }

@@ -13,10 +13,10 @@ pub returns-else-is_some-clause-taken : goal.returns-else-is_some-clause-taken
 returns-else-is_some-clause-taken g c =
     rw (← c.self.view_is)
     (taken_waiting _ (parts_of c.self.inside) _ _ c.self.invariant.0 c.args.name.now c.args.index.now (rw (← c.self.view_is) at c.requires.indexed) (rw (← c.self.view_is) at c.requires.new) (rw (← c.self.view_is) at c.requires.waits) c.index.result.now c.len.result (search rules) c.index.ensures c.is_some.result (rw c.get.ensures at c.is_some.ensures)
-    c.contains_key.result c.contains_key.ensures c.if-is_some.false)
+    c.contains.result c.contains.ensures c.if-is_some.false)
 
 pub returns-else-is_some-clause-free : goal.returns-else-is_some-clause-free
 returns-else-is_some-clause-free g c =
     rw (← c.self.view_is)
     (taken_free _ (parts_of c.self.inside) _ _ c.self.invariant.0 c.args.name.now c.args.index.now (rw (← c.self.view_is) at c.requires.indexed) (rw (← c.self.view_is) at c.requires.new) (rw (← c.self.view_is) at c.requires.waits) c.index.result.now c.len.result (search rules) c.index.ensures c.is_some.result (rw c.get.ensures at c.is_some.ensures)
-    c.contains_key.result c.contains_key.ensures c.if-is_some.false)
+    c.contains.result c.contains.ensures c.if-is_some.false)

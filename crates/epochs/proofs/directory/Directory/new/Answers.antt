@@ -16,7 +16,7 @@ invariant_of-result g c =
             names = ap (λ (names : Names). names.versions) c.new-3.ensures;
             roots = begun_with _ _ c.signed_root.result _ c.new-roots.ensures.items c.in_ok-push.ensures.items c.signed_root.ensures;
             trees = begun_with _ _ c.in_ok-tree.tree _ c.new-trees.ensures.items c.in_ok-push-2.ensures.items refl;
-            waiting = c.new-4.ensures.empty;
+            waiting = c.new-4.ensures;
             body_hash = c.hash_of-body_hash.ensures.value ∙ ap g.H.NodeHash.digest_of c.write-text.ensures.value;
           })
           (some, c.ranges.epoch.fits) (c.write-text.ensures.form (some, λ _. c.new-2.ensures)).5 c.next_salt-salt.ensures.size,

@@ -31,7 +31,7 @@ invariant_of-self g c =
           (subst (λ (kept : DirectoryState g.row.R.Denot). kept.last.epoch < c.args.epoch) (sym stands) c.requires) c.ranges.epoch.fits c.nonce_or.ensures.size
           the_body (λ i. record { epoch = c.args.epoch; previous_epoch = c.index.result.now.body.epoch; root = c.root.ensures i; previous_hash = c.self.inside.body_hash; nonce = c.nonce_or.ensures.value i; vuf_key = c.public.ensures i })
           c.signed_root-root.result c.signed_root-root.ensures c.hash_of-self-inside.result (c.hash_of-self-inside.ensures.value ∙ ap g.H.NodeHash.digest_of c.write-text.ensures.value) c.copied.result c.copied.ensures
-          c.add_page.new.roots.items c.in-Ok.ensures.1 c.add_page.new.trees.items c.in-Ok.ensures.2 c.clear.new.self.entries c.clear.ensures.empty,
+          c.add_page.new.roots.items c.in-Ok.ensures.1 c.add_page.new.trees.items c.in-Ok.ensures.2 c.clear.new.self c.clear.ensures,
       c.self.invariant.1,
     )
 
@@ -56,7 +56,7 @@ returns-in-Ok-clause-made g c =
     (subst (λ (kept : DirectoryState g.row.R.Denot). kept.last.epoch < c.args.epoch) (sym stands) c.requires) c.ranges.epoch.fits c.nonce_or.ensures.size
     the_body (λ i. record { epoch = c.args.epoch; previous_epoch = c.index.result.now.body.epoch; root = c.root.ensures i; previous_hash = c.self.inside.body_hash; nonce = c.nonce_or.ensures.value i; vuf_key = c.public.ensures i })
     c.signed_root-root.result c.signed_root-root.ensures c.hash_of-self-inside.result (c.hash_of-self-inside.ensures.value ∙ ap g.H.NodeHash.digest_of c.write-text.ensures.value) c.copied.result c.copied.ensures
-    c.add_page.new.roots.items c.in-Ok.ensures.1 c.add_page.new.trees.items c.in-Ok.ensures.2 c.clear.new.self.entries c.clear.ensures.empty
+    c.add_page.new.roots.items c.in-Ok.ensures.1 c.add_page.new.trees.items c.in-Ok.ensures.2 c.clear.new.self c.clear.ensures
     (by c.args.self.now) (the_book c.args.self.now) (ap by stands) (ap the_book stands) in
     (rw (c.copied.ensures, c.signed_root-root.ensures) at c.in-Ok.ensures.0, made.0, made.1)
 

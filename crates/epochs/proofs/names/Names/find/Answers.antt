@@ -1,5 +1,6 @@
 use Rattle.std.proofs.Common.{◌∙◌}
-use Rattle.epochs.proofs.Named.{borrowed, lookup-bytes}
+use Rattle.epochs.proofs.Hashed.{lookup-bytes}
+use Rattle.epochs.proofs.Named.{borrowed}
 use Rattle.epochs.proofs.names.Names.find.Goals as goal
 
 pub returns-clause-versions : goal.returns-clause-versions

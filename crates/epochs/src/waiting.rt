@@ -1,0 +1,150 @@
+ghost use Rattle.std.specs.Prelude.{◌≡◌, [], None, IfOk, MatchResult, is_some};
+ghost use Rattle.prefixtree.specs.Placement.{HasDistinctIndices, commitment_of, put as put_item};
+ghost use Rattle.epochs.specs.Addresses.{with_name};
+ghost use Rattle.epochs.specs.Versions.{AllBefore, IsUnkept, in_order, versions_of};
+
+use crate::address::Address;
+use crate::history::Version;
+use crate::names::Names;
+use crate::seeded::Seeded;
+use book::{Keeper, Record, Refusal};
+use encoding::{Hash32, Index, Name};
+use prefixtree::{Item, placed};
+use std::alloc::{AllocError, Global};
+use std::collections::HashMap;
+use std::collections::hash_map::Entry;
+use std::marker::Model;
+
+/// An index and a commitment for each operation that waits for the next page.
+#[derive(Drop)]
+pub(crate) struct Waiting {
+    alloc: Global,
+    commitments: HashMap<Index, Hash32, Seeded>,
+}
+
+impl Model for Waiting {
+    ghost use Rattle.prefixtree.specs.Placement.{Items};
+    ghost use Rattle.epochs.specs.Versions.{in_order};
+
+    ghost Value = { Items };
+
+    ghost view = { λ waiting. in_order waiting.commitments.entries };
+}
+
+impl Waiting {
+    /// Nothing that waits. Indices are hashed by these hashers.
+    pub(crate) fn new(alloc: Global, hashers: Seeded) -> Waiting
+        ensures { result ≡ [] }
+    {
+        Waiting {
+            alloc,
+            commitments: HashMap::with_hasher(alloc, hashers),
+        }
+    }
+
+    /// Whether something waits at this index.
+    pub(crate) fn contains(&self, index: &Index) -> bool
+        ensures { result ≡ is_some (commitment_of self.now index.now) }
+    {
+        self.commitments.contains_key(index)
+    }
+
+    /// The indices and their commitments, in order.
+    pub(crate) fn items(&self) -> Result<Vec<Item>, AllocError>
+        ensures { IfOk result (λ items. items.items ≡ self.now) }
+    {
+        let entries = listed(self.alloc, &self.commitments)?;
+        match placed(self.alloc, &entries)? {
+            Some(items) => Ok(items),
+            None => unreachable!(),
+        }
+    }
+
+    /// Takes all out, and gives their memory back.
+    pub(crate) fn clear(&mut self)
+        ensures { self.new ≡ [] }
+    {
+        let hashers = *self.commitments.hasher();
+        self.commitments = HashMap::with_hasher(self.alloc, hashers);
+    }
+}
+
+/// Adds a version to a name, and its commitment to what waits, once the record is kept.
+pub(crate) fn let_wait<K: Keeper>(
+    names: &mut Names,
+    waiting: &mut Waiting,
+    keeper: &mut K,
+    what: &Record,
+    name: &Name,
+    address: &Address,
+    version: Version,
+    commitment: Hash32,
+) -> Result<(), Refusal>
+    requires later { AllBefore version.number (versions_of names.old.versions name.now) }
+    requires free { commitment_of waiting.old (address.now).index ≡ None }
+    ensures { MatchResult result
+        (λ _. K.kept keeper.old what.now keeper.new
+        × (names.new ≡ with_name names.old name.now address.now version)
+        × (waiting.new ≡ put_item waiting.old (address.now).index commitment))
+        (λ why. (names.new ≡ names.old) × (waiting.new ≡ waiting.old) × IsUnkept K.failed keeper.old what.now why keeper.new) }
+{
+    add(
+        names,
+        &mut waiting.commitments,
+        keeper,
+        what,
+        name,
+        address,
+        version,
+        commitment,
+    )
+}
+
+fn add<K: Keeper>(
+    names: &mut Names,
+    commitments: &mut HashMap<Index, Hash32, Seeded>,
+    keeper: &mut K,
+    what: &Record,
+    name: &Name,
+    address: &Address,
+    version: Version,
+    commitment: Hash32,
+) -> Result<(), Refusal>
+    requires later { AllBefore version.number (versions_of names.old.versions name.now) }
+    requires free { commitment_of (in_order commitments.old.entries) (address.now).index ≡ None }
+    ensures { MatchResult result
+        (λ _. K.kept keeper.old what.now keeper.new
+        × (names.new ≡ with_name names.old name.now address.now version)
+        × (in_order commitments.new.entries ≡ put_item (in_order commitments.old.entries) (address.now).index commitment))
+        (λ why. (names.new ≡ names.old) × (in_order commitments.new.entries ≡ in_order commitments.old.entries) × IsUnkept K.failed keeper.old what.now why keeper.new) }
+{
+    match commitments.entry(address.index)? {
+        Entry::Vacant(place) => match names.add(keeper, what, name, address, version) {
+            Ok(()) => {
+                place.insert(commitment);
+                Ok(())
+            }
+            Err(why) => {
+                // What this ensures: the map is as it was.
+                let _ = place.into_key();
+                Err(why)
+            }
+        },
+        Entry::Occupied(_) => unreachable!(),
+    }
+}
+
+/// The entries of a map, in any order.
+fn listed(
+    alloc: Global,
+    commitments: &HashMap<Index, Hash32, Seeded>,
+) -> Result<Vec<Item>, AllocError>
+    ensures entries { IfOk result (λ items. items.items ≡ commitments.now.entries) }
+    ensures distinct { HasDistinctIndices commitments.now.entries }
+{
+    let mut items = Vec::with_capacity(alloc, commitments.len())?;
+    for (index, commitment) in commitments {
+        items.push((*index, *commitment))?;
+    }
+    Ok(items)
+}
