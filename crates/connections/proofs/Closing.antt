@@ -9,10 +9,11 @@ use Rattle.connections.specs.declared.limits.TheConstants.{LAST_MILLISECONDS}
 use Rattle.connections.specs.declared.talk.Talk.{Talk}
 use Rattle.connections.specs.Fairness.{IsNotDue, IsUsed}
 use Rattle.connections.specs.Fitting.{Fits, Has, IsDone, IsIdleDue, IsJudged, IsStopDue, ending_of, Judged, Keeps, KeepsTalk, Stays}
-use Rattle.connections.specs.Histories.{On, Comes, Opens, Refuses, Ends, Closes, History, Course, Hearing, clock, course, done_at, of_connections, stage, stopped, taken_at, went_on}
+use Rattle.connections.specs.Histories.{On, Comes, Opens, Refuses, Ends, Closes, History, Course, Hearing, Telling, clock, course, done_at, of_connections, stage, stopped, taken_at, went_on}
 use Rattle.connections.specs.Rounds.{IsUnread}
-use Rattle.connections.specs.Soundness.{Here, IsDue, IsReason}
-use Rattle.connections.proofs.Steps.{here_at, here_of, here_one, here_so, none_left, some_there, stays_both, stays_one, still_unread, went}
+use Rattle.connections.specs.Soundness.{Here, IsDue, IsFaultless, IsNew, IsReason, IsWell}
+use Rattle.connections.specs.Telling.{lost_by}
+use Rattle.connections.proofs.Steps.{here_at, here_of, here_one, here_so, none_left, some_there, stays_both, stays_counted, stays_one, still_unread, went}
 
 -- ---- a place and its history
 
@@ -46,36 +47,46 @@ reason_kept idle acts place of Unsynced reason = reason
 reason_kept idle acts place of Memory reason = reason
 reason_kept idle acts place of Refused reason = reason
 
+pub faultless : (of : Course) → IsWell of → IsFaultless of
+faultless of (opened, fine) = fine
+
 -- what is not due by what is kept is not due
-not_due : (now idle : ℕ) (stop : Option ℕ) (acts : History) (talk : Talk) → clock acts ≡ now → stopped acts ≡ stop → ¬ IsDone talk → ¬ IsIdleDue now idle talk → ¬ IsStopDue now stop talk
-    → (of : Course) → KeepsTalk talk of → IsNotDue idle acts of
-not_due now idle stop acts talk time order not_done not_idle not_stop of keeps = (
-  λ (reason : IsReason idle acts Done of). not_done (
-    sym keeps.end ∙ reason.0,
-    none_left of.read of.heard talk.input.items keeps.input_rest reason.1,
-    none_left of.answered of.taken talk.output.items keeps.output_rest reason.2,
-  ),
-  λ (reason : IsReason idle acts Idle of).
-      let last : of.active ≡ talk.active = keeps.last in
-      let late : of.active + idle ≤ clock acts = reason.1 in
-      not_idle (reason.0, omega arith),
-  λ (reason : IsReason idle acts Stopped of). not_stop (reason.0, sym order ∙ reason.1, told reason.0 reason.2),
-)
+not_due : (now idle : ℕ) (stop : Option ℕ) (acts : History) (talk : Talk) → clock acts ≡ now → stopped acts ≡ stop → (stage acts ≡ Telling false → talk.output.items ≡ []) → ¬ IsDone talk → ¬ IsIdleDue now idle talk
+    → ¬ IsStopDue now stop talk → (of : Course) → KeepsTalk talk of → IsNotDue idle acts of
+not_due now idle stop acts talk time order synced not_done not_idle not_stop of keeps = by_reason
   where
     told : (since : ℕ) → (of.answered ≡ of.taken) ⊎ (since + LAST_MILLISECONDS ≤ clock acts) → (talk.output.items ≡ []) ⊎ (since + LAST_MILLISECONDS ≤ now)
     told since (inl all) = inl (none_left of.answered of.taken talk.output.items keeps.output_rest all)
     told since (inr late) = inr (let l : since + LAST_MILLISECONDS ≤ clock acts = late in omega arith)
 
+    by_reason : (why : Ending) → ¬ IsReason idle acts why of
+    by_reason Done (fine, over, heard, all) = not_done (
+      sym keeps.end ∙ over,
+      none_left of.read of.heard talk.input.items keeps.input_rest heard,
+      none_left of.answered of.taken talk.output.items keeps.output_rest all,
+    )
+    by_reason Fault failed = false≢true (sym (faultless of keeps.fine).0 ∙ failed)
+    by_reason Idle (fine, may, late) =
+        let last : of.active ≡ talk.active = keeps.last in
+        let l : of.active + idle ≤ clock acts = late in
+        not_idle (may, omega arith)
+    by_reason Stopped (fine, since, is, all) = not_stop (since, sym order ∙ is, told since all)
+    by_reason Unsynced (fine, unsynced, some) =
+        some (keeps.output_rest ∙ ap (λ (t : List ℕ). of.taken ++ t) (synced unsynced) ∙ append-nil of.taken)
+    by_reason Memory wanting = false≢true (sym (faultless of keeps.fine).1 ∙ wanting)
+    by_reason Refused refused = false≢true (sym (faultless of keeps.fine).2 ∙ refused)
+
 -- the reasons of a connection that goes on well are reasons
-pub judged : (now idle : ℕ) (stop : Option ℕ) (acts : History) (place : ℕ) (talk : Talk) (result : Result ℕ Ending) → clock acts ≡ now → stopped acts ≡ stop
+pub judged : (now idle : ℕ) (stop : Option ℕ) (acts : History) (place : ℕ) (talk : Talk) (result : Result ℕ Ending) → clock acts ≡ now → stopped acts ≡ stop → (stage acts ≡ Telling false → talk.output.items ≡ [])
     → Here (course acts place) (KeepsTalk talk) → IsJudged now idle stop talk result
     → Judged idle acts place result talk × IfOk result (λ most. Here (course acts place) (IsNotDue idle acts))
-judged now idle stop acts place talk (Ok most) time order here is = (here, here_so (course acts place) (KeepsTalk talk) (IsNotDue idle acts) (not_due now idle stop acts talk time order is.0 is.1 is.2) here)
-judged now idle stop acts place talk (Err Done) time order here is = (
+judged now idle stop acts place talk (Ok most) time order synced here is = (here, here_so (course acts place) (KeepsTalk talk) (IsNotDue idle acts) (not_due now idle stop acts talk time order synced is.0 is.1 is.2) here)
+judged now idle stop acts place talk (Err Done) time order synced here is = (
   here_so (course acts place) (KeepsTalk talk) (λ (of : Course). (of.is_open ≡ true) × IsReason idle acts Done of)
       (λ (of : Course) (keeps : KeepsTalk talk of). (
-        keeps.is_open,
+        keeps.fine.0,
         (
+          faultless of keeps.fine,
           keeps.end ∙ is.0,
           keeps.input_rest ∙ ap (λ (t : List ℕ). of.heard ++ t) is.1 ∙ append-nil of.heard,
           keeps.output_rest ∙ ap (λ (t : List ℕ). of.taken ++ t) is.2 ∙ append-nil of.taken,
@@ -83,15 +94,15 @@ judged now idle stop acts place talk (Err Done) time order here is = (
       )) here,
   tt,
 )
-judged now idle stop acts place talk (Err Fault) time order here is = absurd is
-judged now idle stop acts place talk (Err Idle) time order here is = (
+judged now idle stop acts place talk (Err Fault) time order synced here is = absurd is
+judged now idle stop acts place talk (Err Idle) time order synced here is = (
   here_so (course acts place) (KeepsTalk talk) (λ (of : Course). (of.is_open ≡ true) × IsReason idle acts Idle of)
-      (λ (of : Course) (keeps : KeepsTalk talk of). (keeps.is_open, (is.0, rw (keeps.last, time) is.1))) here,
+      (λ (of : Course) (keeps : KeepsTalk talk of). (keeps.fine.0, (faultless of keeps.fine, is.0, rw (keeps.last, time) is.1))) here,
   tt,
 )
-judged now idle stop acts place talk (Err Stopped) time order here is = (
+judged now idle stop acts place talk (Err Stopped) time order synced here is = (
   here_so (course acts place) (KeepsTalk talk) (λ (of : Course). (of.is_open ≡ true) × IsReason idle acts Stopped of)
-      (λ (of : Course) (keeps : KeepsTalk talk of). (keeps.is_open, (is.0, order ∙ is.1, told of keeps is.2))) here,
+      (λ (of : Course) (keeps : KeepsTalk talk of). (keeps.fine.0, (faultless of keeps.fine, is.0, order ∙ is.1, told of keeps is.2))) here,
   tt,
 )
   where
@@ -99,9 +110,9 @@ judged now idle stop acts place talk (Err Stopped) time order here is = (
         → (of.answered ≡ of.taken) ⊎ (is.0 + LAST_MILLISECONDS ≤ clock acts)
     told of keeps (inl none) = inl (keeps.output_rest ∙ ap (λ (t : List ℕ). of.taken ++ t) none ∙ append-nil of.taken)
     told of keeps (inr late) = inr (rw time late)
-judged now idle stop acts place talk (Err Unsynced) time order here is = absurd is
-judged now idle stop acts place talk (Err Memory) time order here is = absurd is
-judged now idle stop acts place talk (Err Refused) time order here is = absurd is
+judged now idle stop acts place talk (Err Unsynced) time order synced here is = absurd is
+judged now idle stop acts place talk (Err Memory) time order synced here is = absurd is
+judged now idle stop acts place talk (Err Refused) time order synced here is = absurd is
 
 opening_reason : (idle : ℕ) (acts : History) (place now : ℕ) (fault : SessionFault) (of : Course) → went_on (Refuses fault) now (taken_at now) ≡ Some of → (of.is_open ≡ false) × IsReason idle acts (ending_of fault) of
 opening_reason idle acts place now session.Memory of is = subst (λ (there : Option Course). Here there (λ of. (of.is_open ≡ false) × (of.is_wanting ≡ true))) is (refl, refl)
@@ -112,14 +123,14 @@ gone_on : (fault : SessionFault) (now : ℕ) → (of : Course) × (went_on (Refu
 gone_on session.Memory now = (_, refl)
 gone_on session.Refused now = (_, refl)
 
-module _ {S : Type 0} (opens : S → ℕ → S → Type 0) (refuses : S → ℕ → SessionFault → Type 0) (hears : S → ℕ → List ℕ → List ℕ → S → Type 0) (wants : S → ℕ → List ℕ → S → Type 0) (ends : S → ℕ → S → Type 0) {C : Type 0} (has : C → History → Type 0) where
+module _ {S : Type 0} (opens : S → ℕ → S → Type 0) (refuses : S → ℕ → SessionFault → Type 0) (hears : S → ℕ → List ℕ → List ℕ → S → Type 0) (misses : S → ℕ → List ℕ → SessionFault → S → Type 0) (ends : S → ℕ → S → Type 0) {C : Type 0} (has : C → History → Type 0) where
   -- ---- the end of a connection
 
   -- a connection is closed, whose session is ended before
   abbrev pub ClosesAt : ℕ → Ending → C → S → C → S → Type 0
-  ClosesAt place why connections old connections_new new = (idle : ℕ) (start : S) (acts : History) → Has opens refuses hears wants ends has idle start connections old acts
+  ClosesAt place why connections old connections_new new = (idle : ℕ) (start : S) (acts : History) → Has opens refuses hears misses ends has idle start connections old acts
       → Here (course acts place) (λ of. (of.is_open ≡ true) × IsReason idle acts why of)
-      → (after : History) × Stays place 0 acts after × Has opens refuses hears wants ends has idle start connections_new new after × (course after place ≡ None)
+      → (after : History) × Stays place 0 0 (lost_by why) acts after × Has opens refuses hears misses ends has idle start connections_new new after × (course after place ≡ None)
 
   pub closed : (place : ℕ) (why : Ending) (connections connections_new : C) (old new : S) → ends old place new
       → ((acts : History) → has connections acts → has connections_new (On place (Closes why) ∷ acts)) → ClosesAt place why connections old connections_new new
@@ -133,47 +144,49 @@ module _ {S : Type 0} (opens : S → ℕ → S → Type 0) (refuses : S → ℕ 
       let due_close : IsDue idle once (Closes why) (course once place) =
       here_at (course once place) shut (λ (of : Course). (of.is_open ≡ false) × IsReason idle once why of) there (refl, reason_kept idle acts place of why found.2.1) in (
         On place (Closes why) ∷ once,
-        stays_both place 0 0 acts once (On place (Closes why) ∷ once) (stays_one place Ends acts) (stays_one place (Closes why) once),
+        stays_both place 0 0 0 0 (lost_by why) acts once (On place (Closes why) ∷ once) (stays_one place Ends acts) (stays_one place (Closes why) once),
         (step (of_connections acts) known.0, (old, known.1, ended), ((due_close, λ so. absurd (false≢true so)), ((due_end, λ so. absurd (false≢true so)), known.2))),
         went place (Closes why) once shut there,
       )
 
   -- ---- the beginning of one
 
-  module _ (idle : ℕ) (start : S) (acts : History) (place : ℕ) (connections connections_taken : C) (old : S) (known : Has opens refuses hears wants ends has idle start connections old acts)
+  module _ (idle : ℕ) (start : S) (acts : History) (place : ℕ) (connections connections_taken : C) (old : S) (known : Has opens refuses hears misses ends has idle start connections old acts)
       (hearing : stage acts ≡ Hearing) (goes : stopped acts ≡ None) (free : course acts place ≡ None) (unread : IsUnread place acts)
       (step : has connections (of_connections acts) → has connections_taken (On place Comes ∷ of_connections acts)) where
     there : course (On place Comes ∷ acts) place ≡ Some (taken_at (clock acts))
     there = here_one place Comes acts ∙ ap (done_at Comes (clock acts)) free
 
-    pub opened : (now : ℕ) → clock acts ≡ now → (new : S) → opens old place new
-        → (after : History) × Stays place 1 acts after × Has opens refuses hears wants ends has idle start connections_taken new after × Here (course after place) (Keeps [] [] now false) × IsUsed after place × IsUnread place after
-    opened now time new does =
+    pub opened : (now wanting : ℕ) → clock acts ≡ now → (new : S) → opens old place new
+        → (after : History) × Stays place 1 wanting wanting acts after × Has opens refuses hears misses ends has idle start connections_taken new after × Here (course after place) (Keeps [] [] now false) × IsUsed after place × IsUnread place after
+    opened now wanting time new does =
         let due : IsDue idle (On place Comes ∷ acts) Opens (course (On place Comes ∷ acts) place) =
-        here_at (course (On place Comes ∷ acts) place) (taken_at (clock acts)) (λ (of : Course). (of.is_open ≡ false) × (of.read ≡ [])) there (refl, refl) in (
+        here_at (course (On place Comes ∷ acts) place) (taken_at (clock acts)) IsNew there refl in (
           On place Opens ∷ On place Comes ∷ acts,
-          stays_both place 1 0 acts (On place Comes ∷ acts) (On place Opens ∷ On place Comes ∷ acts) (stays_one place Comes acts) (stays_one place Opens (On place Comes ∷ acts)),
+          stays_counted place 1 0 wanting wanting acts (On place Opens ∷ On place Comes ∷ acts) (omega arith)
+              (stays_both place 1 0 0 0 0 acts (On place Comes ∷ acts) (On place Opens ∷ On place Comes ∷ acts) (stays_one place Comes acts) (stays_one place Opens (On place Comes ∷ acts))),
           (step known.0, (old, known.1, does), ((due, λ so. absurd (false≢true so)), (((free, hearing, goes), λ so. absurd (false≢true so)), known.2))),
           here_at (course (On place Opens ∷ On place Comes ∷ acts) place) (record (taken_at (clock acts)) { is_open = true }) (Keeps [] [] now false) (went place Opens (On place Comes ∷ acts) (taken_at (clock acts)) there)
-              (record { is_open = refl; input_rest = refl; output_rest = refl; last = time; end = refl; fine = refl }),
+              (record { fine = (refl, (refl, refl, refl)); input_rest = refl; output_rest = refl; last = time; end = refl }),
           inl (λ (none : course (On place Opens ∷ On place Comes ∷ acts) place ≡ None). some_there _ (sym (went place Opens (On place Comes ∷ acts) (taken_at (clock acts)) there) ∙ none)),
           still_unread place Opens (On place Comes ∷ acts) refl (still_unread place Comes acts refl unread),
         )
 
-    pub refused : (fault : SessionFault) → refuses old place fault → (connections_new : C) → ((acts : History) → has connections_taken acts → has connections_new (On place (Closes (ending_of fault)) ∷ acts))
-        → (after : History) × Stays place 1 acts after × Has opens refuses hears wants ends has idle start connections_new old after × (course after place ≡ None) × IsUsed after place × IsUnread place after
-    refused fault refuses connections_new close =
+    pub refused : (fault : SessionFault) (wanting wanting_new : ℕ) → wanting_new ≡ wanting + lost_by (ending_of fault) → refuses old place fault → (connections_new : C) → ((acts : History) → has connections_taken acts → has connections_new (On place (Closes (ending_of fault)) ∷ acts))
+        → (after : History) × Stays place 1 wanting wanting_new acts after × Has opens refuses hears misses ends has idle start connections_new old after × (course after place ≡ None) × IsUsed after place × IsUnread place after
+    refused fault wanting wanting_new more refuses connections_new close =
         let came : History = On place Comes ∷ acts in
         let shut : History = On place (Refuses fault) ∷ came in
         let why : Ending = ending_of fault in
         let due : IsDue idle came (Refuses fault) (course came place) =
-        here_at (course came place) (taken_at (clock acts)) (λ (of : Course). (of.is_open ≡ false) × (of.read ≡ [])) there (refl, refl) in
+        here_at (course came place) (taken_at (clock acts)) IsNew there refl in
         let on = gone_on fault (clock acts) in
         let is : course shut place ≡ Some on.0 = went place (Refuses fault) came (taken_at (clock acts)) there ∙ on.1 in
         let due_close : IsDue idle shut (Closes why) (course shut place) =
         here_at (course shut place) on.0 (λ (of : Course). (of.is_open ≡ false) × IsReason idle shut why of) is (opening_reason idle shut place (clock acts) fault on.0 on.1) in (
           On place (Closes why) ∷ shut,
-          stays_both place 1 0 acts shut (On place (Closes why) ∷ shut) (stays_both place 1 0 acts came shut (stays_one place Comes acts) (stays_one place (Refuses fault) came)) (stays_one place (Closes why) shut),
+          stays_counted place 1 (lost_by why) wanting wanting_new acts (On place (Closes why) ∷ shut) more
+              (stays_both place 1 0 0 0 (lost_by why) acts shut (On place (Closes why) ∷ shut) (stays_both place 1 0 0 0 0 acts came shut (stays_one place Comes acts) (stays_one place (Refuses fault) came)) (stays_one place (Closes why) shut)),
           (close (On place Comes ∷ of_connections acts) (step known.0), (known.1, refuses), ((due_close, λ so. absurd (false≢true so)), ((due, λ so. absurd (false≢true so)), (((free, hearing, goes), λ so. absurd (false≢true so)), known.2)))),
           went place (Closes why) shut on.0 is,
           inr (inl (refl, refl)),

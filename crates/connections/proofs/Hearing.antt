@@ -8,14 +8,20 @@ use Rattle.connections.specs.declared.talk.Talk.{Talk}
 use Rattle.connections.specs.declared.ending.SessionFault.{SessionFault}
 use Rattle.connections.specs.declared.limits.TheConstants.{FULL_OUTPUT}
 use Rattle.connections.specs.Endings.{newcomers}
+use Rattle.connections.specs.Telling.{lost}
 use Rattle.connections.specs.Rounds.{asks, InRound, IsUnread}
 use Rattle.connections.specs.Fitting.{Adds, Attends, GoesOrCloses, Hearkens, HearsFrom, IsOfConnection, Keeps, KeepsTalk, Knows, Stays}
-use Rattle.connections.specs.Histories.{On, Deed, Comes, Opens, Refuses, Reads, IsOver, IsSilent, Hears, Wants, Lacks, Takes, TakesNone, Fails, Ends, Closes, History, Course, Hearing, course, stage, Leads}
+use Rattle.connections.specs.Histories.{On, Deed, Comes, Opens, Refuses, Reads, IsOver, IsSilent, Hears, Misses, Lacks, Takes, TakesNone, Fails, Ends, Closes, History, Course, Hearing, course, stage, Leads}
 use Rattle.connections.specs.Soundness.{Here}
-use Rattle.connections.proofs.Steps.{attended, next_lack, not_read, stays_both, stays_none, stays_one}
+use Rattle.connections.proofs.Steps.{attended, next_lack, not_read, stays_both, stays_counted, stays_none, stays_one}
 
 drops : (n m : ℕ) (bytes : List ℕ) → drop m (drop n bytes) ≡ drop (n + m) bytes
 drops n m bytes = grind (arith, common_steps)
+
+more_few : (n m : ℕ) (bytes : List ℕ) → (1 ≤ n) × (n ≤ length bytes) → (1 ≤ m) × (m ≤ length (drop n bytes)) → (1 ≤ n + m) × (n + m ≤ length bytes)
+more_few n m bytes (some, few) (more, least) =
+    let left : length (drop n bytes) ≡ length bytes - n = grind (arith, common_steps) in
+    (omega arith, omega arith)
 
 -- what is not heard is some
 pub drop_some : (n : ℕ) (bytes : List ℕ) → n ≤ length bytes → n ≢ length bytes → drop n bytes ≢ []
@@ -23,6 +29,11 @@ drop_some n bytes few not none =
     let size : length (drop n bytes) ≡ 0 = ap length none in
     let left : length (drop n bytes) ≡ length bytes - n = grind (arith, common_steps) in
     not (omega arith)
+
+-- what is not all heard waits for room
+pub only_full : {count size output : ℕ} → (count ≡ size) ⊎ (FULL_OUTPUT < output) → count ≢ size → FULL_OUTPUT < output
+only_full (inl all) not = absurd (not all)
+only_full (inr full) not = full
 
 -- nobody comes by what happens to a connection that is there
 none_come : (deed : Deed) → IsOfConnection deed → newcomers deed ≡ 0
@@ -33,70 +44,95 @@ none_come (Reads bytes) is = refl
 none_come IsOver is = refl
 none_come IsSilent is = refl
 none_come (Hears part reply) is = absurd is
-none_come (Wants part) is = absurd is
+none_come (Misses part why) is = absurd is
 none_come Lacks is = absurd is
 none_come (Takes bytes) is = refl
 none_come TakesNone is = refl
 none_come Fails is = refl
 none_come Ends is = absurd is
-none_come (Closes why) is = refl
+none_come (Closes why) is = absurd is
 
-pub stays_adds : (place : ℕ) (acts after : History) → Adds place acts after → Stays place 0 acts after
-stays_adds place acts after (inl same) = subst (Stays place 0 acts) (sym same) (stays_none place acts)
-stays_adds place acts after (inr (deed, is, same)) =
-    subst (Stays place 0 acts) (sym same) (subst (λ (came : ℕ). Stays place came acts (On place deed ∷ acts)) (none_come deed is) (stays_one place deed acts))
+-- nor is one closed
+none_more : (deed : Deed) (wanting : ℕ) → IsOfConnection deed → wanting ≡ wanting + lost deed
+none_more Comes wanting is = absurd is
+none_more Opens wanting is = absurd is
+none_more (Refuses why) wanting is = absurd is
+none_more (Reads bytes) wanting is = omega arith
+none_more IsOver wanting is = omega arith
+none_more IsSilent wanting is = omega arith
+none_more (Hears part reply) wanting is = absurd is
+none_more (Misses part why) wanting is = absurd is
+none_more Lacks wanting is = absurd is
+none_more (Takes bytes) wanting is = omega arith
+none_more TakesNone wanting is = omega arith
+none_more Fails wanting is = omega arith
+none_more Ends wanting is = absurd is
+none_more (Closes why) wanting is = absurd is
+
+pub stays_adds : (place wanting : ℕ) (acts after : History) → Adds place acts after → Stays place 0 wanting wanting acts after
+stays_adds place wanting acts after (inl same) = subst (Stays place 0 wanting wanting acts) (sym same) (stays_none place wanting acts)
+stays_adds place wanting acts after (inr (deed, is, same)) =
+    subst (Stays place 0 wanting wanting acts) (sym same)
+    (subst (λ (came : ℕ). Stays place came wanting wanting acts (On place deed ∷ acts)) (none_come deed is)
+    (stays_counted place (newcomers deed) (lost deed) wanting wanting acts (On place deed ∷ acts) (none_more deed wanting is) (stays_one place deed acts)))
 
 or_full : (over : Bool) (acts : History) (place : ℕ) (output : List ℕ) → (over ≡ true) ⊎ (FULL_OUTPUT < length output) → (over ≡ true) ⊎ InRound asks acts place ⊎ (FULL_OUTPUT < length output)
 or_full over acts place output (inl gone) = inl gone
 or_full over acts place output (inr more) = inr (inr more)
 
-module _ {S : Type 0} (opens : S → ℕ → S → Type 0) (refuses : S → ℕ → SessionFault → Type 0) (hears : S → ℕ → List ℕ → List ℕ → S → Type 0) (wants : S → ℕ → List ℕ → S → Type 0) (ends : S → ℕ → S → Type 0) where
-  pub hearkens_none : (place now : ℕ) (old : S) (talk : Talk) → Hearkens opens refuses hears wants ends {X = Bool} (λ done. done) place now old (KeepsTalk talk) (Ok false) old (λ _. KeepsTalk talk)
-  hearkens_none place now old talk = λ idle start acts held hearing time here. (acts, stays_none place acts, refl, held, here, λ never. absurd (false≢true never))
+module _ {S : Type 0} (opens : S → ℕ → S → Type 0) (refuses : S → ℕ → SessionFault → Type 0) (hears : S → ℕ → List ℕ → List ℕ → S → Type 0) (misses : S → ℕ → List ℕ → SessionFault → S → Type 0) (ends : S → ℕ → S → Type 0) where
+  pub hearkens_none : (place now : ℕ) (old : S) (talk : Talk) → Hearkens opens refuses hears misses ends {X = Bool} (λ done. done) place now old (KeepsTalk talk) (Ok false) old (λ _. KeepsTalk talk)
+  hearkens_none place now old talk = λ idle start acts held hearing time here. (acts, stays_none place 0 acts, refl, held, here, λ never. absurd (false≢true never))
 
   -- a part more is heard
   pub hears_more : (place now : ℕ) (old : S) (input output : List ℕ) (active heard : ℕ) (middle : S) (output_then : List ℕ) (active_then count : ℕ) (new : S) (output_new : List ℕ) (active_new : ℕ)
-      → HearsFrom opens refuses hears wants ends place now old input output active (Ok heard) middle output_then active_then
-      → HearsFrom opens refuses hears wants ends place now middle (drop heard input) output_then active_then (Ok count) new output_new active_new
-      → HearsFrom opens refuses hears wants ends place now old input output active (Ok (heard + count)) new output_new active_new
-  hears_more place now old input output active heard middle output_then active_then count new output_new active_new one two = λ over idle start acts held hearing time here.
-      let a = one over idle start acts held hearing time here in
-      let b = two over idle start a.0 a.3 (a.1.same_stage ∙ hearing) (a.1.same_clock ∙ time) a.4 in
-      (b.0, stays_both place 0 0 acts a.0 b.0 a.1 b.1, b.2 ∙ a.2, b.3, subst (λ (t : List ℕ). Here (course b.0 place) (Keeps t output_new active_new over)) (drops heard count input) b.4, λ so. b.5 refl)
+      → HearsFrom opens refuses hears misses ends place now old input output active (Ok heard) middle output_then active_then
+      → HearsFrom opens refuses hears misses ends place now middle (drop heard input) output_then active_then (Ok count) new output_new active_new
+      → HearsFrom opens refuses hears misses ends place now old input output active (Ok (heard + count)) new output_new active_new
+  hears_more place now old input output active heard middle output_then active_then count new output_new active_new one two = (
+    more_few heard count input one.0 two.0,
+    λ over idle start acts held hearing time here.
+        let a = one.1 over idle start acts held hearing time here in
+        let b = two.1 over idle start a.0 a.3 (a.1.same_stage ∙ hearing) (a.1.same_clock ∙ time) a.4 in
+        (b.0, stays_both place 0 0 0 0 0 acts a.0 b.0 a.1 b.1, b.2 ∙ a.2, b.3, subst (λ (t : List ℕ). Here (course b.0 place) (Keeps t output_new active_new over)) (drops heard count input) b.4, λ so. b.5 refl),
+  )
 
   -- memory is wanting for one more
   pub hears_stop : (place now : ℕ) (old : S) (input output : List ℕ) (active heard : ℕ) (middle : S) (output_then : List ℕ) (active_then : ℕ) (why : Ending) (new : S) (output_new output_last : List ℕ) (active_new active_last : ℕ)
-      → HearsFrom opens refuses hears wants ends place now old input output active (Ok heard) middle output_then active_then
-      → HearsFrom opens refuses hears wants ends place now middle (drop heard input) output_then active_then (Err why) new output_new active_new
-      → HearsFrom opens refuses hears wants ends place now old input output active (Err why) new output_last active_last
-  hears_stop place now old input output active heard middle output_then active_then why new output_new output_last active_new active_last one two = λ over idle start acts held hearing time here.
-      let a = one over idle start acts held hearing time here in
-      let b = two over idle start a.0 a.3 (a.1.same_stage ∙ hearing) (a.1.same_clock ∙ time) a.4 in
-      (b.0, stays_both place 0 0 acts a.0 b.0 a.1 b.1, b.2 ∙ a.2, b.3, b.4, tt)
+      → HearsFrom opens refuses hears misses ends place now old input output active (Ok heard) middle output_then active_then
+      → HearsFrom opens refuses hears misses ends place now middle (drop heard input) output_then active_then (Err why) new output_new active_new
+      → HearsFrom opens refuses hears misses ends place now old input output active (Err why) new output_last active_last
+  hears_stop place now old input output active heard middle output_then active_then why new output_new output_last active_new active_last one two = (
+    tt,
+    λ over idle start acts held hearing time here.
+        let a = one.1 over idle start acts held hearing time here in
+        let b = two.1 over idle start a.0 a.3 (a.1.same_stage ∙ hearing) (a.1.same_clock ∙ time) a.4 in
+        (b.0, stays_both place 0 0 0 0 0 acts a.0 b.0 a.1 b.1, b.2 ∙ a.2, b.3, b.4, tt),
+  )
 
   -- what is heard of what waits, and what then waits
   pub heard_some : {X : Type 0} (test : X → Bool) (done : X) (place now : ℕ) (old : S) (input output : List ℕ) (active : ℕ) (over : Bool) (count : ℕ) (new : S) (rest output_new : List ℕ) (active_new : ℕ)
-      → HearsFrom opens refuses hears wants ends place now old input output active (Ok count) new output_new active_new → rest ≡ drop count input
-      → Hearkens opens refuses hears wants ends {X = X} test place now old (Keeps input output active over) (Ok done) new (λ _. Keeps rest output_new active_new over)
+      → HearsFrom opens refuses hears misses ends place now old input output active (Ok count) new output_new active_new → rest ≡ drop count input
+      → Hearkens opens refuses hears misses ends {X = X} test place now old (Keeps input output active over) (Ok done) new (λ _. Keeps rest output_new active_new over)
   heard_some test done place now old input output active over count new rest output_new active_new one same = λ idle start acts held hearing time here.
-      let a = one over idle start acts held hearing time here in
+      let a = one.1 over idle start acts held hearing time here in
       (a.0, a.1, a.2, a.3, subst (λ (t : List ℕ). Here (course a.0 place) (Keeps t output_new active_new over)) (sym same) a.4, λ so. a.5 refl)
 
   pub heard_stop : {X : Type 0} (test : X → Bool) (why : Ending) (place now : ℕ) (old : S) (input output : List ℕ) (active : ℕ) (over : Bool) (new : S) (output_new : List ℕ) (active_new : ℕ) (Then : X → Course → Type 0)
-      → HearsFrom opens refuses hears wants ends place now old input output active (Err why) new output_new active_new
-      → Hearkens opens refuses hears wants ends {X = X} test place now old (Keeps input output active over) (Err why) new Then
+      → HearsFrom opens refuses hears misses ends place now old input output active (Err why) new output_new active_new
+      → Hearkens opens refuses hears misses ends {X = X} test place now old (Keeps input output active over) (Err why) new Then
   heard_stop test why place now old input output active over new output_new active_new Then one = λ idle start acts held hearing time here.
-      let a = one over idle start acts held hearing time here in (a.0, a.1, a.2, a.3, a.4, tt)
+      let a = one.1 over idle start acts held hearing time here in (a.0, a.1, a.2, a.3, a.4, tt)
 
   -- what is left cannot be kept
   pub heard_lost : {X : Type 0} (test : X → Bool) (place now : ℕ) (old : S) (input output : List ℕ) (active : ℕ) (over : Bool) (count : ℕ) (new : S) (output_new : List ℕ) (active_new : ℕ) (Then : X → Course → Type 0)
-      → HearsFrom opens refuses hears wants ends place now old input output active (Ok count) new output_new active_new → drop count input ≢ []
-      → Hearkens opens refuses hears wants ends {X = X} test place now old (Keeps input output active over) (Err Memory) new Then
-  heard_lost test place now old input output active over count new output_new active_new Then one some = λ idle start acts held hearing time here.
-      let a = one over idle start acts held hearing time here in
-      let next = next_lack idle a.0 place (drop count input) output_new active_new over (a.1.same_stage ∙ hearing) some a.4 in (
+      → HearsFrom opens refuses hears misses ends place now old input output active (Ok count) new output_new active_new → drop count input ≢ [] → FULL_OUTPUT < length output_new
+      → Hearkens opens refuses hears misses ends {X = X} test place now old (Keeps input output active over) (Err Memory) new Then
+  heard_lost test place now old input output active over count new output_new active_new Then one some full = λ idle start acts held hearing time here.
+      let a = one.1 over idle start acts held hearing time here in
+      let next = next_lack idle a.0 place (drop count input) output_new active_new over (a.1.same_stage ∙ hearing) some full a.4 in (
         On place Lacks ∷ a.0,
-        stays_both place 0 0 acts a.0 (On place Lacks ∷ a.0) a.1 (stays_one place Lacks a.0),
+        stays_both place 0 0 0 0 0 acts a.0 (On place Lacks ∷ a.0) a.1 (stays_one place Lacks a.0),
         a.2,
         (a.3.0, (next.0, a.3.1)),
         next.1,
@@ -104,8 +140,8 @@ module _ {S : Type 0} (opens : S → ℕ → S → Type 0) (refuses : S → ℕ 
       )
 
   -- what happens to a connection alone leaves the sessions
-  leads_deed : (start : S) (acts : History) (sessions : S) (place : ℕ) (deed : Deed) → IsOfConnection deed → Leads opens refuses hears wants ends start acts sessions
-      → Leads opens refuses hears wants ends start (On place deed ∷ acts) sessions
+  leads_deed : (start : S) (acts : History) (sessions : S) (place : ℕ) (deed : Deed) → IsOfConnection deed → Leads opens refuses hears misses ends start acts sessions
+      → Leads opens refuses hears misses ends start (On place deed ∷ acts) sessions
   leads_deed start acts sessions place Comes is leads = absurd is
   leads_deed start acts sessions place Opens is leads = absurd is
   leads_deed start acts sessions place (Refuses why) is leads = absurd is
@@ -113,28 +149,28 @@ module _ {S : Type 0} (opens : S → ℕ → S → Type 0) (refuses : S → ℕ 
   leads_deed start acts sessions place IsOver is leads = leads
   leads_deed start acts sessions place IsSilent is leads = leads
   leads_deed start acts sessions place (Hears part reply) is leads = absurd is
-  leads_deed start acts sessions place (Wants part) is leads = absurd is
+  leads_deed start acts sessions place (Misses part why) is leads = absurd is
   leads_deed start acts sessions place Lacks is leads = absurd is
   leads_deed start acts sessions place (Takes bytes) is leads = leads
   leads_deed start acts sessions place TakesNone is leads = leads
   leads_deed start acts sessions place Fails is leads = leads
   leads_deed start acts sessions place Ends is leads = absurd is
-  leads_deed start acts sessions place (Closes why) is leads = leads
+  leads_deed start acts sessions place (Closes why) is leads = absurd is
 
-  pub leads_adds : (start : S) (acts after : History) (sessions : S) (place : ℕ) → Adds place acts after → Leads opens refuses hears wants ends start acts sessions
-      → Leads opens refuses hears wants ends start after sessions
-  leads_adds start acts after sessions place (inl same) leads = subst (λ (h : History). Leads opens refuses hears wants ends start h sessions) (sym same) leads
+  pub leads_adds : (start : S) (acts after : History) (sessions : S) (place : ℕ) → Adds place acts after → Leads opens refuses hears misses ends start acts sessions
+      → Leads opens refuses hears misses ends start after sessions
+  leads_adds start acts after sessions place (inl same) leads = subst (λ (h : History). Leads opens refuses hears misses ends start h sessions) (sym same) leads
   leads_adds start acts after sessions place (inr (deed, is, same)) leads =
-      subst (λ (h : History). Leads opens refuses hears wants ends start h sessions) (sym same) (leads_deed start acts sessions place deed is leads)
+      subst (λ (h : History). Leads opens refuses hears misses ends start h sessions) (sym same) (leads_deed start acts sessions place deed is leads)
 
   module _ {C : Type 0} (has : C → History → Type 0) where
     -- what happened to the session alone
     pub attends_last : (place now : ℕ) (connections : C) (old : S) (talk : Talk) (result : Result Bool Ending) (new : S) (talk_new : Talk)
-        → Hearkens opens refuses hears wants ends {X = Bool} (λ done. done) place now old (KeepsTalk talk) result new (λ _. KeepsTalk talk_new)
+        → Hearkens opens refuses hears misses ends {X = Bool} (λ done. done) place now old (KeepsTalk talk) result new (λ _. KeepsTalk talk_new)
         → IfOk result (λ done. (talk_new.input.items ≡ []) ⊎ (FULL_OUTPUT < length talk_new.output.items))
         → (result ≡ Ok false → talk_new ≡ talk)
         → ¬ ((talk.input.items ≡ []) × (talk.is_over ≡ false) × (length talk.output.items ≤ FULL_OUTPUT))
-        → Attends opens refuses hears wants ends has {X = Bool} Hearing place now connections old talk result connections new talk_new
+        → Attends opens refuses hears misses ends has {X = Bool} Hearing place now connections old talk result connections new talk_new
     attends_last place now connections old talk (Err why) new talk_new two all same busy = λ idle start acts known hearing time unread here.
         let b = two idle start acts (known.1, known.2) hearing time here in
         (b.0, b.1, (subst (has connections) (sym b.2) known.0, b.3.0, b.3.1), b.4, tt)
@@ -167,17 +203,17 @@ module _ {S : Type 0} (opens : S → ℕ → S → Type 0) (refuses : S → ℕ 
     -- what happened to the connection, and then to its session
     pub attends_both : (place now : ℕ) (connections : C) (old : S) (talk : Talk) (connections_new : C) (Kept : Course → Type 0) (new : S) (talk_new : Talk)
         → ReadsFirst place connections talk connections_new (Ok true) Kept
-        → Hearkens opens refuses hears wants ends {X = Unit {0}} (λ _. true) place now old Kept (Ok tt) new (λ _. KeepsTalk talk_new)
+        → Hearkens opens refuses hears misses ends {X = Unit {0}} (λ _. true) place now old Kept (Ok tt) new (λ _. KeepsTalk talk_new)
         → (talk_new.input.items ≡ []) ⊎ (FULL_OUTPUT < length talk_new.output.items)
-        → Attends opens refuses hears wants ends has {X = Bool} Hearing place now connections old talk (Ok true) connections_new new talk_new
+        → Attends opens refuses hears misses ends has {X = Bool} Hearing place now connections old talk (Ok true) connections_new new talk_new
     attends_both place now connections old talk connections_new Kept new talk_new one two all = λ idle start acts known hearing time unread here.
         let a = one idle acts (known.0, known.2) hearing unread here in
-        let stays : Stays place 0 acts a.0 = stays_adds place acts a.0 a.1 in
-        let leads : Leads opens refuses hears wants ends start a.0 old = leads_adds start acts a.0 old place a.1 known.1 in
+        let stays : Stays place 0 0 0 acts a.0 = stays_adds place 0 acts a.0 a.1 in
+        let leads : Leads opens refuses hears misses ends start a.0 old = leads_adds start acts a.0 old place a.1 known.1 in
         let b = two idle start a.0 (leads, a.2.1) (stays.same_stage ∙ hearing) (stays.same_clock ∙ time) a.3 in
         let asked : InRound asks b.0 place = b.1.lasts.turns asks place a.4 in (
           b.0,
-          stays_both place 0 0 acts a.0 b.0 stays b.1,
+          stays_both place 0 0 0 0 0 acts a.0 b.0 stays b.1,
           (subst (has connections_new) (sym b.2) a.2.0, b.3.0, b.3.1),
           b.4,
           attended (course b.0 place) b.0 place talk_new.input.items talk_new.output.items talk_new.active talk_new.is_over all (inr (inl asked)) b.4,
@@ -185,28 +221,28 @@ module _ {S : Type 0} (opens : S → ℕ → S → Type 0) (refuses : S → ℕ 
 
     pub attends_stop : (place now : ℕ) (connections : C) (old : S) (talk : Talk) (connections_new : C) (Kept : Course → Type 0) (why : Ending) (new : S) (talk_new : Talk)
         → ReadsFirst place connections talk connections_new (Ok true) Kept
-        → Hearkens opens refuses hears wants ends {X = Unit {0}} (λ _. true) place now old Kept (Err why) new (λ _. KeepsTalk talk_new)
-        → Attends opens refuses hears wants ends has {X = Bool} Hearing place now connections old talk (Err why) connections_new new talk_new
+        → Hearkens opens refuses hears misses ends {X = Unit {0}} (λ _. true) place now old Kept (Err why) new (λ _. KeepsTalk talk_new)
+        → Attends opens refuses hears misses ends has {X = Bool} Hearing place now connections old talk (Err why) connections_new new talk_new
     attends_stop place now connections old talk connections_new Kept why new talk_new one two = λ idle start acts known hearing time unread here.
         let a = one idle acts (known.0, known.2) hearing unread here in
-        let stays : Stays place 0 acts a.0 = stays_adds place acts a.0 a.1 in
-        let leads : Leads opens refuses hears wants ends start a.0 old = leads_adds start acts a.0 old place a.1 known.1 in
+        let stays : Stays place 0 0 0 acts a.0 = stays_adds place 0 acts a.0 a.1 in
+        let leads : Leads opens refuses hears misses ends start a.0 old = leads_adds start acts a.0 old place a.1 known.1 in
         let b = two idle start a.0 (leads, a.2.1) (stays.same_stage ∙ hearing) (stays.same_clock ∙ time) a.3 in
-        (b.0, stays_both place 0 0 acts a.0 b.0 stays b.1, (subst (has connections_new) (sym b.2) a.2.0, b.3.0, b.3.1), b.4, tt)
+        (b.0, stays_both place 0 0 0 0 0 acts a.0 b.0 stays b.1, (subst (has connections_new) (sym b.2) a.2.0, b.3.0, b.3.1), b.4, tt)
 
     -- only what happened to the connection
     pub attends_first : (place now : ℕ) (connections : C) (old : S) (talk : Talk) (connections_new : C) (result : Result Bool Ending) (talk_new : Talk)
         → ReadsFirst place connections talk connections_new result (KeepsTalk talk_new)
         → IfOk result (λ done. talk_new.input.items ≡ [])
-        → Attends opens refuses hears wants ends has {X = Bool} Hearing place now connections old talk result connections_new old talk_new
+        → Attends opens refuses hears misses ends has {X = Bool} Hearing place now connections old talk result connections_new old talk_new
     attends_first place now connections old talk connections_new (Err why) talk_new one none = λ idle start acts known hearing time unread here.
         let a = one idle acts (known.0, known.2) hearing unread here in
-        (a.0, stays_adds place acts a.0 a.1, (a.2.0, leads_adds start acts a.0 old place a.1 known.1, a.2.1), a.3, tt)
+        (a.0, stays_adds place 0 acts a.0 a.1, (a.2.0, leads_adds start acts a.0 old place a.1 known.1, a.2.1), a.3, tt)
     attends_first place now connections old talk connections_new (Ok done) talk_new one none = λ idle start acts known hearing time unread here.
         let a = one idle acts (known.0, known.2) hearing unread here in
         let asked : InRound asks a.0 place = a.4 in (
           a.0,
-          stays_adds place acts a.0 a.1,
+          stays_adds place 0 acts a.0 a.1,
           (a.2.0, leads_adds start acts a.0 old place a.1 known.1, a.2.1),
           a.3,
           attended (course a.0 place) a.0 place talk_new.input.items talk_new.output.items talk_new.active talk_new.is_over (inl none) (inr (inl asked)) a.3,

@@ -4,7 +4,7 @@ use Rattle.std.proofs.lemmas.Bool.{eqb-true}
 use Rattle.std.specs.Prelude.{◌==◌}
 use Rattle.connections.specs.declared.ending.Ending.TheVariants.{Done}
 use Rattle.connections.specs.declared.ending.SessionFault.TheVariants as fault
-use Rattle.connections.specs.Histories.{At, Ordered, GoesOn, Syncs, NoneWaits, On, Deed, Comes, Opens, Refuses, Reads, IsOver, IsSilent, Hears, Wants, Lacks, Takes, TakesNone, Fails, Ends, Closes, History, Course, clock, course, done_at}
+use Rattle.connections.specs.Histories.{At, Ordered, GoesOn, Syncs, NoneWaits, On, Deed, Comes, Opens, Refuses, Reads, IsOver, IsSilent, Hears, Misses, Lacks, Takes, TakesNone, Fails, Ends, Closes, History, Course, clock, course, done_at}
 use Rattle.connections.specs.Laws.{AreInOrder}
 use Rattle.connections.specs.Soundness.{Here, IsDue, IsHeard, IsSound, IsTold}
 
@@ -23,18 +23,19 @@ stays_in_order idle acts IsOver now (Some of) due order = order
 stays_in_order idle acts IsSilent now None due order = tt
 stays_in_order idle acts IsSilent now (Some of) due order = order
 stays_in_order idle acts (Hears part reply) now None due order = tt
-stays_in_order idle acts (Hears part reply) now (Some of) ((opened, room, fine, some, (rest, split)), hearing) (untold, unheard, told, heard) = (
+stays_in_order idle acts (Hears part reply) now (Some of) ((well, room, some, (rest, split)), hearing) (untold, unheard, told, heard) = (
   untold ++ reply,
   rest,
   ap (λ (t : List ℕ). t ++ reply) told ∙ append_assoc of.taken untold reply,
   split ∙ sym (append_assoc of.heard part rest),
 )
-stays_in_order idle acts (Wants part) now None due order = tt
-stays_in_order idle acts (Wants part) now (Some of) due order = order
+stays_in_order idle acts (Misses part why) now None due order = tt
+stays_in_order idle acts (Misses part fault.Memory) now (Some of) due order = order
+stays_in_order idle acts (Misses part fault.Refused) now (Some of) due order = order
 stays_in_order idle acts Lacks now None due order = tt
 stays_in_order idle acts Lacks now (Some of) due order = order
 stays_in_order idle acts (Takes bytes) now None due order = tt
-stays_in_order idle acts (Takes bytes) now (Some of) (telling, some, (rest, split)) (untold, unheard, told, heard) = (rest, unheard, split ∙ sym (append_assoc of.taken bytes rest), heard)
+stays_in_order idle acts (Takes bytes) now (Some of) (may, telling, some, (rest, split)) (untold, unheard, told, heard) = (rest, unheard, split ∙ sym (append_assoc of.taken bytes rest), heard)
 stays_in_order idle acts TakesNone now None due order = tt
 stays_in_order idle acts TakesNone now (Some of) due order = order
 stays_in_order idle acts Fails now None due order = tt
@@ -62,7 +63,7 @@ in_order idle (On other deed ∷ acts) place sound = at_place idle acts deed oth
 
 whole : (idle : ℕ) (acts : History) (there : Option Course) → IsDue idle acts (Closes Done) there → Here there (λ of. IsHeard of × IsTold of)
 whole idle acts None due = due
-whole idle acts (Some of) (shut, (over, heard, told)) = (heard, told)
+whole idle acts (Some of) (shut, (fine, over, heard, told)) = (heard, told)
 
 pub done_whole : (idle : ℕ) (acts : History) (place : ℕ) → IsSound idle (On place (Closes Done) ∷ acts) → Here (course acts place) (λ of. IsHeard of × IsTold of)
 done_whole idle acts place sound = whole idle acts (course acts place) sound.0.0

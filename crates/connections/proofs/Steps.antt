@@ -2,17 +2,19 @@
 use Rattle.std.proofs.Common.{◌≡◌, ◌≢◌, ℕ, ◌+◌, ◌<◌, ◌≤◌, List, [], ◌∷◌, ◌++◌, ◌⊎◌, length, Bool, true, false, Option, Some, None, Result, Ok, Err, IfOk, refl, sym, ap, ◌∙◌, append_assoc, arith, inl, inr}
 use Rattle.std.proofs.lemmas.Bool.{cases_lt, eq-eqb, eqb-true, false≢true, ne_eqb}
 use Rattle.std.proofs.lemmas.List.{append-nil, length-append}
-use Rattle.std.specs.Prelude.{◌==◌, ⊤}
+use Rattle.std.specs.Prelude.{◌==◌}
 use Rattle.connections.specs.declared.ending.Ending.{Ending}
 use Rattle.connections.specs.declared.ending.SessionFault.TheVariants as fault
 use Rattle.connections.specs.declared.limits.TheConstants.{PIECE_SIZE, FULL_OUTPUT}
 use Rattle.connections.specs.declared.talk.Talk.{Talk}
 use Rattle.connections.specs.Endings.{comers, newcomers}
 use Rattle.connections.specs.Fairness.{IfThere, IsAttended, IsFull, IsNotDue, IsServed, IsUsed}
-use Rattle.connections.specs.Fitting.{Adds, IsOfConnection, Keeps, KeepsTalk, Knows, Lasts, Stays}
-use Rattle.connections.specs.Histories.{NoneWaits, On, Deed, Comes, Opens, Refuses, Reads, IsOver, IsSilent, Hears, Wants, Lacks, Takes, TakesNone, Fails, Ends, Closes, History, Course, Hearing, Telling, clock, course, done_at, if_answered, of_connections, stage, went_on}
+use Rattle.connections.specs.Fitting.{Adds, IsOfConnection, Keeps, KeepsTalk, Knows, Lasts, Stays, ending_of}
+use Rattle.connections.specs.declared.ending.SessionFault.{SessionFault}
+use Rattle.connections.specs.Histories.{NoneWaits, On, Deed, Comes, Opens, Refuses, Reads, IsOver, IsSilent, Hears, Misses, Lacks, Takes, TakesNone, Fails, Ends, Closes, History, Course, Hearing, Telling, clock, course, done_at, if_answered, of_connections, stage, went_on}
+use Rattle.connections.specs.Telling.{losses, lost}
 use Rattle.connections.specs.Rounds.{asks, closes, offers, reads, InRound, IsUnread}
-use Rattle.connections.specs.Soundness.{Here, AreNext, HasRoom, IsDue, IsOnce, MayHear, MayRead}
+use Rattle.connections.specs.Soundness.{Here, AreNext, HasRoom, IsDue, IsOnce, IsReason, IsWell, MayHear, MayRead, MayTake}
 
 -- ---- where a connection is
 
@@ -52,7 +54,8 @@ done_used (Reads bytes) now (Some of) some = inl (some_there _)
 done_used IsOver now (Some of) some = inl (some_there _)
 done_used IsSilent now (Some of) some = inl (some_there _)
 done_used (Hears part reply) now (Some of) some = inl (some_there _)
-done_used (Wants part) now (Some of) some = inl (some_there _)
+done_used (Misses part fault.Memory) now (Some of) some = inl (some_there _)
+done_used (Misses part fault.Refused) now (Some of) some = inl (some_there _)
 done_used Lacks now (Some of) some = inl (some_there _)
 done_used (Takes bytes) now (Some of) some = inl (some_there _)
 done_used TakesNone now (Some of) some = inl (some_there _)
@@ -101,8 +104,8 @@ lasts_both acts between after one two = record {
 }
 
 -- nothing happens at a place, where no connection waits
-pub stays_waits : (place : ℕ) (acts : History) → Stays place 0 acts (NoneWaits ∷ acts)
-stays_waits place acts = record {
+pub stays_waits : (place wanting : ℕ) (acts : History) → Stays place 0 wanting wanting acts (NoneWaits ∷ acts)
+stays_waits place wanting acts = record {
   others = λ other differs. refl;
   same_clock = refl;
   same_stage = refl;
@@ -116,6 +119,7 @@ stays_waits place acts = record {
     fair = λ idle count size fair. fair;
   };
   more_came = omega arith;
+  more_lost = refl;
   unread = λ other differs none. none;
   inside = λ size less inside. inside;
 }
@@ -130,7 +134,7 @@ still_unread place deed acts other none (inl (same, is)) = false≢true (sym oth
 still_unread place deed acts other none (inr found) = none found
 
 -- all others stay
-pub stays_one : (place : ℕ) (deed : Deed) (acts : History) → Stays place (newcomers deed) acts (On place deed ∷ acts)
+pub stays_one : (place : ℕ) (deed : Deed) (acts : History) → Stays place (newcomers deed) 0 (lost deed) acts (On place deed ∷ acts)
 stays_one place deed acts = record {
   others = λ other differs. rw (ne_eqb place other (λ (same : place ≡ other). differs (sym same))) refl;
   same_clock = refl;
@@ -139,6 +143,7 @@ stays_one place deed acts = record {
   same_rounds = refl;
   lasts = lasts_one place deed acts;
   more_came = refl;
+  more_lost = omega arith;
   unread = unread_one place deed acts;
   inside = λ size less inside. (less, inside);
 }
@@ -171,12 +176,11 @@ next_read idle acts place bytes input output active over unread hearing some few
       (here_at (course acts place) of (λ (of : Course). MayRead of × (stage acts ≡ Hearing) × (1 ≤ length bytes) × (length bytes ≤ PIECE_SIZE)) found.1 (may, hearing, some, few), λ so. unread),
       here_at (course (On place (Reads bytes) ∷ acts) place) (record of { read = of.read ++ bytes }) (Keeps bytes output active over) (went place (Reads bytes) acts of found.1)
           (record {
-            is_open = keeps.is_open;
+            fine = keeps.fine;
             input_rest = ap (λ (t : List ℕ). t ++ bytes) may.1;
             output_rest = keeps.output_rest;
             last = keeps.last;
             end = keeps.end;
-            fine = keeps.fine;
           }),
     )
 
@@ -189,12 +193,11 @@ next_over idle acts place input output active over unread hearing here =
       (here_at (course acts place) of (λ (of : Course). MayRead of × (stage acts ≡ Hearing)) found.1 (found.2.1, hearing), λ so. unread),
       here_at (course (On place IsOver ∷ acts) place) (record of { is_over = true }) (Keeps input output active true) (went place IsOver acts of found.1)
           (record {
-            is_open = keeps.is_open;
+            fine = keeps.fine;
             input_rest = keeps.input_rest;
             output_rest = keeps.output_rest;
             last = keeps.last;
             end = refl;
-            fine = keeps.fine;
           }),
     )
 
@@ -207,14 +210,22 @@ next_silent idle acts place input output active over unread hearing here =
       here_at (course (On place IsSilent ∷ acts) place) of (Keeps input output active over) (went place IsSilent acts of found.1) found.2.0,
     )
 
-pub next_fail : (idle : ℕ) (acts : History) (place : ℕ) → Here (course acts place) (λ of. of.is_open ≡ true)
+-- a read fails, where the connection may be read, or a write does, where it may take
+abbrev pub MayFail : History → Course → Type 0
+MayFail acts of = (MayRead of × (stage acts ≡ Hearing)) ⊎ (MayTake of × (stage acts ≡ Telling true))
+
+pub next_fail : (idle : ℕ) (acts : History) (place : ℕ) (input output : List ℕ) (active : ℕ) (over : Bool) → Here (course acts place) (λ of. Keeps input output active over of × MayFail acts of)
     → Next idle acts place Fails (λ of. (of.is_open ≡ true) × (of.has_failed ≡ true))
-next_fail idle acts place here =
-    let found = here_of (course acts place) (λ (of : Course). of.is_open ≡ true) here in
+next_fail idle acts place input output active over here =
+    let found = here_of (course acts place) (λ (of : Course). Keeps input output active over of × MayFail acts of) here in
     let of : Course = found.0 in (
-      (here_at (course acts place) of (λ (of : Course). ⊤) found.1 tt, λ so. absurd (false≢true so)),
-      here_at (course (On place Fails ∷ acts) place) (record of { has_failed = true }) (λ (of : Course). (of.is_open ≡ true) × (of.has_failed ≡ true)) (went place Fails acts of found.1) (found.2, refl),
+      (here_at (course acts place) of (MayFail acts) found.1 found.2.1, λ so. absurd (false≢true so)),
+      here_at (course (On place Fails ∷ acts) place) (record of { has_failed = true }) (λ (of : Course). (of.is_open ≡ true) × (of.has_failed ≡ true)) (went place Fails acts of found.1) (found.2.0.fine.0, refl),
     )
+
+some_bytes : (bytes rest : List ℕ) → 1 ≤ length bytes → bytes ++ rest ≢ []
+some_bytes [] rest some none = absurd (omega arith)
+some_bytes (byte ∷ more) rest some none = cc
 
 pub next_take : (idle : ℕ) (acts : History) (place : ℕ) (bytes rest input output : List ℕ) (active : ℕ) (over : Bool) (now : ℕ) → clock acts ≡ now → stage acts ≡ Telling true → 1 ≤ length bytes → output ≡ bytes ++ rest
     → Here (course acts place) (Keeps input output active over) → Next idle acts place (Takes bytes) (Keeps input rest now over)
@@ -222,16 +233,20 @@ next_take idle acts place bytes rest input output active over now time telling s
     let found = here_of (course acts place) (Keeps input output active over) here in
     let of : Course = found.0 in
     let keeps : Keeps input output active over of = found.2 in
-    let answered : of.answered ≡ of.taken ++ (bytes ++ rest) = keeps.output_rest ∙ ap (λ (t : List ℕ). of.taken ++ t) split in (
-      (here_at (course acts place) of (λ (of : Course). (stage acts ≡ Telling true) × (1 ≤ length bytes) × AreNext bytes of.answered of.taken) found.1 (telling, some, (rest, answered)), λ so. absurd (false≢true so)),
+    let answered : of.answered ≡ of.taken ++ (bytes ++ rest) = keeps.output_rest ∙ ap (λ (t : List ℕ). of.taken ++ t) split in
+    let more : output ≢ [] = λ none. some_bytes bytes rest some (sym split ∙ none) in (
+      (
+        here_at (course acts place) of (λ (of : Course). MayTake of × (stage acts ≡ Telling true) × (1 ≤ length bytes) × AreNext bytes of.answered of.taken) found.1
+            ((keeps.fine, not_told of input output active over more keeps), telling, some, (rest, answered)),
+        λ so. absurd (false≢true so),
+      ),
       here_at (course (On place (Takes bytes) ∷ acts) place) (record of { taken = of.taken ++ bytes; active = clock acts }) (Keeps input rest now over) (went place (Takes bytes) acts of found.1)
           (record {
-            is_open = keeps.is_open;
+            fine = keeps.fine;
             input_rest = keeps.input_rest;
             output_rest = answered ∙ sym (append_assoc of.taken bytes rest);
             last = time;
             end = keeps.end;
-            fine = keeps.fine;
           }),
     )
 
@@ -240,7 +255,7 @@ pub next_take_none : (idle : ℕ) (acts : History) (place : ℕ) (input output :
 next_take_none idle acts place input output active over telling some here =
     let found = here_of (course acts place) (Keeps input output active over) here in
     let of : Course = found.0 in (
-      (here_at (course acts place) of (λ (of : Course). (stage acts ≡ Telling true) × (of.answered ≢ of.taken)) found.1 (telling, not_told of input output active over some found.2), λ so. absurd (false≢true so)),
+      (here_at (course acts place) of (λ (of : Course). MayTake of × (stage acts ≡ Telling true)) found.1 ((found.2.fine, not_told of input output active over some found.2), telling), λ so. absurd (false≢true so)),
       here_at (course (On place TakesNone ∷ acts) place) of (Keeps input output active over) (went place TakesNone acts of found.1) found.2,
     )
 
@@ -279,64 +294,93 @@ next_hear idle acts place part rest reply input output active over hearing some 
     let read : of.read ≡ of.heard ++ (part ++ rest) = keeps.input_rest ∙ ap (λ (t : List ℕ). of.heard ++ t) split in
     let size : length of.answered ≡ length of.taken + length output = ap length keeps.output_rest ∙ length-append of.taken output in
     let room : HasRoom of = omega arith in (
-      (here_at (course acts place) of (λ (of : Course). MayHear of part × (stage acts ≡ Hearing)) found.1 ((keeps.is_open, room, keeps.fine, some, (rest, read)), hearing), λ so. absurd (false≢true so)),
+      (here_at (course acts place) of (λ (of : Course). MayHear of part × (stage acts ≡ Hearing)) found.1 ((keeps.fine, room, some, (rest, read)), hearing), λ so. absurd (false≢true so)),
       here_at (course (On place (Hears part reply) ∷ acts) place) (record of { heard = of.heard ++ part; answered = of.answered ++ reply; active = if_answered reply (clock acts) of.active })
           (Keeps rest (output ++ reply) (if_answered reply (clock acts) active) over) (went place (Hears part reply) acts of found.1)
           (record {
-            is_open = keeps.is_open;
+            fine = keeps.fine;
             input_rest = read ∙ sym (append_assoc of.heard part rest);
             output_rest = ap (λ (t : List ℕ). t ++ reply) keeps.output_rest ∙ append_assoc of.taken output reply;
             last = ap (if_answered reply (clock acts)) keeps.last;
             end = keeps.end;
-            fine = keeps.fine;
           }),
     )
 
-pub next_want : (idle : ℕ) (acts : History) (place : ℕ) (part rest input output : List ℕ) (active : ℕ) (over : Bool) → stage acts ≡ Hearing → 1 ≤ length part → input ≡ part ++ rest
+-- a part that is not heard is a reason to close the connection
+missed : (idle : ℕ) (acts : History) (part : List ℕ) (why : SessionFault) (now : ℕ) (of : Course) → of.is_open ≡ true
+    → (after : Course) × (went_on (Misses part why) now of ≡ Some after) × (after.is_open ≡ true) × IsReason idle acts (ending_of why) after
+missed idle acts part fault.Memory now of opened = (record of { is_wanting = true }, refl, opened, refl)
+missed idle acts part fault.Refused now of opened = (record of { is_refused = true }, refl, opened, refl)
+
+pub next_miss : (idle : ℕ) (acts : History) (place : ℕ) (part rest input output : List ℕ) (active : ℕ) (over : Bool) (why : SessionFault) → stage acts ≡ Hearing → 1 ≤ length part → input ≡ part ++ rest
     → length output ≤ FULL_OUTPUT → Here (course acts place) (Keeps input output active over)
-    → Next idle acts place (Wants part) (λ of. (of.is_open ≡ true) × (of.is_wanting ≡ true))
-next_want idle acts place part rest input output active over hearing some split few here =
+    → Next idle acts place (Misses part why) (λ of. (of.is_open ≡ true) × IsReason idle (On place (Misses part why) ∷ acts) (ending_of why) of)
+next_miss idle acts place part rest input output active over why hearing some split few here =
     let found = here_of (course acts place) (Keeps input output active over) here in
     let of : Course = found.0 in
     let keeps : Keeps input output active over of = found.2 in
     let read : of.read ≡ of.heard ++ (part ++ rest) = keeps.input_rest ∙ ap (λ (t : List ℕ). of.heard ++ t) split in
     let size : length of.answered ≡ length of.taken + length output = ap length keeps.output_rest ∙ length-append of.taken output in
-    let room : HasRoom of = omega arith in (
-      (here_at (course acts place) of (λ (of : Course). MayHear of part × (stage acts ≡ Hearing)) found.1 ((keeps.is_open, room, keeps.fine, some, (rest, read)), hearing), λ so. absurd (false≢true so)),
-      here_at (course (On place (Wants part) ∷ acts) place) (record of { is_wanting = true }) (λ (of : Course). (of.is_open ≡ true) × (of.is_wanting ≡ true)) (went place (Wants part) acts of found.1) (keeps.is_open, refl),
+    let room : HasRoom of = omega arith in
+    let then = missed idle (On place (Misses part why) ∷ acts) part why (clock acts) of keeps.fine.0 in (
+      (here_at (course acts place) of (λ (of : Course). MayHear of part × (stage acts ≡ Hearing)) found.1 ((keeps.fine, room, some, (rest, read)), hearing), λ so. absurd (false≢true so)),
+      here_at (course (On place (Misses part why) ∷ acts) place) then.0 (λ (of : Course). (of.is_open ≡ true) × IsReason idle (On place (Misses part why) ∷ acts) (ending_of why) of)
+          (went place (Misses part why) acts of found.1 ∙ then.1) (then.2, then.3),
     )
 
 -- what waits to be heard cannot be kept
-pub next_lack : (idle : ℕ) (acts : History) (place : ℕ) (input output : List ℕ) (active : ℕ) (over : Bool) → stage acts ≡ Hearing → input ≢ []
+pub next_lack : (idle : ℕ) (acts : History) (place : ℕ) (input output : List ℕ) (active : ℕ) (over : Bool) → stage acts ≡ Hearing → input ≢ [] → FULL_OUTPUT < length output
     → Here (course acts place) (Keeps input output active over) → Next idle acts place Lacks (λ of. (of.is_open ≡ true) × (of.is_wanting ≡ true))
-next_lack idle acts place input output active over hearing some here =
+next_lack idle acts place input output active over hearing some full here =
     let found = here_of (course acts place) (Keeps input output active over) here in
     let of : Course = found.0 in
-    let keeps : Keeps input output active over of = found.2 in (
+    let keeps : Keeps input output active over of = found.2 in
+    let size : length of.answered ≡ length of.taken + length output = ap length keeps.output_rest ∙ length-append of.taken output in
+    let no_room : ¬ HasRoom of = λ (room : length of.answered ≤ length of.taken + FULL_OUTPUT). absurd (omega arith) in (
       (
-        here_at (course acts place) of (λ (of : Course). (of.is_open ≡ true) × (of.read ≢ of.heard) × (stage acts ≡ Hearing)) found.1
-            (keeps.is_open, (λ same. some (none_left of.read of.heard input keeps.input_rest same)), hearing),
+        here_at (course acts place) of (λ (of : Course). IsWell of × (of.read ≢ of.heard) × (¬ HasRoom of) × (stage acts ≡ Hearing)) found.1
+            (keeps.fine, (λ same. some (none_left of.read of.heard input keeps.input_rest same)), no_room, hearing),
         λ so. absurd (false≢true so),
       ),
-      here_at (course (On place Lacks ∷ acts) place) (record of { is_wanting = true }) (λ (of : Course). (of.is_open ≡ true) × (of.is_wanting ≡ true)) (went place Lacks acts of found.1) (keeps.is_open, refl),
+      here_at (course (On place Lacks ∷ acts) place) (record of { is_wanting = true }) (λ (of : Course). (of.is_open ≡ true) × (of.is_wanting ≡ true)) (went place Lacks acts of found.1) (keeps.fine.0, refl),
     )
 
 -- ---- several deeds
 
-pub stays_none : (place : ℕ) (acts : History) → Stays place 0 acts acts
-stays_none place acts = record { others = λ other differs. refl; same_clock = refl; same_stage = refl; same_stop = refl; same_rounds = refl; lasts = lasts_none acts; more_came = omega arith; unread = λ other differs none. none; inside = λ size less inside. inside }
+pub stays_none : (place wanting : ℕ) (acts : History) → Stays place 0 wanting wanting acts acts
+stays_none place wanting acts = record { others = λ other differs. refl; same_clock = refl; same_stage = refl; same_stop = refl; same_rounds = refl; lasts = lasts_none acts; more_came = omega arith; more_lost = refl; unread = λ other differs none. none; inside = λ size less inside. inside }
 
-pub stays_both : (place came more : ℕ) (acts between after : History) → Stays place came acts between → Stays place more between after → Stays place (came + more) acts after
-stays_both place came more acts between after one two = record {
+pub stays_both : (place came more wanting wanting_then wanting_new : ℕ) (acts between after : History) → Stays place came wanting wanting_then acts between → Stays place more wanting_then wanting_new between after
+    → Stays place (came + more) wanting wanting_new acts after
+stays_both place came more wanting wanting_then wanting_new acts between after one two = record {
   others = λ other differs. two.others other differs ∙ one.others other differs;
   same_clock = two.same_clock ∙ one.same_clock;
   same_stage = two.same_stage ∙ one.same_stage;
   same_stop = two.same_stop ∙ one.same_stop;
   same_rounds = two.same_rounds ∙ one.same_rounds;
   lasts = lasts_both acts between after one.lasts two.lasts;
+  more_lost =
+      let a : losses between + wanting ≡ losses acts + wanting_then = one.more_lost in
+      let b : losses after + wanting_then ≡ losses between + wanting_new = two.more_lost in
+      omega arith;
   more_came = let a : comers between ≡ comers acts + came = one.more_came in let b : comers after ≡ comers between + more = two.more_came in omega arith;
   unread = λ other differs none. two.unread other differs (one.unread other differs none);
   inside = λ size less inside. two.inside size less (one.inside size less inside);
+}
+
+-- so many more than were counted
+pub stays_counted : (place came more wanting wanting_new : ℕ) (acts after : History) → wanting_new ≡ wanting + more → Stays place came 0 more acts after → Stays place came wanting wanting_new acts after
+stays_counted place came more wanting wanting_new acts after is stays = record {
+  others = stays.others;
+  same_clock = stays.same_clock;
+  same_stage = stays.same_stage;
+  same_stop = stays.same_stop;
+  same_rounds = stays.same_rounds;
+  lasts = stays.lasts;
+  more_came = stays.more_came;
+  more_lost = let a : losses after + 0 ≡ losses acts + more = stays.more_lost in omega arith;
+  unread = stays.unread;
+  inside = stays.inside;
 }
 
 -- ---- what may be read, and told
@@ -348,8 +392,15 @@ may_read there input output active over none more few here =
     (λ (of : Course) (keeps : Keeps input output active over of).
     let size : length of.answered ≡ length of.taken + length output = ap length keeps.output_rest ∙ length-append of.taken output in
     let room : HasRoom of = omega arith in
-    (keeps, (keeps.is_open, keeps.input_rest ∙ ap (λ (t : List ℕ). of.heard ++ t) none ∙ append-nil of.heard, room, keeps.end ∙ more, keeps.fine)))
+    (keeps, (keeps.fine, keeps.input_rest ∙ ap (λ (t : List ℕ). of.heard ++ t) none ∙ append-nil of.heard, room, keeps.end ∙ more)))
     here
+
+-- output waits, so it may be offered
+pub may_take : (there : Option Course) (input output : List ℕ) (active : ℕ) (over : Bool) → output ≢ [] → Here there (Keeps input output active over)
+    → Here there (λ of. Keeps input output active over of × MayTake of)
+may_take there input output active over some here =
+    here_so there (Keeps input output active over) (λ (of : Course). Keeps input output active over of × MayTake of)
+    (λ (of : Course) (keeps : Keeps input output active over of). (keeps, (keeps.fine, not_told of input output active over some keeps))) here
 
 -- ---- the turn to send
 
@@ -382,6 +433,10 @@ not_read input output false not (inl none) = by_size (cases_lt FULL_OUTPUT (leng
     by_size (inr less) = absurd (not (none, refl, less))
 
 -- ---- the turn to take
+
+-- whether a round was synced
+pub synced_by : (one other : Bool) → Telling one ≡ Telling other → one ≡ other
+synced_by one other same = cc
 
 pub offered : (result : Result Bool Ending) (acts : History) (place : ℕ) (output : List ℕ) → IfOk result (λ done. InRound offers acts place)
     → IfOk result (λ done. (output ≡ []) ⊎ InRound offers acts place)

@@ -3,7 +3,8 @@ use Rattle.std.proofs.Common.{◌≡◌, ◌≢◌, ◌⊎◌, ℕ, zero, suc, �
 use Rattle.std.proofs.lemmas.Bool.{cases_lt, eqb-true, eqb-false}
 use Rattle.std.proofs.lemmas.List.{get_or_past, get_or_read}
 use Rattle.std.specs.Prelude.{◌==◌}
-use Rattle.connections.specs.declared.ending.Ending.TheVariants.{Idle, Stopped}
+use Rattle.connections.specs.declared.ending.Ending.{Ending}
+use Rattle.connections.specs.declared.ending.Ending.TheVariants.{Done, Fault, Idle, Stopped, Unsynced, Memory, Refused}
 use Rattle.connections.specs.declared.ending.SessionFault.{SessionFault}
 use Rattle.connections.specs.declared.limits.TheConstants.{LAST_MILLISECONDS}
 use Rattle.connections.specs.declared.talk.Talk.{Talk}
@@ -13,8 +14,10 @@ use Rattle.connections.specs.Rounds.{asks, offers, InRound, IsUnread}
 use Rattle.connections.specs.Fitting.{AreUnread, Fits, FitAll, Has, HasWholeRounds, MayOrder, Passes, Serves, Stays, Tours, Turns}
 use Rattle.connections.specs.Histories.{At, History, Course, Hearing, Telling, Stage, clock, course, stage, stopped, Leads}
 use Rattle.connections.specs.Soundness.{IsReason, IsTold}
+use Rattle.connections.specs.Telling.{losses, TellsLosses, TellsTimes}
 use Rattle.connections.proofs.Closing.{fits_none, fits_used}
 use Rattle.connections.proofs.Steps.{lasts_both, lasts_none, some_there}
+use Rattle.connections.proofs.Wanting.{tells_times}
 
 -- nothing happened yet
 pub all_free : (places : List (Option Talk)) → ((place : ℕ) → get_or places place None ≡ None) → FitAll places []
@@ -23,9 +26,9 @@ all_free places free = λ place. subst (λ (slot : Option Talk). Fits slot None)
 -- ---- a place that has had its turn
 
 -- all places still fit, of which one has changed
-set_fits : (places : List (Option Talk)) (place : ℕ) (slot : Option Talk) (before after : History) (came : ℕ) → place < length places → Stays place came before after → FitAll places before
+set_fits : (places : List (Option Talk)) (place : ℕ) (slot : Option Talk) (before after : History) (came wanting wanting_new : ℕ) → place < length places → Stays place came wanting wanting_new before after → FitAll places before
     → Fits slot (course after place) → FitAll (set places place slot) after
-set_fits places place slot before after came inside stays fit fits = λ other. by_place other (other == place) refl
+set_fits places place slot before after came wanting wanting_new inside stays fit fits = λ other. by_place other (other == place) refl
   where
     by_place : (other : ℕ) (here : Bool) → (other == place) ≡ here → Fits (get_or (set places place slot) other None) (course after other)
     by_place other true is =
@@ -56,8 +59,8 @@ Served idle place acts = IfThere (course acts place) (IsServed idle acts place)
 abbrev pub Below : (ℕ → History → Type 0) → ℕ → History → Type 0
 Below P size acts = (place : ℕ) → place < size → P place acts
 
-pub more_attended : (place came : ℕ) (before after : History) → Stays place came before after → Below Attended place before → Attended place after → Below Attended (place + 1) after
-more_attended place came before after stays below here =
+pub more_attended : (place came wanting wanting_new : ℕ) (before after : History) → Stays place came wanting wanting_new before after → Below Attended place before → Attended place after → Below Attended (place + 1) after
+more_attended place came wanting wanting_new before after stays below here =
     below_more (λ other. Attended other after) place
     (λ other less. there_stays before after other (IsAttended before other) (IsAttended after other) (stays.others other (λ same. absurd (omega arith))) (on other) (below other less)) here
   where
@@ -66,8 +69,8 @@ more_attended place came before after stays below here =
     on other of (inr (heard, inl gone)) = inr (heard, inl gone)
     on other of (inr (heard, inr found)) = inr (heard, inr (stays.lasts.turns asks other found))
 
-pub more_served : (idle place came : ℕ) (before after : History) → Stays place came before after → Below (Served idle) place before → Served idle place after → Below (Served idle) (place + 1) after
-more_served idle place came before after stays below here =
+pub more_served : (idle place came wanting wanting_new : ℕ) (before after : History) → Stays place came wanting wanting_new before after → Below (Served idle) place before → Served idle place after → Below (Served idle) (place + 1) after
+more_served idle place came wanting wanting_new before after stays below here =
     below_more (λ other. Served idle other after) place
     (λ other less. there_stays before after other (IsServed idle before other) (IsServed idle after other) (stays.others other (λ same. absurd (omega arith))) (on other) (below other less)) here
   where
@@ -75,52 +78,50 @@ more_served idle place came before after stays below here =
     told other of (inl all) = inl all
     told other of (inr found) = inr (stays.lasts.turns offers other found)
 
+    back : (of : Course) (why : Ending) → IsReason idle after why of → IsReason idle before why of
+    back of Done reason = reason
+    back of Fault reason = reason
+    back of Idle (fine, may, late) = (fine, may, subst (λ (now : ℕ). of.active + idle ≤ now) stays.same_clock late)
+    back of Stopped (fine, since, is, all) = (fine, since, sym stays.same_stop ∙ is, subst (λ (now : ℕ). IsTold of ⊎ (since + LAST_MILLISECONDS ≤ now)) stays.same_clock all)
+    back of Unsynced (fine, unsynced, some) = (fine, sym stays.same_stage ∙ unsynced, some)
+    back of Memory reason = reason
+    back of Refused reason = reason
+
     on : (other : ℕ) (of : Course) → IsServed idle before other of → IsServed idle after other of
-    on other of (is, (not_done, not_idle, not_stopped)) = (
-      told other of is,
-      (
-        not_done,
-        λ (reason : IsReason idle after Idle of). not_idle (reason.0, subst (λ (now : ℕ). of.active + idle ≤ now) stays.same_clock reason.1),
-        λ (reason : IsReason idle after Stopped of). not_stopped (
-          reason.0,
-          sym stays.same_stop ∙ reason.1,
-          subst (λ (now : ℕ). IsTold of ⊎ (reason.0 + LAST_MILLISECONDS ≤ now)) stays.same_clock reason.2,
-        ),
-      ),
-    )
+    on other of (is, not_due) = (told other of is, λ why reason. not_due why (back of why reason))
 
 -- what was not asked before, and at this place was not, is not asked
-pub unread_all : (place came : ℕ) (before after : History) → Stays place came before after → AreUnread before → IsUnread place after → AreUnread after
-unread_all place came before after stays unread none = λ other. by_place other (other == place) refl
+pub unread_all : (place came wanting wanting_new : ℕ) (before after : History) → Stays place came wanting wanting_new before after → AreUnread before → IsUnread place after → AreUnread after
+unread_all place came wanting wanting_new before after stays unread none = λ other. by_place other (other == place) refl
   where
     by_place : (other : ℕ) (here : Bool) → (other == place) ≡ here → IsUnread other after
     by_place other true is = subst (λ (n : ℕ). IsUnread n after) (sym (eqb-true other place is)) none
     by_place other false is = stays.unread other (eqb-false other place is) (unread other)
 
-pub more_used : (place came : ℕ) (before after : History) → Stays place came before after → AreUsed place before → IsUsed after place → AreUsed (place + 1) after
-more_used place came before after stays below here = below_more (λ other. IsUsed after other) place (λ other less. stays.lasts.used other (below other less)) here
+pub more_used : (place came wanting wanting_new : ℕ) (before after : History) → Stays place came wanting wanting_new before after → AreUsed place before → IsUsed after place → AreUsed (place + 1) after
+more_used place came wanting wanting_new before after stays below here = below_more (λ other. IsUsed after other) place (λ other less. stays.lasts.used other (below other less)) here
 
 -- the places from one on were not asked
 abbrev pub UnreadFrom : ℕ → History → Type 0
 UnreadFrom place acts = (other : ℕ) → place ≤ other → IsUnread other acts
 
-pub more_heard : (place came : ℕ) (before after : History) → Stays place came before after → Below Attended place before × UnreadFrom place before → Attended place after
+pub more_heard : (place came wanting wanting_new : ℕ) (before after : History) → Stays place came wanting wanting_new before after → Below Attended place before × UnreadFrom place before → Attended place after
     → Below Attended (place + 1) after × UnreadFrom (place + 1) after
-more_heard place came before after stays (below, unread) here =
-    (more_attended place came before after stays below here, λ other past. stays.unread other (λ same. absurd (omega arith)) (unread other (omega arith)))
+more_heard place came wanting wanting_new before after stays (below, unread) here =
+    (more_attended place came wanting wanting_new before after stays below here, λ other past. stays.unread other (λ same. absurd (omega arith)) (unread other (omega arith)))
 
-pub more_taken : (place came : ℕ) (before after : History) → Stays place came before after → AreUsed place before × AreUnread before → IsUsed after place × IsUnread place after
+pub more_taken : (place came wanting wanting_new : ℕ) (before after : History) → Stays place came wanting wanting_new before after → AreUsed place before × AreUnread before → IsUsed after place × IsUnread place after
     → AreUsed (place + 1) after × AreUnread after
-more_taken place came before after stays (below, unread) (used, none) = (more_used place came before after stays below used, unread_all place came before after stays unread none)
+more_taken place came wanting wanting_new before after stays (below, unread) (used, none) = (more_used place came wanting wanting_new before after stays below used, unread_all place came wanting wanting_new before after stays unread none)
 
 -- a place that has a connection is used
 pub used_here : (places : List (Option Talk)) (place : ℕ) (acts : History) → get_or places place None ≢ None → FitAll places acts → AreUsed place acts → AreUsed (place + 1) acts
 used_here places place acts some fit below = below_more (λ other. IsUsed acts other) place below (inl (fits_used (get_or places place None) (course acts place) (fit place) some))
 
 -- the connections of a round are heard, once none more are taken and each had its turn
-pub are_heard : (count size left places : ℕ) (taken heard : History) → Passes places 0 0 taken heard → comers taken + left ≡ most_comers count
+pub are_heard : (count size left places wanting wanting_new : ℕ) (taken heard : History) → Passes places 0 0 wanting wanting_new taken heard → comers taken + left ≡ most_comers count
     → IsStopped taken ⊎ NoneOrdered taken → IsStopped taken ⊎ (left ≡ 0) ⊎ NoneWaited taken ⊎ AreUsed size taken → IsStopped heard ⊎ AreAttended heard → AreHeard count size heard
-are_heard count size left places taken heard passes most asked took turns = (may_come took, may_hear asked turns)
+are_heard count size left places wanting wanting_new taken heard passes most asked took turns = (may_come took, may_hear asked turns)
   where
     may_hear : IsStopped taken ⊎ NoneOrdered taken → IsStopped heard ⊎ AreAttended heard → IsStopped heard ⊎ (NoneOrdered heard × AreAttended heard)
     may_hear asked (inl stop) = inl stop
@@ -137,9 +138,9 @@ are_heard count size left places taken heard passes most asked took turns = (may
     may_come (inr (inr (inr used))) = inr (inr (λ place less. passes.lasts.used place (used place less)))
 
 -- whether to stop stays asked
-pub asked_on : (size left left_new : ℕ) (before after : History) → Passes size left left_new before after → IsStopped before ⊎ NoneOrdered before → IsStopped after ⊎ NoneOrdered after
-asked_on size left left_new before after passes (inl (since, order)) = inl (since, passes.same_stop ∙ order)
-asked_on size left left_new before after passes (inr none) = inr (passes.lasts.none_ordered none)
+pub asked_on : (size left left_new wanting wanting_new : ℕ) (before after : History) → Passes size left left_new wanting wanting_new before after → IsStopped before ⊎ NoneOrdered before → IsStopped after ⊎ NoneOrdered after
+asked_on size left left_new wanting wanting_new before after passes (inl (since, order)) = inl (since, passes.same_stop ∙ order)
+asked_on size left left_new wanting wanting_new before after passes (inr none) = inr (passes.lasts.none_ordered none)
 
 pub telling : (kept : Bool) → Telling kept ≢ Hearing
 telling kept same = cc
@@ -189,18 +190,18 @@ all_there places acts P fit below place = by_size (cases_lt place (length places
         let none : course acts place ≡ None = fits_none (course acts place) (subst (λ (slot : Option Talk). Fits slot (course acts place)) (get_or_past places place None past) (fit place)) in
         subst (λ (there : Option Course). IfThere there (P place)) (sym none) tt
 
-module _ {S : Type 0} (opens : S → ℕ → S → Type 0) (refuses : S → ℕ → SessionFault → Type 0) (hears : S → ℕ → List ℕ → List ℕ → S → Type 0) (wants : S → ℕ → List ℕ → S → Type 0) (ends : S → ℕ → S → Type 0) where
+module _ {S : Type 0} (opens : S → ℕ → S → Type 0) (refuses : S → ℕ → SessionFault → Type 0) (hears : S → ℕ → List ℕ → List ℕ → S → Type 0) (misses : S → ℕ → List ℕ → SessionFault → S → Type 0) (ends : S → ℕ → S → Type 0) where
   -- what is so when a round has begun
   abbrev pub Begun : S → S → History → ℕ → History → Type 0
-  Begun start sessions acts now after = Leads opens refuses hears wants ends start after sessions × (stage after ≡ Hearing) × (clock after ≡ now) × ((place : ℕ) → course after place ≡ course acts place)
+  Begun start sessions acts now after = Leads opens refuses hears misses ends start after sessions × (stage after ≡ Hearing) × (clock after ≡ now) × ((place : ℕ) → course after place ≡ course acts place)
       × (comers after ≡ comers acts) × (rounds after ≡ rounds acts + 1)
       × ((idle count size : ℕ) → IsFair idle count size acts → IsWhole idle acts → ¬ IsFinished count acts → IsFair idle count size after)
-      × AreUnread after × ((size : ℕ) → AreInside size acts → AreInside size after)
+      × AreUnread after × ((size : ℕ) → AreInside size acts → AreInside size after) × (losses after ≡ losses acts)
 
-  pub begun : (start sessions : S) (acts : History) (now : ℕ) (after : History) → MayOrder (At now ∷ acts) after → Leads opens refuses hears wants ends start acts sessions → Begun start sessions acts now after
-  begun start sessions acts now after (inl same) leads = subst (Begun start sessions acts now) (sym same) (leads, refl, refl, λ place. refl, refl, refl, λ idle count size fair whole more. (whole, more, fair), λ place found. found, λ size inside. inside)
-  begun start sessions acts now after (inr (inl same)) leads = subst (Begun start sessions acts now) (sym same) (leads, refl, refl, λ place. refl, refl, refl, λ idle count size fair whole more. (whole, more, fair), λ place found. found, λ size inside. inside)
-  begun start sessions acts now after (inr (inr same)) leads = subst (Begun start sessions acts now) (sym same) (leads, refl, refl, λ place. refl, refl, refl, λ idle count size fair whole more. (whole, more, fair), λ place found. found, λ size inside. inside)
+  pub begun : (start sessions : S) (acts : History) (now : ℕ) (after : History) → MayOrder (At now ∷ acts) after → Leads opens refuses hears misses ends start acts sessions → Begun start sessions acts now after
+  begun start sessions acts now after (inl same) leads = subst (Begun start sessions acts now) (sym same) (leads, refl, refl, λ place. refl, refl, refl, λ idle count size fair whole more. (whole, more, fair), λ place found. found, λ size inside. inside, refl)
+  begun start sessions acts now after (inr (inl same)) leads = subst (Begun start sessions acts now) (sym same) (leads, refl, refl, λ place. refl, refl, refl, λ idle count size fair whole more. (whole, more, fair), λ place found. found, λ size inside. inside, refl)
+  begun start sessions acts now after (inr (inr same)) leads = subst (Begun start sessions acts now) (sym same) (leads, refl, refl, λ place. refl, refl, refl, λ idle count size fair whole more. (whole, more, fair), λ place found. found, λ size inside. inside, refl)
 
   pub fit_begun : (start sessions : S) (acts : History) (now : ℕ) (after : History) (places : List (Option Talk)) → Begun start sessions acts now after → FitAll places acts → FitAll places after
   fit_begun start sessions acts now after places begun fit = λ place. subst (λ (there : Option Course). Fits (get_or places place None) there) (sym (begun.3 place)) (fit place)
@@ -210,19 +211,21 @@ module _ {S : Type 0} (opens : S → ℕ → S → Type 0) (refuses : S → ℕ 
 
     module _ (when : Stage) (idle now : ℕ) (stop : Option ℕ) where
       -- one place more; what was so of the round, and is so of this place, leads to what is then so
-      pub toured : (left middle left_new came place : ℕ) (Ready ReadyThere Before There After : History → Type 0) (connections between connections_new : C) (old new latest : S)
+      pub toured : (left middle left_new came wanting wanting_then wanting_new place : ℕ) (Ready ReadyThere Before There After : History → Type 0) (connections between connections_new : C) (old new latest : S)
           (places places_new : List (Option Talk)) (item slot : Option Talk) → middle ≡ left_new + came → place < length places_new → length places_new ≡ length places → item ≡ get_or places_new place item
-          → ((acts : History) → Before acts → ReadyThere acts) → ((before after : History) → Stays place came before after → Before before → There after → After after)
-          → Tours opens refuses hears wants ends has when idle now stop left middle Ready Before connections old places between new places_new
-          → Serves opens refuses hears wants ends has when idle now stop place came ReadyThere There between new (get_or places_new place item) connections_new latest slot
-          → Tours opens refuses hears wants ends has when idle now stop left left_new Ready After connections old places connections_new latest (set places_new place slot)
-      toured left middle left_new came place Ready ReadyThere Before There After connections between connections_new old new latest places places_new item slot fewer inside same_size is ready leads tours serves =
+          → ((acts : History) → Before acts → ReadyThere acts) → ((before after : History) → Stays place came wanting_then wanting_new before after → Before before → There after → After after)
+          → Tours opens refuses hears misses ends has when idle now stop left middle wanting wanting_then Ready Before connections old places between new places_new
+          → Serves opens refuses hears misses ends has when idle now stop place came wanting_then wanting_new ReadyThere There between new (get_or places_new place item) connections_new latest slot
+          → Tours opens refuses hears misses ends has when idle now stop left left_new wanting wanting_new Ready After connections old places connections_new latest (set places_new place slot)
+      toured left middle left_new came wanting wanting_then wanting_new place Ready ReadyThere Before There After connections between connections_new old new latest places places_new item slot fewer inside same_size is ready leads tours serves =
           λ start acts known at time order is_ready fit.
           let a = tours start acts known at time order is_ready fit in
           let b = serves start a.0 a.2 (a.1.same_stage ∙ at) (a.1.same_clock ∙ time) (a.1.same_stop ∙ order) (ready a.0 a.4)
           (subst (λ (kept : Option Talk). Fits kept (course a.0 place)) (sym (get_or_read places_new place item inside is None) ∙ is) (a.3 place)) in
           let one : comers a.0 + middle ≡ comers acts + left = a.1.fewer_left in
-          let two : comers b.0 ≡ comers a.0 + came = b.1.more_came in (
+          let two : comers b.0 ≡ comers a.0 + came = b.1.more_came in
+          let lost : losses a.0 + wanting ≡ losses acts + wanting_then = a.1.more_lost in
+          let more : losses b.0 + wanting_then ≡ losses a.0 + wanting_new = b.1.more_lost in (
             b.0,
             record {
               same_clock = b.1.same_clock ∙ a.1.same_clock;
@@ -231,27 +234,28 @@ module _ {S : Type 0} (opens : S → ℕ → S → Type 0) (refuses : S → ℕ 
               same_rounds = b.1.same_rounds ∙ a.1.same_rounds;
               lasts = lasts_both acts a.0 b.0 a.1.lasts b.1.lasts;
               fewer_left = omega arith;
+              more_lost = omega arith;
               inside = λ all. b.1.inside (length places) (subst (λ (n : ℕ). place < n) same_size inside) (a.1.inside all);
             },
             b.2,
-            set_fits places_new place slot a.0 b.0 came inside b.1 a.3 b.3,
+            set_fits places_new place slot a.0 b.0 came wanting_then wanting_new inside b.1 a.3 b.3,
             leads a.0 b.0 b.1 a.4 b.4,
           )
 
       -- the same tour, of which less or other things are said
-      pub toured_so : (left left_new : ℕ) (Ready Before After : History → Type 0) (connections connections_new : C) (old new : S) (places places_new : List (Option Talk))
+      pub toured_so : (left left_new wanting wanting_new : ℕ) (Ready Before After : History → Type 0) (connections connections_new : C) (old new : S) (places places_new : List (Option Talk))
           → ((acts : History) → FitAll places_new acts → Before acts → After acts)
-          → Tours opens refuses hears wants ends has when idle now stop left left_new Ready Before connections old places connections_new new places_new
-          → Tours opens refuses hears wants ends has when idle now stop left left_new Ready After connections old places connections_new new places_new
-      toured_so left left_new Ready Before After connections connections_new old new places places_new so tours = λ start acts known at time order ready fit.
+          → Tours opens refuses hears misses ends has when idle now stop left left_new wanting wanting_new Ready Before connections old places connections_new new places_new
+          → Tours opens refuses hears misses ends has when idle now stop left left_new wanting wanting_new Ready After connections old places connections_new new places_new
+      toured_so left left_new wanting wanting_new Ready Before After connections connections_new old new places places_new so tours = λ start acts known at time order ready fit.
           let a = tours start acts known at time order ready fit in (a.0, a.1, a.2, a.3, so a.0 a.3 a.4)
 
       -- no place yet
-      pub toured_none : (left : ℕ) (Ready None_yet : History → Type 0) (connections : C) (old : S) (places : List (Option Talk)) → ((acts : History) → Ready acts → None_yet acts)
-          → Tours opens refuses hears wants ends has when idle now stop left left Ready None_yet connections old places connections old places
-      toured_none left Ready None_yet connections old places so = λ start acts known at time order ready fit. (
+      pub toured_none : (left wanting : ℕ) (Ready None_yet : History → Type 0) (connections : C) (old : S) (places : List (Option Talk)) → ((acts : History) → Ready acts → None_yet acts)
+          → Tours opens refuses hears misses ends has when idle now stop left left wanting wanting Ready None_yet connections old places connections old places
+      toured_none left wanting Ready None_yet connections old places so = λ start acts known at time order ready fit. (
         acts,
-        record { same_clock = refl; same_stage = refl; same_stop = refl; same_rounds = refl; lasts = lasts_none acts; fewer_left = refl; inside = λ all. all },
+        record { same_clock = refl; same_stage = refl; same_stop = refl; same_rounds = refl; lasts = lasts_none acts; fewer_left = refl; more_lost = refl; inside = λ all. all },
         known,
         fit,
         so acts ready,
@@ -259,37 +263,46 @@ module _ {S : Type 0} (opens : S → ℕ → S → Type 0) (refuses : S → ℕ 
 
     -- ---- rounds, one after another
 
-    -- how the loop stands after so many rounds, when so many more connections may be taken
-    abbrev pub Stands : ℕ → ℕ → ℕ → S → C → S → List (Option Talk) → Option ℕ → ℕ → ℕ → Type 0
-    Stands idle count size start connections sessions places stop left turns = (acts : History) × Has opens refuses hears wants ends has idle start connections sessions acts
-        × (stopped acts ≡ stop) × FitAll places acts × (rounds acts ≡ turns) × HasWholeRounds idle count size left acts
+    -- how the loop stands after so many rounds, when so many more connections may be taken, and what it wrote
+    abbrev pub Stands : ℕ → ℕ → ℕ → S → Option (List ℕ) → Option (List ℕ) → C → S → List (Option Talk) → Option ℕ → ℕ → ℕ → Type 0
+    Stands idle count size start written errors connections sessions places stop left turns = (acts : History) × Has opens refuses hears misses ends has idle start connections sessions acts
+        × (stopped acts ≡ stop) × FitAll places acts × (rounds acts ≡ turns) × TellsLosses acts written errors × HasWholeRounds idle count size left acts
 
     -- one round more
-    pub turned : (idle idle_now count size left left_new turns : ℕ) (stop stop_new : Option ℕ) (connections connections_new : C) (sessions new : S) (places places_new : List (Option Talk))
-        → idle_now ≡ idle → length places ≡ size → MayGoOn left stop places → (start : S) → Stands idle count size start connections sessions places stop left turns
-        → Turns opens refuses hears wants ends has idle_now stop left connections sessions places stop_new left_new connections_new new places_new
-        → Stands idle count size start connections_new new places_new stop_new left_new (turns + 1)
-    turned idle idle_now count size left left_new turns stop stop_new connections connections_new sessions new places places_new same_idle same_size goes start (acts, known, order, fit, began, whole) one =
-        let turns_now = subst (λ (i : ℕ). Turns opens refuses hears wants ends has i stop left connections sessions places stop_new left_new connections_new new places_new) same_idle one in
+    pub turned : (idle idle_now count size left left_new turns wanting : ℕ) (stop stop_new : Option ℕ) (connections connections_new : C) (sessions new : S) (places places_new : List (Option Talk))
+        → idle_now ≡ idle → length places ≡ size → MayGoOn left stop places → (start : S) (written errors errors_new : Option (List ℕ)) → Stands idle count size start written errors connections sessions places stop left turns
+        → TellsTimes wanting errors errors_new
+        → Turns opens refuses hears misses ends has idle_now stop left connections sessions places stop_new left_new wanting connections_new new places_new
+        → Stands idle count size start written errors_new connections_new new places_new stop_new left_new (turns + 1)
+    turned idle idle_now count size left left_new turns wanting stop stop_new connections connections_new sessions new places places_new same_idle same_size goes start written errors errors_new (acts, known, order, fit, began, told, whole) lines one =
+        let turns_now = subst (λ (i : ℕ). Turns opens refuses hears misses ends has i stop left connections sessions places stop_new left_new wanting connections_new new places_new) same_idle one in
         let t = turns_now count start acts known order fit (subst (λ (n : ℕ). HasWholeRounds idle count n left acts) (sym same_size) whole)
         (not_finished count left stop acts places order fit whole.0 goes) in
         let round : rounds t.0 ≡ rounds acts + 1 = t.4 in
-        (t.0, t.1, t.2, t.3, round ∙ ap (λ (n : ℕ). n + 1) began, subst (λ (n : ℕ). HasWholeRounds idle count n left_new t.0) same_size t.5)
+        let lost : losses t.0 ≡ losses acts + wanting = t.5 in (
+          t.0,
+          t.1,
+          t.2,
+          t.3,
+          round ∙ ap (λ (n : ℕ). n + 1) began,
+          subst (λ (n : ℕ). TellsTimes n written errors_new) (sym lost) (tells_times (losses acts) wanting written errors errors_new told lines),
+          subst (λ (n : ℕ). HasWholeRounds idle count n left_new t.0) same_size t.6,
+        )
 
     -- what is so when the loop ends
-    abbrev pub EndsWell : ℕ → ℕ → ℕ → S → C → S → Type 0
-    EndsWell idle count size start connections sessions = (acts : History) × Has opens refuses hears wants ends has idle start connections sessions acts × AreWithin count acts × HasEnded count acts
-        × IsFair idle count size acts × IsWhole idle acts × AreInside size acts
+    abbrev pub EndsWell : ℕ → ℕ → ℕ → S → Option (List ℕ) → Option (List ℕ) → C → S → Type 0
+    EndsWell idle count size start written errors connections sessions = (acts : History) × Has opens refuses hears misses ends has idle start connections sessions acts × AreWithin count acts × HasEnded count acts
+        × IsFair idle count size acts × IsWhole idle acts × AreInside size acts × TellsLosses acts written errors
 
     closing : (count left : ℕ) (stop : Option ℕ) (acts : History) → stopped acts ≡ stop → comers acts + left ≡ most_comers count → (left ≡ 0) ⊎ (stop ≢ None) → IsClosing count acts
     closing count left stop acts order most (inl none) = inr (let m : comers acts + left ≡ most_comers count = most in omega arith)
     closing count left None acts order most (inr some) = absurd (some refl)
     closing count left (Some since) acts order most (inr some) = inl (since, order)
 
-    pub ended : (idle count size left turns : ℕ) (stop : Option ℕ) (start : S) (connections : C) (sessions : S) (places : List (Option Talk))
-        → Stands idle count size start connections sessions places stop left turns → (left ≡ 0) ⊎ (stop ≢ None) → ((place : ℕ) → get_or places place None ≡ None)
-        → EndsWell idle count size start connections sessions
-    ended idle count size left turns stop start connections sessions places (acts, known, order, fit, began, whole) closes free = (
+    pub ended : (idle count size left turns : ℕ) (stop : Option ℕ) (start : S) (written errors : Option (List ℕ)) (connections : C) (sessions : S) (places : List (Option Talk))
+        → Stands idle count size start written errors connections sessions places stop left turns → (left ≡ 0) ⊎ (stop ≢ None) → ((place : ℕ) → get_or places place None ≡ None)
+        → EndsWell idle count size start written errors connections sessions
+    ended idle count size left turns stop start written errors connections sessions places (acts, known, order, fit, began, told, whole) closes free = (
       acts,
       known,
       let m : comers acts + left ≡ most_comers count = whole.0 in omega arith,
@@ -297,11 +310,12 @@ module _ {S : Type 0} (opens : S → ℕ → S → Type 0) (refuses : S → ℕ 
       whole.1,
       whole.2,
       whole.3,
+      told,
     )
 
-    pub ended_late : (idle count size left turns : ℕ) (stop : Option ℕ) (start : S) (connections : C) (sessions : S) (places : List (Option Talk))
-        → Stands idle count size start connections sessions places stop left turns → turns ≡ 2 ^ 64 - 1 → EndsWell idle count size start connections sessions
-    ended_late idle count size left turns stop start connections sessions places (acts, known, order, fit, began, whole) last = (
+    pub ended_late : (idle count size left turns : ℕ) (stop : Option ℕ) (start : S) (written errors : Option (List ℕ)) (connections : C) (sessions : S) (places : List (Option Talk))
+        → Stands idle count size start written errors connections sessions places stop left turns → turns ≡ 2 ^ 64 - 1 → EndsWell idle count size start written errors connections sessions
+    ended_late idle count size left turns stop start written errors connections sessions places (acts, known, order, fit, began, told, whole) last = (
       acts,
       known,
       let m : comers acts + left ≡ most_comers count = whole.0 in omega arith,
@@ -309,4 +323,5 @@ module _ {S : Type 0} (opens : S → ℕ → S → Type 0) (refuses : S → ℕ 
       whole.1,
       whole.2,
       whole.3,
+      told,
     )

@@ -1,6 +1,6 @@
 -- When the loop over connections has ended.
 use Rattle.std.specs.Prelude.{◌≡◌, ◌⊎◌, ◌+◌, ◌-◌, ◌^◌, ◌<◌, ◌≤◌, ℕ, zero, suc, [], ◌∷◌, Some, None, ⊤}
-use Rattle.connections.specs.Histories.{At, Ordered, GoesOn, Syncs, NoneWaits, On, Deed, Comes, Opens, Refuses, Reads, IsOver, IsSilent, Hears, Wants, Lacks, Takes, TakesNone, Fails, Ends, Closes, History, course, stopped}
+use Rattle.connections.specs.Histories.{At, Ordered, GoesOn, Syncs, NoneWaits, On, Deed, Comes, Opens, Refuses, Reads, IsOver, IsSilent, Hears, Misses, Lacks, Takes, TakesNone, Fails, Ends, Closes, History, course, stopped}
 
 -- how many connections come by a deed
 abbrev pub newcomers : Deed → ℕ
@@ -11,7 +11,7 @@ newcomers (Reads bytes) = 0
 newcomers IsOver = 0
 newcomers IsSilent = 0
 newcomers (Hears part reply) = 0
-newcomers (Wants part) = 0
+newcomers (Misses part why) = 0
 newcomers Lacks = 0
 newcomers (Takes bytes) = 0
 newcomers TakesNone = 0

@@ -1,6 +1,6 @@
 -- Each round gives each connection its turn.
 use Rattle.std.specs.Prelude.{◌≡◌, ◌≢◌, ◌⊎◌, ◌+◌, ◌<◌, ℕ, [], ◌∷◌, length, true, Option, Some, None, ⊤}
-use Rattle.connections.specs.declared.ending.Ending.TheVariants.{Done, Idle, Stopped}
+use Rattle.connections.specs.declared.ending.Ending.{Ending}
 use Rattle.connections.specs.declared.limits.TheConstants.{FULL_OUTPUT}
 use Rattle.connections.specs.Endings.{IsClosing, IsFinished, IsStopped}
 use Rattle.connections.specs.Histories.{At, Ordered, GoesOn, Syncs, NoneWaits, On, History, Course, Hearing, course, stage}
@@ -44,11 +44,11 @@ IsFull of = length of.taken + FULL_OUTPUT < length of.answered
 abbrev pub IsAttended : History → ℕ → Course → Type 0
 IsAttended acts place of = IsFull of ⊎ (IsHeard of × ((of.is_over ≡ true) ⊎ InRound asks acts place))
 
--- it is not time to close the connection
+-- there is no reason to close the connection
 abbrev pub IsNotDue : ℕ → History → Course → Type 0
-IsNotDue idle acts of = (¬ IsReason idle acts Done of) × (¬ IsReason idle acts Idle of) × (¬ IsReason idle acts Stopped of)
+IsNotDue idle acts of = (why : Ending) → ¬ IsReason idle acts why of
 
--- all that was answered is taken or was offered, and it is not time to close the connection
+-- all that was answered is taken or was offered, and there is no reason to close the connection
 abbrev pub IsServed : ℕ → History → ℕ → Course → Type 0
 IsServed idle acts place of = (IsTold of ⊎ InRound offers acts place) × IsNotDue idle acts of
 

@@ -4,23 +4,23 @@ use Rattle.connections.specs.declared.ending.Ending.{Ending}
 use Rattle.connections.specs.declared.ending.Ending.TheVariants.{Done, Fault, Idle, Stopped, Unsynced, Memory, Refused}
 use Rattle.connections.specs.declared.ending.SessionFault.{SessionFault}
 use Rattle.connections.specs.declared.ending.SessionFault.TheVariants as session
-use Rattle.connections.specs.declared.limits.TheConstants.{LAST_MILLISECONDS}
+use Rattle.connections.specs.declared.limits.TheConstants.{FULL_OUTPUT, LAST_MILLISECONDS}
 use Rattle.connections.specs.declared.places.Places.{Places}
 use Rattle.connections.specs.declared.talk.Talk.{Talk}
 use Rattle.connections.specs.Endings.{AreInside, IsFinished, comers, most_comers, rounds}
 use Rattle.connections.specs.Fairness.{IsAttended, IsFair, IsUsed, IsWhole, NoneOrdered, NoneWaited}
-use Rattle.connections.specs.Histories.{Stage, Hearing, Ordered, GoesOn, On, Deed, Comes, Opens, Refuses, Reads, IsOver, IsSilent, Hears, Wants, Lacks, Takes, TakesNone, Fails, Ends, Closes, History, Course, clock, course, of_connections, stage, stopped, Leads}
+use Rattle.connections.specs.Histories.{Stage, Hearing, Ordered, GoesOn, On, Deed, Comes, Opens, Refuses, Reads, IsOver, IsSilent, Hears, Misses, Lacks, Takes, TakesNone, Fails, Ends, Closes, History, Course, clock, course, of_connections, stage, stopped, Leads}
 use Rattle.connections.specs.Rounds.{asks, InRound, IsUnread}
-use Rattle.connections.specs.Soundness.{Here, IsReason, IsSound}
+use Rattle.connections.specs.Telling.{losses}
+use Rattle.connections.specs.Soundness.{Here, IsReason, IsSound, IsWell}
 
 -- what was read and not heard, what was answered and not taken, and when the connection was last active
 pub record Keeps (input output : List ℕ) (active : ℕ) (over : Bool) (of : Course) : Type 0 where
-  pub is_open : of.is_open ≡ true
+  pub fine : IsWell of
   pub input_rest : of.read ≡ of.heard ++ input
   pub output_rest : of.answered ≡ of.taken ++ output
   pub last : of.active ≡ active
   pub end : of.is_over ≡ over
-  pub fine : of.is_wanting ≡ false
 
 abbrev pub KeepsTalk : Talk → Course → Type 0
 KeepsTalk talk = Keeps talk.input.items talk.output.items talk.active talk.is_over
@@ -40,8 +40,9 @@ pub record Lasts (before after : History) : Type 0 where
   pub used : (place : ℕ) → IsUsed before place → IsUsed after place
   pub fair : (idle count size : ℕ) → IsFair idle count size before → IsFair idle count size after
 
--- what happened meanwhile happened at this place, and so many connections came
-pub record Stays (place came : ℕ) (before after : History) : Type 0 where
+-- what happened meanwhile happened at this place, and so many connections came; so many were counted before that were
+-- closed for want of memory, and so many after
+pub record Stays (place came wanting wanting_new : ℕ) (before after : History) : Type 0 where
   pub others : (other : ℕ) → other ≢ place → course after other ≡ course before other
   pub same_clock : clock after ≡ clock before
   pub same_stage : stage after ≡ stage before
@@ -49,6 +50,7 @@ pub record Stays (place came : ℕ) (before after : History) : Type 0 where
   pub same_rounds : rounds after ≡ rounds before
   pub lasts : Lasts before after
   pub more_came : comers after ≡ comers before + came
+  pub more_lost : losses after + wanting ≡ losses before + wanting_new
   pub unread : (other : ℕ) → other ≢ place → IsUnread other before → IsUnread other after
   pub inside : (size : ℕ) → place < size → AreInside size before → AreInside size after
 
@@ -78,28 +80,30 @@ AreFree places = (place : ℕ) → get_or places.slots.items place None ≡ None
 abbrev pub size_of : Places → ℕ
 size_of places = length places.slots.items
 
--- the round stays where it is, at so many places; so many more connections may be taken before, and so many after
-pub record Passes (size left left_new : ℕ) (before after : History) : Type 0 where
+-- the round stays where it is, at so many places; so many more connections may be taken before, and so many after, and
+-- so many were counted that were closed for want of memory
+pub record Passes (size left left_new wanting wanting_new : ℕ) (before after : History) : Type 0 where
   pub same_clock : clock after ≡ clock before
   pub same_stage : stage after ≡ stage before
   pub same_stop : stopped after ≡ stopped before
   pub same_rounds : rounds after ≡ rounds before
   pub lasts : Lasts before after
   pub fewer_left : comers after + left_new ≡ comers before + left
+  pub more_lost : losses after + wanting ≡ losses before + wanting_new
   pub inside : AreInside size before → AreInside size after
 
 -- a stop may be ordered, or none is so far
 abbrev pub MayOrder : History → History → Type 0
 MayOrder before after = (after ≡ before) ⊎ (after ≡ Ordered ∷ before) ⊎ (after ≡ GoesOn ∷ before)
 
--- why a connection is closed whose session was not opened
+-- why a connection is closed whose session was not opened, or did not hear
 abbrev pub ending_of : SessionFault → Ending
 ending_of session.Memory = Memory
 ending_of session.Refused = Refused
 
 -- ---- one step
 
--- what happens to a connection that is there, and not to its session
+-- what happens to a connection that is there and goes on, and not to its session
 abbrev pub IsOfConnection : Deed → Type 0
 IsOfConnection Comes = ⊥
 IsOfConnection Opens = ⊥
@@ -108,13 +112,13 @@ IsOfConnection (Reads bytes) = ⊤
 IsOfConnection IsOver = ⊤
 IsOfConnection IsSilent = ⊤
 IsOfConnection (Hears part reply) = ⊥
-IsOfConnection (Wants part) = ⊥
+IsOfConnection (Misses part why) = ⊥
 IsOfConnection Lacks = ⊥
 IsOfConnection (Takes bytes) = ⊤
 IsOfConnection TakesNone = ⊤
 IsOfConnection Fails = ⊤
 IsOfConnection Ends = ⊥
-IsOfConnection (Closes why) = ⊤
+IsOfConnection (Closes why) = ⊥
 
 -- at most one such deed more, at this place
 abbrev pub Adds : ℕ → History → History → Type 0
@@ -152,6 +156,10 @@ IsJudged now idle stop talk (Err Unsynced) = ⊥
 IsJudged now idle stop talk (Err Memory) = ⊥
 IsJudged now idle stop talk (Err Refused) = ⊥
 
+-- some bytes wait to be heard, and their answers have room
+abbrev pub MayHearFrom : List ℕ → List ℕ → Type 0
+MayHearFrom input output = (input ≢ []) × (length output ≤ FULL_OUTPUT)
+
 -- the history of connections alone
 abbrev pub Knows : {C : Type 0} → (C → History → Type 0) → ℕ → C → History → Type 0
 Knows has idle connections acts = has connections (of_connections acts) × IsSound idle acts
@@ -162,52 +170,52 @@ HasWholeRounds idle count size left acts = (comers acts + left ≡ most_comers c
 
 -- ---- sessions, and both
 
-module _ {S : Type 0} (opens : S → ℕ → S → Type 0) (refuses : S → ℕ → SessionFault → Type 0) (hears : S → ℕ → List ℕ → List ℕ → S → Type 0) (wants : S → ℕ → List ℕ → S → Type 0) (ends : S → ℕ → S → Type 0) where
+module _ {S : Type 0} (opens : S → ℕ → S → Type 0) (refuses : S → ℕ → SessionFault → Type 0) (hears : S → ℕ → List ℕ → List ℕ → S → Type 0) (misses : S → ℕ → List ℕ → SessionFault → S → Type 0) (ends : S → ℕ → S → Type 0) where
   -- the history leads from these sessions to those, and is sound
   abbrev pub Held : ℕ → S → S → History → Type 0
-  Held idle start sessions acts = Leads opens refuses hears wants ends start acts sessions × IsSound idle acts
+  Held idle start sessions acts = Leads opens refuses hears misses ends start acts sessions × IsSound idle acts
 
   -- what happens to the session of a place while connections are heard, from what is kept of it to what is then kept;
   -- by the test, whether it heard anything
   abbrev pub Hearkens : {X : Type 0} → (X → Bool) → ℕ → ℕ → S → (Course → Type 0) → Result X Ending → S → (X → Course → Type 0) → Type 0
   Hearkens hears_some place now old Kept result new Then = (idle : ℕ) (start : S) (acts : History) → Held idle start old acts → stage acts ≡ Hearing → clock acts ≡ now
       → Here (course acts place) Kept
-      → (after : History) × Stays place 0 acts after × (of_connections after ≡ of_connections acts) × Held idle start new after × GoesOrCloses idle after place result Then
+      → (after : History) × Stays place 0 0 0 acts after × (of_connections after ≡ of_connections acts) × Held idle start new after × GoesOrCloses idle after place result Then
       × IfOk result (λ done. hears_some done ≡ true → InRound asks after place)
 
-  -- the session hears so many bytes of those that wait to be heard
+  -- the session hears so many bytes, at least one, of those that wait to be heard
   abbrev pub HearsFrom : ℕ → ℕ → S → List ℕ → List ℕ → ℕ → Result ℕ Ending → S → List ℕ → ℕ → Type 0
-  HearsFrom place now old input output active result new output_new active_new = (over : Bool) →
-      Hearkens (λ _. true) place now old (Keeps input output active over) result new (λ count. Keeps (drop count input) output_new active_new over)
+  HearsFrom place now old input output active result new output_new active_new = IfOk result (λ count. (1 ≤ count) × (count ≤ length input))
+      × ((over : Bool) → Hearkens (λ _. true) place now old (Keeps input output active over) result new (λ count. Keeps (drop count input) output_new active_new over))
 
   module _ {C : Type 0} (has : C → History → Type 0) where
     -- all that is known of connections and sessions
     abbrev pub Has : ℕ → S → C → S → History → Type 0
-    Has idle start connections sessions acts = has connections (of_connections acts) × Leads opens refuses hears wants ends start acts sessions × IsSound idle acts
+    Has idle start connections sessions acts = has connections (of_connections acts) × Leads opens refuses hears misses ends start acts sessions × IsSound idle acts
 
     -- what happens to a connection and its session, at this stage of a round, and what is then kept
     abbrev pub Attends : {X : Type 0} → Stage → ℕ → ℕ → C → S → Talk → Result X Ending → C → S → Talk → Type 0
     Attends when place now connections old talk result connections_new new talk_new = (idle : ℕ) (start : S) (acts : History) → Has idle start connections old acts
         → stage acts ≡ when → clock acts ≡ now → IsUnread place acts → Here (course acts place) (KeepsTalk talk)
-        → (after : History) × Stays place 0 acts after × Has idle start connections_new new after × Judged idle after place result talk_new
+        → (after : History) × Stays place 0 0 0 acts after × Has idle start connections_new new after × Judged idle after place result talk_new
         × IfOk result (λ done. Here (course after place) (IsAttended after place))
 
     -- what happens at a place at this stage of a round that is ready for it, whatever is there, where so many
-    -- connections come, and what is then kept, and so of the round
-    abbrev pub Serves : Stage → ℕ → ℕ → Option ℕ → ℕ → ℕ → (History → Type 0) → (History → Type 0) → C → S → Option Talk → C → S → Option Talk → Type 0
-    Serves when idle now stop place came Ready Turn connections old slot connections_new new slot_new = (start : S) (acts : History) → Has idle start connections old acts
+    -- connections come, and so many are counted as lost before and after, and what is then kept, and so of the round
+    abbrev pub Serves : Stage → ℕ → ℕ → Option ℕ → ℕ → ℕ → ℕ → ℕ → (History → Type 0) → (History → Type 0) → C → S → Option Talk → C → S → Option Talk → Type 0
+    Serves when idle now stop place came wanting wanting_new Ready Turn connections old slot connections_new new slot_new = (start : S) (acts : History) → Has idle start connections old acts
         → stage acts ≡ when → clock acts ≡ now → stopped acts ≡ stop → Ready acts → Fits slot (course acts place)
-        → (after : History) × Stays place came acts after × Has idle start connections_new new after × Fits slot_new (course after place) × Turn after
+        → (after : History) × Stays place came wanting wanting_new acts after × Has idle start connections_new new after × Fits slot_new (course after place) × Turn after
 
     -- the same at all places; so many more connections may be taken before, and so many after
-    abbrev pub Tours : Stage → ℕ → ℕ → Option ℕ → ℕ → ℕ → (History → Type 0) → (History → Type 0) → C → S → List (Option Talk) → C → S → List (Option Talk) → Type 0
-    Tours when idle now stop left left_new Ready Turn connections old places connections_new new places_new = (start : S) (acts : History) → Has idle start connections old acts
+    abbrev pub Tours : Stage → ℕ → ℕ → Option ℕ → ℕ → ℕ → ℕ → ℕ → (History → Type 0) → (History → Type 0) → C → S → List (Option Talk) → C → S → List (Option Talk) → Type 0
+    Tours when idle now stop left left_new wanting wanting_new Ready Turn connections old places connections_new new places_new = (start : S) (acts : History) → Has idle start connections old acts
         → stage acts ≡ when → clock acts ≡ now → stopped acts ≡ stop → Ready acts → FitAll places acts
-        → (after : History) × Passes (length places) left left_new acts after × Has idle start connections_new new after × FitAll places_new after × Turn after
+        → (after : History) × Passes (length places) left left_new wanting wanting_new acts after × Has idle start connections_new new after × FitAll places_new after × Turn after
 
-    -- one round
-    abbrev pub Turns : ℕ → Option ℕ → ℕ → C → S → List (Option Talk) → Option ℕ → ℕ → C → S → List (Option Talk) → Type 0
-    Turns idle stop left connections old places stop_new left_new connections_new new places_new = (count : ℕ) (start : S) (acts : History) → Has idle start connections old acts
+    -- one round, in which so many connections are closed for want of memory
+    abbrev pub Turns : ℕ → Option ℕ → ℕ → C → S → List (Option Talk) → Option ℕ → ℕ → ℕ → C → S → List (Option Talk) → Type 0
+    Turns idle stop left connections old places stop_new left_new wanting connections_new new places_new = (count : ℕ) (start : S) (acts : History) → Has idle start connections old acts
         → stopped acts ≡ stop → FitAll places acts → HasWholeRounds idle count (length places) left acts → ¬ IsFinished count acts
         → (after : History) × Has idle start connections_new new after × (stopped after ≡ stop_new) × FitAll places_new after
-        × (rounds after ≡ rounds acts + 1) × HasWholeRounds idle count (length places) left_new after
+        × (rounds after ≡ rounds acts + 1) × (losses after ≡ losses acts + wanting) × HasWholeRounds idle count (length places) left_new after

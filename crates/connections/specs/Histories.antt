@@ -20,8 +20,8 @@ pub data Deed : Type 0 where
   IsSilent : Deed
   -- the session hears this part, and is answered so
   Hears : List ℕ → List ℕ → Deed
-  -- memory is wanting for this part
-  Wants : List ℕ → Deed
+  -- the session does not hear this part
+  Misses : List ℕ → SessionFault → Deed
   -- memory is wanting to keep what was read and not heard
   Lacks : Deed
   -- the connection takes these bytes
@@ -64,7 +64,7 @@ pub record Course : Type 0 where
   pub has_failed : Bool
   -- memory was wanting
   pub is_wanting : Bool
-  -- its session was not opened, though memory was not wanting
+  -- its session was not opened, or refused a part
   pub is_refused : Bool
 
 -- a connection that is just taken
@@ -86,7 +86,8 @@ went_on (Reads bytes) now course = Some (record course { read = course.read ++ b
 went_on IsOver now course = Some (record course { is_over = true })
 went_on IsSilent now course = Some course
 went_on (Hears part reply) now course = Some (record course { heard = course.heard ++ part; answered = course.answered ++ reply; active = if_answered reply now course.active })
-went_on (Wants part) now course = Some (record course { is_wanting = true })
+went_on (Misses part Memory) now course = Some (record course { is_wanting = true })
+went_on (Misses part Refused) now course = Some (record course { is_refused = true })
 went_on Lacks now course = Some (record course { is_wanting = true })
 went_on (Takes bytes) now course = Some (record course { taken = course.taken ++ bytes; active = now })
 went_on TakesNone now course = Some course
@@ -104,7 +105,7 @@ done_at (Reads bytes) now None = None
 done_at IsOver now None = None
 done_at IsSilent now None = None
 done_at (Hears part reply) now None = None
-done_at (Wants part) now None = None
+done_at (Misses part why) now None = None
 done_at Lacks now None = None
 done_at (Takes bytes) now None = None
 done_at TakesNone now None = None
@@ -179,7 +180,7 @@ of_connections (On place (Reads bytes) ∷ before) = On place (Reads bytes) ∷ 
 of_connections (On place IsOver ∷ before) = On place IsOver ∷ of_connections before
 of_connections (On place IsSilent ∷ before) = On place IsSilent ∷ of_connections before
 of_connections (On place (Hears part reply) ∷ before) = of_connections before
-of_connections (On place (Wants part) ∷ before) = of_connections before
+of_connections (On place (Misses part why) ∷ before) = of_connections before
 of_connections (On place Lacks ∷ before) = of_connections before
 of_connections (On place (Takes bytes) ∷ before) = On place (Takes bytes) ∷ of_connections before
 of_connections (On place TakesNone ∷ before) = On place TakesNone ∷ of_connections before
@@ -188,7 +189,7 @@ of_connections (On place Ends ∷ before) = of_connections before
 of_connections (On place (Closes why) ∷ before) = On place (Closes why) ∷ of_connections before
 
 -- what happens to sessions leads from these to those
-module _ {S : Type 0} (opens : S → ℕ → S → Type 0) (refuses : S → ℕ → SessionFault → Type 0) (hears : S → ℕ → List ℕ → List ℕ → S → Type 0) (wants : S → ℕ → List ℕ → S → Type 0) (ends : S → ℕ → S → Type 0) where
+module _ {S : Type 0} (opens : S → ℕ → S → Type 0) (refuses : S → ℕ → SessionFault → Type 0) (hears : S → ℕ → List ℕ → List ℕ → S → Type 0) (misses : S → ℕ → List ℕ → SessionFault → S → Type 0) (ends : S → ℕ → S → Type 0) where
   abbrev pub Leads : S → History → S → Type 0
   Leads start [] after = after ≡ start
   Leads start (At now ∷ before) after = Leads start before after
@@ -203,7 +204,7 @@ module _ {S : Type 0} (opens : S → ℕ → S → Type 0) (refuses : S → ℕ 
   Leads start (On place IsOver ∷ before) after = Leads start before after
   Leads start (On place IsSilent ∷ before) after = Leads start before after
   Leads start (On place (Hears part reply) ∷ before) after = (middle : S) × Leads start before middle × hears middle place part reply after
-  Leads start (On place (Wants part) ∷ before) after = (middle : S) × Leads start before middle × wants middle place part after
+  Leads start (On place (Misses part why) ∷ before) after = (middle : S) × Leads start before middle × misses middle place part why after
   Leads start (On place Lacks ∷ before) after = Leads start before after
   Leads start (On place (Takes bytes) ∷ before) after = Leads start before after
   Leads start (On place TakesNone ∷ before) after = Leads start before after

@@ -1,6 +1,6 @@
 -- What happened in a round so far.
 use Rattle.std.specs.Prelude.{◌≡◌, ◌⊎◌, ℕ, [], ◌∷◌, Bool, true, false}
-use Rattle.connections.specs.Histories.{At, Ordered, GoesOn, Syncs, NoneWaits, On, Deed, Comes, Opens, Refuses, Reads, IsOver, IsSilent, Hears, Wants, Lacks, Takes, TakesNone, Fails, Ends, Closes, History}
+use Rattle.connections.specs.Histories.{At, Ordered, GoesOn, Syncs, NoneWaits, On, Deed, Comes, Opens, Refuses, Reads, IsOver, IsSilent, Hears, Misses, Lacks, Takes, TakesNone, Fails, Ends, Closes, History}
 
 -- a connection was asked for what it sends, or its session heard some of it
 abbrev pub asks : Deed → Bool
@@ -11,7 +11,7 @@ asks (Reads bytes) = true
 asks IsOver = true
 asks IsSilent = true
 asks (Hears part reply) = true
-asks (Wants part) = false
+asks (Misses part why) = false
 asks Lacks = false
 asks (Takes bytes) = false
 asks TakesNone = false
@@ -28,7 +28,7 @@ reads (Reads bytes) = true
 reads IsOver = true
 reads IsSilent = true
 reads (Hears part reply) = false
-reads (Wants part) = false
+reads (Misses part why) = false
 reads Lacks = false
 reads (Takes bytes) = false
 reads TakesNone = false
@@ -45,7 +45,7 @@ offers (Reads bytes) = false
 offers IsOver = false
 offers IsSilent = false
 offers (Hears part reply) = false
-offers (Wants part) = false
+offers (Misses part why) = false
 offers Lacks = false
 offers (Takes bytes) = true
 offers TakesNone = true
@@ -62,7 +62,7 @@ closes (Reads bytes) = false
 closes IsOver = false
 closes IsSilent = false
 closes (Hears part reply) = false
-closes (Wants part) = false
+closes (Misses part why) = false
 closes Lacks = false
 closes (Takes bytes) = false
 closes TakesNone = false

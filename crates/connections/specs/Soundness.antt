@@ -3,7 +3,7 @@ use Rattle.std.specs.Prelude.{◌≡◌, ◌≢◌, ◌⊎◌, ◌+◌, ◌≤�
 use Rattle.connections.specs.declared.ending.Ending.{Ending}
 use Rattle.connections.specs.declared.ending.Ending.TheVariants.{Done, Fault, Idle, Stopped, Unsynced, Memory, Refused}
 use Rattle.connections.specs.declared.limits.TheConstants.{PIECE_SIZE, FULL_OUTPUT, LAST_MILLISECONDS}
-use Rattle.connections.specs.Histories.{At, Ordered, GoesOn, Syncs, NoneWaits, On, Deed, Comes, Opens, Refuses, Reads, IsOver, IsSilent, Hears, Wants, Lacks, Takes, TakesNone, Fails, Ends, Closes, History, Course, Hearing, Telling, clock, course, stage, stopped}
+use Rattle.connections.specs.Histories.{At, Ordered, GoesOn, Syncs, NoneWaits, On, Deed, Comes, Opens, Refuses, Reads, IsOver, IsSilent, Hears, Misses, Lacks, Takes, TakesNone, Fails, Ends, Closes, History, Course, Hearing, Telling, clock, course, stage, stopped, taken_at}
 use Rattle.connections.specs.Rounds.{reads, IsUnread}
 
 -- there is a connection, and this is so of it
@@ -27,38 +27,54 @@ HasRoom course = length course.answered ≤ length course.taken + FULL_OUTPUT
 abbrev pub AreNext : List ℕ → List ℕ → List ℕ → Type 0
 AreNext bytes all done = (rest : List ℕ) × (all ≡ done ++ (bytes ++ rest))
 
--- a connection may be read from: nothing that was read waits, its answers leave room, and memory was not wanting
-abbrev pub MayRead : Course → Type 0
-MayRead course = (course.is_open ≡ true) × IsHeard course × HasRoom course × (course.is_over ≡ false) × (course.is_wanting ≡ false)
+-- nothing has come of a connection but that it was taken
+abbrev pub IsNew : Course → Type 0
+IsNew course = course ≡ taken_at course.active
 
--- a session may hear these bytes: they are the next ones, its answers leave room, and memory was not wanting
+-- no read or write failed, memory was not wanting, and the session refused nothing
+abbrev pub IsFaultless : Course → Type 0
+IsFaultless course = (course.has_failed ≡ false) × (course.is_wanting ≡ false) × (course.is_refused ≡ false)
+
+-- a connection goes on
+abbrev pub IsWell : Course → Type 0
+IsWell course = (course.is_open ≡ true) × IsFaultless course
+
+-- a connection may be read from: nothing that was read waits, and its answers leave room
+abbrev pub MayRead : Course → Type 0
+MayRead course = IsWell course × IsHeard course × HasRoom course × (course.is_over ≡ false)
+
+-- a session may hear these bytes: they are the next ones, and its answers leave room
 abbrev pub MayHear : Course → List ℕ → Type 0
-MayHear course part = (course.is_open ≡ true) × HasRoom course × (course.is_wanting ≡ false) × (1 ≤ length part) × AreNext part course.read course.heard
+MayHear course part = IsWell course × HasRoom course × (1 ≤ length part) × AreNext part course.read course.heard
+
+-- a connection may be offered what its session was answered: some of it is not taken
+abbrev pub MayTake : Course → Type 0
+MayTake course = IsWell course × (course.answered ≢ course.taken)
 
 -- why a connection is closed, where a connection may be idle for so long
 abbrev pub IsReason : ℕ → History → Ending → Course → Type 0
-IsReason idle before Done course = (course.is_over ≡ true) × IsHeard course × IsTold course
+IsReason idle before Done course = IsFaultless course × (course.is_over ≡ true) × IsHeard course × IsTold course
 IsReason idle before Fault course = course.has_failed ≡ true
-IsReason idle before Idle course = (1 ≤ idle) × (course.active + idle ≤ clock before)
-IsReason idle before Stopped course = (since : ℕ) × (stopped before ≡ Some since) × (IsTold course ⊎ (since + LAST_MILLISECONDS ≤ clock before))
-IsReason idle before Unsynced course = (stage before ≡ Telling false) × (course.answered ≢ course.taken)
+IsReason idle before Idle course = IsFaultless course × (1 ≤ idle) × (course.active + idle ≤ clock before)
+IsReason idle before Stopped course = IsFaultless course × (since : ℕ) × (stopped before ≡ Some since) × (IsTold course ⊎ (since + LAST_MILLISECONDS ≤ clock before))
+IsReason idle before Unsynced course = IsFaultless course × (stage before ≡ Telling false) × (course.answered ≢ course.taken)
 IsReason idle before Memory course = course.is_wanting ≡ true
 IsReason idle before Refused course = course.is_refused ≡ true
 
 -- this is the time of a deed, at a place with this connection, after what happened
 abbrev pub IsDue : ℕ → History → Deed → Option Course → Type 0
 IsDue idle before Comes there = (there ≡ None) × (stage before ≡ Hearing) × (stopped before ≡ None)
-IsDue idle before Opens there = Here there (λ course. (course.is_open ≡ false) × (course.read ≡ []))
-IsDue idle before (Refuses why) there = Here there (λ course. (course.is_open ≡ false) × (course.read ≡ []))
+IsDue idle before Opens there = Here there IsNew
+IsDue idle before (Refuses why) there = Here there IsNew
 IsDue idle before (Reads bytes) there = Here there (λ course. MayRead course × (stage before ≡ Hearing) × (1 ≤ length bytes) × (length bytes ≤ PIECE_SIZE))
 IsDue idle before IsOver there = Here there (λ course. MayRead course × (stage before ≡ Hearing))
 IsDue idle before IsSilent there = Here there (λ course. MayRead course × (stage before ≡ Hearing))
 IsDue idle before (Hears part reply) there = Here there (λ course. MayHear course part × (stage before ≡ Hearing))
-IsDue idle before (Wants part) there = Here there (λ course. MayHear course part × (stage before ≡ Hearing))
-IsDue idle before Lacks there = Here there (λ course. (course.is_open ≡ true) × (course.read ≢ course.heard) × (stage before ≡ Hearing))
-IsDue idle before (Takes bytes) there = Here there (λ course. (stage before ≡ Telling true) × (1 ≤ length bytes) × AreNext bytes course.answered course.taken)
-IsDue idle before TakesNone there = Here there (λ course. (stage before ≡ Telling true) × (course.answered ≢ course.taken))
-IsDue idle before Fails there = Here there (λ course. ⊤)
+IsDue idle before (Misses part why) there = Here there (λ course. MayHear course part × (stage before ≡ Hearing))
+IsDue idle before Lacks there = Here there (λ course. IsWell course × (course.read ≢ course.heard) × (¬ HasRoom course) × (stage before ≡ Hearing))
+IsDue idle before (Takes bytes) there = Here there (λ course. MayTake course × (stage before ≡ Telling true) × (1 ≤ length bytes) × AreNext bytes course.answered course.taken)
+IsDue idle before TakesNone there = Here there (λ course. MayTake course × (stage before ≡ Telling true))
+IsDue idle before Fails there = Here there (λ course. (MayRead course × (stage before ≡ Hearing)) ⊎ (MayTake course × (stage before ≡ Telling true)))
 IsDue idle before Ends there = Here there (λ course. course.is_open ≡ true)
 IsDue idle before (Closes why) there = Here there (λ course. (course.is_open ≡ false) × IsReason idle before why course)
 

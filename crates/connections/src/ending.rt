@@ -1,3 +1,6 @@
+ghost use Rattle.std.specs.Prelude.{◌≡◌};
+ghost use Rattle.connections.specs.Fitting.{ending_of};
+
 /// Why a connection was closed.
 #[derive(Clone, Copy, Debug, PartialEq, Eq)]
 pub enum Ending {
@@ -13,7 +16,7 @@ pub enum Ending {
     Unsynced,
     /// Memory ran out.
     Memory,
-    /// Its session could not be opened.
+    /// Its session could not be opened, or refused a part.
     Refused,
 }
 
@@ -24,4 +27,14 @@ pub enum SessionFault {
     Memory,
     /// Its number is in use, or too many sessions are open.
     Refused,
+}
+
+/// Why a connection is closed whose session was not opened, or did not hear.
+pub(crate) fn ending_of(fault: SessionFault) -> Ending
+    ensures { result ≡ ending_of fault }
+{
+    match fault {
+        SessionFault::Memory => Ending::Memory,
+        SessionFault::Refused => Ending::Refused,
+    }
 }

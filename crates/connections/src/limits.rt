@@ -14,8 +14,12 @@ pub(crate) const PIECE_SIZE: usize = 4096;
 /// nothing.
 pub(crate) const FULL_OUTPUT: usize = 65536;
 
-/// Of a buffer that is emptied, room for so many bytes is kept for what comes next.
+/// Of an empty buffer, room for so many bytes is kept as long as the connection is open.
 pub(crate) const KEPT_ROOM: usize = 4096;
+
+/// For how many milliseconds a larger room is kept for what comes next: one that is given back and taken anew in
+/// each round costs more than an answer.
+pub(crate) const KEPT_MILLISECONDS: u64 = 1000;
 
 /// For how many milliseconds after an order to stop answers may still be taken.
 pub(crate) const LAST_MILLISECONDS: u64 = 5000;

@@ -1,6 +1,6 @@
 //! All places, one after another, in each part of a round.
 
-ghost use Rattle.std.specs.Prelude.{◌≡◌, ◌⊎◌, ◌↔◌, ℕ, None, IsTrue, IfOk, get_or, length, ⊤};
+ghost use Rattle.std.specs.Prelude.{◌≡◌, ◌⊎◌, ◌↔◌, ◌+◌, ◌^◌, ◌<◌, ◌≤◌, ℕ, None, IsTrue, IfOk, get_or, length, ⊤};
 ghost use Rattle.connections.specs.Fairness.{AreAttended, AreServed, AreUsed, NoneWaited};
 ghost use Rattle.connections.specs.Fitting.{AreFree, AreUnread, Tours, size_of};
 ghost use Rattle.connections.specs.Histories.{Hearing, Telling};
@@ -67,8 +67,10 @@ pub(crate) fn take_all<S: Sessions, C: Connections>(
     left: u64,
     work: &mut Work,
 ) -> u64
-    requires { round.stopped ≡ None }
-    ensures { Tours S.opens S.refuses S.hears S.wants S.ends C.has Hearing round.idle round.now round.stopped left result AreUnread (λ after. ((result ≡ 0) ⊎ NoneWaited after ⊎ AreUsed (length places.old) after) × AreUnread after) connections.old sessions.old places.old connections.new sessions.new places.new }
+    requires goes_on { round.stopped ≡ None }
+    requires few { work.old.wanting + length places.old < 2 ^ 64 }
+    ensures tours { Tours S.opens S.refuses S.hears S.misses S.ends C.has Hearing round.idle round.now round.stopped left result work.old.wanting work.new.wanting AreUnread (λ after. ((result ≡ 0) ⊎ NoneWaited after ⊎ AreUsed (length places.old) after) × AreUnread after) connections.old sessions.old places.old connections.new sessions.new places.new }
+    ensures few { work.new.wanting ≤ work.old.wanting + length places.old }
 {
     let mut left = left;
     for place in 0..places.len() {
@@ -104,7 +106,9 @@ pub(crate) fn hear_all<S: Sessions, C: Connections>(
     room: &mut [u8; PIECE_SIZE],
     work: &mut Work,
 )
-    ensures { Tours S.opens S.refuses S.hears S.wants S.ends C.has Hearing round.idle round.now round.stopped 0 0 AreUnread AreAttended connections.old sessions.old places.old connections.new sessions.new places.new }
+    requires { work.old.wanting + length places.old < 2 ^ 64 }
+    ensures tours { Tours S.opens S.refuses S.hears S.misses S.ends C.has Hearing round.idle round.now round.stopped 0 0 work.old.wanting work.new.wanting AreUnread AreAttended connections.old sessions.old places.old connections.new sessions.new places.new }
+    ensures few { work.new.wanting ≤ work.old.wanting + length places.old }
 {
     for place in 0..places.len() {
         hear_at(
@@ -129,7 +133,7 @@ pub(crate) fn tell_all<S: Sessions, C: Connections>(
     round: Round,
     work: &mut Work,
 )
-    ensures { Tours S.opens S.refuses S.hears S.wants S.ends C.has (Telling round.is_synced) round.idle round.now round.stopped 0 0 (λ _. ⊤) (AreServed round.idle) connections.old sessions.old places.old connections.new sessions.new places.new }
+    ensures { Tours S.opens S.refuses S.hears S.misses S.ends C.has (Telling round.is_synced) round.idle round.now round.stopped 0 0 work.old.wanting work.new.wanting (λ _. ⊤) (AreServed round.idle) connections.old sessions.old places.old connections.new sessions.new places.new }
 {
     for place in 0..places.len() {
         tell_at(

@@ -2,12 +2,12 @@
 //! its disk, and then tells each. A round that did anything is followed by one that does not wait: a place may
 //! have become free, and there may be more to read.
 
-ghost use Rattle.std.specs.Prelude.{◌≡◌, ◌≢◌, ◌⊎◌, ◌↔◌, ℕ, [], ◌∷◌, None, IsTrue, get_or, length};
+ghost use Rattle.std.specs.Prelude.{◌≡◌, ◌≢◌, ◌⊎◌, ◌↔◌, ◌+◌, ◌^◌, ◌<◌, ◌≤◌, ℕ, [], ◌∷◌, None, IsTrue, get_or, length};
 ghost use Rattle.connections.specs.Endings.{AreInside, AreWithin, HasEnded, IsStopped, most_comers};
 ghost use Rattle.connections.specs.Fairness.{AreAttended, AreUsed, IsFair, IsWhole, NoneOrdered, NoneWaited};
 ghost use Rattle.connections.specs.Fitting.{AreFree, AreUnread, Has, Knows, MayOrder, Tours, Turns, size_of};
 ghost use Rattle.connections.specs.Histories.{History, Hearing, clock, stopped};
-ghost use Rattle.connections.specs.Telling.{TellsMemory};
+ghost use Rattle.connections.specs.Telling.{TellsLosses, TellsMemory, TellsTimes};
 
 use crate::connections::Connections;
 use crate::limits::{LONGEST_WAIT, PIECE_SIZE};
@@ -44,7 +44,9 @@ fn take_new<S: Sessions, C: Connections>(
     left: u64,
     work: &mut Work,
 ) -> u64
-    ensures { Tours S.opens S.refuses S.hears S.wants S.ends C.has Hearing round.idle round.now round.stopped left result AreUnread (λ after. (IsStopped after ⊎ (result ≡ 0) ⊎ NoneWaited after ⊎ AreUsed (length places.old) after) × AreUnread after) connections.old sessions.old places.old connections.new sessions.new places.new }
+    requires { work.old.wanting + length places.old < 2 ^ 64 }
+    ensures tours { Tours S.opens S.refuses S.hears S.misses S.ends C.has Hearing round.idle round.now round.stopped left result work.old.wanting work.new.wanting AreUnread (λ after. (IsStopped after ⊎ (result ≡ 0) ⊎ NoneWaited after ⊎ AreUsed (length places.old) after) × AreUnread after) connections.old sessions.old places.old connections.new sessions.new places.new }
+    ensures few { work.new.wanting ≤ work.old.wanting + length places.old }
 {
     if round.stopped.is_some() {
         return left;
@@ -62,7 +64,8 @@ fn hear_new<S: Sessions, C: Connections>(
     room: &mut [u8; PIECE_SIZE],
     work: &mut Work,
 )
-    ensures { Tours S.opens S.refuses S.hears S.wants S.ends C.has Hearing round.idle round.now round.stopped 0 0 AreUnread (λ after. IsStopped after ⊎ AreAttended after) connections.old sessions.old places.old connections.new sessions.new places.new }
+    requires { work.old.wanting + length places.old < 2 ^ 64 }
+    ensures { Tours S.opens S.refuses S.hears S.misses S.ends C.has Hearing round.idle round.now round.stopped 0 0 work.old.wanting work.new.wanting AreUnread (λ after. IsStopped after ⊎ AreAttended after) connections.old sessions.old places.old connections.new sessions.new places.new }
 {
     if round.stopped.is_some() {
         return;
@@ -70,12 +73,12 @@ fn hear_new<S: Sessions, C: Connections>(
     hear_all(alloc, places, sessions, connections, round, room, work);
 }
 
-/// Writes a line for each connection that was closed for want of memory. One that cannot be written is
+/// Writes so many lines about connections that were closed for want of memory. One that cannot be written is
 /// passed over.
 fn tell_wanting<E: Write>(errors: &mut E, wanting: u64)
-    ensures { TellsMemory (E.contents errors.old) (E.contents errors.new) }
+    ensures { TellsTimes wanting (E.contents errors.old) (E.contents errors.new) }
 {
-    for _ in 0..wanting {
+    for _line in 0..wanting {
         let _told = write_text(errors, b"out of memory\n");
     }
 }
@@ -144,7 +147,7 @@ fn turn<S: Sessions, C: Connections>(
     last: State,
     room: &mut [u8; PIECE_SIZE],
 ) -> State
-    ensures turns { Turns S.opens S.refuses S.hears S.wants S.ends C.has last.round.idle last.round.stopped last.left connections.old sessions.old places.old result.round.stopped result.left connections.new sessions.new places.new }
+    ensures turns { Turns S.opens S.refuses S.hears S.misses S.ends C.has last.round.idle last.round.stopped last.left connections.old sessions.old places.old result.round.stopped result.left result.work.wanting connections.new sessions.new places.new }
     ensures same { result.round.idle ≡ last.round.idle }
 {
     let now = connections.wait(last.pause());
@@ -183,8 +186,9 @@ fn turn_all<S: Sessions, C: Connections, E: Write>(
 )
     requires { (place : ℕ) → get_or places.old place None ≡ None }
     ensures tells { TellsMemory (E.contents errors.old) (E.contents errors.new) }
-    ensures happens { C.has connections.old [] → (acts : History) × Has S.opens S.refuses S.hears S.wants S.ends C.has limits.idle sessions.old connections.new sessions.new acts × AreWithin limits.count acts × HasEnded limits.count acts
-        × IsFair limits.idle limits.count (length places.old) acts × IsWhole limits.idle acts × AreInside (length places.old) acts }
+    ensures happens { C.has connections.old [] → (acts : History) × Has S.opens S.refuses S.hears S.misses S.ends C.has limits.idle sessions.old connections.new sessions.new acts × AreWithin limits.count acts × HasEnded limits.count acts
+        × IsFair limits.idle limits.count (length places.old) acts × IsWhole limits.idle acts × AreInside (length places.old) acts
+        × TellsLosses acts (E.contents errors.old) (E.contents errors.new) }
 {
     let mut state = State::new(limits);
     // Pieces are read into this one room: what is heard at once is kept nowhere else.
@@ -214,8 +218,9 @@ pub fn answer_all<S: Sessions, C: Connections, E: Write>(
 )
     requires { AreFree places }
     ensures tells { TellsMemory (E.contents errors.old) (E.contents errors.new) }
-    ensures happens { C.has connections.old [] → (acts : History) × Has S.opens S.refuses S.hears S.wants S.ends C.has limits.idle sessions.old connections.new sessions.new acts × AreWithin limits.count acts × HasEnded limits.count acts
-        × IsFair limits.idle limits.count (size_of places) acts × IsWhole limits.idle acts × AreInside (size_of places) acts }
+    ensures happens { C.has connections.old [] → (acts : History) × Has S.opens S.refuses S.hears S.misses S.ends C.has limits.idle sessions.old connections.new sessions.new acts × AreWithin limits.count acts × HasEnded limits.count acts
+        × IsFair limits.idle limits.count (size_of places) acts × IsWhole limits.idle acts × AreInside (size_of places) acts
+        × TellsLosses acts (E.contents errors.old) (E.contents errors.new) }
 {
     let mut places = places;
     turn_all(

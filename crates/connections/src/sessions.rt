@@ -1,4 +1,4 @@
-ghost use Rattle.std.specs.Prelude.{◌≡◌, ◌≢◌, ◌≤◌, ◌++◌, ℕ, List, [], take, length, IfErr, IfOk, OnOk, OnErr};
+ghost use Rattle.std.specs.Prelude.{◌≡◌, ◌≢◌, ◌≤◌, ◌++◌, ℕ, List, [], take, length, IfErr, IfOk, OnOk};
 ghost use Rattle.connections.specs.declared.ending.SessionFault.{SessionFault};
 
 use crate::SessionFault;
@@ -15,8 +15,8 @@ pub trait Sessions {
     // after.
     ghost hears: { Self → ℕ → List ℕ → List ℕ → Self → Type 0 };
 
-    // The sessions before, the number of one, the part for which memory was wanting, and the sessions after.
-    ghost wants: { Self → ℕ → List ℕ → Self → Type 0 };
+    // The sessions before, the number of one, the part that it does not hear, why, and the sessions after.
+    ghost misses: { Self → ℕ → List ℕ → SessionFault → Self → Type 0 };
 
     // The sessions before, the number of one, and the sessions once it is ended.
     ghost ends: { Self → ℕ → Self → Type 0 };
@@ -46,7 +46,7 @@ pub trait Sessions {
         ensures ok { IfOk result (λ count. (1 ≤ count) × (count ≤ length bytes.now)
             × (reply : List ℕ) × hears self.old session (take count bytes.now) reply self.new
             × (output.new.items ≡ output.old.items ++ reply)) }
-        ensures err { OnErr result ((count : ℕ) × (1 ≤ count) × (count ≤ length bytes.now) × wants self.old session (take count bytes.now) self.new) };
+        ensures err { IfErr result (λ fault. (count : ℕ) × (1 ≤ count) × (count ≤ length bytes.now) × misses self.old session (take count bytes.now) fault self.new) };
 
     /// Ends a session.
     fn end(&mut self, session: usize)

@@ -1,16 +1,18 @@
 //! One place: what happens to the connection there, if there is one, in each part of a round.
 
-ghost use Rattle.std.specs.Prelude.{◌≡◌, ◌↔◌, ℕ, List, true, false, None, Some, IsTrue, IfOk, IfErr, ⊤};
+ghost use Rattle.std.specs.Prelude.{◌≡◌, ◌↔◌, ◌+◌, ◌-◌, ◌^◌, ◌<◌, ◌≤◌, ℕ, List, [], true, false, None, Some, IsTrue, IfOk, IfErr, ⊤};
 ghost use Rattle.connections.specs.Rounds.{IsUnread};
 ghost use Rattle.connections.specs.Fairness.{IfThere, IsAttended, IsNotDue, IsServed};
-ghost use Rattle.connections.specs.Fitting.{Adds, Has, HasTried, Judged, KeepsTalk, Knows, Serves, Stays, came_by, ending_of};
+ghost use Rattle.connections.specs.Fitting.{Adds, Has, HasTried, Judged, KeepsTalk, Knows, Serves, Stays, came_by};
 ghost use Rattle.connections.specs.Histories.{History, Hearing, Telling, clock, course, stage, stopped};
 ghost use Rattle.connections.specs.Soundness.{Here, IsReason};
+ghost use Rattle.connections.specs.Telling.{lost_by};
 
 use crate::connections::Connections;
+use crate::ending::ending_of;
 use crate::limits::PIECE_SIZE;
 use crate::talk::Talk;
-use crate::{Ending, SessionFault, Sessions};
+use crate::{Ending, Sessions};
 use std::alloc::Global;
 
 /// What was done in a round.
@@ -38,7 +40,9 @@ pub(crate) struct Round {
 }
 
 impl Work {
-    pub(crate) fn new(pause: u64) -> Self {
+    pub(crate) fn new(pause: u64) -> Self
+        ensures { result.wanting ≡ 0 }
+    {
         Work {
             is_busy: false,
             pause,
@@ -48,11 +52,12 @@ impl Work {
 
     /// A connection was closed, so its place is free for another.
     fn close(&mut self, why: Ending)
-        ensures { self.new.is_busy ≡ true }
+        requires { self.old.wanting < 2 ^ 64 - 1 }
+        ensures { self.new.wanting ≡ self.old.wanting + lost_by why }
     {
         self.is_busy = true;
         if why == Ending::Memory {
-            self.wanting = self.wanting.saturating_add(1);
+            self.wanting += 1;
         }
     }
 }
@@ -64,22 +69,12 @@ fn close<S: Sessions, C: Connections>(
     place: usize,
     why: Ending,
 )
-    ensures { (idle : ℕ) (start : S) (acts : History) → Has S.opens S.refuses S.hears S.wants S.ends C.has idle start connections.old sessions.old acts
+    ensures { (idle : ℕ) (start : S) (acts : History) → Has S.opens S.refuses S.hears S.misses S.ends C.has idle start connections.old sessions.old acts
         → Here (course acts place) (λ of. (of.is_open ≡ true) × IsReason idle acts why of)
-        → (after : History) × Stays place 0 acts after × Has S.opens S.refuses S.hears S.wants S.ends C.has idle start connections.new sessions.new after × (course after place ≡ None) }
+        → (after : History) × Stays place 0 0 (lost_by why) acts after × Has S.opens S.refuses S.hears S.misses S.ends C.has idle start connections.new sessions.new after × (course after place ≡ None) }
 {
     sessions.end(place);
     connections.close(place, why);
-}
-
-/// Why a connection is closed whose session was not opened.
-fn ending_of(fault: SessionFault) -> Ending
-    ensures { result ≡ ending_of fault }
-{
-    match fault {
-        SessionFault::Memory => Ending::Memory,
-        SessionFault::Refused => Ending::Refused,
-    }
 }
 
 /// Takes the next connection into a free place, if one waits, and says whether one did. If its session
@@ -95,7 +90,9 @@ pub(crate) fn take_at<S: Sessions, C: Connections>(
 ) -> bool
     requires free { slot.old ≡ None }
     requires goes_on { round.stopped ≡ None }
-    ensures { Serves S.opens S.refuses S.hears S.wants S.ends C.has Hearing round.idle round.now round.stopped place (came_by result) (IsUnread place) (λ after. HasTried result place after × IsUnread place after) connections.old sessions.old slot.old connections.new sessions.new slot.new }
+    requires few { work.old.wanting < 2 ^ 64 - 1 }
+    ensures serves { Serves S.opens S.refuses S.hears S.misses S.ends C.has Hearing round.idle round.now round.stopped place (came_by result) work.old.wanting work.new.wanting (IsUnread place) (λ after. HasTried result place after × IsUnread place after) connections.old sessions.old slot.old connections.new sessions.new slot.new }
+    ensures few { work.new.wanting ≤ work.old.wanting + 1 }
 {
     if !connections.take(place) {
         return false;
@@ -126,7 +123,9 @@ pub(crate) fn hear_at<S: Sessions, C: Connections>(
     room: &mut [u8; PIECE_SIZE],
     work: &mut Work,
 )
-    ensures { Serves S.opens S.refuses S.hears S.wants S.ends C.has Hearing round.idle round.now round.stopped place 0 (IsUnread place) (λ after. IfThere (course after place) (IsAttended after place)) connections.old sessions.old slot.old connections.new sessions.new slot.new }
+    requires { work.old.wanting < 2 ^ 64 - 1 }
+    ensures serves { Serves S.opens S.refuses S.hears S.misses S.ends C.has Hearing round.idle round.now round.stopped place 0 work.old.wanting work.new.wanting (IsUnread place) (λ after. IfThere (course after place) (IsAttended after place)) connections.old sessions.old slot.old connections.new sessions.new slot.new }
+    ensures few { work.new.wanting ≤ work.old.wanting + 1 }
 {
     let Some(talk) = slot else {
         return;
@@ -151,7 +150,7 @@ pub(crate) fn tell_at<S: Sessions, C: Connections>(
     round: Round,
     work: &mut Work,
 )
-    ensures { Serves S.opens S.refuses S.hears S.wants S.ends C.has (Telling round.is_synced) round.idle round.now round.stopped place 0 (λ _. ⊤) (λ after. IfThere (course after place) (IsServed round.idle after place)) connections.old sessions.old slot.old connections.new sessions.new slot.new }
+    ensures { Serves S.opens S.refuses S.hears S.misses S.ends C.has (Telling round.is_synced) round.idle round.now round.stopped place 0 work.old.wanting work.new.wanting (λ _. ⊤) (λ after. IfThere (course after place) (IsServed round.idle after place)) connections.old sessions.old slot.old connections.new sessions.new slot.new }
 {
     let Some(talk) = slot else {
         return;
@@ -159,7 +158,7 @@ pub(crate) fn tell_at<S: Sessions, C: Connections>(
     match tell(alloc, talk, connections, place, round, work) {
         Ok(()) => {}
         Err(why) => {
-            work.close(why);
+            work.is_busy = true;
             close(sessions, connections, place, why);
             *slot = None; // The place is free.
         }
@@ -175,10 +174,12 @@ fn tell<C: Connections>(
     round: Round,
     work: &mut Work,
 ) -> Result<(), Ending>
-    ensures { (acts : History) → Knows C.has round.idle connections.old acts → stage acts ≡ Telling round.is_synced → clock acts ≡ round.now → stopped acts ≡ round.stopped
+    ensures happens { (acts : History) → Knows C.has round.idle connections.old acts → stage acts ≡ Telling round.is_synced → clock acts ≡ round.now → stopped acts ≡ round.stopped
         → Here (course acts place) (KeepsTalk talk.old)
         → (after : History) × Adds place acts after × Knows C.has round.idle connections.new after × Judged round.idle after place result talk.new
         × IfOk result (λ _. Here (course after place) (IsServed round.idle after place)) }
+    ensures other { IfErr result (λ why. lost_by why ≡ 0) }
+    ensures same { work.new.wanting ≡ work.old.wanting }
 {
     if talk.tell(alloc, connections, place, round.now, round.is_synced)? {
         work.is_busy = true;
@@ -189,8 +190,10 @@ fn tell<C: Connections>(
 
 /// For how many milliseconds a connection may stay as it is, or why it is closed now.
 fn judge(talk: &Talk, round: Round, most: u64) -> Result<u64, Ending>
-    ensures { (acts : History) (place : ℕ) → clock acts ≡ round.now → stopped acts ≡ round.stopped → Here (course acts place) (KeepsTalk talk.now)
+    ensures due { (acts : History) (place : ℕ) → clock acts ≡ round.now → stopped acts ≡ round.stopped → (stage acts ≡ Telling false → talk.now.output.items ≡ [])
+        → Here (course acts place) (KeepsTalk talk.now)
         → Judged round.idle acts place result talk.now × IfOk result (λ _. Here (course acts place) (IsNotDue round.idle acts)) }
+    ensures other { IfErr result (λ why. lost_by why ≡ 0) }
 {
     talk.patience(round.now, round.idle, round.stopped, most)
 }

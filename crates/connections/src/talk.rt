@@ -3,13 +3,15 @@
 
 ghost use Rattle.std.specs.Prelude.{◌≡◌, ◌≢◌, ◌⊎◌, ◌↔◌, ◌<◌, ◌≤◌, ◌++◌, [], ℕ, List, length, drop, IsTrue, IfOk, IfErr, OnOk, Some, true, false};
 ghost use Rattle.connections.specs.Rounds.{InRound, asks, offers};
-ghost use Rattle.connections.specs.Fitting.{Adds, Attends, Hearkens, HearsFrom, IsDone, IsIdleDue, IsJudged, IsStopDue, Judged, Keeps, KeepsTalk, Knows};
+ghost use Rattle.connections.specs.Fitting.{Adds, Attends, Hearkens, HearsFrom, IsDone, IsIdleDue, IsJudged, IsStopDue, Judged, Keeps, KeepsTalk, Knows, MayHearFrom};
 ghost use Rattle.connections.specs.Histories.{History, Hearing, Telling, clock, course, stage, stopped};
 ghost use Rattle.connections.specs.Soundness.{Here, MayRead};
+ghost use Rattle.connections.specs.Telling.{lost_by};
 ghost use Rattle.connections.specs.declared.limits.TheConstants.{FULL_OUTPUT};
 
 use crate::connections::{Connections, Reading, Writing};
-use crate::limits::{FULL_OUTPUT, KEPT_ROOM, LAST_MILLISECONDS, PIECE_SIZE};
+use crate::ending::ending_of;
+use crate::limits::{FULL_OUTPUT, KEPT_MILLISECONDS, KEPT_ROOM, LAST_MILLISECONDS, PIECE_SIZE};
 use crate::{Ending, Sessions};
 use std::alloc::Global;
 
@@ -63,12 +65,11 @@ impl Talk {
     /// anything.
     fn hear_rest<S: Sessions>(
         &mut self,
-        alloc: Global,
         sessions: &mut S,
         place: usize,
         now: u64,
     ) -> Result<bool, Ending>
-        ensures hears { Hearkens S.opens S.refuses S.hears S.wants S.ends (λ done. done) place now sessions.old (KeepsTalk self.old) result sessions.new (λ _. KeepsTalk self.new) }
+        ensures hears { Hearkens S.opens S.refuses S.hears S.misses S.ends (λ done. done) place now sessions.old (KeepsTalk self.old) result sessions.new (λ _. KeepsTalk self.new) }
         ensures all { IfOk result (λ _. (self.new.input.items ≡ []) ⊎ (FULL_OUTPUT < length self.new.output.items)) }
         ensures nothing { result ≡ Ok false → self.new ≡ self.old }
     {
@@ -83,7 +84,7 @@ impl Talk {
             &mut self.output,
             &mut self.active,
         )?;
-        drop_front(alloc, &mut self.input, heard);
+        drop_front(&mut self.input, heard);
         Ok(true)
     }
 
@@ -98,9 +99,8 @@ impl Talk {
         bytes: &[u8],
     ) -> Result<(), Ending>
         requires none { self.old.input.items ≡ [] }
-        requires some { bytes.now ≢ [] }
-        requires room { length self.old.output.items ≤ FULL_OUTPUT }
-        ensures hears { Hearkens S.opens S.refuses S.hears S.wants S.ends (λ _. true) place now sessions.old (Keeps bytes.now self.old.output.items self.old.active self.old.is_over) result sessions.new (λ _. KeepsTalk self.new) }
+        requires some { MayHearFrom bytes.now self.old.output.items }
+        ensures hears { Hearkens S.opens S.refuses S.hears S.misses S.ends (λ _. true) place now sessions.old (Keeps bytes.now self.old.output.items self.old.active self.old.is_over) result sessions.new (λ _. KeepsTalk self.new) }
         ensures all { IfOk result (λ _. (self.new.input.items ≡ []) ⊎ (FULL_OUTPUT < length self.new.output.items)) }
     {
         let heard = hear_parts(
@@ -134,10 +134,10 @@ impl Talk {
         now: u64,
         room: &mut [u8; PIECE_SIZE],
     ) -> Result<bool, Ending>
-        ensures { Attends S.opens S.refuses S.hears S.wants S.ends C.has Hearing place now connections.old sessions.old self.old result connections.new sessions.new self.new }
+        ensures { Attends S.opens S.refuses S.hears S.misses S.ends C.has Hearing place now connections.old sessions.old self.old result connections.new sessions.new self.new }
     {
         if !self.may_read() {
-            return self.hear_rest(alloc, sessions, place, now);
+            return self.hear_rest(sessions, place, now);
         }
         match connections.read(place, room) {
             Reading::Bytes(count) => {
@@ -156,20 +156,20 @@ impl Talk {
     /// Writes what the connection takes of the output, and says whether it took any.
     fn write<C: Connections>(
         &mut self,
-        alloc: Global,
         connections: &mut C,
         place: usize,
         now: u64,
     ) -> Result<bool, Ending>
         requires { self.old.output.items ≢ [] }
-        ensures { (idle : ℕ) (acts : History) → Knows C.has idle connections.old acts → stage acts ≡ Telling true → clock acts ≡ now
+        ensures writes { (idle : ℕ) (acts : History) → Knows C.has idle connections.old acts → stage acts ≡ Telling true → clock acts ≡ now
             → Here (course acts place) (KeepsTalk self.old)
             → (after : History) × Adds place acts after × Knows C.has idle connections.new after × Judged idle after place result self.new
             × IfOk result (λ _. InRound offers after place) }
+        ensures other { IfErr result (λ why. lost_by why ≡ 0) }
     {
         match connections.write(place, &self.output) {
             Writing::Took(count) => {
-                drop_front(alloc, &mut self.output, count);
+                drop_front(&mut self.output, count);
                 self.active = now;
                 Ok(true)
             }
@@ -187,18 +187,21 @@ impl Talk {
         now: u64,
         is_synced: bool,
     ) -> Result<bool, Ending>
-        ensures { (idle : ℕ) (acts : History) → Knows C.has idle connections.old acts → stage acts ≡ Telling is_synced → clock acts ≡ now
+        ensures tells { (idle : ℕ) (acts : History) → Knows C.has idle connections.old acts → stage acts ≡ Telling is_synced → clock acts ≡ now
             → Here (course acts place) (KeepsTalk self.old)
             → (after : History) × Adds place acts after × Knows C.has idle connections.new after × Judged idle after place result self.new
             × IfOk result (λ _. (self.new.output.items ≡ []) ⊎ InRound offers after place) }
+        ensures unsynced { IfOk result (λ _. is_synced ≡ false → self.new.output.items ≡ []) }
+        ensures other { IfErr result (λ why. lost_by why ≡ 0) }
     {
         if self.output.is_empty() {
+            give_back(alloc, &mut self.output, now.saturating_sub(self.active));
             return Ok(false);
         }
         if !is_synced {
             return Err(Ending::Unsynced);
         }
-        self.write(alloc, connections, place, now)
+        self.write(connections, place, now)
     }
 
     /// For how many milliseconds the connection may stay as it is, at most so many. It is closed now if it
@@ -210,7 +213,8 @@ impl Talk {
         stopped: Option<u64>,
         most: u64,
     ) -> Result<u64, Ending>
-        ensures { IsJudged now idle stopped self.now result }
+        ensures judged { IsJudged now idle stopped self.now result }
+        ensures other { IfErr result (λ why. lost_by why ≡ 0) }
     {
         if self.wants_no_more() {
             return Err(Ending::Done);
@@ -264,15 +268,13 @@ fn hear_part<S: Sessions>(
     output: &mut Vec<u8>,
     active: &mut u64,
 ) -> Result<usize, Ending>
-    requires some { bytes.now ≢ [] }
-    requires room { length output.old.items ≤ FULL_OUTPUT }
-    ensures hears { HearsFrom S.opens S.refuses S.hears S.wants S.ends place now sessions.old bytes.now output.old.items active.old result sessions.new output.new.items active.new }
-    ensures count { IfOk result (λ count. (1 ≤ count) × (count ≤ length bytes.now)) }
+    requires { MayHearFrom bytes.now output.old.items }
+    ensures { HearsFrom S.opens S.refuses S.hears S.misses S.ends place now sessions.old bytes.now output.old.items active.old result sessions.new output.new.items active.new }
 {
     let size = output.len();
     let count = match sessions.hear(place, bytes, output) {
         Ok(count) => count,
-        Err(_) => return Err(Ending::Memory),
+        Err(fault) => return Err(ending_of(fault)),
     };
     *active = active_after(size, output.len(), now, *active);
     Ok(count)
@@ -287,10 +289,8 @@ fn hear_parts<S: Sessions>(
     output: &mut Vec<u8>,
     active: &mut u64,
 ) -> Result<usize, Ending>
-    requires some { bytes.now ≢ [] }
-    requires room { length output.old.items ≤ FULL_OUTPUT }
-    ensures hears { HearsFrom S.opens S.refuses S.hears S.wants S.ends place now sessions.old bytes.now output.old.items active.old result sessions.new output.new.items active.new }
-    ensures count { IfOk result (λ count. count ≤ length bytes.now) }
+    requires { MayHearFrom bytes.now output.old.items }
+    ensures hears { HearsFrom S.opens S.refuses S.hears S.misses S.ends place now sessions.old bytes.now output.old.items active.old result sessions.new output.new.items active.new }
     ensures all { IfOk result (λ count. (count ≡ length bytes.now) ⊎ (FULL_OUTPUT < length output.new.items)) }
 {
     let mut heard = hear_part(sessions, place, now, bytes, output, active)?;
@@ -310,16 +310,22 @@ fn active_after(size: usize, grown: usize, now: u64, active: u64) -> u64
     if grown > size { now } else { active }
 }
 
-/// Drops the first bytes. Where none are left, a large room is given back.
-fn drop_front(alloc: Global, bytes: &mut Vec<u8>, count: usize)
+/// Drops the first bytes.
+fn drop_front(bytes: &mut Vec<u8>, count: usize)
     requires { count ≤ length bytes.old.items }
     ensures { bytes.new.items ≡ drop count bytes.old.items }
 {
     let left = bytes.len() - count;
-    if left == 0 && bytes.capacity() > KEPT_ROOM {
-        *bytes = Vec::new(alloc);
-        return;
-    }
     bytes.copy_within(count.., 0);
     bytes.truncate(left);
+}
+
+/// Gives back a large room of a buffer that has been empty for so many milliseconds, unless these are few.
+fn give_back(alloc: Global, bytes: &mut Vec<u8>, since: u64)
+    requires { bytes.old.items ≡ [] }
+    ensures { bytes.new.items ≡ [] }
+{
+    if since >= KEPT_MILLISECONDS && bytes.capacity() > KEPT_ROOM {
+        *bytes = Vec::new(alloc);
+    }
 }

@@ -98,7 +98,7 @@ impl Sessions for Echoes {
 
     ghost hears = { λ _ _ _ _ _. ⊤ };
 
-    ghost wants = { λ _ _ _ _. ⊤ };
+    ghost misses = { λ _ _ _ _ _. ⊤ };
 
     ghost ends = { λ _ _ _. ⊤ };
 

@@ -5,11 +5,12 @@ use Rattle.hub.specs.Events.{Happening, Open, Bytes, End, HubState, number}
 use Rattle.hub.specs.Exchanges.{Exchange}
 use Rattle.hub.specs.declared.hub_refusal.HubRefusal.{HubRefusal}
 use Rattle.hub.specs.declared.hub_refusal.HubRefusal.TheVariants.{TooManySessions, SessionOpen, NoSession, Memory}
-use Rattle.hub.specs.Happenings.{Happens, Passes}
+use Rattle.hub.specs.Happenings.{Does, Happens, Passes}
 use Rattle.hub.specs.Runs.{lines, AllAnswered, Line}
 use Rattle.hub.proofs.Running.{answered_append}
-use Rattle.connections.specs.Histories.{At, Ordered, GoesOn, Syncs, NoneWaits, On, Comes, Opens, Refuses, Reads, IsOver, IsSilent, Hears, Wants, Lacks, Takes, TakesNone, Fails, Ends, Closes, History}
-use Rattle.server.specs.Sessions.{AreLines, Ended, HubLeads, Loses, Unopened, Wanted, session_fault}
+use Rattle.connections.specs.Histories.{At, Ordered, GoesOn, Syncs, NoneWaits, On, Comes, Opens, Refuses, Reads, IsOver, IsSilent, Hears, Misses, Lacks, Takes, TakesNone, Fails, Ends, Closes, History}
+use Rattle.connections.specs.declared.ending.SessionFault.TheVariants as fault
+use Rattle.server.specs.Sessions.{AreLines, Ended, HubLeads, IsRefused, Loses, Missed, Proceeds, Unopened, session_fault}
 use Rattle.server.proofs.Conversing.{all_replied}
 
 -- there are some bytes
@@ -18,28 +19,32 @@ some_bytes [] some = absurd (some refl)
 some_bytes (byte ∷ more) some = omega arith
 
 module _ {S : Type 0} (answers : S → Frame → List ℕ → S → Type 0) where
+  does_answered : (before : HubState S) (it : Happening) (xs : List Exchange) (after : HubState S) → Does answers before it xs after
+      → AllAnswered answers before.service (lines (number it) xs) after.service
+  does_answered before (Open session) xs after (none, does) =
+      subst (λ (ys : List Exchange). AllAnswered answers before.service (lines session ys) after.service) (sym none) (ap (λ (h : HubState S). h.service) does)
+  does_answered before (Bytes session piece) xs after (held, left, here, set, exchanged, leaves) =
+      all_replied answers session before.service _ xs after.service left exchanged
+  does_answered before (End session) xs after (none, does) =
+      subst (λ (ys : List Exchange). AllAnswered answers before.service (lines session ys) after.service) (sym none) (ap (λ (h : HubState S). h.service) does)
+
   passes_answered : (before : HubState S) (it : Happening) (xs : List Exchange) (after : HubState S) → Passes answers before it xs after
       → AllAnswered answers before.service (lines (number it) xs) after.service
   passes_answered before it xs after (inl (refusal, is, none, stays)) =
       subst (λ (ys : List Exchange). AllAnswered answers before.service (lines (number it) ys) after.service) (sym none) (ap (λ (h : HubState S). h.service) stays)
-  passes_answered before (Open session) xs after (inr (is, (none, does))) =
-      subst (λ (ys : List Exchange). AllAnswered answers before.service (lines session ys) after.service) (sym none) (ap (λ (h : HubState S). h.service) does)
-  passes_answered before (Bytes session piece) xs after (inr (is, (held, left, here, set, exchanged, leaves))) =
-      all_replied answers session before.service _ xs after.service left exchanged
-  passes_answered before (End session) xs after (inr (is, (none, does))) =
-      subst (λ (ys : List Exchange). AllAnswered answers before.service (lines session ys) after.service) (sym none) (ap (λ (h : HubState S). h.service) does)
+  passes_answered before it xs after (inr (is, does)) = does_answered before it xs after does
 
   loses_answered : (before : HubState S) (session : ℕ) (part : List ℕ) (xs : List Exchange) (after : HubState S) → Loses answers before session part xs after
       → AllAnswered answers before.service (lines session xs) after.service
-  loses_answered before session part xs after (inl (none, same)) =
+  loses_answered before session part xs after (inl (due, takes, none, same)) =
       subst (λ (ys : List Exchange). AllAnswered answers before.service (lines session ys) after.service) (sym none) (ap (λ (h : HubState S). h.service) same)
   loses_answered before session part xs after (inr (held, left, here, set, exchanged, leaves)) = all_replied answers session before.service _ xs after.service left exchanged
 
   -- ---- one event
 
   pub opened : (before : HubState S) (session : ℕ) (output : List ℕ) (after : HubState S) (grown : List ℕ)
-      → Happens answers before (Open session) output (Ok tt) after grown → Passes answers before (Open session) [] after
-  opened before session output after grown (none, xs, does, same) = inr (none, (refl, does.1))
+      → Happens answers before (Open session) output (Ok tt) after grown → Proceeds answers before (Open session) [] after
+  opened before session output after grown (none, xs, does, same) = (none, (refl, does.1))
 
   pub ended : (before : HubState S) (session : ℕ) (output : List ℕ) (result : Result (Unit {0}) HubRefusal) (after : HubState S) (grown : List ℕ)
       → Happens answers before (End session) output result after grown → Passes answers before (End session) [] after
@@ -55,16 +60,16 @@ module _ {S : Type 0} (answers : S → Frame → List ℕ → S → Type 0) wher
   unopened before session output grown TooManySessions after (is, same, kept) = (same, inr (λ none. absurd (let wrong : Some TooManySessions ≡ None = sym is ∙ none in cc)))
   unopened before session output grown SessionOpen after (is, same, kept) = (same, inr (λ none. absurd (let wrong : Some SessionOpen ≡ None = sym is ∙ none in cc)))
   unopened before session output grown NoSession after (is, same, kept) = (same, inr (λ none. absurd (let wrong : Some NoSession ≡ None = sym is ∙ none in cc)))
-  unopened before session output grown (Memory false) after (takes, is, same, kept) = (same, tt)
+  unopened before session output grown (Memory false) after (takes, is, same, kept) = (same, is)
   unopened before session output grown (Memory true) after (other, piece, xs, it, answered, kept) = absurd cc
 
-  pub wanted : (before : HubState S) (session : ℕ) (part output grown : List ℕ) (why : HubRefusal) (after : HubState S)
-      → Happens answers before (Bytes session part) output (Err why) after grown → Wanted answers before session part after
-  wanted before session part output grown TooManySessions after (is, same, kept) = ([], inl (refl, same))
-  wanted before session part output grown SessionOpen after (is, same, kept) = ([], inl (refl, same))
-  wanted before session part output grown NoSession after (is, same, kept) = ([], inl (refl, same))
-  wanted before session part output grown (Memory false) after (takes, is, same, kept) = ([], inl (refl, same))
-  wanted before session part output grown (Memory true) after (number, piece, xs, it, answered, kept) =
+  pub missed : (before : HubState S) (session : ℕ) (part output grown : List ℕ) (why : HubRefusal) (after : HubState S)
+      → Happens answers before (Bytes session part) output (Err why) after grown → Missed answers before session part (session_fault why) after
+  missed before session part output grown TooManySessions after (is, same, kept) = (inr (λ none. absurd (let wrong : Some TooManySessions ≡ None = sym is ∙ none in cc)), same)
+  missed before session part output grown SessionOpen after (is, same, kept) = (inr (λ none. absurd (let wrong : Some SessionOpen ≡ None = sym is ∙ none in cc)), same)
+  missed before session part output grown NoSession after (is, same, kept) = (inr (λ none. absurd (let wrong : Some NoSession ≡ None = sym is ∙ none in cc)), same)
+  missed before session part output grown (Memory false) after (takes, is, same, kept) = ([], inl (is, takes, refl, same))
+  missed before session part output grown (Memory true) after (number, piece, xs, it, answered, kept) =
       let same_number : session ≡ number = cc in
       let same_piece : part ≡ piece = cc in
       rw (same_number, same_piece) (xs, inr answered)
@@ -100,23 +105,33 @@ module _ {S : Type 0} (answers : S → Frame → List ℕ → S → Type 0) wher
         let earlier = crowd_answered start acts middle leads in (
           earlier.0,
           (hub_of middle, earlier.1, does),
-          still start middle after earlier.0 earlier.2 (passes_answered (hub_of middle) (Open place) [] (hub_of after) does),
+          still start middle after earlier.0 earlier.2 (does_answered (hub_of middle) (Open place) [] (hub_of after) does.1),
         )
-    crowd_answered start (On place (Refuses why) ∷ acts) after (leads, refuses) = crowd_answered start acts after leads
+    crowd_answered start (On place (Refuses why) ∷ acts) after (leads, refuses) =
+        let earlier = crowd_answered start acts after leads in (earlier.0, (earlier.1, refuses), earlier.2)
     crowd_answered start (On place (Reads bytes) ∷ acts) after leads = crowd_answered start acts after leads
     crowd_answered start (On place IsOver ∷ acts) after leads = crowd_answered start acts after leads
     crowd_answered start (On place IsSilent ∷ acts) after leads = crowd_answered start acts after leads
-    crowd_answered start (On place (Hears part reply) ∷ acts) after (middle, leads, (xs, does, is)) =
+    crowd_answered start (On place (Hears part reply) ∷ acts) after (middle, leads, (xs, does, is, one)) =
         let earlier = crowd_answered start acts middle leads in (
           earlier.0 ++ lines place xs,
-          (hub_of middle, earlier.0, xs, earlier.1, does, is, refl),
-          both start middle after earlier.0 (lines place xs) earlier.2 (passes_answered (hub_of middle) (Bytes place part) xs (hub_of after) does),
+          (hub_of middle, earlier.0, xs, earlier.1, does, is, one, refl),
+          both start middle after earlier.0 (lines place xs) earlier.2 (does_answered (hub_of middle) (Bytes place part) xs (hub_of after) does.1),
         )
-    crowd_answered start (On place (Wants part) ∷ acts) after (middle, leads, (lost, does)) =
+    crowd_answered start (On place (Misses part fault.Memory) ∷ acts) after (middle, leads, (lost, does)) =
         let earlier = crowd_answered start acts middle leads in (
           earlier.0 ++ lines place lost,
           (hub_of middle, earlier.0, lost, earlier.1, does, refl),
           both start middle after earlier.0 (lines place lost) earlier.2 (loses_answered (hub_of middle) place part lost (hub_of after) does),
+        )
+    crowd_answered start (On place (Misses part fault.Refused) ∷ acts) after (middle, leads, (is, same)) =
+        let earlier = crowd_answered start acts middle leads in (
+          earlier.0,
+          (
+            subst (λ (h : HubState S). AreLines answers (hub_of start) acts h earlier.0) (sym same) earlier.1,
+            subst (λ (h : HubState S). IsRefused h place (Bytes place part)) (sym same) is,
+          ),
+          subst (λ (h : HubState S). AllAnswered answers (hub_of start).service earlier.0 h.service) (sym same) earlier.2,
         )
     crowd_answered start (On place Lacks ∷ acts) after leads = crowd_answered start acts after leads
     crowd_answered start (On place (Takes bytes) ∷ acts) after leads = crowd_answered start acts after leads

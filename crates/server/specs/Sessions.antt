@@ -1,15 +1,16 @@
 -- The sessions of a hub, as the loop over connections uses them.
-use Rattle.std.specs.Prelude.{◌≡◌, ◌≢◌, ◌⊎◌, ◌^◌, ◌≤◌, ◌++◌, ℕ, List, [], ◌∷◌, false, None, ⊤}
+use Rattle.std.specs.Prelude.{◌≡◌, ◌≢◌, ◌⊎◌, ◌^◌, ◌≤◌, ◌++◌, ℕ, List, [], ◌∷◌, false, Some, None}
 use Rattle.wire.specs.Frames.{Frame}
+use Rattle.wire.specs.Streams.{EndsOne, Remainder}
 use Rattle.connections.specs.declared.ending.SessionFault.{SessionFault}
 use Rattle.connections.specs.declared.ending.SessionFault.TheVariants as fault
 use Rattle.hub.specs.declared.hub_refusal.HubRefusal.{HubRefusal}
 use Rattle.hub.specs.declared.hub_refusal.HubRefusal.TheVariants.{TooManySessions, SessionOpen, NoSession, Memory}
-use Rattle.hub.specs.Events.{Open, Bytes, End, HubState, due}
+use Rattle.hub.specs.Events.{Happening, Open, Bytes, End, HubState, at, due}
 use Rattle.hub.specs.Exchanges.{Exchange, replies}
-use Rattle.hub.specs.Happenings.{Answered, Passes}
+use Rattle.hub.specs.Happenings.{Answered, Does, Passes, TakesMemory}
 use Rattle.hub.specs.Runs.{lines, Line}
-use Rattle.connections.specs.Histories.{At, Ordered, GoesOn, Syncs, NoneWaits, On, Comes, Opens, Refuses, Reads, IsOver, IsSilent, Hears, Wants, Lacks, Takes, TakesNone, Fails, Ends, Closes, History, Leads}
+use Rattle.connections.specs.Histories.{At, Ordered, GoesOn, Syncs, NoneWaits, On, Comes, Opens, Refuses, Reads, IsOver, IsSilent, Hears, Misses, Lacks, Takes, TakesNone, Fails, Ends, Closes, History, Leads}
 
 -- only want of memory is told as such
 abbrev pub session_fault : HubRefusal → SessionFault
@@ -18,26 +19,42 @@ session_fault SessionOpen = fault.Refused
 session_fault NoSession = fault.Refused
 session_fault (Memory taken) = fault.Memory
 
--- why a session is not opened: its number has more than 32 bits, the hub refuses it, or memory is wanting
+-- why an event of a session is refused: the session's number has more than 32 bits, or the hub refuses the event
+abbrev pub IsRefused : {S : Type 0} → HubState S → ℕ → Happening → Type 0
+IsRefused before session it = (2 ^ 32 ≤ session) ⊎ (due before.sessions it ≢ None)
+
+-- why a session is not opened: that is refused; or it is not, and memory is wanting
 abbrev pub Unopened : {S : Type 0} → HubState S → ℕ → SessionFault → Type 0
-Unopened before session fault.Memory = ⊤
-Unopened before session fault.Refused = (2 ^ 32 ≤ session) ⊎ (due before.sessions (Open session) ≢ None)
+Unopened before session fault.Memory = due before.sessions (Open session) ≡ None
+Unopened before session fault.Refused = IsRefused before session (Open session)
+
+-- a part ends at most one message of its stream
+abbrev pub EndsOneAt : {S : Type 0} → HubState S → ℕ → List ℕ → Type 0
+EndsOneAt before session part = (held : Remainder) → at before.sessions session ≡ Some held → EndsOne held part
 
 module _ {S : Type 0} (answers : S → Frame → List ℕ → S → Type 0) where
-  -- the event of an opening passes
+  -- an event is not refused, and does what it does
+  abbrev pub Proceeds : HubState S → Happening → List Exchange → HubState S → Type 0
+  Proceeds before it exchanges after = (due before.sessions it ≡ None) × Does answers before it exchanges after
+
+  -- that of an opening
   abbrev pub Opened : HubState S → ℕ → HubState S → Type 0
-  Opened before session after = Passes answers before (Open session) [] after
+  Opened before session after = Proceeds before (Open session) [] after
 
-  -- that of a part passes, and this is the reply to the messages that it completes
+  -- that of a part, and this is the reply to the messages that it completes
   abbrev pub Heard : HubState S → ℕ → List ℕ → List ℕ → HubState S → Type 0
-  Heard before session part reply after = (exchanges : List Exchange) × Passes answers before (Bytes session part) exchanges after × (reply ≡ replies exchanges)
+  Heard before session part reply after = (exchanges : List Exchange) × Proceeds before (Bytes session part) exchanges after × (reply ≡ replies exchanges) × EndsOneAt before session part
 
-  -- nothing was done of this part; or it was taken, these messages were answered, and memory was wanting for a reply
+  -- memory was wanting for a part that is not refused: nothing was done of it, and it takes memory; or it was taken,
+  -- these messages were answered, and memory was wanting for a reply
   abbrev pub Loses : HubState S → ℕ → List ℕ → List Exchange → HubState S → Type 0
-  Loses before session part exchanges after = ((exchanges ≡ []) × (after ≡ before)) ⊎ Answered answers before session part false exchanges after
+  Loses before session part exchanges after = ((due before.sessions (Bytes session part) ≡ None) × TakesMemory before.sessions (Bytes session part) × (exchanges ≡ []) × (after ≡ before))
+      ⊎ Answered answers before session part false exchanges after
 
-  abbrev pub Wanted : HubState S → ℕ → List ℕ → HubState S → Type 0
-  Wanted before session part after = (exchanges : List Exchange) × Loses before session part exchanges after
+  -- why a part is not heard
+  abbrev pub Missed : HubState S → ℕ → List ℕ → SessionFault → HubState S → Type 0
+  Missed before session part fault.Memory after = (exchanges : List Exchange) × Loses before session part exchanges after
+  Missed before session part fault.Refused after = IsRefused before session (Bytes session part) × (after ≡ before)
 
   -- that of an end passes; a session's number has 32 bits
   abbrev pub Ended : HubState S → ℕ → HubState S → Type 0
@@ -47,7 +64,7 @@ module _ {S : Type 0} (answers : S → Frame → List ℕ → S → Type 0) wher
   abbrev pub HubLeads : {X : Type 0} → (X → HubState S) → X → History → X → Type 0
   HubLeads hub_of = Leads (λ before session after. Opened (hub_of before) session (hub_of after)) (λ before session why. Unopened (hub_of before) session why)
       (λ before session part reply after. Heard (hub_of before) session part reply (hub_of after))
-      (λ before session part after. Wanted (hub_of before) session part (hub_of after))
+      (λ before session part why after. Missed (hub_of before) session part why (hub_of after))
       (λ before session after. Ended (hub_of before) session (hub_of after))
 
   -- The messages of what happened from this hub to that one, each with its reply, as lines of the hub: what a session is
@@ -62,14 +79,15 @@ module _ {S : Type 0} (answers : S → Frame → List ℕ → S → Type 0) wher
   AreLines start (NoneWaits ∷ before) after all = AreLines start before after all
   AreLines start (On place Comes ∷ before) after all = AreLines start before after all
   AreLines start (On place Opens ∷ before) after all = (middle : HubState S) × AreLines start before middle all × Opened middle place after
-  AreLines start (On place (Refuses why) ∷ before) after all = AreLines start before after all
+  AreLines start (On place (Refuses why) ∷ before) after all = AreLines start before after all × Unopened after place why
   AreLines start (On place (Reads bytes) ∷ before) after all = AreLines start before after all
   AreLines start (On place IsOver ∷ before) after all = AreLines start before after all
   AreLines start (On place IsSilent ∷ before) after all = AreLines start before after all
   AreLines start (On place (Hears part reply) ∷ before) after all = (middle : HubState S) × (earlier : List Line) × (exchanges : List Exchange) × AreLines start before middle earlier
-      × Passes answers middle (Bytes place part) exchanges after × (reply ≡ replies exchanges) × (all ≡ earlier ++ lines place exchanges)
-  AreLines start (On place (Wants part) ∷ before) after all = (middle : HubState S) × (earlier : List Line) × (lost : List Exchange) × AreLines start before middle earlier
+      × Proceeds middle (Bytes place part) exchanges after × (reply ≡ replies exchanges) × EndsOneAt middle place part × (all ≡ earlier ++ lines place exchanges)
+  AreLines start (On place (Misses part fault.Memory) ∷ before) after all = (middle : HubState S) × (earlier : List Line) × (lost : List Exchange) × AreLines start before middle earlier
       × Loses middle place part lost after × (all ≡ earlier ++ lines place lost)
+  AreLines start (On place (Misses part fault.Refused) ∷ before) after all = AreLines start before after all × IsRefused after place (Bytes place part)
   AreLines start (On place Lacks ∷ before) after all = AreLines start before after all
   AreLines start (On place (Takes bytes) ∷ before) after all = AreLines start before after all
   AreLines start (On place TakesNone ∷ before) after all = AreLines start before after all

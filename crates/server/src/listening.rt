@@ -8,7 +8,7 @@ ghost use Rattle.connections.specs.Fairness.{IsFair, IsWhole};
 ghost use Rattle.connections.specs.Fitting.{size_of, AreFree};
 ghost use Rattle.connections.specs.Histories.{History, of_connections};
 ghost use Rattle.connections.specs.Soundness.{IsSound};
-ghost use Rattle.connections.specs.Telling.{TellsMemory};
+ghost use Rattle.connections.specs.Telling.{TellsLosses, TellsMemory};
 ghost use Rattle.hub.specs.Desks.{DeskAnswers, DeskState};
 ghost use Rattle.hub.specs.Runs.{Line};
 ghost use Rattle.nodehash.specs.Sha256.{sha256};
@@ -78,7 +78,8 @@ where
     ensures shown { C.has connections.old [] → (acts : History) × C.has connections.new (of_connections acts) × IsSound limits.idle acts
         × AreWithin limits.count acts × HasEnded limits.count acts
         × IsFair limits.idle limits.count (size_of places) acts × IsWhole limits.idle acts × AreInside (size_of places) acts
-        × ((lines : List Line) × AreLines (DeskAnswers sha256 keyed_value keyed_signature salts K.kept K.failed) sessions.old.hub acts sessions.new.hub lines × ShownBy K.kept K.failed sessions.old.hub.service lines sessions.new.hub.service) }
+        × ((lines : List Line) × AreLines (DeskAnswers sha256 keyed_value keyed_signature salts K.kept K.failed) sessions.old.hub acts sessions.new.hub lines × ShownBy K.kept K.failed sessions.old.hub.service lines sessions.new.hub.service)
+        × TellsLosses acts (E.contents errors.old) (E.contents errors.new) }
 {
     // What the two calls of `head` ensure: the book is sound before and after, and the provider's
     // functions keep their laws.

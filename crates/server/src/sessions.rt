@@ -57,7 +57,7 @@ fn fault_of(refusal: HubRefusal) -> SessionFault
 }
 
 impl<D: Service + Drop> Sessions for HubSessions<D> {
-    ghost use Rattle.server.specs.Sessions.{Ended, Heard, Opened, Unopened, Wanted};
+    ghost use Rattle.server.specs.Sessions.{Ended, Heard, Missed, Opened, Unopened};
 
     ghost opens = { λ before session after. Opened D.answers before.hub session after.hub };
 
@@ -65,7 +65,7 @@ impl<D: Service + Drop> Sessions for HubSessions<D> {
 
     ghost hears = { λ before session part reply after. Heard D.answers before.hub session part reply after.hub };
 
-    ghost wants = { λ before session part after. Wanted D.answers before.hub session part after.hub };
+    ghost misses = { λ before session part why after. Missed D.answers before.hub session part why after.hub };
 
     ghost ends = { λ before session after. Ended D.answers before.hub session after.hub };
 

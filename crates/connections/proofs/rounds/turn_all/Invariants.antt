@@ -8,4 +8,4 @@ invariant-loop-round g l = (l.state.round.idle ≡ l.fn.limits.idle)
     × MayGoOn l.state.left l.state.round.stopped l.places
     × TellsMemory (g.E.Write.contents l.fn.errors) (g.E.Write.contents l.errors)
     × (g.C.Connections.has l.fn.connections []
-    → Stands g.S.Sessions.opens g.S.Sessions.refuses g.S.Sessions.hears g.S.Sessions.wants g.S.Sessions.ends g.C.Connections.has l.fn.limits.idle l.fn.limits.count (length l.fn.places) l.fn.sessions l.connections l.sessions l.places l.state.round.stopped l.state.left l._round)
+    → Stands g.S.Sessions.opens g.S.Sessions.refuses g.S.Sessions.hears g.S.Sessions.misses g.S.Sessions.ends g.C.Connections.has l.fn.limits.idle l.fn.limits.count (length l.fn.places) l.fn.sessions (g.E.Write.contents l.fn.errors) (g.E.Write.contents l.errors) l.connections l.sessions l.places l.state.round.stopped l.state.left l._round)

@@ -1,12 +1,22 @@
-use Rattle.std.proofs.Common.{◌∙◌}
+use Rattle.std.proofs.Common.{◌≡◌, Err, false, rules, sym, ◌∙◌}
 use Rattle.connections.specs.Histories.{course}
 use Rattle.connections.proofs.Hearing.{stays_adds}
-use Rattle.connections.proofs.Steps.{served}
+use Rattle.connections.proofs.Steps.{served, synced_by}
 use Rattle.connections.proofs.slots.tell.Goals as goal
 
-pub returns : goal.returns
-returns g c = λ acts known at time order here.
-    let a = c.in_ok-tell.ensures c.args.round.idle acts known at time here in
-    let stays = stays_adds c.args.place acts a.0 a.1 in
-    let not_due = c.in_ok-work.ensures a.0 c.args.place (stays.same_clock ∙ time) (stays.same_stop ∙ order) a.3 in
+pub returns-clause-happens : goal.returns-clause-happens
+returns-clause-happens g c = λ acts known at time order here.
+    let a = c.in_ok-tell.ensures.tells c.args.round.idle acts known at time here in
+    let stays = stays_adds c.args.place 0 acts a.0 a.1 in
+    let not_due = c.in_ok-work.ensures.due a.0 c.args.place (stays.same_clock ∙ time) (stays.same_stop ∙ order)
+    (λ unsynced. c.in_ok-tell.ensures.unsynced (synced_by c.args.round.is_synced false (sym at ∙ sym stays.same_stage ∙ unsynced))) a.3 in
     (a.0, a.1, a.2, a.3, served c.args.round.idle a.0 c.args.place (course a.0 c.args.place) c.tell.new.self a.3 a.4 not_due.1)
+
+pub returns-in_err-work-clause-happens : goal.returns-in_err-work-clause-happens
+returns-in_err-work-clause-happens g c = λ acts known at time order here.
+    let a = c.in_ok-tell.ensures.tells c.args.round.idle acts known at time here in
+    let stays = stays_adds c.args.place 0 acts a.0 a.1 in
+    let due = c.in_err-work.ensures.due a.0 c.args.place (stays.same_clock ∙ time) (stays.same_stop ∙ order)
+    (λ unsynced. c.in_ok-tell.ensures.unsynced (synced_by c.args.round.is_synced false (sym at ∙ sym stays.same_stage ∙ unsynced))) a.3 in
+    let passed : c.from_residual-in_err-work.result ≡ Err c.in_err-work.field-0.0 = search rules in
+    (a.0, a.1, a.2, rw passed due.0, rw passed tt)

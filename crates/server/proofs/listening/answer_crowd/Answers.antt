@@ -28,4 +28,5 @@ returns-clause-shown g c = λ has.
               c.args.sessions.now.hub.service told.0 c.answer_all.new.sessions.hub.service c.head.ensures.well c.head-2.ensures.well told.2,
         ),
       ),
+      happened.7,
     )

@@ -1,13 +1,14 @@
-use Rattle.std.proofs.Common.{◌≡◌, ◌≤◌, ◌++◌, List, ℕ, length, take, drop, arith, refl, sym}
+use Rattle.std.proofs.Common.{◌≡◌, ◌≤◌, ◌++◌, List, ℕ, length, take, drop, arith, refl, sym, inr}
 use Rattle.std.proofs.lemmas.Grind.{common_steps}
 use Rattle.connections.specs.Rounds.{offers}
 use Rattle.connections.specs.Fitting.{KeepsTalk}
 use Rattle.connections.specs.Histories.{Fails, Takes, TakesNone, Course, of_connections}
-use Rattle.connections.proofs.Steps.{come_to, here_so, next_fail, next_take, next_take_none}
+use Rattle.connections.specs.Soundness.{MayTake}
+use Rattle.connections.proofs.Steps.{come_to, here_so, may_take, next_fail, next_take, next_take_none}
 use Rattle.connections.proofs.talk.Talk.write.Goals as goal
 
-pub returns-in-Took : goal.returns-in-Took
-returns-in-Took g c = λ idle acts knows telling time here.
+pub returns-in-Took-clause-writes : goal.returns-in-Took-clause-writes
+returns-in-Took-clause-writes g c = λ idle acts knows telling time here.
     let output : List ℕ = c.args.self.now.output.items in
     let seen : c.deref.result.now ≡ output = c.deref.ensures.value in
     let bytes : List ℕ = take c.in-Took.count output in
@@ -22,16 +23,17 @@ returns-in-Took g c = λ idle acts knows telling time here.
     (rw seen at (c.write.ensures.bytes c.in-Took.count c.in-Took.is (of_connections acts))) knows next in
     (a.0, a.1, a.2, a.3, a.4 offers refl)
 
-pub returns-in-Wait : goal.returns-in-Wait
-returns-in-Wait g c = λ idle acts knows telling time here.
+pub returns-in-Wait-clause-writes : goal.returns-in-Wait-clause-writes
+returns-in-Wait-clause-writes g c = λ idle acts knows telling time here.
     let a = come_to g.C.Connections.has idle c.args.place acts c.args.connections.now c.write.new.self TakesNone _ tt
     (c.write.ensures.wait c.in-Wait.is (of_connections acts)) knows
     (next_take_none idle acts c.args.place _ _ _ _ telling c.requires here) in
     (a.0, a.1, a.2, a.3, a.4 offers refl)
 
-pub returns-in-Fault : goal.returns-in-Fault
-returns-in-Fault g c = λ idle acts knows telling time here.
+pub returns-in-Fault-clause-writes : goal.returns-in-Fault-clause-writes
+returns-in-Fault-clause-writes g c = λ idle acts knows telling time here.
     let a = come_to g.C.Connections.has idle c.args.place acts c.args.connections.now c.write.new.self Fails _ tt
     (c.write.ensures.fault c.in-Fault.is (of_connections acts)) knows
-    (next_fail idle acts c.args.place (here_so _ _ _ (λ (of : Course) (keeps : KeepsTalk c.args.self.now of). keeps.is_open) here)) in
+    (next_fail idle acts c.args.place _ _ _ _
+    (here_so _ _ _ (λ (of : Course) (may : KeepsTalk c.args.self.now of × MayTake of). (may.0, inr (may.1, telling))) (may_take _ _ _ _ _ c.requires here))) in
     (a.0, a.1, a.2, a.3, tt)
