@@ -1,8 +1,9 @@
 // The client and its monitors take the roots that are new.
-ghost use Rattle.std.specs.Prelude.{◌≡◌, OnOk};
+ghost use Rattle.std.specs.Prelude.{◌≡◌, ℕ, IfOk, OnOk};
 ghost use Rattle.std.specs.List.{AllZip};
-ghost use Rattle.asking.specs.Following.{AllUpdate, MonitorUpdates};
-ghost use Rattle.asking.specs.Unanswered.{Stays};
+ghost use Rattle.asking.specs.Exchanges.{Exchanges};
+ghost use Rattle.asking.specs.Following.{AllUpdate, Follows, MonitorUpdates, TakesList};
+ghost use Rattle.asking.specs.Scenes.{scene, Stays};
 
 use crate::answering::body_of;
 use crate::checking::tell_client;
@@ -35,7 +36,10 @@ where
         &mut self,
         stream: &mut T,
         said: &mut Said,
-    ) -> Result<(), AskFault> {
+    ) -> Result<(), AskFault>
+        ensures follows { OnOk result ((count : ℕ) × Follows H.digest_of S.verified (Exchanges T.contents T.remaining) count (scene self.old said.old stream.old) (scene self.new said.new stream.new)) }
+        ensures stays { OnOk result (Stays self.old self.new) }
+    {
         // Every loop of Rattle has an end: this one's is past any chain.
         for _ in 0..u64::MAX {
             if !self.take_list(stream, said)? {
@@ -50,7 +54,10 @@ where
         &mut self,
         stream: &mut T,
         said: &mut Said,
-    ) -> Result<bool, AskFault> {
+    ) -> Result<bool, AskFault>
+        ensures takes { IfOk result (λ went. TakesList H.digest_of S.verified (Exchanges T.contents T.remaining) (scene self.old said.old stream.old) went (scene self.new said.new stream.new)) }
+        ensures stays { OnOk result (Stays self.old self.new) }
+    {
         let Some(from) = self.head().checked_add(1) else {
             return Ok(false);
         };
