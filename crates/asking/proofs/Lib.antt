@@ -5,6 +5,7 @@ pub mod Listed
 pub mod Moved
 pub mod Placed
 pub mod Stepped
+pub mod Stopped
 pub mod Telling
 pub mod Tested
 pub mod Whole

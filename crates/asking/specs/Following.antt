@@ -1,5 +1,5 @@
 -- How all take the roots that are new.
-use Rattle.std.specs.Prelude.{◌≡◌, ◌⊎◌, ℕ, zero, suc, ◌+◌, ◌-◌, ◌^◌, Bool, true, false, List, [], ◌∷◌, Result, Ok}
+use Rattle.std.specs.Prelude.{◌≡◌, ◌⊎◌, ℕ, zero, suc, ◌+◌, ◌-◌, ◌^◌, Bool, true, false, List, [], ◌∷◌, Result, Ok, Err, Contains, codes}
 use Rattle.std.specs.List.{AllZip}
 use Rattle.commands.specs.Operations.{History}
 use Rattle.rootchain.specs.Chains.{IsHead}
@@ -7,14 +7,22 @@ use Rattle.rootchain.specs.declared.root_list.TheConstants.{MAX_ROOTS}
 use Rattle.rootchain.specs.declared.signed_root.SignedRoot.{SignedRoot}
 use Rattle.client.specs.Clients.{Client}
 use Rattle.client.specs.Updating.{Updates}
+use Rattle.client.specs.declared.refusal.Refusal.{Refusal}
 use Rattle.monitor.specs.Monitors.{Monitor}
 use Rattle.wire.specs.Frames.{Frame}
 use Rattle.wire.specs.Requests.{RequestContent, Query}
+use Rattle.asking.specs.declared.said.Said.{Said}
+use Rattle.asking.specs.Refused.{client_refuses}
 use Rattle.asking.specs.Scenes.{Scene, IsAnswered}
+use Rattle.asking.specs.Told.{Tells}
 
 -- the roots above a head, as many as a list has
 abbrev pub asks_roots : SignedRoot → RequestContent
 asks_roots head = Query (History (head.body.epoch + 1) MAX_ROOTS)
+
+-- the refusal of a root is told, for a reason that holds
+abbrev pub TellsRefusal : (Refusal → Type 0) → Said → Said → Type 0
+TellsRefusal Holds before after = (why : Refusal) × Holds why × Tells before (client_refuses (codes "client refuses root") why) after
 
 -- the bytes of a list of no root
 abbrev pub no_root : List ℕ
@@ -27,6 +35,16 @@ module _ (hash : List ℕ → List ℕ) (verified : List ℕ → List ℕ → Li
 
   abbrev pub AllUpdate : List ℕ → Client → List Monitor → Client → List Monitor → Type 0
   AllUpdate list client monitors client' monitors' = Updates hash verified client list {A = Unit {0}} (Ok tt) client' × AllZip (MonitorUpdates list) monitors monitors'
+
+  -- a client refuses a list of roots; one of the monitors does; the client or one of them
+  abbrev pub Refuses : List ℕ → Client → Refusal → Type 0
+  Refuses list client why = Updates hash verified client list {A = Unit {0}} (Err why) client
+
+  abbrev pub OneRefuses : List ℕ → List Monitor → Refusal → Type 0
+  OneRefuses list monitors why = (monitor : Monitor) × Contains monitors monitor × Refuses list monitor.client why
+
+  abbrev pub AnyRefuses : List ℕ → Client → List Monitor → Refusal → Type 0
+  AnyRefuses list client monitors why = Refuses list client why ⊎ OneRefuses list monitors why
 
   module _ {T : Type 0} (exchanged : T → RequestContent → Frame → T → Type 0) where
     -- the roots above the head are asked for, and this frame comes back

@@ -1,9 +1,10 @@
 // The client and its monitors take the roots that are new.
-ghost use Rattle.std.specs.Prelude.{◌≡◌, ℕ, IfOk, OnOk};
+ghost use Rattle.std.specs.Prelude.{◌≡◌, ℕ, Err, IfOk, OnOk};
 ghost use Rattle.std.specs.List.{AllZip};
 ghost use Rattle.asking.specs.Exchanges.{Exchanges};
-ghost use Rattle.asking.specs.Following.{AllUpdate, Follows, MonitorUpdates, TakesList};
+ghost use Rattle.asking.specs.Following.{AllUpdate, AnyRefuses, Follows, MonitorUpdates, OneRefuses, Refuses, TakesList, TellsRefusal};
 ghost use Rattle.asking.specs.Scenes.{scene, Stays};
+ghost use Rattle.asking.specs.declared.fault.AskFault.TheVariants.{Stopped};
 
 use crate::answering::body_of;
 use crate::checking::tell_client;
@@ -83,6 +84,7 @@ where
         ensures updates { OnOk result (AllUpdate H.digest_of S.verified list.now (self.old).client (self.old).monitors.items (self.new).client (self.new).monitors.items) }
         ensures said { OnOk result (said.new ≡ said.old) }
         ensures stays { OnOk result (Stays self.old self.new) }
+        ensures refused { result ≡ Err Stopped → TellsRefusal (AnyRefuses H.digest_of S.verified list.now (self.old).client (self.old).monitors.items) said.old said.new }
     {
         let checks = &mut self.checks;
         match self.client.update(&mut checks.hash, &checks.verifier, list) {
@@ -109,6 +111,7 @@ where
     S: Verifier + Drop,
     ensures updates { OnOk result (AllZip (MonitorUpdates H.digest_of S.verified list.now) monitors.old monitors.new) }
     ensures said { OnOk result (said.new ≡ said.old) }
+    ensures refused { result ≡ Err Stopped → TellsRefusal (OneRefuses H.digest_of S.verified list.now monitors.old) said.old said.new }
 {
     for monitor in monitors.iter_mut() {
         update(alloc, monitor, checks, list, said)?;
@@ -130,6 +133,7 @@ where
     S: Verifier + Drop,
     ensures updates { OnOk result (MonitorUpdates H.digest_of S.verified list.now monitor.old monitor.new) }
     ensures said { OnOk result (said.new ≡ said.old) }
+    ensures refused { result ≡ Err Stopped → TellsRefusal (Refuses H.digest_of S.verified list.now monitor.old.client) said.old said.new }
 {
     match monitor.update(&mut checks.hash, &checks.verifier, list) {
         Ok(()) => Ok(()),
