@@ -18,6 +18,7 @@ ghost use Rattle.play.specs.Spoken.{ask_seen, HasRoom};
 ghost use Rattle.play.specs.Watchers.{Watcher};
 
 use super::handing::hand_all;
+use super::reading::read_response;
 use super::wanting::happen;
 use super::{ASKING, Engine};
 use crate::ask::Ask;
@@ -65,7 +66,7 @@ pub(super) fn response_of<'a>(frame: &FrameView<'a>) -> Result<Response<'a>, All
     requires { (responded : ResponseContent) × IsReadAs (frame_seen frame.now) responded }
     ensures { (responded : ResponseContent) → IsReadAs (frame_seen frame.now) responded → IfOk result (λ response. (response_seen response ≡ responded) × (responded ≢ Refused 14)) }
 {
-    match Response::read(frame.kind, frame.body) {
+    match read_response(frame.kind, frame.body) {
         Ok(Response::Refused(code)) if code == Refusal::Memory.number() => Err(AllocError),
         Ok(response) => Ok(response),
         Err(_) => unreachable!(),
