@@ -213,18 +213,14 @@ where
             → MayHand H.digest_of V.value_of S.signature_of R.stream V.accepted S.verified before asked self.old (Put verb name.now key.now) reply.now watchers
             → OnOk result (HasHanded H.digest_of V.value_of S.signature_of R.stream V.accepted S.verified before asked self.old (Put verb name.now key.now) watchers self.new) }
     {
-        let Response::Promise(_) = response_of(&frame_of(reply))? else {
+        let promise = body_of(reply);
+        // Only a refusal has a body of one byte.
+        if promise.len() == 1 {
             return Ok(());
-        };
+        }
         let Ok(key) = KeyData::new(key) else {
             unreachable!()
         };
-        hand_all(
-            &mut self.monitors,
-            &mut self.checks,
-            name,
-            &key,
-            body_of(reply),
-        )
+        hand_all(&mut self.monitors, &mut self.checks, name, &key, promise)
     }
 }
