@@ -1,5 +1,5 @@
 -- A promise of a key that waits is handed to the monitors of its name, as to the watchers.
-use Rattle.std.proofs.Common.{◌≡◌, ◌⊎◌, ℕ, zero, suc, ◌<◌, ◌≤◌, List, [], ◌∷◌, ◌++◌, length, drop, get_or, Option, Some, Ok, Err, Bool, true, false, if◌then◌else◌, IsSome, Contains, refl, sym, ap, ap₂, subst, inl, inr, ◌∙◌, arith}
+use Rattle.std.proofs.Common.{◌≡◌, ◌≢◌, ◌⊎◌, ℕ, zero, suc, ◌<◌, ◌≤◌, List, [], ◌∷◌, ◌++◌, length, drop, get_or, Option, Some, Ok, Err, Bool, true, false, if◌then◌else◌, IsSome, Contains, refl, sym, ap, ap₂, subst, inl, inr, ◌∙◌, arith}
 use Rattle.std.specs.Prelude.{is_some}
 use Rattle.std.specs.BTreeMap.{is_at}
 use Rattle.std.specs.List.{AllByRecursion, AllZip}
@@ -11,7 +11,7 @@ use Rattle.rand_core.specs.Stream.{Stream}
 use Rattle.encoding.specs.Limits.{IsKeyData}
 use Rattle.rootchain.specs.Bodies.{body_bytes}
 use Rattle.rootchain.specs.Chains.{Ascend, IsChain, KeyedRoots}
-use Rattle.rootchain.specs.Promises.{IsSignedPromise, PromiseVerifies, SpellsPromise}
+use Rattle.rootchain.specs.Promises.{signed_promise_bytes, IsSignedPromise, PromiseVerifies, SpellsPromise}
 use Rattle.rootchain.specs.declared.signed_promise.SignedPromise.{SignedPromise}
 use Rattle.rootchain.specs.declared.signed_root.SignedRoot.{SignedRoot}
 use Rattle.rootchain.proofs.Agreement.{unique}
@@ -22,11 +22,7 @@ use Rattle.commands.specs.Operations.{Operation, Edit}
 use Rattle.commands.specs.Operations as ask
 use Rattle.wire.specs.Frames.{Frame, frame_bytes, IsFrame}
 use Rattle.wire.specs.Requests as request
-use Rattle.wire.specs.Responses as responds
-use Rattle.wire.specs.Responses.{ResponseContent, response_seen}
-use Rattle.wire.specs.declared.response.Response.{Response}
-use Rattle.wire.specs.declared.response.Response.TheVariants as response
-use Rattle.hub.specs.Desks.{reply_frame, IsResponseOf}
+use Rattle.hub.specs.Desks.{reply_frame}
 use Rattle.book.specs.declared.reply.Reply.{Reply}
 use Rattle.book.specs.declared.reply.Reply.TheVariants as reply
 use Rattle.book.specs.declared.refusal.Refusal.{Refusal}
@@ -34,7 +30,6 @@ use Rattle.book.specs.Answers.{Answer, Promised, Found, Told, Last, with_pending
 use Rattle.book.specs.Books.{Binding, Book, Page}
 use Rattle.book.specs.Honest.{IsKept}
 use Rattle.book.specs.Maps.{Map, at, put}
-use Rattle.book.specs.Refusals.{refusal_number}
 use Rattle.book.specs.Shows.{Provider, index_of, roots}
 use Rattle.book.specs.Turns.{Shows, Turn}
 use Rattle.book.proofs.Entries.{at_put_other, at_put_same, is_name, is_no_name}
@@ -124,6 +119,10 @@ last-left zero front root some = Contains-append_right front (root ∷ []) root 
 last-left (suc zero) [] root some = absurd (omega (arith, some))
 last-left (suc (suc n)) [] root some = absurd (omega (arith, some))
 last-left (suc n) (x ∷ front) root some = last-left n front root some
+
+-- two bytes and more are not one
+two_long : (one other : ℕ) (more : List ℕ) → length (one ∷ other ∷ more) ≢ 1
+two_long one other more e = absurd (omega (arith, e))
 
 -- ---- what was said
 
@@ -237,28 +236,19 @@ module _ {R : Type 0} (digest_of : List ℕ → List ℕ) (value_of signature_of
 
   -- ---- how the reply is read
 
-  -- a response that is a promise is the promise that was said
-  pub was-promise : (got : Response) (promised : SignedPromise) → response_seen got ≡ may.was.responded → got ≡ response.Promise promised → may.was.said ≡ reply.Promised promised
-  was-promise got promised read is = by_said may.was.said may.was.responded may.was.response (sym read ∙ ap response_seen is)
-    where
-      by_said : (said : Reply) (responded : ResponseContent) → IsResponseOf said responded → responded ≡ responds.Promise promised → said ≡ reply.Promised promised
-      by_said (reply.Promised signed) responded of is = let e : responds.Promise signed ≡ responds.Promise promised = sym of ∙ is in let f : signed ≡ promised = cc in ap (λ (p : SignedPromise). reply.Promised p) f
-      by_said (reply.Found found) responded of is = let e : responds.Proof of.0 ≡ responds.Promise promised = sym of.2 ∙ is in absurd cc
-      by_said (reply.Told told) responded of is = let e : responds.Roots told.items ≡ responds.Promise promised = sym of ∙ is in absurd cc
-      by_said (reply.Last root) responded of is = let e : responds.Root root ≡ responds.Promise promised = sym of ∙ is in absurd cc
-      by_said (reply.Refused why) responded of is = let e : responds.Refused (refusal_number why) ≡ responds.Promise promised = sym of ∙ is in absurd cc
+  -- a body of one byte is no promise
+  pub no-promise : (body : List ℕ) → body ≡ (reply_frame may.was.said).body → length body ≡ 1 → (promised : SignedPromise) → may.was.said ≡ reply.Promised promised → ⊥
+  no-promise body is short promised said =
+      let few : length (signed_promise_bytes promised) ≡ 1 = sym (ap length (is ∙ ap (λ (s : Reply). (reply_frame s).body) said)) ∙ short in
+      two_long 0x50 0x01 (drop 2 (signed_promise_bytes promised)) few
 
-  -- and where it is none, no promise was said
-  pub no-promise : (got : Response) → response_seen got ≡ may.was.responded → ((promised : SignedPromise) → got ≡ response.Promise promised → ⊥)
-      → (promised : SignedPromise) → may.was.said ≡ reply.Promised promised → ⊥
-  no-promise got read none promised is = by_response got none (read ∙ subst (λ (said : Reply). IsResponseOf said may.was.responded) is may.was.response)
+  -- and one of more is one
+  pub was-promise : (body : List ℕ) → body ≡ (reply_frame may.was.said).body → length body ≢ 1 → (promised : SignedPromise) × (may.was.said ≡ reply.Promised promised)
+  was-promise body is long = by_told come.told come.comes
     where
-      by_response : (one : Response) → ((p : SignedPromise) → one ≡ response.Promise p → ⊥) → response_seen one ≡ responds.Promise promised → ⊥
-      by_response (response.Promise p) none e = none p refl
-      by_response (response.Proof proof) none e = absurd cc
-      by_response (response.Roots some) none e = absurd cc
-      by_response (response.Root root) none e = absurd cc
-      by_response (response.Refused code) none e = absurd cc
+      by_told : (told : message.Numbered) → Comes by (now_book before) (now_book asked) command may.was.said told → (promised : SignedPromise) × (may.was.said ≡ reply.Promised promised)
+      by_told (Ok answer) comes = shows-promise by (now_book asked) name _ answer may.was.said comes.0.0 comes.1
+      by_told (Err code) (why, refused, numbered) = absurd (long (ap length is ∙ ap (λ (said : Reply). length (reply_frame said).body) refused))
 
   -- the body of its frame spells it
   pub spells-promise : (promised : SignedPromise) → may.was.said ≡ reply.Promised promised → (body : List ℕ) → ((whole : Frame) → IsFrame whole → text ≡ frame_bytes whole → body ≡ whole.body) → SpellsPromise body promised

@@ -1,4 +1,5 @@
 pub mod Answering
+pub mod AskedLines
 pub mod Beginnings
 pub mod Calls
 pub mod Checked

@@ -39,6 +39,7 @@ mod asking;
 mod following;
 mod handing;
 mod hearing;
+mod reading;
 mod wanting;
 mod watching;
 

@@ -18,6 +18,7 @@ ghost use Rattle.play.specs.Spoken.{ask_seen, HasRoom};
 ghost use Rattle.play.specs.Watchers.{Watcher};
 
 use super::handing::hand_all;
+use super::reading::read_response;
 use super::wanting::happen;
 use super::{ASKING, Engine};
 use crate::ask::Ask;
@@ -65,7 +66,7 @@ pub(super) fn response_of<'a>(frame: &FrameView<'a>) -> Result<Response<'a>, All
     requires { (responded : ResponseContent) × IsReadAs (frame_seen frame.now) responded }
     ensures { (responded : ResponseContent) → IsReadAs (frame_seen frame.now) responded → IfOk result (λ response. (response_seen response ≡ responded) × (responded ≢ Refused 14)) }
 {
-    match Response::read(frame.kind, frame.body) {
+    match read_response(frame.kind, frame.body) {
         Ok(Response::Refused(code)) if code == Refusal::Memory.number() => Err(AllocError),
         Ok(response) => Ok(response),
         Err(_) => unreachable!(),
@@ -212,18 +213,14 @@ where
             → MayHand H.digest_of V.value_of S.signature_of R.stream V.accepted S.verified before asked self.old (Put verb name.now key.now) reply.now watchers
             → OnOk result (HasHanded H.digest_of V.value_of S.signature_of R.stream V.accepted S.verified before asked self.old (Put verb name.now key.now) watchers self.new) }
     {
-        let Response::Promise(_) = response_of(&frame_of(reply))? else {
+        let promise = body_of(reply);
+        // Only a refusal has a body of one byte.
+        if promise.len() == 1 {
             return Ok(());
-        };
+        }
         let Ok(key) = KeyData::new(key) else {
             unreachable!()
         };
-        hand_all(
-            &mut self.monitors,
-            &mut self.checks,
-            name,
-            &key,
-            body_of(reply),
-        )
+        hand_all(&mut self.monitors, &mut self.checks, name, &key, promise)
     }
 }
