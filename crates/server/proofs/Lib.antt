@@ -6,3 +6,4 @@ pub mod Heard
 pub mod Joined
 pub mod Opened
 pub mod Reopened
+pub mod Unkept

@@ -1,10 +1,11 @@
 // The file of a journal is read and opened. Then it is cut, or a new directory's start is written. A file
 // that is refused stays as it was.
-ghost use Rattle.std.specs.Prelude.{◌≡◌, IfErr, MatchResult};
+ghost use Rattle.std.specs.Prelude.{◌≡◌, IfErr, IfSome, MatchResult, OnOk, Some};
 ghost use Rattle.std.specs.Io.KnownBytes.{Keeps};
 ghost use Rattle.journal.specs.Opened.{IsUnopened as IsRefusal, Opens};
+ghost use Rattle.journal.specs.Records.{start_bytes};
 ghost use Rattle.server.specs.Directories.{salts};
-ghost use Rattle.server.specs.Reopening.{at_stream, index_by, of_refusal, HasRead, HasReopened, HasStarted, IsSystemFault, IsUnopened, StartsLess, StaysAt};
+ghost use Rattle.server.specs.Reopening.{at_stream, beginning_of, index_by, of_refusal, HasRead, HasReopened, HasStarted, IsSystemFault, IsUnopened, StartsLess, StaysAt};
 
 use crate::JournalFile;
 use crate::keys::{Keys, ServedDirectory};
@@ -100,9 +101,22 @@ fn start_anew<F: JournalFile>(
     ensures stays { IfErr result (λ fault. StartsLess keys.now fault (F.contents file.old) (F.contents file.new)) }
 {
     let directory = keys.begin(alloc)?;
+    // A `?` would hide the fault behind its conversion, and the proof needs it.
+    match write_start(keys, file) {
+        Ok(()) => Ok(directory),
+        Err(fault) => Err(fault),
+    }
+}
+
+/// Has the file hold the start of a new directory alone.
+fn write_start<F: JournalFile>(keys: &Keys, file: &mut F) -> Result<(), ProgramFault>
+    ensures starts { OnOk result (IfSome (F.contents file.old) (λ all. F.contents file.new ≡ Some (start_bytes (beginning_of keys.now)))) }
+    ensures fault { IfErr result IsSystemFault }
+    ensures stays { IfErr result (λ fault. StartsLess keys.now fault (F.contents file.old) (F.contents file.new)) }
+{
     file.cut(0)?;
     write_record(file, &keys.start())?;
-    Ok(directory)
+    Ok(())
 }
 
 /// Goes on with the directory of the file, or begins one in it.
