@@ -1,4 +1,5 @@
-use crate::digests::{INTERIOR_BYTES, LEAF_BYTES, take_all};
+use crate::digests::{INTERIOR_BYTES, LEAF_BYTES, measure_length, measure_lengths};
+use crate::held::{Held, keyed};
 use crate::pages::Pages;
 use crate::roots::{
     BODY_BYTES, KEYED_BYTES, SIGNED_BYTES, after, bodies, first_body, hash_of, provider,
@@ -6,24 +7,23 @@ use crate::roots::{
 };
 use crate::run::Run;
 use auditor::{Auditor, Evidence, Observed, judge};
-use encoding::{Hash32, KeyData};
+use encoding::Hash32;
 use nodehash::Sha256Hash;
 use proofs::BrokenPromise;
 use rootchain::{Body, Promise, RootEvidence, SignedPromise};
 use sigiface::{KeyedSign, Signer};
-use std::alloc::Global;
 
 /// The bytes of a root with the stand-in's signature.
 const ROOT_BYTES: usize = BODY_BYTES + 2 + 32;
 
 /// The bytes of a chain of so many signed roots, one behind the other.
-fn chain(alloc: Global, roots: usize) -> Option<Vec<u8>> {
-    let bodies = bodies(alloc, first_body(Hash32::default()), roots)?;
-    let mut bytes = Vec::with_capacity(alloc, roots.saturating_mul(ROOT_BYTES)).ok()?;
+fn chain(run: &Run, roots: usize) -> Vec<u8> {
+    let bodies = bodies(run, Hash32::default(), roots);
+    let mut bytes = run.list(roots.saturating_mul(ROOT_BYTES));
     for body in &bodies {
-        bytes.extend_from_slice(signed(*body).write().bytes()).ok()?;
+        run.append(&mut bytes, signed(*body).write().bytes());
     }
-    Some(bytes)
+    bytes
 }
 
 /// An auditor of the provider, and what it counts by.
@@ -36,54 +36,52 @@ struct Watch {
 }
 
 impl Watch {
-    fn new(alloc: Global) -> Watch {
-        let verifier = provider();
-        let key = verifier.public();
+    fn new(run: &Run) -> Watch {
         Watch {
-            auditor: Auditor::new(alloc),
+            auditor: Auditor::new(run.alloc()),
             hash: Sha256Hash::new(),
-            verifier,
-            key,
+            verifier: provider(),
+            key: provider().public(),
         }
     }
 
-    /// Observes a root, and says whether the chain had it.
-    fn observe(&mut self, root: &[u8]) -> Option<bool> {
+    /// Observes a root. Returns 1 if the chain had it, and 0 if it is new.
+    fn observe(&mut self, run: &Run, root: &[u8]) -> u64 {
         match self
             .auditor
             .observe(&mut self.hash, &self.verifier, &self.key, root)
-            .ok()?
         {
-            Observed::Started | Observed::Extended => Some(false),
-            Observed::Known => Some(true),
-            _ => None,
-        }
-    }
-
-    /// Observes these roots, and counts those that the chain begins with or that extend it.
-    fn observe_all(&mut self, roots: &[u8]) -> Option<u64> {
-        let mut taken: u64 = 0;
-        for root in roots.chunks_exact(ROOT_BYTES) {
-            if !self.observe(root)? {
-                taken = taken.saturating_add(1);
+            Ok(Observed::Started | Observed::Extended) => 0,
+            Ok(Observed::Known) => 1,
+            _ => {
+                run.fail();
+                0
             }
         }
-        Some(taken)
     }
 
-    /// Observes so many of these roots, each far from the one before, and counts those that are known.
-    fn observe_again(&mut self, roots: &[u8], times: usize) -> Option<u64> {
+    /// The step of observing these roots: counts those that the chain begins with or that extend it.
+    fn observe_all(&mut self, run: &Run, roots: &[u8]) {
+        let mut taken: u64 = 0;
+        for root in roots.chunks_exact(ROOT_BYTES) {
+            taken = taken.saturating_add(1 - self.observe(run, root).min(1));
+        }
+        run.step(taken);
+    }
+
+    /// The step of observing so many of these roots, each far from the one before: counts those that are
+    /// known.
+    fn observe_again(&mut self, run: &Run, roots: &[u8], times: usize) {
         let count = (roots.len() / ROOT_BYTES).max(1);
         let mut place: usize = 0;
         let mut known: u64 = 0;
         for _ in 0..times {
             place = place.wrapping_add(7919) % count;
             let start = place.saturating_mul(ROOT_BYTES);
-            if self.observe(roots.get(start..start.saturating_add(ROOT_BYTES))?)? {
-                known = known.saturating_add(1);
-            }
+            let root = run.part(roots, start, start.saturating_add(ROOT_BYTES));
+            known = known.saturating_add(self.observe(run, root));
         }
-        Some(known)
+        run.step(known);
     }
 }
 
@@ -95,47 +93,49 @@ fn forked(body: &Body) -> Body {
     }
 }
 
-/// A fork, a broken link and a skipped epoch, which begin with the same root.
-fn evidence_of_roots() -> [RootEvidence; 3] {
+/// A fork, a broken link or a skipped epoch, which begin with the same root.
+fn evidence_of_roots(kind: usize) -> RootEvidence {
     let third = after(&first_body(Hash32::default()), 2);
     let seventh = after(&third, 4);
-    [
-        RootEvidence::Fork(signed(seventh), signed(forked(&seventh))),
-        RootEvidence::Link(signed(seventh), signed(after(&forked(&seventh), 2))),
-        RootEvidence::Skip(signed(seventh), signed(after(&third, 6))),
-    ]
+    let forked = forked(&seventh);
+    match kind {
+        0 => RootEvidence::Fork(signed(seventh), signed(forked)),
+        1 => RootEvidence::Link(signed(seventh), signed(after(&forked, 2))),
+        _ => RootEvidence::Skip(signed(seventh), signed(after(&third, 6))),
+    }
 }
 
-/// A promise that was broken: the next page, on which a name of 16 bytes is below so many siblings, has
-/// another key for it.
-fn broken_promise(alloc: Global, siblings: usize) -> Option<BrokenPromise> {
-    let pages = Pages::new(alloc, 1, siblings, 1)?;
-    let held = pages.held(0)?;
-    let first = first_body(Hash32::default());
-    let mut second = after(&first, 1);
-    second.root = pages.body(0)?.root;
+/// The promise of another key for this name, after the root of this body.
+fn promised(held: &Held, body: &Body) -> SignedPromise {
     let promise = Promise {
-        epoch: first.epoch,
-        body_hash: hash_of(&first),
+        epoch: body.epoch,
+        body_hash: hash_of(body),
         index: held.index,
         name: held.name.copied(),
-        key: KeyData::new(&[7; 32]).ok()?,
+        key: keyed(&[7; 32]),
     };
     let signature = provider().sign(promise.write().bytes());
-    Some(BrokenPromise {
-        promise: SignedPromise { promise, signature },
-        root: signed(second),
-        proof: pages.reply(held, &second),
-    })
+    SignedPromise { promise, signature }
 }
 
-/// The lengths of the texts whose digests it takes to judge the broken promise: its own, the root's, those
+/// A promise that was broken: the next page has another key for the name.
+fn broken_promise(pages: &Pages, held: &Held, root: Hash32) -> BrokenPromise {
+    let first = first_body(Hash32::default());
+    let mut second = after(&first, 1);
+    second.root = root;
+    BrokenPromise {
+        promise: promised(held, &first),
+        root: signed(second),
+        proof: pages.reply(held, &second),
+    }
+}
+
+/// The lengths of the texts whose digests it takes to judge a broken promise: its own, the root's, those
 /// of the value and the index, the commitment, the leaf, and the nodes above it.
-fn lengths_of(alloc: Global, broken: &BrokenPromise, siblings: usize) -> Option<Vec<usize>> {
-    let promise = &broken.promise.promise;
+fn lengths_of(run: &Run, promise: &Promise, siblings: usize) -> Vec<usize> {
     let name = promise.name.bytes().len();
     let text = promise.write().bytes().len();
-    let mut lengths = vec![in alloc; INTERIOR_BYTES; siblings].ok()?;
+    let mut lengths = run.filled(INTERIOR_BYTES, siblings);
     let others = [
         KEYED_BYTES.saturating_add(text),
         SIGNED_BYTES,
@@ -144,15 +144,15 @@ fn lengths_of(alloc: Global, broken: &BrokenPromise, siblings: usize) -> Option<
         name.saturating_add(38 + 32),
         LEAF_BYTES,
     ];
-    lengths.extend_from_slice(&others).ok()?;
-    Some(lengths)
+    for length in others {
+        run.push(&mut lengths, length);
+    }
+    lengths
 }
 
-/// Judges the evidence so often, and counts how often it holds.
-fn judge_all(evidence: &Evidence, times: usize) -> u64 {
-    let mut hash = Sha256Hash::new();
-    let vuf = provider_vuf();
-    let verifier = provider();
+/// The step of judging the evidence, so often: counts how often it holds.
+fn judge_all(run: &Run, evidence: &Evidence, times: usize) {
+    let (mut hash, vuf, verifier) = (Sha256Hash::new(), provider_vuf(), provider());
     let key = verifier.public();
     let mut held: u64 = 0;
     for _ in 0..times {
@@ -160,83 +160,63 @@ fn judge_all(evidence: &Evidence, times: usize) -> u64 {
             held = held.saturating_add(1);
         }
     }
-    held
+    run.step(held);
 }
 
-/// The steps of evidence: the digests of texts of these lengths, the stand-ins' among them; and its judging.
-fn measure_evidence(
-    rt: &(impl Print + Input),
-    run: &mut Run,
-    evidence: &Evidence,
-    lengths: &[usize],
-    times: usize,
-) {
-    run.end_step(rt, take_all(lengths, times));
-    run.end_step(rt, Some(judge_all(evidence, times)));
-}
-
-/// The steps of the evidence of two roots, of each kind.
-fn measure_roots(rt: &(impl Print + Input), run: &mut Run, times: usize) {
-    let [fork, link, skip] = evidence_of_roots();
+/// The steps of the evidence of two roots, of each kind: the digests of texts of the same lengths, the
+/// stand-ins' among them; and its judging.
+fn measure_roots(run: &Run, times: usize) {
     let lengths = [SIGNED_BYTES, SIGNED_BYTES, BODY_BYTES];
-    measure_evidence(rt, run, &Evidence::Root(fork), &lengths[..2], times);
-    measure_evidence(rt, run, &Evidence::Root(link), &lengths, times);
-    measure_evidence(rt, run, &Evidence::Root(skip), &lengths[..2], times);
+    for kind in 0..3 {
+        let digests = if kind == 1 { 3 } else { 2 };
+        let evidence = Evidence::Root(evidence_of_roots(kind));
+        measure_lengths(run, &lengths[..digests], times);
+        judge_all(run, &evidence, times);
+    }
 }
 
-/// The steps of a broken promise.
-fn measure_promise(
-    rt: &(impl Print + Input),
-    run: &mut Run,
-    siblings: usize,
-    times: usize,
-) -> Option<()> {
-    let broken = broken_promise(run.alloc(), siblings)?;
-    let lengths = lengths_of(run.alloc(), &broken, siblings)?;
-    measure_evidence(rt, run, &Evidence::Broken(broken), &lengths, times);
-    Some(())
+/// The same steps of a broken promise of the first name.
+fn measure_promise(run: &Run, pages: &Pages, siblings: usize, times: usize) {
+    match (pages.held.first(), pages.bodies.first()) {
+        (Some(held), Some(body)) => {
+            let broken = broken_promise(pages, held, body.root);
+            let lengths = lengths_of(run, &broken.promise.promise, siblings);
+            measure_lengths(run, &lengths, times);
+            judge_all(run, &Evidence::Broken(broken), times);
+        }
+        _ => run.fail(),
+    }
 }
 
 /// The steps of digests: of bodies, and of what is signed of them.
-pub(crate) fn measure_bodies(rt: &(impl Print + Input), run: &mut Run, digests: usize) {
-    run.end_step(rt, take_all(&[BODY_BYTES], digests));
-    run.end_step(rt, take_all(&[SIGNED_BYTES], digests));
+pub(crate) fn measure_bodies(run: &Run, digests: usize) {
+    measure_length(run, BODY_BYTES, digests);
+    measure_length(run, SIGNED_BYTES, digests);
 }
 
 /// The steps of a chain: so many roots observed; the others, which extend it; and as many of them all once
 /// more.
-fn measure_chain(
-    rt: &(impl Print + Input),
-    run: &mut Run,
-    roots: &[u8],
-    first: usize,
-    more: usize,
-) {
-    let mut watch = Watch::new(run.alloc());
+fn measure_chain(run: &Run, roots: &[u8], first: usize, more: usize) {
+    let mut watch = Watch::new(run);
     let (first, others) = roots.split_at(first.saturating_mul(ROOT_BYTES).min(roots.len()));
-    run.end_step(rt, watch.observe_all(first));
-    run.end_step(rt, watch.observe_all(others));
-    run.end_step(rt, watch.observe_again(roots, more));
+    watch.observe_all(run, first);
+    watch.observe_all(run, others);
+    watch.observe_again(run, roots, more);
 }
 
 /// `audit ROOTS MORE SIBLINGS TIMES DIGESTS`. The steps: digests of bodies; a chain of so many roots
 /// observed, and more that extend it; for each kind of evidence the digests of its texts, and its judging,
 /// so often; and the first digests again.
-pub(crate) fn measure(
-    rt: &(impl Print + Input),
-    run: &mut Run,
-    roots: [usize; 2],
-    siblings: usize,
-    times: usize,
-    digests: usize,
-) -> Option<()> {
-    let [first, more] = roots;
-    let roots = chain(run.alloc(), first.saturating_add(more))?;
-    run.end_step(rt, Some(0));
-    measure_bodies(rt, run, digests);
-    measure_chain(rt, run, &roots, first, more);
-    measure_roots(rt, run, times);
-    measure_promise(rt, run, siblings, times)?;
-    measure_bodies(rt, run, digests);
-    Some(())
+pub(crate) fn measure(run: &Run, numbers: &[usize]) {
+    let [first, more, siblings, times, digests] = run.numbers::<5>(numbers);
+    let roots = chain(run, first.saturating_add(more));
+    run.step(0);
+    measure_bodies(run, digests);
+    measure_chain(run, &roots, first, more);
+    measure_roots(run, times);
+    match Pages::new(run, 1, siblings, 1) {
+        Some(pages) => measure_promise(run, &pages, siblings, times),
+        None => run.fail(),
+    }
+    measure_bodies(run, digests);
 }

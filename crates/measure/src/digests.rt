@@ -19,33 +19,28 @@ pub(crate) fn take_digests(text: &mut [u8], count: usize) -> u64 {
     u64::from(first)
 }
 
-/// The step of so many digests of the text of a leaf.
-pub(crate) fn measure_leaves(rt: &(impl Print + Input), run: &mut Run, count: usize) {
-    let mut text = [0; LEAF_BYTES];
-    run.end_step(rt, Some(take_digests(&mut text, count)));
+/// The step of so many digests of a text of so many bytes.
+pub(crate) fn measure_length(run: &Run, bytes: usize, count: usize) {
+    let mut text = run.filled(0, bytes);
+    run.step(take_digests(&mut text, count));
 }
 
-/// Takes the digests of texts of these lengths, so often. The longest has 512 bytes.
-pub(crate) fn take_all(lengths: &[usize], times: usize) -> Option<u64> {
+/// The step of the digests of texts of these lengths, at most 512, so often.
+pub(crate) fn measure_lengths(run: &Run, lengths: &[usize], times: usize) {
     let mut room = [0; 512];
-    let mut last: u64 = 0;
+    let mut last = 0;
     for _ in 0..times {
         for length in lengths {
-            last = take_digests(room.get_mut(..*length)?, 1);
+            last = take_digests(room.split_at_mut((*length).min(512)).0, 1);
         }
     }
-    Some(last)
+    run.step(last);
 }
 
 /// `digests BYTES COUNT`. The one step: so many digests of a text of so many bytes.
-pub(crate) fn measure(
-    rt: &(impl Print + Input),
-    run: &mut Run,
-    bytes: usize,
-    count: usize,
-) -> Option<()> {
-    let mut text = vec![in run.alloc(); 0; bytes].ok()?;
-    run.end_step(rt, Some(0));
-    run.end_step(rt, Some(take_digests(&mut text, count)));
-    Some(())
+pub(crate) fn measure(run: &Run, numbers: &[usize]) {
+    let [bytes, count] = run.numbers::<2>(numbers);
+    let mut text = run.filled(0, bytes);
+    run.step(0);
+    run.step(take_digests(&mut text, count));
 }

@@ -1,41 +1,32 @@
 use crate::run::Run;
 use crate::sessions::write_head;
-use std::alloc::Global;
 use wire::{Feed, Next};
 
-/// Takes so many frames of a piece that comes so often, and counts them.
-fn take_frames(feed: &mut Feed, piece: &[u8], frames: usize, times: usize) -> Option<u64> {
+/// The step of so many frames of a piece that comes so often: counts the frames.
+fn take_frames(run: &Run, piece: &[u8], frames: usize, times: usize) {
+    let mut feed = Feed::new(run.alloc());
     let mut taken: u64 = 0;
     for _ in 0..times {
-        feed.feed(piece).ok()?;
+        if feed.feed(piece).is_err() {
+            run.fail();
+        }
         for _ in 0..frames {
             if matches!(feed.next(), Next::Frame(..)) {
                 taken = taken.wrapping_add(1);
             }
         }
     }
-    Some(taken)
+    run.step(taken);
 }
 
-/// A piece of so many frames, each of which asks for the head.
-fn piece_of(alloc: Global, frames: usize) -> Option<Vec<u8>> {
-    let mut piece = Vec::new(alloc);
+/// `feed FRAMES TIMES`. The one step: so many frames of a piece that comes so often, each of which asks for
+/// the head.
+pub(crate) fn measure(run: &Run, numbers: &[usize]) {
+    let [frames, times] = run.numbers::<2>(numbers);
+    let mut piece = run.list(0);
     for _ in 0..frames {
-        write_head(&mut piece)?;
+        write_head(run, &mut piece);
     }
-    Some(piece)
-}
-
-/// `feed FRAMES TIMES`. The one step: so many frames of a piece that comes so often.
-pub(crate) fn measure(
-    rt: &(impl Print + Input),
-    run: &mut Run,
-    frames: usize,
-    times: usize,
-) -> Option<()> {
-    let piece = piece_of(run.alloc(), frames)?;
-    let mut feed = Feed::new(run.alloc());
-    run.end_step(rt, Some(0));
-    run.end_step(rt, take_frames(&mut feed, &piece, frames, times));
-    Some(())
+    run.step(0);
+    take_frames(run, &piece, frames, times);
 }

@@ -1,39 +1,69 @@
-use crate::pages::{Following, Pages, check_all, look_all};
+use crate::pages::{Answered, Following, Pages, check_all};
+use crate::roots::provider_vuf;
 use crate::run::Run;
+use nodehash::Sha256Hash;
+use proofs::Statement;
 
-/// The steps of a round: the replies of the root of this place made, read and checked, looked at by the
-/// client, and read and checked once more.
-fn measure_round(
-    rt: &(impl Print + Input),
-    run: &mut Run,
-    client: &mut Following,
-    pages: &Pages,
-    place: usize,
-) -> Option<()> {
-    let look_ups = pages.answered_at(run.alloc(), place)?;
-    run.end_step(rt, Some(0));
-    run.end_step(rt, check_all(&look_ups));
-    run.end_step(rt, look_all(client, &look_ups));
-    run.end_step(rt, check_all(&look_ups));
-    Some(())
+/// The client looks a name up, and keeps the reply. Returns how many keys it states.
+fn look(run: &Run, hash: &mut Sha256Hash, client: &mut Following, answer: &Answered) -> u64 {
+    let (vuf, epoch) = (provider_vuf(), answer.body.epoch);
+    match client.look(hash, &vuf, &answer.name, epoch, &answer.reply) {
+        Ok(Statement::Present(_)) => 1,
+        Ok(_) => 0,
+        Err(_) => {
+            run.fail();
+            0
+        }
+    }
 }
 
-/// `looks NAMES SIBLINGS ROOTS EPOCHS ROUNDS`. The steps of a client that has so many roots: looks of all
-/// names at the first epochs; and in each round those of `measure_round`, at one more epoch.
-pub(crate) fn measure(
-    rt: &(impl Print + Input),
-    run: &mut Run,
-    sizes: [usize; 3],
-    epochs: usize,
-    rounds: usize,
-) -> Option<()> {
-    let [names, siblings, roots] = sizes;
-    let pages = Pages::new(run.alloc(), names, siblings, roots)?;
-    let mut client = pages.client(run.alloc())?;
-    run.end_step(rt, Some(0));
-    run.end_step(rt, pages.keep_looks(&mut client, (0, names), epochs));
-    for round in 0..rounds {
-        measure_round(rt, run, &mut client, &pages, epochs.saturating_add(round))?;
+/// The step of looking all names up: counts the keys.
+fn look_all(run: &Run, client: &mut Following, answers: &[Answered]) {
+    let mut hash = Sha256Hash::new();
+    let mut keys: u64 = 0;
+    for answer in answers {
+        keys = keys.saturating_add(look(run, &mut hash, client, answer));
     }
-    Some(())
+    run.step(keys);
+}
+
+/// The steps of a round: the replies of a root made, read and checked, looked at by the client, and read and
+/// checked once more.
+fn measure_round(run: &Run, client: &mut Following, answers: &[Answered]) {
+    run.step(0);
+    check_all(run, answers);
+    look_all(run, client, answers);
+    check_all(run, answers);
+}
+
+/// The steps of a client: looks of all names at the first epochs; and in each round those of `measure_round`,
+/// at one more epoch.
+fn measure_client(run: &Run, client: &mut Following, pages: &Pages, epochs: usize, rounds: usize) {
+    let names = pages.held.len();
+    run.step(0);
+    let bytes = pages.keep_looks(run, client, (0, names), epochs);
+    run.step(bytes);
+    for round in 0..rounds {
+        let place = epochs.saturating_add(round);
+        let answers = pages.answers(run, names, place, place.saturating_add(1));
+        measure_round(run, client, &answers);
+    }
+}
+
+/// The same of a client that has all roots.
+fn measure_pages(run: &Run, pages: &Pages, epochs: usize, rounds: usize) {
+    match pages.client(run) {
+        Some(mut client) => measure_client(run, &mut client, pages, epochs, rounds),
+        None => run.fail(),
+    }
+}
+
+/// `looks NAMES SIBLINGS ROOTS EPOCHS ROUNDS`. The steps of `measure_client`, of a client that has so many
+/// roots.
+pub(crate) fn measure(run: &Run, numbers: &[usize]) {
+    let [names, siblings, roots, epochs, rounds] = run.numbers::<5>(numbers);
+    match Pages::new(run, names, siblings, roots) {
+        Some(pages) => measure_pages(run, &pages, epochs, rounds),
+        None => run.fail(),
+    }
 }

@@ -11,6 +11,7 @@ mod changes;
 mod digests;
 mod directory;
 mod feeding;
+mod held;
 mod keeping;
 mod looking;
 mod pages;
@@ -24,9 +25,9 @@ mod tree;
 mod updating;
 mod watching;
 
-use anyhow::{Context, Result, bail};
 use run::Run;
-use std::env;
+use std::process::ExitCode;
+use std::{env, io};
 
 const USAGE: &str = "usage: measure digests BYTES COUNT | texts COUNT ROUNDS \
     | tree GROWN MORE DIGESTS | whole ITEMS TIMES DIGESTS \
@@ -37,120 +38,97 @@ const USAGE: &str = "usage: measure digests BYTES COUNT | texts COUNT ROUNDS \
     | looks NAMES SIBLINGS ROOTS EPOCHS ROUNDS | watch SIBLINGS EPOCHS ROUNDS \
     | clients SIBLINGS NAMES SHARED EPOCHS ROUNDS | all";
 
-/// The number that this word writes.
-fn number(word: &str) -> Result<usize> {
-    word.parse::<usize>()
-        .context(format_args!("reading {word:?}"))
-}
+/// Each program, on small numbers.
+const ALL: [(&str, &[usize]); 17] = [
+    ("digests", &[64, 3]),
+    ("texts", &[9, 1]),
+    ("tree", &[5, 2, 1]),
+    ("whole", &[5, 2, 1]),
+    ("changes", &[5, 3, 2, 2, 1]),
+    ("replies", &[4, 3, 2, 1]),
+    ("chains", &[5, 3, 2]),
+    ("epochs", &[5, 3, 2, 4, 2, 1]),
+    ("journal", &[5, 1]),
+    ("hub", &[5, 3, 16, 2]),
+    ("feed", &[3, 2]),
+    ("audit", &[5, 3, 2, 2, 1]),
+    ("looks", &[3, 12, 4, 2, 2]),
+    ("updates", &[1, 2, 1, 0]),
+    ("updates", &[1, 2, 1, 64]),
+    ("watch", &[12, 2, 2]),
+    ("clients", &[12, 3, 1, 2, 2]),
+];
 
-/// Runs the program of this name on these numbers. `None` where there is no such program, or something
-/// failed.
-fn program(rt: &(impl Print + Input), run: &mut Run, name: &str, numbers: &[usize]) -> Option<()> {
-    match (name, numbers) {
-        ("digests", &[bytes, count]) => digests::measure(rt, run, bytes, count),
-        ("texts", &[count, rounds]) => texts::measure(rt, run, count, rounds),
-        ("tree", &[grown, more, digests]) => tree::measure(rt, run, grown, more, digests),
-        ("whole", &[items, times, digests]) => changes::measure_whole(
-            rt, run, items, times, digests,
-        ),
-        ("changes", &[items, changes, lists, rounds, digests]) => {
-            changes::measure(rt, run, [items, changes, lists], rounds, digests)
-        }
-        ("replies", &[siblings, replies, rounds, digests]) => {
-            replies::measure(rt, run, siblings, replies, rounds, digests)
-        }
-        ("chains", &[roots, shared, rounds]) => chains::measure(rt, run, roots, shared, rounds),
-        _ => program_of_provider(rt, run, name, numbers),
+/// Runs the program of this name.
+fn program(run: &Run, name: &str, numbers: &[usize]) {
+    match name {
+        "digests" => digests::measure(run, numbers),
+        "texts" => texts::measure(run, numbers),
+        "tree" => tree::measure(run, numbers),
+        "whole" => changes::measure_whole(run, numbers),
+        "changes" => changes::measure(run, numbers),
+        "replies" => replies::measure(run, numbers),
+        "chains" => chains::measure(run, numbers),
+        _ => program_of_parties(run, name, numbers),
     }
 }
 
-/// The same of those on a directory and its sessions.
-fn program_of_provider(
-    rt: &(impl Print + Input),
-    run: &mut Run,
-    name: &str,
-    numbers: &[usize],
-) -> Option<()> {
-    match (name, numbers) {
-        ("epochs", &[names, changes, rounds, look_ups, look_up_rounds, digests]) => {
-            let (changes, look_ups) = ((names, changes, rounds), (names, look_ups, look_up_rounds));
-            directory::measure(rt, run, changes, look_ups, digests)
-        }
-        ("journal", &[names, digests]) => keeping::measure(rt, run, names, digests),
-        ("hub", &[names, frames, piece, rounds]) => {
-            sessions::measure(rt, run, (names, frames), piece, rounds)
-        }
-        ("feed", &[frames, times]) => feeding::measure(rt, run, frames, times),
-        _ => program_of_others(rt, run, name, numbers),
-    }
-}
-
-/// The same of those on auditors, clients and monitors.
-fn program_of_others(
-    rt: &(impl Print + Input),
-    run: &mut Run,
-    name: &str,
-    numbers: &[usize],
-) -> Option<()> {
-    match (name, numbers) {
-        ("audit", &[roots, more, siblings, times, digests]) => {
-            auditing::measure(rt, run, [roots, more], siblings, times, digests)
-        }
-        ("looks", &[names, siblings, roots, epochs, rounds]) => {
-            looking::measure(rt, run, [names, siblings, roots], epochs, rounds)
-        }
-        ("updates", &[before, lists, digests, piece]) => {
-            updating::measure(rt, run, before, lists, digests, piece)
-        }
-        ("watch", &[siblings, epochs, rounds]) => watching::measure(
-            rt, run, siblings, epochs, rounds,
-        ),
-        ("clients", &[siblings, names, shared, epochs, rounds]) => {
-            reconciling::measure(rt, run, [siblings, names, shared], epochs, rounds)
-        }
-        _ => None,
+/// The same of those on directories, sessions, auditors, clients and monitors.
+fn program_of_parties(run: &Run, name: &str, numbers: &[usize]) {
+    match name {
+        "epochs" => directory::measure(run, numbers),
+        "journal" => keeping::measure(run, numbers),
+        "hub" => sessions::measure(run, numbers),
+        "feed" => feeding::measure(run, numbers),
+        "audit" => auditing::measure(run, numbers),
+        "looks" => looking::measure(run, numbers),
+        "updates" => updating::measure(run, numbers),
+        "watch" => watching::measure(run, numbers),
+        "clients" => reconciling::measure(run, numbers),
+        _ => run.fail(),
     }
 }
 
 /// Runs each program once, on small numbers: this shows that they still work.
-fn all(rt: &(impl Print + Input), run: &mut Run) -> Option<()> {
-    program(rt, run, "digests", &[64, 3])?;
-    program(rt, run, "texts", &[9, 1])?;
-    program(rt, run, "tree", &[5, 2, 1])?;
-    program(rt, run, "whole", &[5, 2, 1])?;
-    program(rt, run, "changes", &[5, 3, 2, 2, 1])?;
-    program(rt, run, "replies", &[4, 3, 2, 1])?;
-    program(rt, run, "chains", &[5, 3, 2])?;
-    program(rt, run, "epochs", &[5, 3, 2, 4, 2, 1])?;
-    program(rt, run, "journal", &[5, 1])?;
-    program(rt, run, "hub", &[5, 3, 16, 2])?;
-    program(rt, run, "feed", &[3, 2])?;
-    program(rt, run, "audit", &[5, 3, 2, 2, 1])?;
-    program(rt, run, "looks", &[3, 12, 4, 2, 2])?;
-    program(rt, run, "updates", &[1, 2, 1, 0])?;
-    program(rt, run, "updates", &[1, 2, 1, 64])?;
-    program(rt, run, "watch", &[12, 2, 2])?;
-    program(rt, run, "clients", &[12, 3, 1, 2, 2])
+fn all(run: &Run) {
+    for (name, numbers) in &ALL {
+        program(run, name, numbers);
+    }
 }
 
-fn main(rt: HostRuntime) -> Result<()> {
-    let alloc = rt.alloc();
-    let words: Vec<String> = env::args(&rt)?.collect(alloc)?;
-    let [_, name, rest @ ..] = words.as_slice() else {
-        bail!("{USAGE}");
-    };
-    let mut numbers = Vec::with_capacity(alloc, rest.len())?;
-    for word in rest {
-        numbers.push(number(word)?)?;
+/// The numbers that these words write.
+fn numbers_of(run: &Run, words: &[String]) -> Vec<usize> {
+    let mut numbers = run.list(words.len());
+    for word in words {
+        match word.parse::<usize>() {
+            Ok(number) => run.push(&mut numbers, number),
+            Err(_) => run.fail(),
+        }
     }
-    let mut run = Run::new(alloc);
-    let ended = if name.as_str() == "all" {
-        all(&rt, &mut run)
-    } else {
-        program(&rt, &mut run, name, &numbers)
-    };
-    if ended.is_none() || run.has_failed() {
-        bail!("the program failed, or is none of these; {USAGE}");
+    numbers
+}
+
+/// Runs the program that these words name.
+fn run_words(run: &Run, words: &[String]) {
+    match words {
+        [_, name] if name.as_str() == "all" => all(run),
+        [_, name, rest @ ..] => {
+            program(run, name, &numbers_of(run, rest));
+        }
+        _ => run.fail(),
     }
-    Ok(())
+}
+
+/// The words of the command line, the program's name first.
+fn words(rt: &HostRuntime) -> io::Result<Vec<String>> {
+    Ok(env::args(rt)?.collect(rt.alloc())?)
+}
+
+fn main(rt: HostRuntime) -> ExitCode {
+    let run = Run::new(rt);
+    match words(&rt) {
+        Ok(words) => run_words(&run, &words),
+        Err(_) => run.fail(),
+    }
+    run.end(USAGE)
 }

@@ -1,91 +1,24 @@
-ghost use Rattle.std.specs.Prelude.{◌<◌};
-
-use crate::directory::{key_of, name_of};
+use crate::held::{Held, tree_around};
 use crate::roots::{bodies, first_body, lists_of, provider, provider_vuf, signed};
+use crate::run::Run;
 use crate::tree::Plain;
 use client::Client;
-use commit::commit;
-use encoding::{Hash32, Index, KeyData, Name, ProofText, Small};
+use encoding::{Hash32, Name, ProofText};
 use nodehash::{NodeHash, Sha256Hash};
-use prefixtree::{Item, Tree, placed};
-use proofs::{End, ReplyView, Statement, check, make};
+use proofs::{ReplyView, check, make};
 use rootchain::Body;
 use sigiface::{KeyedSign, Signer};
-use std::alloc::Global;
-use vrfiface::{KeyedVuf, Vuf, index_of};
+use vrfiface::KeyedVuf;
 
 /// A client of the provider.
 pub(crate) type Following = Client<Sha256Hash, KeyedVuf, KeyedSign>;
 
-/// A name of 16 bytes, and what the provider holds for it.
-#[derive(Drop)]
-pub(crate) struct Held {
-    pub(crate) name: Name,
-    pub(crate) value: Small,
-    pub(crate) index: Index,
-    pub(crate) salt: Hash32,
-    pub(crate) key: KeyData,
-}
-
-impl Held {
-    /// What the provider holds for the name of this number.
-    pub(crate) fn new(number: u64) -> Option<Held> {
-        let name = Name::new(&name_of(number)).ok()?;
-        let key = KeyData::new(&key_of(number, 1)).ok()?;
-        let salt = Hash32::new(key_of(number, 2));
-        let value = provider_vuf().value(&name);
-        Some(Held {
-            index: index_of(&mut Sha256Hash::new(), value.bytes()),
-            name,
-            value,
-            salt,
-            key,
-        })
-    }
-
-    /// The item of the tree.
-    pub(crate) fn item(&self) -> Item {
-        let commitment = commit(&mut Sha256Hash::new(), &self.salt, &self.name, &self.key);
-        (self.index, commitment)
-    }
-
-    /// How its reply ends.
-    pub(crate) fn end(&self) -> End<'_> {
-        End::Present {
-            salt: self.salt,
-            key: &self.key,
-        }
-    }
-}
-
-/// The index that differs from this one in one bit.
-fn flipped(index: &Index, bit: usize) -> Index
-    requires { bit < 256 }
-{
-    let mut bytes = index.to_bytes();
-    bytes[bit / 8] ^= 0x80 >> (bit % 8);
-    Index::new(bytes)
-}
-
-/// A tree in which the path of each of these items has so many siblings, unless two of them agree in as
-/// many bits: for each of the first bits of an item there is one whose index differs in that bit alone.
-pub(crate) fn tree_around(alloc: Global, items: &[Item], siblings: usize) -> Option<Plain> {
-    let mut all = Vec::from_slice(alloc, items).ok()?;
-    for (index, commitment) in items {
-        for bit in 0..siblings.min(256) {
-            all.push((flipped(index, bit), *commitment)).ok()?;
-        }
-    }
-    let all = placed(alloc, &all).ok()??;
-    Tree::from_items(alloc, &mut Sha256Hash::new(), Hash32::default(), &all).ok()
-}
-
-/// A tree of names, and a chain of roots that all have this tree.
+/// Names, their tree, and the bodies of a chain of roots that all have this tree.
 #[derive(Drop)]
 pub(crate) struct Pages {
-    held: Vec<Held>,
+    pub(crate) held: Vec<Held>,
     tree: Plain,
-    bodies: Vec<Body>,
+    pub(crate) bodies: Vec<Body>,
 }
 
 /// A reply to a look-up of a name, and the body of the root that it asks under.
@@ -96,60 +29,51 @@ pub(crate) struct Answered {
     pub(crate) reply: Vec<u8>,
 }
 
-/// What the provider holds for so many names.
-fn held_of(alloc: Global, names: usize) -> Option<Vec<Held>> {
-    let mut held = Vec::with_capacity(alloc, names).ok()?;
-    for number in 0..names as u64 {
-        held.push(Held::new(number)?).ok()?;
-    }
-    Some(held)
-}
-
-/// The tree of these names, each of whose paths has so many siblings.
-fn tree_of(alloc: Global, held: &[Held], siblings: usize) -> Option<Plain> {
-    let mut items = Vec::with_capacity(alloc, held.len()).ok()?;
-    for one in held {
-        items.push(one.item()).ok()?;
-    }
-    tree_around(alloc, &items, siblings)
-}
-
-/// A client that has this root alone.
-pub(crate) fn started(alloc: Global, first: Body) -> Option<Following> {
+/// A client that has the first root alone, with this root of the tree.
+pub(crate) fn started(run: &Run, root: Hash32) -> Option<Following> {
     let verifier = provider();
-    let root = signed(first).write();
-    Client::start(alloc, &verifier, verifier.public(), root.bytes()).ok()
+    let root = signed(first_body(root)).write();
+    Client::start(run.alloc(), &verifier, verifier.public(), root.bytes()).ok()
+}
+
+/// The client takes a list whole.
+pub(crate) fn update(run: &Run, client: &mut Following, list: &[u8]) {
+    if client
+        .update(&mut Sha256Hash::new(), &provider(), list)
+        .is_err()
+    {
+        run.fail();
+    }
 }
 
 impl Pages {
     /// So many names, whose replies have so many siblings, at most 256, and so many roots.
-    pub(crate) fn new(alloc: Global, names: usize, siblings: usize, roots: usize) -> Option<Pages> {
-        let held = held_of(alloc, names)?;
-        let tree = tree_of(alloc, &held, siblings)?;
-        let bodies = bodies(alloc, first_body(tree.root()), roots)?;
-        Some(Pages { held, tree, bodies })
+    pub(crate) fn new(run: &Run, names: usize, siblings: usize, roots: usize) -> Option<Pages> {
+        let mut held = run.list(names);
+        for number in 0..names as u64 {
+            run.push(&mut held, Held::new(number));
+        }
+        match tree_around(run, &held, siblings) {
+            Some(tree) => {
+                let bodies = bodies(run, tree.root(), roots);
+                Some(Pages { held, tree, bodies })
+            }
+            None => None,
+        }
     }
 
     /// A client that has all roots, and kept no look.
-    pub(crate) fn client(&self, alloc: Global) -> Option<Following> {
-        let lists = lists_of(alloc, &self.bodies)?;
-        let mut client = started(alloc, *self.bodies.first()?)?;
-        for list in &lists {
-            client
-                .update(&mut Sha256Hash::new(), &provider(), list)
-                .ok()?;
+    pub(crate) fn client(&self, run: &Run) -> Option<Following> {
+        let lists = lists_of(run, &self.bodies);
+        match started(run, self.tree.root()) {
+            Some(mut client) => {
+                for list in &lists {
+                    update(run, &mut client, list);
+                }
+                Some(client)
+            }
+            None => None,
         }
-        Some(client)
-    }
-
-    /// What the provider holds for the name of this number.
-    pub(crate) fn held(&self, number: usize) -> Option<&Held> {
-        self.held.get(number)
-    }
-
-    /// The body of the root of this place in the chain.
-    pub(crate) fn body(&self, place: usize) -> Option<&Body> {
-        self.bodies.get(place)
     }
 
     /// The reply to a look-up of a name.
@@ -157,77 +81,86 @@ impl Pages {
         make(body, &held.value, &held.end(), &self.tree.path(&held.index))
     }
 
-    /// The reply to a look-up of the name of this number under the root of this place.
-    pub(crate) fn answered(&self, alloc: Global, number: usize, place: usize) -> Option<Answered> {
-        let held = self.held.get(number)?;
-        let body = *self.body(place)?;
-        let reply = self.reply(held, &body);
-        Some(Answered {
+    /// The reply to a look-up of a name under a root.
+    fn answered(&self, run: &Run, held: &Held, body: &Body) -> Answered {
+        let mut reply = run.list(0);
+        run.append(&mut reply, self.reply(held, body).bytes());
+        Answered {
             name: held.name.copied(),
-            body,
-            reply: Vec::from_slice(alloc, reply.bytes()).ok()?,
-        })
-    }
-
-    /// The replies to look-ups of all names under the root of this place.
-    pub(crate) fn answered_at(&self, alloc: Global, place: usize) -> Option<Vec<Answered>> {
-        let mut look_ups = Vec::with_capacity(alloc, self.held.len()).ok()?;
-        for number in 0..self.held.len() {
-            look_ups.push(self.answered(alloc, number, place)?).ok()?;
+            body: *body,
+            reply,
         }
-        Some(look_ups)
     }
 
-    /// A client looks the names from one number to another up under each root of so many places, root by
-    /// root. Counts the bytes of the replies that it keeps.
+    /// The replies to look-ups of the first names, so many, under the roots from one place to below another.
+    pub(crate) fn answers(
+        &self,
+        run: &Run,
+        names: usize,
+        first: usize,
+        end: usize,
+    ) -> Vec<Answered> {
+        let held = run.part(&self.held, 0, names);
+        let mut answers = run.list(0);
+        for body in run.part(&self.bodies, first, end) {
+            for one in held {
+                let answer = self.answered(run, one, body);
+                run.push(&mut answers, answer);
+            }
+        }
+        answers
+    }
+
+    /// A client looks a name up under a root. Returns the bytes of the reply that it keeps.
+    fn keep_look(&self, run: &Run, client: &mut Following, held: &Held, body: &Body) -> u64 {
+        let (mut hash, vuf) = (Sha256Hash::new(), provider_vuf());
+        let reply = self.reply(held, body);
+        if client
+            .look(&mut hash, &vuf, &held.name, body.epoch, reply.bytes())
+            .is_err()
+        {
+            run.fail();
+        }
+        reply.bytes().len() as u64
+    }
+
+    /// A client looks the names from one number to below another up under each of the first roots, so many,
+    /// root by root. Returns the bytes of the replies that it keeps.
     pub(crate) fn keep_looks(
         &self,
+        run: &Run,
         client: &mut Following,
         names: (usize, usize),
         places: usize,
-    ) -> Option<u64> {
-        let mut hash = Sha256Hash::new();
-        let vuf = provider_vuf();
-        let (first, end) = names;
-        let held = self.held.get(first..end)?;
+    ) -> u64 {
+        let held = run.part(&self.held, names.0, names.1);
         let mut bytes: u64 = 0;
-        for body in self.bodies.get(..places)? {
+        for body in run.part(&self.bodies, 0, places) {
             for one in held {
-                let reply = self.reply(one, body);
-                client
-                    .look(&mut hash, &vuf, &one.name, body.epoch, reply.bytes())
-                    .ok()?;
-                bytes = bytes.saturating_add(reply.bytes().len() as u64);
+                bytes = bytes.saturating_add(self.keep_look(run, client, one, body));
             }
         }
-        Some(bytes)
+        bytes
     }
 }
 
-/// Reads and checks all replies, and counts the digests.
-pub(crate) fn check_all(look_ups: &[Answered]) -> Option<u64> {
-    let mut hash = Sha256Hash::new();
-    let vuf = provider_vuf();
-    for look_up in look_ups {
-        let view = ReplyView::read(&look_up.reply).ok()?;
-        check(&mut hash, &vuf, &look_up.body, &look_up.name, &view).ok()?;
-    }
-    Some(hash.count())
-}
-
-/// The client looks all names up, and keeps the replies. Counts the keys.
-pub(crate) fn look_all(client: &mut Following, look_ups: &[Answered]) -> Option<u64> {
-    let mut hash = Sha256Hash::new();
-    let vuf = provider_vuf();
-    let mut keys: u64 = 0;
-    for look_up in look_ups {
-        let epoch = look_up.body.epoch;
-        let stated = client
-            .look(&mut hash, &vuf, &look_up.name, epoch, &look_up.reply)
-            .ok()?;
-        if let Statement::Present(_) = stated {
-            keys = keys.saturating_add(1);
+/// Reads and checks a reply.
+fn check_one(run: &Run, hash: &mut Sha256Hash, answer: &Answered) {
+    match ReplyView::read(&answer.reply) {
+        Ok(view) => {
+            if check(hash, &provider_vuf(), &answer.body, &answer.name, &view).is_err() {
+                run.fail();
+            }
         }
+        Err(_) => run.fail(),
     }
-    Some(keys)
+}
+
+/// The step of reading and checking all replies: counts the digests.
+pub(crate) fn check_all(run: &Run, answers: &[Answered]) {
+    let mut hash = Sha256Hash::new();
+    for answer in answers {
+        check_one(run, &mut hash, answer);
+    }
+    run.step(hash.count());
 }

@@ -1,13 +1,14 @@
 use crate::digests::{INTERIOR_BYTES, take_digests};
-use crate::pages::{Held, tree_around};
+use crate::held::{Held, tree_around};
 use crate::roots::{first_body, provider_vuf};
 use crate::run::Run;
+use crate::tree::Plain;
 use nodehash::{NodeHash, Sha256Hash};
 use prefixtree::Path;
 use proofs::{ReplyView, check, make};
 use rootchain::Body;
-use std::alloc::Global;
-use vrfiface::{Vuf, VufCheck};
+use std::slice;
+use vrfiface::{KeyedVuf, Vuf, VufCheck};
 
 /// What the provider holds for a name under a root of its own, and the reply to a look-up of it.
 #[derive(Drop)]
@@ -18,63 +19,84 @@ struct LookUp {
     reply: Vec<u8>,
 }
 
-impl LookUp {
-    /// The look-up of the name of this number.
-    fn new(alloc: Global, number: usize, siblings: usize) -> Option<LookUp> {
-        let held = Held::new(number as u64)?;
-        let tree = tree_around(alloc, &[held.item()], siblings)?;
-        let body = first_body(tree.root());
-        let path = tree.path(&held.index);
-        let reply = make(&body, &held.value, &held.end(), &path);
-        let reply = Vec::from_slice(alloc, reply.bytes()).ok()?;
-        Some(LookUp {
-            held,
-            body,
-            path,
-            reply,
-        })
+/// The look-up of a name in this tree.
+fn look_up_in(run: &Run, held: Held, tree: &Plain) -> LookUp {
+    let body = first_body(tree.root());
+    let path = tree.path(&held.index);
+    let mut reply = run.list(0);
+    run.append(
+        &mut reply,
+        make(&body, &held.value, &held.end(), &path).bytes(),
+    );
+    LookUp {
+        held,
+        body,
+        path,
+        reply,
     }
 }
 
-fn look_ups_of(alloc: Global, count: usize, siblings: usize) -> Option<Vec<LookUp>> {
-    let mut look_ups = Vec::with_capacity(alloc, count).ok()?;
-    for number in 0..count {
-        look_ups.push(LookUp::new(alloc, number, siblings)?).ok()?;
+/// Adds the look-up of the name of this number.
+fn put_look_up(run: &Run, look_ups: &mut Vec<LookUp>, number: u64, siblings: usize) {
+    let held = Held::new(number);
+    match tree_around(run, slice::from_ref(&held), siblings) {
+        Some(tree) => {
+            let look_up = look_up_in(run, held, &tree);
+            run.push(look_ups, look_up);
+        }
+        None => run.fail(),
     }
-    Some(look_ups)
 }
 
-/// Makes all replies again, and counts the bytes of those that are right at one place. The place is
-/// another in each round, so that the compiler has to make every byte.
-fn make_all(look_ups: &[LookUp], rounds: usize) -> u64 {
+/// Makes a reply again, and counts its bytes if it is right at this place.
+fn make_again(look_up: &LookUp, place: usize) -> u64 {
+    let held = &look_up.held;
+    let reply = make(&look_up.body, &held.value, &held.end(), &look_up.path);
+    if reply.bytes().get(place) == look_up.reply.get(place) {
+        reply.bytes().len() as u64
+    } else {
+        0
+    }
+}
+
+/// The step of making all replies, so often. The place is another in each round, so that the compiler has to
+/// make every byte.
+fn make_all(run: &Run, look_ups: &[LookUp], rounds: usize) {
     let mut bytes: u64 = 0;
     for round in 0..rounds {
         for look_up in look_ups {
-            let held = &look_up.held;
-            let reply = make(&look_up.body, &held.value, &held.end(), &look_up.path);
-            if reply.bytes().get(round) == look_up.reply.get(round) {
-                bytes = bytes.saturating_add(reply.bytes().len() as u64);
+            bytes = bytes.saturating_add(make_again(look_up, round));
+        }
+    }
+    run.step(bytes);
+}
+
+/// Reads and checks a reply.
+fn check_one(run: &Run, hash: &mut Sha256Hash, look_up: &LookUp) {
+    match ReplyView::read(&look_up.reply) {
+        Ok(view) => {
+            let (vuf, name) = (provider_vuf(), &look_up.held.name);
+            if check(hash, &vuf, &look_up.body, name, &view).is_err() {
+                run.fail();
             }
         }
+        Err(_) => run.fail(),
     }
-    bytes
 }
 
-/// Reads and checks all replies, and counts the digests.
-fn check_all(look_ups: &[LookUp], rounds: usize) -> Option<u64> {
+/// The step of reading and checking all replies, so often: counts the digests.
+fn check_all(run: &Run, look_ups: &[LookUp], rounds: usize) {
     let mut hash = Sha256Hash::new();
-    let vuf = provider_vuf();
     for _ in 0..rounds {
         for look_up in look_ups {
-            let view = ReplyView::read(&look_up.reply).ok()?;
-            check(&mut hash, &vuf, &look_up.body, &look_up.held.name, &view).ok()?;
+            check_one(run, &mut hash, look_up);
         }
     }
-    Some(hash.count())
+    run.step(hash.count());
 }
 
-/// Asks of each name whether its value is accepted, and counts how often it is.
-fn accept_all(look_ups: &[LookUp], rounds: usize) -> u64 {
+/// The step of asking of each name whether its value is accepted, so often: counts how often it is.
+fn accept_all(run: &Run, look_ups: &[LookUp], rounds: usize) {
     let vuf = provider_vuf();
     let public = vuf.public();
     let mut count: u64 = 0;
@@ -86,26 +108,27 @@ fn accept_all(look_ups: &[LookUp], rounds: usize) -> u64 {
             }
         }
     }
-    count
+    run.step(count);
 }
 
 /// `replies SIBLINGS REPLIES ROUNDS DIGESTS`. The steps: digests; replies made, each for a name of its own;
 /// replies read and checked; values accepted; digests again. Each step goes over all replies so often.
-pub(crate) fn measure(
-    rt: &(impl Print + Input),
-    run: &mut Run,
-    siblings: usize,
-    replies: usize,
-    rounds: usize,
-    digests: usize,
-) -> Option<()> {
-    let look_ups = look_ups_of(run.alloc(), replies, siblings)?;
+pub(crate) fn measure(run: &Run, numbers: &[usize]) {
+    let [siblings, replies, rounds, digests] = run.numbers::<4>(numbers);
+    let mut look_ups = run.list(replies);
+    for number in 0..replies as u64 {
+        put_look_up(run, &mut look_ups, number, siblings);
+    }
+    measure_look_ups(run, &look_ups, rounds, digests);
+}
+
+/// The steps of these look-ups.
+fn measure_look_ups(run: &Run, look_ups: &[LookUp], rounds: usize, digests: usize) {
     let mut text = [0; INTERIOR_BYTES];
-    run.end_step(rt, Some(0));
-    run.end_step(rt, Some(take_digests(&mut text, digests)));
-    run.end_step(rt, Some(make_all(&look_ups, rounds)));
-    run.end_step(rt, check_all(&look_ups, rounds));
-    run.end_step(rt, Some(accept_all(&look_ups, rounds)));
-    run.end_step(rt, Some(take_digests(&mut text, digests)));
-    Some(())
+    run.step(0);
+    run.step(take_digests(&mut text, digests));
+    make_all(run, look_ups, rounds);
+    check_all(run, look_ups, rounds);
+    accept_all(run, look_ups, rounds);
+    run.step(take_digests(&mut text, digests));
 }

@@ -1,8 +1,8 @@
+use crate::run::Run;
 use encoding::Hash32;
 use nodehash::{NodeHash, Sha256Hash};
 use rootchain::{Body, MAX_ROOTS, SignedRoot, write_list};
 use sigiface::{KeyedSign, Signer};
-use std::alloc::Global;
 use vrfiface::KeyedVuf;
 
 /// The bytes of a body, and those that the stand-in digests to sign it: a letter and a key before it.
@@ -53,35 +53,36 @@ pub(crate) fn signed(body: Body) -> SignedRoot {
     SignedRoot { body, signature }
 }
 
-/// So many bodies, of which each follows the one before it by an epoch.
-pub(crate) fn bodies(alloc: Global, first: Body, count: usize) -> Option<Vec<Body>> {
-    let mut bodies = Vec::with_capacity(alloc, count).ok()?;
-    let mut body = first;
+/// So many bodies of roots with this root of the tree, of which each follows the one before it by an epoch.
+pub(crate) fn bodies(run: &Run, root: Hash32, count: usize) -> Vec<Body> {
+    let mut bodies = run.list(count);
+    let mut body = first_body(root);
     for _ in 0..count {
-        bodies.push(body).ok()?;
+        run.push(&mut bodies, body);
         body = after(&body, 1);
     }
-    Some(bodies)
+    bodies
 }
 
 /// The list of the signed roots of these bodies, at most as many as a list may have.
-fn list_of(alloc: Global, bodies: &[Body]) -> Option<Vec<u8>> {
-    let mut roots = Vec::with_capacity(alloc, bodies.len()).ok()?;
+fn list_of(run: &Run, bodies: &[Body]) -> Vec<u8> {
+    let mut roots = run.list(bodies.len());
     for body in bodies {
-        roots.push(signed(*body)).ok()?;
+        run.push(&mut roots, signed(*body));
     }
-    let mut list = Vec::new(alloc);
-    if roots.len() <= MAX_ROOTS {
-        write_list(&roots, &mut list).ok()?;
+    let mut list = run.list(0);
+    if roots.len() > MAX_ROOTS || write_list(&roots, &mut list).is_err() {
+        run.fail();
     }
-    Some(list)
+    list
 }
 
 /// The lists of the signed roots of these bodies, each with as many as a list may have.
-pub(crate) fn lists_of(alloc: Global, bodies: &[Body]) -> Option<Vec<Vec<u8>>> {
-    let mut lists = Vec::new(alloc);
+pub(crate) fn lists_of(run: &Run, bodies: &[Body]) -> Vec<Vec<u8>> {
+    let mut lists = run.list(0);
     for part in bodies.chunks(MAX_ROOTS) {
-        lists.push(list_of(alloc, part)?).ok()?;
+        let list = list_of(run, part);
+        run.push(&mut lists, list);
     }
-    Some(lists)
+    lists
 }

@@ -1,44 +1,112 @@
 use std::alloc::Global;
+use std::cell::Cell;
 use std::io;
+use std::process::ExitCode;
 
-/// A run of a program. What fails is kept here, so that the functions that end steps have one way out.
-#[derive(Clone, Copy)]
+/// A run of a program. That something failed is kept here, in a cell, so that each function has one way out,
+/// and passes on what it has at no cost to the prover.
+#[derive(Drop)]
 pub(crate) struct Run {
-    alloc: Global,
-    has_failed: bool,
+    rt: HostRuntime,
+    has_failed: Cell<bool>,
 }
 
 /// Prints a number, and waits for a line or for the end of the input.
-fn print_and_wait(rt: &(impl Print + Input), alloc: Global, number: u64) -> io::Result<()> {
+fn print_and_wait(rt: &HostRuntime, number: u64) -> io::Result<()> {
     println!(rt; "{number}")?;
-    let mut line = String::new(alloc);
+    let mut line = String::new(rt.alloc());
     rt.read_line(&mut line)?;
     Ok(())
 }
 
 impl Run {
-    pub(crate) fn new(alloc: Global) -> Run {
+    pub(crate) fn new(rt: HostRuntime) -> Run {
         Run {
-            alloc,
-            has_failed: false,
+            rt,
+            has_failed: Cell::new(false),
         }
     }
 
     pub(crate) fn alloc(&self) -> Global {
-        self.alloc
+        self.rt.alloc()
     }
 
-    pub(crate) fn has_failed(&self) -> bool {
-        self.has_failed
+    /// The numbers of a program, which has to be given as many.
+    pub(crate) fn numbers<const N: usize>(&self, numbers: &[usize]) -> [usize; N] {
+        match numbers.try_into() {
+            Ok(numbers) => numbers,
+            Err(_) => {
+                self.fail();
+                [0; N]
+            }
+        }
     }
 
-    /// Ends a step: prints its number, and waits for a line or for the end of the input. Where the step
-    /// failed or one before it, nothing is printed from then on.
-    pub(crate) fn end_step(&mut self, rt: &(impl Print + Input), number: Option<u64>) {
-        let is_told = match number {
-            Some(number) if !self.has_failed => print_and_wait(rt, self.alloc, number).is_ok(),
-            _ => false,
-        };
-        self.has_failed = !is_told;
+    /// Something failed. From now on no step is told.
+    pub(crate) fn fail(&self) {
+        self.has_failed.set(true);
+    }
+
+    /// Ends a step: prints its number, and waits for a line or for the end of the input.
+    pub(crate) fn step(&self, number: u64) {
+        if !self.has_failed.get() && print_and_wait(&self.rt, number).is_err() {
+            self.fail();
+        }
+    }
+
+    /// How the process ends.
+    pub(crate) fn end(&self, usage: &str) -> ExitCode {
+        if !self.has_failed.get() {
+            return ExitCode::SUCCESS;
+        }
+        let _ = eprintln!(&self.rt; "the program failed, or is none of these; {usage}");
+        ExitCode::FAILURE
+    }
+
+    /// A list with room for so many values.
+    pub(crate) fn list<T: Drop>(&self, count: usize) -> Vec<T> {
+        match Vec::with_capacity(self.alloc(), count) {
+            Ok(list) => list,
+            Err(_) => {
+                self.fail();
+                Vec::new(self.alloc())
+            }
+        }
+    }
+
+    /// A list of the same value, so many times.
+    pub(crate) fn filled<T: Copy + Drop>(&self, value: T, count: usize) -> Vec<T> {
+        match vec![in self.alloc(); value; count] {
+            Ok(list) => list,
+            Err(_) => {
+                self.fail();
+                Vec::new(self.alloc())
+            }
+        }
+    }
+
+    /// Puts a value at the end of a list.
+    pub(crate) fn push<T: Drop>(&self, list: &mut Vec<T>, value: T) {
+        if list.push(value).is_err() {
+            self.fail();
+        }
+    }
+
+    /// Puts bytes at the end of others.
+    pub(crate) fn append(&self, list: &mut Vec<u8>, bytes: &[u8]) {
+        if list.extend_from_slice(bytes).is_err() {
+            self.fail();
+        }
+    }
+
+    /// The values from one place to below another.
+    pub(crate) fn part<'a, T>(&self, values: &'a [T], first: usize, end: usize) -> &'a [T] {
+        match values.get(first..end) {
+            Some(part) => part,
+            None => {
+                self.fail();
+                &[]
+            }
+        }
     }
 }

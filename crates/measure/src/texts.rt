@@ -2,7 +2,6 @@ use crate::run::Run;
 use encoding::{Hash32, Index};
 use nodehash::{NodeHash, NodeText, Sha256Hash, interior_text, leaf_text};
 use sha2::{Digest, Sha256};
-use std::alloc::Global;
 
 /// The text of a leaf or of an interior node, made of the digest of a number.
 fn text_of(number: usize, is_leaf: bool) -> NodeText {
@@ -15,12 +14,12 @@ fn text_of(number: usize, is_leaf: bool) -> NodeText {
     }
 }
 
-fn texts_of(alloc: Global, count: usize, is_leaf: bool) -> Option<Vec<NodeText>> {
-    let mut texts = Vec::with_capacity(alloc, count).ok()?;
+fn texts_of(run: &Run, count: usize, is_leaf: bool) -> Vec<NodeText> {
+    let mut texts = run.list(count);
     for number in 0..count {
-        texts.push(text_of(number, is_leaf)).ok()?;
+        run.push(&mut texts, text_of(number, is_leaf));
     }
-    Some(texts)
+    texts
 }
 
 /// The first bytes of these digests, added up.
@@ -32,49 +31,48 @@ fn first_bytes(digests: &[Hash32]) -> u64 {
     total
 }
 
-/// Takes the digests of the texts one by one, so often, and adds up their first bytes.
-fn one_by_one(alloc: Global, texts: &[NodeText], rounds: usize) -> Option<u64> {
-    let mut hash = Sha256Hash::new();
-    let mut total: u64 = 0;
-    for _ in 0..rounds {
-        let mut digests = Vec::with_capacity(alloc, texts.len()).ok()?;
-        for text in texts {
-            digests.push(hash.digest(text.bytes())).ok()?;
-        }
-        total = total.saturating_add(first_bytes(&digests));
+/// The digests of the texts, one by one.
+fn one_by_one(run: &Run, hash: &mut Sha256Hash, texts: &[NodeText]) -> Vec<Hash32> {
+    let mut digests = run.list(texts.len());
+    for text in texts {
+        run.push(&mut digests, hash.digest(text.bytes()));
     }
-    Some(total)
+    digests
 }
 
-/// Takes the digests of the texts all at once, so often, and adds up their first bytes.
-fn all_at_once(alloc: Global, texts: &[NodeText], rounds: usize) -> Option<u64> {
-    let mut hash = Sha256Hash::new();
-    let mut total: u64 = 0;
-    for _ in 0..rounds {
-        let mut digests = vec![in alloc; Hash32::default(); texts.len()].ok()?;
+/// The digests of the texts, all at once.
+fn all_at_once(run: &Run, hash: &mut Sha256Hash, texts: &[NodeText]) -> Vec<Hash32> {
+    let mut digests = run.filled(Hash32::default(), texts.len());
+    if digests.len() == texts.len() {
         hash.digest_all(texts, &mut digests);
-        total = total.saturating_add(first_bytes(&digests));
     }
-    Some(total)
+    digests
 }
 
-fn measure_texts(rt: &(impl Print + Input), run: &mut Run, texts: &[NodeText], rounds: usize) {
-    run.end_step(rt, one_by_one(run.alloc(), texts, rounds));
-    run.end_step(rt, all_at_once(run.alloc(), texts, rounds));
+/// The step of these texts in one way, so often.
+fn measure_way(run: &Run, texts: &[NodeText], rounds: usize, is_at_once: bool) {
+    let mut hash = Sha256Hash::new();
+    let mut total: u64 = 0;
+    for _ in 0..rounds {
+        let digests = if is_at_once {
+            all_at_once(run, &mut hash, texts)
+        } else {
+            one_by_one(run, &mut hash, texts)
+        };
+        total = total.saturating_add(first_bytes(&digests));
+    }
+    run.step(total);
 }
 
 /// `texts COUNT ROUNDS`. The steps: the digests of so many texts of 64 bytes, one by one and then all at
 /// once, each so often; and the same for texts of 101 bytes.
-pub(crate) fn measure(
-    rt: &(impl Print + Input),
-    run: &mut Run,
-    count: usize,
-    rounds: usize,
-) -> Option<()> {
-    let interiors = texts_of(run.alloc(), count, false)?;
-    let leaves = texts_of(run.alloc(), count, true)?;
-    run.end_step(rt, Some(0));
-    measure_texts(rt, run, &interiors, rounds);
-    measure_texts(rt, run, &leaves, rounds);
-    Some(())
+pub(crate) fn measure(run: &Run, numbers: &[usize]) {
+    let [count, rounds] = run.numbers::<2>(numbers);
+    let interiors = texts_of(run, count, false);
+    let leaves = texts_of(run, count, true);
+    run.step(0);
+    for texts in [&interiors, &leaves] {
+        measure_way(run, texts, rounds, false);
+        measure_way(run, texts, rounds, true);
+    }
 }

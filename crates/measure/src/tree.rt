@@ -1,40 +1,41 @@
-use crate::digests::measure_leaves;
+use crate::digests::{LEAF_BYTES, measure_length};
 use crate::run::Run;
 use encoding::{Hash32, Index};
 use nodehash::{NodeHash, Sha256Hash};
 use prefixtree::{Item, Tree};
 use sha2::{Digest, Sha256};
-use std::alloc::Global;
 
 /// A tree as `directoryd` has it.
 pub(crate) type Plain = Tree<Sha256Hash>;
 
 /// The items at the digests of so many numbers from `first` on, not sorted.
-pub(crate) fn items_from(alloc: Global, first: usize, count: usize) -> Option<Vec<Item>> {
-    let mut items = Vec::with_capacity(alloc, count).ok()?;
+pub(crate) fn items_from(run: &Run, first: usize, count: usize) -> Vec<Item> {
+    let mut items = run.list(count);
     for k in 0..count {
         let number = (first as u64).wrapping_add(k as u64);
         let index = Index::new(Sha256::digest(&number.to_be_bytes()));
-        items.push((index, Hash32::default())).ok()?;
+        run.push(&mut items, (index, Hash32::default()));
     }
-    Some(items)
+    items
 }
 
-/// The tree with these items put in one by one.
-fn grown(alloc: Global, hash: &mut Sha256Hash, tree: Plain, items: &[Item]) -> Option<Plain> {
-    let mut tree = tree;
+/// Grows the tree by these items, one by one.
+pub(crate) fn grow(run: &Run, hash: &mut Sha256Hash, tree: &mut Plain, items: &[Item]) {
     for (index, commitment) in items {
-        tree = tree.with(alloc, hash, *index, *commitment).ok()?;
+        match tree.with(run.alloc(), hash, *index, *commitment) {
+            Ok(next) => *tree = next,
+            Err(_) => run.fail(),
+        }
     }
-    Some(tree)
 }
 
-/// Puts each of the items into the tree, which stays as it was. Returns the digests so far.
-fn put_each(alloc: Global, hash: &mut Sha256Hash, tree: &Plain, items: &[Item]) -> Option<u64> {
+/// Puts each of the items into the tree, which stays as it was.
+fn put_each(run: &Run, hash: &mut Sha256Hash, tree: &Plain, items: &[Item]) {
     for (index, commitment) in items {
-        let _ = tree.with(alloc, hash, *index, *commitment).ok()?;
+        if tree.with(run.alloc(), hash, *index, *commitment).is_err() {
+            run.fail();
+        }
     }
-    Some(hash.count())
 }
 
 /// The levels of the paths of these items, added up.
@@ -50,27 +51,36 @@ fn levels(tree: &Plain, items: &[Item]) -> u64 {
     levels
 }
 
+/// The steps of a tree, which grows by the first items.
+fn measure_tree(
+    run: &Run,
+    hash: &mut Sha256Hash,
+    tree: &mut Plain,
+    first: &[Item],
+    others: &[Item],
+) {
+    grow(run, hash, tree, first);
+    run.step(hash.count());
+    put_each(run, hash, tree, others);
+    run.step(hash.count());
+    run.step(levels(tree, others));
+}
+
 /// `tree GROWN MORE DIGESTS`. The steps: digests; the tree grown to so many items, one insert at a time;
 /// more inserts into it, each of which leaves it as it was; the paths of their indices; digests again. The
 /// number of a step of inserts is the digests so far.
-pub(crate) fn measure(
-    rt: &(impl Print + Input),
-    run: &mut Run,
-    items: usize,
-    more: usize,
-    digests: usize,
-) -> Option<()> {
-    let alloc = run.alloc();
-    let own = items_from(alloc, 0, items)?;
-    let others = items_from(alloc, items, more)?;
+pub(crate) fn measure(run: &Run, numbers: &[usize]) {
+    let [grown, more, digests] = run.numbers::<3>(numbers);
+    let first = items_from(run, 0, grown);
+    let others = items_from(run, grown, more);
     let mut hash = Sha256Hash::new();
-    let tree = Tree::new(alloc, &mut hash, Hash32::default()).ok()?;
-    run.end_step(rt, Some(hash.count()));
-    measure_leaves(rt, run, digests);
-    let tree = grown(alloc, &mut hash, tree, &own)?;
-    run.end_step(rt, Some(hash.count()));
-    run.end_step(rt, put_each(alloc, &mut hash, &tree, &others));
-    run.end_step(rt, Some(levels(&tree, &others)));
-    measure_leaves(rt, run, digests);
-    Some(())
+    match Tree::new(run.alloc(), &mut hash, Hash32::default()) {
+        Ok(mut tree) => {
+            run.step(hash.count());
+            measure_length(run, LEAF_BYTES, digests);
+            measure_tree(run, &mut hash, &mut tree, &first, &others);
+            measure_length(run, LEAF_BYTES, digests);
+        }
+        Err(_) => run.fail(),
+    }
 }
