@@ -1,4 +1,11 @@
+pub mod Asked
+pub mod Going
+pub mod Joined
+pub mod Listed
 pub mod Moved
 pub mod Placed
+pub mod Stepped
+pub mod Stopped
 pub mod Telling
+pub mod Tested
 pub mod Whole

@@ -1,9 +1,32 @@
--- How all take the roots of a list.
-use Rattle.std.specs.Prelude.{◌≡◌, ℕ, List, Result, Ok}
+-- How all take the roots that are new.
+use Rattle.std.specs.Prelude.{◌≡◌, ◌⊎◌, ℕ, zero, suc, ◌+◌, ◌-◌, ◌^◌, Bool, true, false, List, [], ◌∷◌, Result, Ok, Err, Contains, codes}
 use Rattle.std.specs.List.{AllZip}
+use Rattle.commands.specs.Operations.{History}
+use Rattle.rootchain.specs.Chains.{IsHead}
+use Rattle.rootchain.specs.declared.root_list.TheConstants.{MAX_ROOTS}
+use Rattle.rootchain.specs.declared.signed_root.SignedRoot.{SignedRoot}
 use Rattle.client.specs.Clients.{Client}
 use Rattle.client.specs.Updating.{Updates}
+use Rattle.client.specs.declared.refusal.Refusal.{Refusal}
 use Rattle.monitor.specs.Monitors.{Monitor}
+use Rattle.wire.specs.Frames.{Frame}
+use Rattle.wire.specs.Requests.{RequestContent, Query}
+use Rattle.asking.specs.declared.said.Said.{Said}
+use Rattle.asking.specs.Refused.{client_refuses}
+use Rattle.asking.specs.Scenes.{Scene, IsAnswered}
+use Rattle.asking.specs.Told.{Tells}
+
+-- the roots above a head, as many as a list has
+abbrev pub asks_roots : SignedRoot → RequestContent
+asks_roots head = Query (History (head.body.epoch + 1) MAX_ROOTS)
+
+-- the refusal of a root is told, for a reason that holds
+abbrev pub TellsRefusal : (Refusal → Type 0) → Said → Said → Type 0
+TellsRefusal Holds before after = (why : Refusal) × Holds why × Tells before (client_refuses (codes "client refuses root") why) after
+
+-- the bytes of a list of no root
+abbrev pub no_root : List ℕ
+no_root = 0 ∷ 0 ∷ []
 
 module _ (hash : List ℕ → List ℕ) (verified : List ℕ → List ℕ → List ℕ → Type 0) where
   -- a monitor takes the roots of a list, and so do the client and each monitor
@@ -12,3 +35,35 @@ module _ (hash : List ℕ → List ℕ) (verified : List ℕ → List ℕ → Li
 
   abbrev pub AllUpdate : List ℕ → Client → List Monitor → Client → List Monitor → Type 0
   AllUpdate list client monitors client' monitors' = Updates hash verified client list {A = Unit {0}} (Ok tt) client' × AllZip (MonitorUpdates list) monitors monitors'
+
+  -- a client refuses a list of roots; one of the monitors does; the client or one of them
+  abbrev pub Refuses : List ℕ → Client → Refusal → Type 0
+  Refuses list client why = Updates hash verified client list {A = Unit {0}} (Err why) client
+
+  abbrev pub OneRefuses : List ℕ → List Monitor → Refusal → Type 0
+  OneRefuses list monitors why = (monitor : Monitor) × Contains monitors monitor × Refuses list monitor.client why
+
+  abbrev pub AnyRefuses : List ℕ → Client → List Monitor → Refusal → Type 0
+  AnyRefuses list client monitors why = Refuses list client why ⊎ OneRefuses list monitors why
+
+  module _ {T : Type 0} (exchanged : T → RequestContent → Frame → T → Type 0) where
+    -- the roots above the head are asked for, and this frame comes back
+    pub record AsksRoots (before : Scene T) (frame : Frame) (stream : T) : Type 0 where
+      pub head : SignedRoot
+      pub is : IsHead before.client.chain head
+      pub exchange : exchanged before.stream (asks_roots head) frame stream
+      pub answered : IsAnswered (asks_roots head) frame
+
+    -- whether a list of roots is asked for and taken: no more are where none comes, or the head is of the last epoch that
+    -- there can be
+    abbrev pub TakesList : Scene T → Bool → Scene T → Type 0
+    TakesList before false after =
+        ((head : SignedRoot) × IsHead before.client.chain head × (head.body.epoch ≡ 2 ^ 64 - 1) × (after ≡ before))
+        ⊎ ((frame : Frame) × (stream : T) × AsksRoots before frame stream × (frame.body ≡ no_root) × (after ≡ record before { stream = stream }))
+    TakesList before true after = (frame : Frame) × AsksRoots before frame after.stream
+        × AllUpdate frame.body before.client before.monitors after.client after.monitors × (after.told ≡ before.told)
+
+    -- so many lists are taken, and then no more are
+    abbrev pub Follows : ℕ → Scene T → Scene T → Type 0
+    Follows zero before after = TakesList before false after
+    Follows (suc count) before after = (middle : Scene T) × TakesList before true middle × Follows count middle after

@@ -1,11 +1,14 @@
 pub mod Answering
+pub mod Asking
 pub mod AskOptions
 pub mod Checking
 pub mod Exchanges
 pub mod Following
+pub mod Joining
 pub mod Refused
+pub mod Scenes
 pub mod Stopping
 pub mod Testing
 pub mod Told
-pub mod Unanswered
+pub mod Visiting
 pub mod Watching

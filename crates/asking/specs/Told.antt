@@ -25,3 +25,11 @@ worse one other = if nat_lt one other then other else one
 -- this is told after what was said before
 abbrev pub Tells : Said → Told → Said → Type 0
 Tells before told after = (after.text.items ≡ before.text.items ++ told.lines) × (after.status ≡ worse before.status told.status)
+
+-- all that was said so far
+abbrev pub told_by : Said → Told
+told_by said = record { lines = said.text.items; status = said.status }
+
+-- and this after it
+abbrev pub onto : Told → Told → Told
+onto before told = record { lines = before.lines ++ told.lines; status = worse before.status told.status }

@@ -1,24 +1,81 @@
--- A step of a monitor, as it is told.
-use Rattle.std.specs.Prelude.{◌≡◌, ◌≢◌, ℕ, Bool, true, false, List, [], ◌∷◌, ◌++◌, Result, Ok, Err, codes}
+-- Steps of monitors, as they are told.
+use Rattle.std.specs.Prelude.{◌≡◌, ◌≢◌, ◌⊎◌, ℕ, zero, suc, Bool, true, false, List, [], ◌∷◌, ◌++◌, length, Option, Some, None, Result, Ok, Err, codes, slice_get, slice_set}
+use Rattle.commands.specs.Operations.{Lookup}
 use Rattle.client.specs.declared.refusal.Refusal.{Refusal}
 use Rattle.monitor.specs.Monitors.{Monitor}
-use Rattle.monitor.specs.Stepping.{Steps}
+use Rattle.monitor.specs.Stepping.{IsNextEpoch, Steps}
 use Rattle.monitor.specs.declared.refusal.Refusal.TheVariants.{Client}
 use Rattle.monitor.specs.declared.step.Step.{Step}
 use Rattle.monitor.specs.declared.step.Step.TheVariants.{Kept, Alarm}
 use Rattle.play.specs.Telling.{step_text}
+use Rattle.wire.specs.Frames.{Frame}
+use Rattle.wire.specs.Requests.{RequestContent, Query}
+use Rattle.asking.specs.declared.asker.Mark.{Mark}
 use Rattle.asking.specs.declared.said.Said.{Said}
 use Rattle.asking.specs.Refused.{client_refuses}
-use Rattle.asking.specs.Told.{Told, Tells}
+use Rattle.asking.specs.Scenes.{Scene, IsAnswered, IsUnanswered}
+use Rattle.asking.specs.Told.{Told, Tells, onto}
+use Rattle.asking.specs.Visiting.{TestsAll}
 
 -- an alarm is status 3
 abbrev pub step_told : List ℕ → ℕ → Step → Told
 step_told name epoch Kept = record { lines = step_text name epoch Kept ++ 10 ∷ []; status = 0 }
 step_told name epoch (Alarm at found) = record { lines = step_text name epoch (Alarm at found) ++ 10 ∷ []; status = 3 }
 
--- a monitor watched an epoch by a reply, or its client refused the proof
-abbrev pub WatchesEpoch : (List ℕ → List ℕ) → (List ℕ → List ℕ → List ℕ → Type 0) → Monitor → ℕ → List ℕ → Said → Bool → Said → Monitor → Type 0
-WatchesEpoch hash accepted before epoch reply said true now after =
-    (step : Step) × Steps hash accepted before reply (Ok step) after × Tells said (step_told before.name epoch step) now
-WatchesEpoch hash accepted before epoch reply said false now after =
-    (why : Refusal) × Steps hash accepted before reply (Err (Client why)) after × Tells said (client_refuses (codes "client refuses proof") why) now
+module _ (hash : List ℕ → List ℕ) (accepted : List ℕ → List ℕ → List ℕ → Type 0) where
+  -- a monitor watched an epoch by a reply, or its client refused the proof
+  abbrev pub Watches : Monitor → ℕ → List ℕ → Bool → Told → Monitor → Type 0
+  Watches before epoch reply true told after = (step : Step) × Steps hash accepted before reply (Ok step) after × (told ≡ step_told before.name epoch step)
+  Watches before epoch reply false told after =
+      (why : Refusal) × Steps hash accepted before reply (Err (Client why)) after × (told ≡ client_refuses (codes "client refuses proof") why)
+
+  abbrev pub WatchesEpoch : Monitor → ℕ → List ℕ → Said → Bool → Said → Monitor → Type 0
+  WatchesEpoch before epoch reply said went now after = (told : Told) × Watches before epoch reply went told after × Tells said told now
+
+  -- the monitor at a place watches an epoch by a reply, if there is one
+  abbrev pub WatchesAt : List Monitor → ℕ → ℕ → List ℕ → Said → Bool → Said → List Monitor → Type 0
+  WatchesAt before place epoch reply said went now after =
+      ((slice_get before place ≡ None) × (went ≡ false) × (now ≡ said) × (after ≡ before))
+      ⊎ ((monitor : Monitor) × (watched : Monitor) × (slice_get before place ≡ Some monitor) × WatchesEpoch monitor epoch reply said went now watched × (after ≡ slice_set before place watched))
+
+  -- what a frame that came for a look-up shows a monitor
+  abbrev pub ShowsEpoch : Monitor → ℕ → RequestContent → Frame → Bool → Told → Monitor → Type 0
+  ShowsEpoch before epoch asked frame went told after =
+      (IsUnanswered asked frame told × (went ≡ false) × (after ≡ before)) ⊎ (IsAnswered asked frame × Watches before epoch frame.body went told after)
+
+  module _ {T : Type 0} (exchanged : T → RequestContent → Frame → T → Type 0) where
+    -- the monitor at a place looks its name up in its next epoch, and this is told of what comes back
+    pub record AsksEpoch (before : Scene T) (place : ℕ) (went : Bool) (after : Scene T) : Type 0 where
+      pub monitor : Monitor
+      pub at : slice_get before.monitors place ≡ Some monitor
+      pub epoch : ℕ
+      pub next : IsNextEpoch monitor (Some epoch)
+      pub frame : Frame
+      pub exchange : exchanged before.stream (Query (Lookup monitor.name epoch)) frame after.stream
+      pub told : Told
+      pub watched : Monitor
+      pub shows : ShowsEpoch monitor epoch (Query (Lookup monitor.name epoch)) frame went told watched
+      pub tells : after.told ≡ onto before.told told
+      pub monitors : after.monitors ≡ slice_set before.monitors place watched
+      pub client : after.client ≡ before.client
+
+    -- whether the monitor at a place watched an epoch: it asks nothing where none is new
+    abbrev pub StepsOnce : Scene T → ℕ → Bool → Scene T → Type 0
+    StepsOnce before place went after =
+        ((slice_get before.monitors place ≡ None) × (went ≡ false) × (after ≡ before))
+        ⊎ ((((monitor : Monitor) × (slice_get before.monitors place ≡ Some monitor) × IsNextEpoch monitor None) × (went ≡ false) × (after ≡ before))
+        ⊎ AsksEpoch before place went after)
+
+    -- so many steps, and then one that watches no epoch
+    abbrev pub StepsThrough : ℕ → Scene T → ℕ → Scene T → Type 0
+    StepsThrough zero before place after = StepsOnce before place false after
+    StepsThrough (suc count) before place after = (middle : Scene T) × StepsOnce before place true middle × StepsThrough count middle place after
+
+    -- so many monitors from a place on, one after another
+    abbrev pub AllStep : ℕ → Scene T → ℕ → Scene T → Type 0
+    AllStep zero before place after = after ≡ before
+    AllStep (suc more) before place after = (count : ℕ) × (middle : Scene T) × StepsThrough count before place middle × AllStep more middle (suc place) after
+
+    -- each monitor watches what is new, and then each promise is tested that is due
+    abbrev pub GoesOn : List Mark → Scene T → Scene T → Type 0
+    GoesOn marks before after = (middle : Scene T) × AllStep (length before.monitors) before 0 middle × TestsAll hash accepted exchanged marks middle after

@@ -8,7 +8,7 @@ ghost use Rattle.play.specs.Hearing.{response_text};
 ghost use Rattle.play.specs.Spoken.{ask_seen};
 ghost use Rattle.asking.specs.Answering.{with_token, Answers};
 ghost use Rattle.asking.specs.Refused.{refuses_text};
-ghost use Rattle.asking.specs.Unanswered.{miss_told, GivesBody};
+ghost use Rattle.asking.specs.Scenes.{miss_told, GivesBody};
 ghost use Rattle.asking.specs.Told.{refused, Tells};
 
 use crate::said::{Said, directory_words};

@@ -1,4 +1,6 @@
 ghost use Rattle.std.specs.Prelude.{◌≡◌, [], Err, IfErr, IfOk, Ok};
+ghost use Rattle.rootchain.specs.Chains.{IsHead};
+ghost use Rattle.rootchain.specs.declared.signed_root.SignedRoot.{SignedRoot};
 ghost use Rattle.client.specs.Starting.{Starts};
 
 use client::{Client, Refusal};
@@ -95,7 +97,9 @@ where
     }
 
     /// The epoch of the head of the client's chain.
-    pub(crate) fn head(&self) -> u64 {
+    pub(crate) fn head(&self) -> u64
+        ensures { (root : SignedRoot) × IsHead (self.now).client.chain root × (result ≡ root.body.epoch) }
+    {
         self.client.chain().head().body.epoch
     }
 }

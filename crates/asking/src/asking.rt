@@ -1,11 +1,14 @@
 // A question over a stream: what the client makes of its reply, and what follows from it.
-ghost use Rattle.std.specs.Prelude.{IfOk, OnOk};
+ghost use Rattle.std.specs.Prelude.{◌≡◌, IfOk, OnOk};
 ghost use Rattle.wire.specs.Frames.{Frame};
 ghost use Rattle.wire.specs.FrameViews.{frame_seen};
+ghost use Rattle.wire.specs.Responses.{response_seen};
 ghost use Rattle.play.specs.Spoken.{ask_seen};
 ghost use Rattle.asking.specs.Answering.{with_token};
+ghost use Rattle.asking.specs.Asking.{response_epoch, Asks, CatchesUp, GoesOnAbove, Hands, SpeaksOf};
 ghost use Rattle.asking.specs.Checking.{HearsFrame};
 ghost use Rattle.asking.specs.Exchanges.{Exchanges, HoldsFrame, IsOneFrame};
+ghost use Rattle.asking.specs.Scenes.{scene, Remains, Stays};
 ghost use Rattle.asking.specs.Told.{Told, Tells};
 
 use crate::answering::{answers, request_of};
@@ -21,15 +24,30 @@ use vrfiface::VufCheck;
 use wire::{FrameView, Response};
 
 /// The epoch of which a response speaks, if it answers what was asked; else 0.
-fn epoch_of(ask: &Ask, frame: &FrameView<'_>) -> u64 {
+fn epoch_of(ask: &Ask, frame: &FrameView<'_>) -> u64
+    ensures { SpeaksOf (ask_seen ask.now) (frame_seen frame.now) result }
+{
     match Response::read(frame.kind, frame.body) {
-        Ok(response) if answers(ask, &response) => match response {
-            Response::Promise(signed) => signed.promise.epoch,
-            Response::Proof(found) => found.body().epoch,
-            Response::Root(root) => root.body.epoch,
-            Response::Roots(_) | Response::Refused(_) => 0,
-        },
-        _ => 0,
+        Ok(response) => {
+            if !answers(ask, &response) {
+                return 0;
+            }
+            epoch_in(&response)
+        }
+        Err(_) => 0,
+    }
+}
+
+/// The epoch of a response, or 0 if it has none.
+fn epoch_in(response: &Response<'_>) -> u64
+    ensures { result ≡ response_epoch (response_seen response.now) }
+{
+    match response {
+        Response::Promise(signed) => signed.promise.epoch,
+        Response::Proof(found) => found.body().epoch,
+        Response::Root(root) => root.body.epoch,
+        Response::Roots(_) => 0,
+        Response::Refused(_) => 0,
     }
 }
 
@@ -50,7 +68,10 @@ where
         stream: &mut T,
         ask: &Ask,
         said: &mut Said,
-    ) -> Result<(), AskFault> {
+    ) -> Result<(), AskFault>
+        ensures asks { OnOk result (Asks H.digest_of V.accepted S.verified (Exchanges T.contents T.remaining) (self.old).marks.items (self.old).token (ask_seen ask.now) (scene self.old said.old stream.old) (scene self.new said.new stream.new)) }
+        ensures stays { OnOk result (Remains self.old self.new) }
+    {
         let head = self.head();
         let reply = self.request(stream, ask)?;
         let frame = frame_in(&reply)?;
@@ -65,7 +86,10 @@ where
         stream: &mut T,
         epoch: u64,
         said: &mut Said,
-    ) -> Result<(), AskFault> {
+    ) -> Result<(), AskFault>
+        ensures catches { OnOk result (CatchesUp H.digest_of V.accepted S.verified (Exchanges T.contents T.remaining) epoch (scene self.old said.old stream.old) (scene self.new said.new stream.new)) }
+        ensures stays { OnOk result (Stays self.old self.new) }
+    {
         if epoch <= self.head() {
             return Ok(());
         }
@@ -80,7 +104,9 @@ where
         frame: &FrameView<'_>,
         said: &mut Said,
     ) -> Result<(), AllocError>
-        ensures { OnOk result ((told : Told) × HearsFrame H.digest_of V.accepted S.verified (self.old).client (ask_seen ask.now) (frame_seen frame.now) told (self.new).client × Tells said.old told said.new) }
+        ensures hears { OnOk result ((told : Told) × HearsFrame H.digest_of V.accepted S.verified (self.old).client (ask_seen ask.now) (frame_seen frame.now) told (self.new).client × Tells said.old told said.new) }
+        ensures hands { OnOk result (Hands H.digest_of V.accepted S.verified (ask_seen ask.now) (frame_seen frame.now).body (self.old).client.promises (self.new).client.promises (self.old).monitors.items (self.new).monitors.items) }
+        ensures stays { OnOk result (Remains self.old self.new) }
     {
         let kept = self.client.promises().len();
         let checks = &mut self.checks;
@@ -98,7 +124,10 @@ where
         stream: &mut T,
         head: u64,
         said: &mut Said,
-    ) -> Result<(), AskFault> {
+    ) -> Result<(), AskFault>
+        ensures goes { OnOk result (GoesOnAbove H.digest_of V.accepted S.verified (Exchanges T.contents T.remaining) (self.old).marks.items head (scene self.old said.old stream.old) (scene self.new said.new stream.new)) }
+        ensures stays { OnOk result (Stays self.old self.new) }
+    {
         if self.head() <= head {
             return Ok(());
         }

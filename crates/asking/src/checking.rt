@@ -1,5 +1,5 @@
 // What the client makes of the reply to what was asked.
-ghost use Rattle.std.specs.Prelude.{◌≡◌, ◌++◌, ◌∷◌, [], OnOk, Result};
+ghost use Rattle.std.specs.Prelude.{◌≡◌, ◌≢◌, ◌++◌, ◌∷◌, [], OnOk, Result};
 ghost use Rattle.encoding.specs.Limits.{IsName};
 ghost use Rattle.wire.specs.FrameViews.{frame_seen};
 ghost use Rattle.wire.specs.Responses.{response_seen};
@@ -7,6 +7,7 @@ ghost use Rattle.wire.specs.Responses as responds;
 ghost use Rattle.client.specs.Looking.{Looks};
 ghost use Rattle.client.specs.Promising.{Keeps};
 ghost use Rattle.client.specs.declared.refusal.Refusal.{Refusal};
+ghost use Rattle.client.specs.declared.refusal.Refusal.TheVariants.{Memory};
 ghost use Rattle.proofs.specs.declared.statement.Statement.{Statement};
 ghost use Rattle.audits.specs.Files.{evidence_text};
 ghost use Rattle.play.specs.Spoken.{ask_seen};
@@ -66,7 +67,8 @@ pub(crate) fn tell_client(
     why: Refusal,
     said: &mut Said,
 ) -> Result<(), AllocError>
-    ensures { OnOk result (Tells said.old (client_refuses what.now why) said.new) }
+    ensures told { OnOk result (Tells said.old (client_refuses what.now why) said.new) }
+    ensures known { OnOk result (why ≢ Memory) }
 {
     if why == Refusal::Memory {
         return Err(AllocError);

@@ -1,8 +1,10 @@
 // The client and its monitors take the roots that are new.
-ghost use Rattle.std.specs.Prelude.{◌≡◌, OnOk};
+ghost use Rattle.std.specs.Prelude.{◌≡◌, ℕ, Err, IfOk, OnOk};
 ghost use Rattle.std.specs.List.{AllZip};
-ghost use Rattle.asking.specs.Following.{AllUpdate, MonitorUpdates};
-ghost use Rattle.asking.specs.Unanswered.{Stays};
+ghost use Rattle.asking.specs.Exchanges.{Exchanges};
+ghost use Rattle.asking.specs.Following.{AllUpdate, AnyRefuses, Follows, MonitorUpdates, OneRefuses, Refuses, TakesList, TellsRefusal};
+ghost use Rattle.asking.specs.Scenes.{scene, Stays};
+ghost use Rattle.asking.specs.declared.fault.AskFault.TheVariants.{Stopped};
 
 use crate::answering::body_of;
 use crate::checking::tell_client;
@@ -35,7 +37,10 @@ where
         &mut self,
         stream: &mut T,
         said: &mut Said,
-    ) -> Result<(), AskFault> {
+    ) -> Result<(), AskFault>
+        ensures follows { OnOk result ((count : ℕ) × Follows H.digest_of S.verified (Exchanges T.contents T.remaining) count (scene self.old said.old stream.old) (scene self.new said.new stream.new)) }
+        ensures stays { OnOk result (Stays self.old self.new) }
+    {
         // Every loop of Rattle has an end: this one's is past any chain.
         for _ in 0..u64::MAX {
             if !self.take_list(stream, said)? {
@@ -50,7 +55,10 @@ where
         &mut self,
         stream: &mut T,
         said: &mut Said,
-    ) -> Result<bool, AskFault> {
+    ) -> Result<bool, AskFault>
+        ensures takes { IfOk result (λ went. TakesList H.digest_of S.verified (Exchanges T.contents T.remaining) (scene self.old said.old stream.old) went (scene self.new said.new stream.new)) }
+        ensures stays { OnOk result (Stays self.old self.new) }
+    {
         let Some(from) = self.head().checked_add(1) else {
             return Ok(false);
         };
@@ -76,6 +84,7 @@ where
         ensures updates { OnOk result (AllUpdate H.digest_of S.verified list.now (self.old).client (self.old).monitors.items (self.new).client (self.new).monitors.items) }
         ensures said { OnOk result (said.new ≡ said.old) }
         ensures stays { OnOk result (Stays self.old self.new) }
+        ensures refused { result ≡ Err Stopped → TellsRefusal (AnyRefuses H.digest_of S.verified list.now (self.old).client (self.old).monitors.items) said.old said.new }
     {
         let checks = &mut self.checks;
         match self.client.update(&mut checks.hash, &checks.verifier, list) {
@@ -102,6 +111,7 @@ where
     S: Verifier + Drop,
     ensures updates { OnOk result (AllZip (MonitorUpdates H.digest_of S.verified list.now) monitors.old monitors.new) }
     ensures said { OnOk result (said.new ≡ said.old) }
+    ensures refused { result ≡ Err Stopped → TellsRefusal (OneRefuses H.digest_of S.verified list.now monitors.old) said.old said.new }
 {
     for monitor in monitors.iter_mut() {
         update(alloc, monitor, checks, list, said)?;
@@ -123,6 +133,7 @@ where
     S: Verifier + Drop,
     ensures updates { OnOk result (MonitorUpdates H.digest_of S.verified list.now monitor.old monitor.new) }
     ensures said { OnOk result (said.new ≡ said.old) }
+    ensures refused { result ≡ Err Stopped → TellsRefusal (Refuses H.digest_of S.verified list.now monitor.old.client) said.old said.new }
 {
     match monitor.update(&mut checks.hash, &checks.verifier, list) {
         Ok(()) => Ok(()),

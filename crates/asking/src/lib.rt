@@ -20,6 +20,7 @@ mod checking;
 mod exchange;
 mod fault;
 mod following;
+mod joining;
 mod order;
 mod placing;
 mod promises;

@@ -1,12 +1,16 @@
 // The promises that the client keeps are tested once the chain has the next root.
-ghost use Rattle.std.specs.Prelude.{◌≡◌, ◌++◌, ◌∷◌, [], codes, IfOk, OnOk};
+ghost use Rattle.std.specs.Prelude.{◌≡◌, ◌++◌, ◌∷◌, ◌↔◌, [], codes, IfOk, IsTrue, OnOk};
 ghost use Rattle.auditor.specs.declared.evidence.Evidence.TheVariants as evidence;
 ghost use Rattle.audits.specs.Files.{evidence_text};
+ghost use Rattle.asking.specs.Exchanges.{Exchanges};
 ghost use Rattle.asking.specs.Refused.{refuses_text};
+ghost use Rattle.asking.specs.Scenes.{scene, Stays};
 ghost use Rattle.asking.specs.Testing.{TellsDue};
 ghost use Rattle.asking.specs.Told.{refused, Tells};
+ghost use Rattle.asking.specs.Visiting.{IsMarked, IsWatched, TestsAll, TestsName, Visits, Waits};
 
 use crate::answering::body_of;
+use crate::asker::Mark;
 use crate::checking::{tell_client, tell_evidence};
 use crate::exchange::frame_in;
 use crate::said::OTHER_INDEX;
@@ -14,6 +18,7 @@ use crate::{AskFault, Asker, Checks, Said};
 use auditor::Evidence;
 use client::{Client, Due};
 use encoding::Name;
+use monitor::Monitor;
 use nodehash::NodeHash;
 use play::{Ask, push_hex};
 use proofs::BrokenPromise;
@@ -37,25 +42,49 @@ where
         &mut self,
         stream: &mut T,
         said: &mut Said,
-    ) -> Result<(), AskFault> {
+    ) -> Result<(), AskFault>
+        ensures tests { OnOk result (TestsAll H.digest_of V.accepted (Exchanges T.contents T.remaining) (self.old).marks.items (scene self.old said.old stream.old) (scene self.new said.new stream.new)) }
+        ensures stays { OnOk result (Stays self.old self.new) }
+    {
         let mut place = 0;
         // Every loop of Rattle has an end: this one's is past any list.
         for _ in 0..u64::MAX {
-            let Some(signed) = self.client.promises().get(place) else {
-                return Ok(());
-            };
-            let name = signed.promise.name.copied();
-            if self.waits_for_monitor(&name) || !self.test(stream, &name, said)? {
-                place = place.saturating_add(1);
+            match self.visit(stream, place, said)? {
+                Some(next) => place = next,
+                None => return Ok(()),
             }
         }
-        Ok(())
+        Err(AskFault::NoReply)
+    }
+
+    /// Tests the promise at a place, if it is due. Returns the place that is next, or `None` at the end of the list.
+    fn visit<T: Read + Write>(
+        &mut self,
+        stream: &mut T,
+        place: usize,
+        said: &mut Said,
+    ) -> Result<Option<usize>, AskFault>
+        ensures visits { IfOk result (λ next. Visits H.digest_of V.accepted (Exchanges T.contents T.remaining) (self.old).marks.items (scene self.old said.old stream.old) place next (scene self.new said.new stream.new)) }
+        ensures stays { OnOk result (Stays self.old self.new) }
+    {
+        let Some(signed) = self.client.promises().get(place) else {
+            return Ok(None);
+        };
+        let name = signed.promise.name.copied();
+        if self.waits_for_monitor(&name) {
+            return Ok(Some(place + 1));
+        }
+        if self.test(stream, &name, said)? {
+            return Ok(Some(place));
+        }
+        Ok(Some(place + 1))
     }
 
     /// Whether a name was watched in an earlier run, and not in this one.
-    fn waits_for_monitor(&self, name: &Name) -> bool {
-        self.marks.iter().any(|mark| mark.name == *name)
-            && !self.monitors.iter().any(|monitor| monitor.name() == name)
+    fn waits_for_monitor(&self, name: &Name) -> bool
+        ensures { IsTrue result ↔ Waits (self.now).marks.items (self.now).monitors.items name.now }
+    {
+        is_marked(&self.marks, name) && !is_watched(&self.monitors, name)
     }
 
     /// Tests the promise of a name that is due, if there is one. Returns whether it was found kept.
@@ -64,7 +93,10 @@ where
         stream: &mut T,
         name: &Name,
         said: &mut Said,
-    ) -> Result<bool, AskFault> {
+    ) -> Result<bool, AskFault>
+        ensures tests { IfOk result (λ kept. TestsName H.digest_of V.accepted (Exchanges T.contents T.remaining) (scene self.old said.old stream.old) name.now kept (scene self.new said.new stream.new)) }
+        ensures stays { OnOk result (Stays self.old self.new) }
+    {
         let Some(epoch) = self.client.due_epoch(name) else {
             return Ok(false);
         };
@@ -79,6 +111,24 @@ where
         let checks = &mut self.checks;
         Ok(tell_due(self.alloc, &mut self.client, checks, name, found, said)?)
     }
+}
+
+/// Whether a name was watched in an earlier run.
+fn is_marked(marks: &[Mark], name: &Name) -> bool
+    ensures { IsTrue result ↔ IsMarked marks.now name.now }
+{
+    marks.iter().any(|mark| mark.name == *name)
+}
+
+/// Whether a name is watched in this run.
+fn is_watched<H, V, S>(monitors: &[Monitor<H, V, S>], name: &Name) -> bool
+where
+    H: NodeHash + Drop,
+    V: VufCheck + Drop,
+    S: Verifier + Drop,
+    ensures { IsTrue result ↔ IsWatched monitors.now name.now }
+{
+    monitors.iter().any(|monitor| monitor.name() == name)
 }
 
 /// Tells that a promise was not kept, by the evidence of it.

@@ -1,19 +1,22 @@
 // The monitors of names.
-ghost use Rattle.std.specs.Prelude.{◌≡◌, IfOk, OnOk};
+ghost use Rattle.std.specs.Prelude.{◌≡◌, ◌-◌, ℕ, length, slice_get, IfOk, OnOk, Some};
+ghost use Rattle.std.specs.List.{AllZip};
+ghost use Rattle.rootchain.specs.declared.signed_promise.SignedPromise.{SignedPromise};
+ghost use Rattle.asking.specs.Asking.{HandsTo};
+ghost use Rattle.asking.specs.Exchanges.{Exchanges};
+ghost use Rattle.asking.specs.Scenes.{scene, Remains, Stays};
 ghost use Rattle.asking.specs.Told.{Tells};
-ghost use Rattle.asking.specs.Watching.{step_told, WatchesEpoch};
+ghost use Rattle.asking.specs.Watching.{step_told, GoesOn, StepsOnce, StepsThrough, WatchesAt, WatchesEpoch};
 
 use crate::answering::body_of;
 use crate::checking::tell_client;
 use crate::exchange::frame_in;
 use crate::said::ALARM;
 use crate::{AskFault, Asker, Checks, Said};
-use client::Client;
-use encoding::{Hash32, KeyData, Name};
 use monitor::{Monitor, Refusal, Step};
 use nodehash::NodeHash;
 use play::{Ask, tell_step};
-use rootchain::{SignedPromise, SignedRoot, write_list};
+use rootchain::SignedPromise;
 use sigiface::Verifier;
 use std::alloc::{AllocError, Global};
 use std::io::{Read, Write};
@@ -25,109 +28,27 @@ where
     V: VufCheck + Drop,
     S: Verifier + Drop,
 {
-    /// Adds a monitor of a name that expects this key, or none, and lets it watch each epoch that is new: those
-    /// behind the mark of the name, or the latest one if there is no mark.
-    ///
-    /// # Errors
-    ///
-    /// `NoReply`; `OutOfMemory`.
-    pub fn watch<T: Read + Write>(
-        &mut self,
-        stream: &mut T,
-        name: &Name,
-        key: Option<&KeyData>,
-        said: &mut Said,
-    ) -> Result<(), AskFault> {
-        let place = self.monitors.len();
-        let Some(first) = self.first_unwatched(name) else {
-            return Ok(());
-        };
-        self.add_monitor(&first, name, key, said)?;
-        if place < self.monitors.len() {
-            self.step_through(stream, place, said)?;
-        }
-        self.test_promises(stream, said)
-    }
-
     /// Lets each monitor watch the epochs that are new, and tests the promises that are due.
     pub fn go_on<T: Read + Write>(
         &mut self,
         stream: &mut T,
         said: &mut Said,
-    ) -> Result<(), AskFault> {
+    ) -> Result<(), AskFault>
+        ensures goes { OnOk result (GoesOn H.digest_of V.accepted (Exchanges T.contents T.remaining) (self.old).marks.items (scene self.old said.old stream.old) (scene self.new said.new stream.new)) }
+        ensures stays { OnOk result (Stays self.old self.new) }
+    {
         for place in 0..self.monitors.len() {
             self.step_through(stream, place, said)?;
         }
         self.test_promises(stream, said)
     }
 
-    /// The first root whose epoch was not watched for a name in an earlier run.
-    fn first_unwatched(&self, name: &Name) -> Option<SignedRoot> {
-        for mark in self.marks.iter() {
-            if mark.name == *name {
-                return match self.client.chain().after(mark.epoch) {
-                    Some(root) => Some(root.copied()),
-                    None => None,
-                };
-            }
-        }
-        Some(self.client.chain().head().copied())
-    }
-
-    /// Adds a monitor whose chain is that of the client from this root on. What earlier runs were promised for the
-    /// name before that root is expected at first, and what they were promised there changes it.
-    fn add_monitor(
-        &mut self,
-        first: &SignedRoot,
-        name: &Name,
-        key: Option<&KeyData>,
-        said: &mut Said,
-    ) -> Result<(), AllocError> {
-        let client = match client_from(
-            self.alloc,
-            &mut self.checks,
-            &self.client,
-            self.key,
-            first,
-        ) {
-            Ok(client) => client,
-            Err(why) => return tell_client(self.alloc, b"client refuses root", why, said),
-        };
-        let key = match self.promised_before(name, first.body.epoch) {
-            Some(promised) => Some(promised),
-            None => match key {
-                Some(key) => Some(key.copied()),
-                None => None,
-            },
-        };
-        let mut monitor = Monitor::new(self.alloc, client, name.copied(), key);
-        expect_all(&mut self.checks, &mut monitor, &self.earlier, name);
-        self.monitors.push(monitor)?;
-        Ok(())
-    }
-
-    /// The key of the last promise for a name from before this epoch.
-    fn promised_before(&self, name: &Name, epoch: u64) -> Option<KeyData> {
-        let mut last: Option<&SignedPromise> = None;
-        for signed in self.earlier.iter() {
-            let is_later = match last {
-                Some(other) => other.promise.epoch < signed.promise.epoch,
-                None => true,
-            };
-            if signed.promise.name == *name && signed.promise.epoch < epoch && is_later {
-                last = Some(signed);
-            }
-        }
-        match last {
-            Some(signed) => Some(signed.promise.key.copied()),
-            None => None,
-        }
-    }
-
     /// Notes the last promise that the client kept, of which these are the bytes, as one for a change of its own,
     /// and gives it to each monitor of its name.
     pub(crate) fn hand_out(&mut self, promise: &[u8]) -> Result<(), AllocError>
-        ensures { (self.new).client ≡ (self.old).client }
+        ensures client { (self.new).client ≡ (self.old).client }
+        ensures hands { OnOk result ((signed : SignedPromise) → slice_get (self.old).client.promises (length (self.old).client.promises - 1) ≡ Some signed → AllZip (HandsTo H.digest_of V.accepted S.verified signed promise.now) (self.old).monitors.items (self.new).monitors.items) }
+        ensures stays { OnOk result (Remains self.old self.new) }
     {
         match self.client.promises().last() {
             Some(signed) => {
@@ -139,19 +60,22 @@ where
     }
 
     /// Lets a monitor watch each epoch of its chain that it has not watched, up to one whose proof is refused.
-    fn step_through<T: Read + Write>(
+    pub(crate) fn step_through<T: Read + Write>(
         &mut self,
         stream: &mut T,
         place: usize,
         said: &mut Said,
-    ) -> Result<(), AskFault> {
+    ) -> Result<(), AskFault>
+        ensures steps { OnOk result ((count : ℕ) × StepsThrough H.digest_of V.accepted (Exchanges T.contents T.remaining) count (scene self.old said.old stream.old) place (scene self.new said.new stream.new)) }
+        ensures stays { OnOk result (Stays self.old self.new) }
+    {
         // Every loop of Rattle has an end: this one's is past any chain.
         for _ in 0..u64::MAX {
             if !self.step(stream, place, said)? {
                 return Ok(());
             }
         }
-        Ok(())
+        Err(AskFault::NoReply)
     }
 
     /// Lets a monitor watch its next epoch. Returns whether it had one, and its client accepted the proof.
@@ -160,7 +84,10 @@ where
         stream: &mut T,
         place: usize,
         said: &mut Said,
-    ) -> Result<bool, AskFault> {
+    ) -> Result<bool, AskFault>
+        ensures steps { IfOk result (λ went. StepsOnce H.digest_of V.accepted (Exchanges T.contents T.remaining) (scene self.old said.old stream.old) place went (scene self.new said.new stream.new)) }
+        ensures stays { OnOk result (Stays self.old self.new) }
+    {
         let Some(monitor) = self.monitors.get(place) else {
             return Ok(false);
         };
@@ -178,63 +105,6 @@ where
     }
 }
 
-/// A client whose chain is that of another one from this root on.
-fn client_from<H, V, S>(
-    alloc: Global,
-    checks: &mut Checks<H, V, S>,
-    other: &Client<H, V, S>,
-    key: Hash32,
-    first: &SignedRoot,
-) -> Result<Client<H, V, S>, client::Refusal>
-where
-    H: NodeHash + Drop,
-    V: VufCheck + Drop,
-    S: Verifier + Drop,
-{
-    let root = first.write();
-    let mut client = Client::start(alloc, &checks.verifier, key, root.bytes())?;
-    let mut epoch = first.body.epoch;
-    let mut list = Vec::new(alloc);
-    // Every loop of Rattle has an end: this one's is past any chain.
-    for _ in 0..u64::MAX {
-        let Some(root) = other.chain().after(epoch) else {
-            break;
-        };
-        epoch = root.body.epoch;
-        list.clear();
-        if write_list(&[root.copied()], &mut list).is_err() {
-            return Err(client::Refusal::Memory);
-        }
-        client.update(&mut checks.hash, &checks.verifier, &list)?;
-    }
-    Ok(client)
-}
-
-/// Lets a monitor expect the changes that were promised for its name in earlier runs.
-fn expect_all<H, V, S>(
-    checks: &mut Checks<H, V, S>,
-    monitor: &mut Monitor<H, V, S>,
-    earlier: &[SignedPromise],
-    name: &Name,
-)
-where
-    H: NodeHash + Drop,
-    V: VufCheck + Drop,
-    S: Verifier + Drop,
-{
-    for signed in earlier {
-        if signed.promise.name == *name {
-            // A promise from before the first root, or one that is kept twice, is refused.
-            let _taken = monitor.expect_change(
-                &mut checks.hash,
-                &checks.verifier,
-                &signed.promise.key,
-                signed.write().bytes(),
-            );
-        }
-    }
-}
-
 /// Gives a promise, of which these are the bytes, to each monitor of its name.
 fn hand_to<H, V, S>(
     monitors: &mut [Monitor<H, V, S>],
@@ -246,15 +116,34 @@ where
     H: NodeHash + Drop,
     V: VufCheck + Drop,
     S: Verifier + Drop,
+    ensures { OnOk result (AllZip (HandsTo H.digest_of V.accepted S.verified signed.now promise.now) monitors.old monitors.new) }
 {
-    for monitor in monitors {
-        if *monitor.name() == signed.promise.name {
-            let key = &signed.promise.key;
-            let handed = monitor.expect_change(&mut checks.hash, &checks.verifier, key, promise);
-            if handed == Err(Refusal::Client(client::Refusal::Memory)) {
-                return Err(AllocError);
-            }
-        }
+    for monitor in monitors.iter_mut() {
+        hand_one(monitor, checks, signed, promise)?;
+    }
+    Ok(())
+}
+
+/// Gives a promise to a monitor, if it is one of its name.
+pub(crate) fn hand_one<H, V, S>(
+    monitor: &mut Monitor<H, V, S>,
+    checks: &mut Checks<H, V, S>,
+    signed: &SignedPromise,
+    promise: &[u8],
+) -> Result<(), AllocError>
+where
+    H: NodeHash + Drop,
+    V: VufCheck + Drop,
+    S: Verifier + Drop,
+    ensures { OnOk result (HandsTo H.digest_of V.accepted S.verified signed.now promise.now monitor.old monitor.new) }
+{
+    if *monitor.name() != signed.promise.name {
+        return Ok(());
+    }
+    let key = &signed.promise.key;
+    let handed = monitor.expect_change(&mut checks.hash, &checks.verifier, key, promise);
+    if handed == Err(Refusal::Client(client::Refusal::Memory)) {
+        return Err(AllocError);
     }
     Ok(())
 }
@@ -273,11 +162,12 @@ where
     H: NodeHash + Drop,
     V: VufCheck + Drop,
     S: Verifier + Drop,
+    ensures { IfOk result (λ went. WatchesAt H.digest_of V.accepted monitors.old place epoch reply.now said.old went said.new monitors.new) }
 {
-    match monitors.get_mut(place) {
-        Some(monitor) => watch_epoch(alloc, monitor, checks, epoch, reply, said),
-        None => Ok(false),
+    if monitors.len() <= place {
+        return Ok(false);
     }
+    watch_epoch(alloc, &mut monitors[place], checks, epoch, reply, said)
 }
 
 /// Tells what a step of a monitor found.

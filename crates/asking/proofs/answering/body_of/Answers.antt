@@ -2,7 +2,7 @@ use Rattle.std.proofs.Common.{rules, codes, inl, inr, refl}
 use Rattle.wire.specs.Refusals.{read_refusal_number}
 use Rattle.wire.specs.Responses.{response_seen}
 use Rattle.asking.specs.Refused.{refuses_text}
-use Rattle.asking.specs.Unanswered.{miss_told}
+use Rattle.asking.specs.Scenes.{miss_told}
 use Rattle.asking.specs.Told.{refused}
 use Rattle.asking.proofs.answering.body_of.Goals as goal
 

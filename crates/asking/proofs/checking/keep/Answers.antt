@@ -10,4 +10,4 @@ pub returns-in-Err : goal.returns-in-Err
 returns-in-Err g c =
     tells_answer c.tell_client.result
     (λ (answer : Result (Unit {0}) Refusal). Keeps g.H.NodeHash.digest_of g.S.Verifier.verified c.args.client.now c.args.promise.now answer c.keep_promise.new.self)
-    (λ (answer : Result (Unit {0}) Refusal). promise_told (responds.Promise c.args.signed) answer) (Err c.in-Err.why) c.args.said.now c.tell_client.new.said c.in-Err.ensures c.tell_client.ensures
+    (λ (answer : Result (Unit {0}) Refusal). promise_told (responds.Promise c.args.signed) answer) (Err c.in-Err.why) c.args.said.now c.tell_client.new.said c.in-Err.ensures c.tell_client.ensures.told

@@ -1,8 +1,10 @@
-use Rattle.std.proofs.Common.{◌∙◌, subst, arith, refl, slice_index_or}
+use Rattle.std.proofs.Common.{◌≡◌, ◌∙◌, Err, subst, arith, get_or, refl, rules, slice_index_or, sym}
 use Rattle.std.proofs.lemmas.List.{get_or_default}
 use Rattle.monitor.specs.Monitors.{Monitor}
 use Rattle.asking.specs.Following.{MonitorUpdates}
+use Rattle.asking.specs.declared.fault.AskFault.TheVariants.{Stopped}
 use Rattle.asking.proofs.Moved.{moved-begin, moved-end, moved-step}
+use Rattle.asking.proofs.Stopped.{one_refuses}
 use Rattle.asking.proofs.following.update_all.Goals as goal
 
 pub loop-monitor-init : goal.loop-monitor-init
@@ -20,3 +22,13 @@ pub returns-clause-updates : goal.returns-clause-updates
 returns-clause-updates g c =
     moved-end (MonitorUpdates g.H.NodeHash.digest_of g.S.Verifier.verified c.args.list.now) c.args.monitors.now c.loop-monitor.monitors c.loop-monitor.monitor-index c.loop-monitor.auto.monitors
     c.loop-monitor-test.false c.loop-monitor.invariant.0
+
+pub returns-in_err-update-clause-refused : goal.returns-in_err-update-clause-refused
+returns-in_err-update-clause-refused g c =
+    let passed : c.from_residual.result ≡ Err c.in_err-update.field-0.0 = search rules in
+    λ stopped.
+    let here : c.update.result ≡ Err Stopped = search (rules, sym passed ∙ stopped) in
+    let monitor = get_or c.loop-monitor.monitors c.loop-monitor.monitor-index c.monitor-item.result in
+    let is : monitor ≡ get_or c.loop-monitor.monitors c.loop-monitor.monitor-index monitor = get_or_default c.loop-monitor.monitors c.loop-monitor.monitor-index c.monitor-item.result monitor (omega arith) in
+    one_refuses g.H.NodeHash.digest_of g.S.Verifier.verified c.args.list.now (MonitorUpdates g.H.NodeHash.digest_of g.S.Verifier.verified c.args.list.now) c.args.monitors.now c.loop-monitor.monitors
+    c.loop-monitor.monitor-index monitor c.args.said.now c.loop-monitor.said c.update.new.said (omega arith) is c.loop-monitor.invariant.0 c.loop-monitor.invariant.1 (c.update.ensures.refused here)

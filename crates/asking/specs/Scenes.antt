@@ -1,5 +1,7 @@
--- What is told of a frame that comes back and is no answer, and what does not change between two answers.
+-- Where a client stands between two exchanges, and what comes of one.
 use Rattle.std.specs.Prelude.{◌≡◌, ◌⊎◌, ℕ, List, Option, Some, None, Result, Err, codes}
+use Rattle.client.specs.Clients.{Client}
+use Rattle.monitor.specs.Monitors.{Monitor}
 use Rattle.wire.specs.Frames.{Frame}
 use Rattle.wire.specs.Refusals.{read_refusal_number}
 use Rattle.wire.specs.Requests.{RequestContent}
@@ -10,7 +12,17 @@ use Rattle.asking.specs.declared.asker.Asker.{Asker}
 use Rattle.asking.specs.declared.said.Said.{Said}
 use Rattle.asking.specs.Answering.{Answers}
 use Rattle.asking.specs.Refused.{other_reply, refuses_text}
-use Rattle.asking.specs.Told.{Told, Tells, refused}
+use Rattle.asking.specs.Told.{Told, Tells, refused, told_by}
+
+-- the client and the monitors, what was told so far, and the stream to the directory
+pub record Scene (T : Type 0) : Type 0 where
+  pub client : Client
+  pub monitors : List Monitor
+  pub told : Told
+  pub stream : T
+
+abbrev pub scene : {H V S T : Type 0} → Asker H V S → Said → T → Scene T
+scene asker said stream = record { client = asker.client; monitors = asker.monitors.items; told = told_by said; stream = stream }
 
 -- a frame that is a response, and answers what was asked
 abbrev pub IsAnswered : RequestContent → Frame → Type 0
@@ -35,6 +47,9 @@ abbrev pub GivesBody : RequestContent → Frame → Said → Option (List ℕ) �
 GivesBody asked frame before (Some body) after = IsAnswered asked frame × (body ≡ frame.body) × (after ≡ before)
 GivesBody asked frame before None after = (told : Told) × IsUnanswered asked frame told × Tells before told after
 
--- what does not change between two answers
+-- what no answer changes, and what changes only by a promise that is kept for a change of the client's own
+abbrev pub Remains : {H V S : Type 0} → Asker H V S → Asker H V S → Type 0
+Remains before after = (after.key ≡ before.key) × (after.token ≡ before.token) × (after.marks ≡ before.marks) × (after.earlier ≡ before.earlier)
+
 abbrev pub Stays : {H V S : Type 0} → Asker H V S → Asker H V S → Type 0
 Stays before after = (after.key ≡ before.key) × (after.token ≡ before.token) × (after.marks ≡ before.marks) × (after.earlier ≡ before.earlier) × (after.changes ≡ before.changes)

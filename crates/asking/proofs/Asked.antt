@@ -1,0 +1,62 @@
+-- A line that was asked.
+use Rattle.std.proofs.Common.{◌≡◌, ◌∙◌, ℕ, List, Option, Some, Result, Ok, Err, Global, Vec, refl, rules, subst, sym}
+use Rattle.std.specs.Prelude.{OnOk}
+use Rattle.std.specs.List.{AllZip}
+use Rattle.rootchain.specs.Chains.{IsHead}
+use Rattle.rootchain.specs.declared.signed_promise.SignedPromise.{SignedPromise}
+use Rattle.rootchain.specs.declared.signed_root.SignedRoot.{SignedRoot}
+use Rattle.monitor.specs.Monitors.{Monitor}
+use Rattle.wire.specs.Frames.{Frame}
+use Rattle.wire.specs.Requests.{RequestContent}
+use Rattle.asking.specs.declared.asker.Asker.{Asker}
+use Rattle.asking.specs.declared.asker.Mark.{Mark}
+use Rattle.asking.specs.declared.said.Said.{Said}
+use Rattle.asking.specs.Answering.{with_token}
+use Rattle.asking.specs.Asking.{Asks, CatchesUp, GoesOnAbove, Hands, HandsTo, SpeaksOf}
+use Rattle.asking.specs.Checking.{HearsFrame}
+use Rattle.asking.specs.Scenes.{scene}
+use Rattle.asking.specs.Told.{Told, Tells}
+use Rattle.asking.proofs.Going.{told_onto}
+
+one-promise : (x y : SignedPromise) (o : Option SignedPromise) → o ≡ Some x → o ≡ Some y → x ≡ y
+one-promise x y o one other = search (rules, sym one ∙ other)
+
+module _ (hash : List ℕ → List ℕ) (accepted verified : List ℕ → List ℕ → List ℕ → Type 0) where
+  -- the last promise was handed out, whichever it is called
+  pub hands_last : {A E : Type 0} (result : Result A E) (last : Option SignedPromise) (own : SignedPromise) (promise : List ℕ) (before given after back : List Monitor) → last ≡ Some own → given ≡ before
+      → back ≡ after → OnOk result (AllZip (HandsTo hash accepted verified own promise) given after)
+      → OnOk result ((signed : SignedPromise) → last ≡ Some signed → AllZip (HandsTo hash accepted verified signed promise) before back)
+  hands_last (Ok done) last own promise before given after back is old same zip =
+      λ signed named.
+      let one : own ≡ signed = one-promise own signed last is named in
+      let behind = subst (λ (ms : List Monitor). AllZip (HandsTo hash accepted verified own promise) given ms) (sym same) zip in
+      let from = subst (λ (ms : List Monitor). AllZip (HandsTo hash accepted verified own promise) ms back) old behind in
+      subst (λ (p : SignedPromise). AllZip (HandsTo hash accepted verified p promise) before back) one from
+  hands_last (Err fault) last own promise before given after back is old same zip = tt
+
+  -- the steps of a question, in their order
+  pub asks_all : {A E H V S T : Type 0} (exchanged : T → RequestContent → Frame → T → Type 0) (result : Result A E) (first ready heard last : Asker H V S) (said caught told_to said' : Said)
+      (stream sent later end : T) (asked : RequestContent) (frame : Frame) (head : SignedRoot) (low epoch : ℕ) (told : Told)
+      → IsHead first.client.chain head → low ≡ head.body.epoch → exchanged stream (with_token first.token asked) frame sent → SpeaksOf asked frame epoch
+      → CatchesUp hash accepted verified exchanged epoch (scene first said sent) (scene ready caught later)
+      → HearsFrame hash accepted verified ready.client asked frame told heard.client → Tells caught told told_to
+      → Hands hash accepted verified asked frame.body ready.client.promises heard.client.promises ready.monitors.items heard.monitors.items → heard.marks ≡ first.marks
+      → OnOk result (GoesOnAbove hash accepted verified exchanged heard.marks.items low (scene heard told_to later) (scene last said' end))
+      → OnOk result (Asks hash accepted verified exchanged first.marks.items first.token asked (scene first said stream) (scene last said' end))
+  asks_all exchanged (Ok done) first ready heard last said caught told_to said' stream sent later end asked frame head low epoch told is at exchange speaks catches hears tells hands marks goes =
+      let above = subst (λ (m : Vec Mark Global). GoesOnAbove hash accepted verified exchanged m.items low (scene heard told_to later) (scene last said' end)) marks goes in
+      record {
+        head = head;
+        is = is;
+        frame = frame;
+        stream = sent;
+        exchange = exchange;
+        epoch = epoch;
+        speaks = speaks;
+        ready = scene ready caught later;
+        catches = catches;
+        heard = scene heard told_to later;
+        hears = record { told = told; hears = hears; tells = told_onto caught told_to told tells; hands = hands; stream = refl };
+        goes = subst (λ (n : ℕ). GoesOnAbove hash accepted verified exchanged first.marks.items n (scene heard told_to later) (scene last said' end)) at above;
+      }
+  asks_all exchanged (Err fault) first ready heard last said caught told_to said' stream sent later end asked frame head low epoch told is at exchange speaks catches hears tells hands marks goes = tt

@@ -1,0 +1,77 @@
+-- A monitor that joins the others.
+use Rattle.std.proofs.Common.{◌≡◌, ◌∙◌, ℕ, ◌+◌, ◌<◌, ◌≤◌, List, [], ◌∷◌, ◌++◌, Option, None, Some, ◌↔◌, Result, Ok, Err, Global, Vec, ap, codes, drop, get_or, inl, inr, length, refl, rules, subst, sym}
+use Rattle.std.specs.Prelude.{OnOk}
+use Rattle.std.proofs.lemmas.List.{drop_all, drop_more}
+use Rattle.rootchain.specs.Chains.{KeyedRoots}
+use Rattle.rootchain.specs.Places.{IsNextAfter}
+use Rattle.rootchain.specs.declared.signed_promise.SignedPromise.{SignedPromise}
+use Rattle.rootchain.specs.declared.signed_root.SignedRoot.{SignedRoot}
+use Rattle.client.specs.Clients.{Client}
+use Rattle.client.specs.declared.refusal.Refusal.{Refusal}
+use Rattle.monitor.specs.Monitors.{Monitor}
+use Rattle.wire.specs.Frames.{Frame}
+use Rattle.wire.specs.Requests.{RequestContent}
+use Rattle.asking.specs.declared.asker.Asker.{Asker}
+use Rattle.asking.specs.declared.asker.Mark.{Mark}
+use Rattle.asking.specs.declared.said.Said.{Said}
+use Rattle.asking.specs.Joining.{BeginsAt, BeginsWatch, IsBegun, IsFirstAfter, IsUnwatched, StartsFrom}
+use Rattle.asking.specs.Refused.{client_refuses}
+use Rattle.asking.specs.Scenes.{Scene, scene}
+use Rattle.asking.specs.Told.{Told, Tells, onto, told_by}
+use Rattle.asking.specs.Visiting.{TestsAll}
+use Rattle.asking.specs.Watching.{StepsThrough}
+use Rattle.asking.proofs.Going.{told_onto}
+
+-- loops over a slice: what holds of an item and of those behind it
+module _ {X : Type 0} (P : List X → Type 0) (xs : List X) (k : ℕ) where
+  pub from_item : (x : X) → k < length xs → x ≡ get_or xs k x → P (x ∷ drop (k + 1) xs) → P (drop k xs)
+  from_item x below is holds = subst P (sym (drop_more xs k x below)) (subst (λ (y : X). P (y ∷ drop (k + 1) xs)) is holds)
+
+  pub at_end : length xs ≤ k → P [] → P (drop k xs)
+  at_end past holds = subst P (sym (drop_all k xs past)) holds
+
+none-some : (root : SignedRoot) (found : Option SignedRoot) → found ≡ None → found ≡ Some root → ⊥
+none-some root found none some = search (rules, sym none ∙ some)
+
+-- a chain that has no root after an epoch
+pub no_next : (chain : KeyedRoots) (epoch : ℕ) (found : Option SignedRoot) → ((root : SignedRoot) → (found ≡ Some root) ↔ IsNextAfter chain epoch root) → found ≡ None → IsFirstAfter chain epoch None
+no_next chain epoch found next none root after = none-some root found none ((next root).1 after)
+
+scene-of : {T : Type 0} (client client' : Client) (monitors monitors' : List Monitor) (told told' : Told) (stream : T) → client ≡ client' → monitors ≡ monitors' → told ≡ told'
+    → ◌≡◌ {A = Scene T} (record { client = client; monitors = monitors; told = told; stream = stream }) (record { client = client'; monitors = monitors'; told = told'; stream = stream })
+scene-of {T} client client' monitors monitors' told told' stream one other third =
+    ap (λ (x : Client). let s : Scene T = record { client = x; monitors = monitors; told = told; stream = stream } in s) one
+    ∙ ap (λ (x : List Monitor). let s : Scene T = record { client = client'; monitors = x; told = told; stream = stream } in s) other
+    ∙ ap (λ (x : Told). let s : Scene T = record { client = client'; monitors = monitors'; told = x; stream = stream } in s) third
+
+module _ {H V S T : Type 0} (hash : List ℕ → List ℕ) (accepted verified : List ℕ → List ℕ → List ℕ → Type 0) (exchanged : T → RequestContent → Frame → T → Type 0) where
+  module _ (key : List ℕ) (earlier : List SignedPromise) (name : List ℕ) (given : Option (List ℕ)) (asker : Asker H V S) (said : Said) (stream : T) (first : SignedRoot) where
+    -- a monitor was added, and stepped
+    pub joins : {A E : Type 0} (marks : List Mark) (result : Result A E) (added last : Asker H V S) (said' : Said) (stream' : T) (monitor : Monitor) (place : ℕ) → added.client ≡ asker.client
+        → added.monitors.items ≡ asker.monitors.items ++ monitor ∷ [] → place ≡ length asker.monitors.items → IsBegun hash accepted verified key earlier asker.client.chain first name given monitor
+        → OnOk result ((count : ℕ) × StepsThrough hash accepted exchanged count (scene added said stream) place (scene last said' stream'))
+        → OnOk result (BeginsAt hash accepted verified exchanged marks key earlier name given first (scene asker said stream) (scene last said' stream'))
+    joins marks (Ok done) added last said' stream' monitor place client monitors at begun (count, steps) =
+        let same = scene-of added.client asker.client added.monitors.items (asker.monitors.items ++ monitor ∷ []) (told_by said) (told_by said) stream client monitors refl in
+        let here = subst (λ (n : ℕ). StepsThrough hash accepted exchanged count (scene added said stream) n (scene last said' stream')) at steps in
+        inl (monitor, begun, (count, subst (λ (s : Scene T). StepsThrough hash accepted exchanged count s (length asker.monitors.items) (scene last said' stream')) same here))
+    joins marks (Err fault) added last said' stream' monitor place client monitors at begun steps = tt
+
+    -- a root was refused
+    pub joins_not : (marks : List Mark) (last : Asker H V S) (said' : Said) (why : Refusal) → last.client ≡ asker.client → last.monitors.items ≡ asker.monitors.items
+        → StartsFrom hash verified asker.client.chain key first (Err why) → Tells said (client_refuses (codes "client refuses root") why) said'
+        → BeginsAt hash accepted verified exchanged marks key earlier name given first (scene asker said stream) (scene last said' stream)
+    joins_not marks last said' why client monitors starts tells = inr (
+      why,
+      starts,
+      scene-of last.client asker.client last.monitors.items asker.monitors.items (told_by said') (onto (told_by said) (client_refuses (codes "client refuses root") why)) stream client monitors
+          (told_onto said said' (client_refuses (codes "client refuses root") why) tells),
+    )
+
+    -- the watch began, and the promises were tested
+    pub begins : {A E : Type 0} (result : Result A E) (marks marks' : Vec Mark Global) (middle after : Scene T) → IsUnwatched asker.client.chain name marks.items (Some first) → marks' ≡ marks
+        → BeginsAt hash accepted verified exchanged marks.items key earlier name given first (scene asker said stream) middle → OnOk result (TestsAll hash accepted exchanged marks'.items middle after)
+        → OnOk result (BeginsWatch hash accepted verified exchanged marks.items key earlier name given (scene asker said stream) after)
+    begins (Ok done) marks marks' middle after unwatched same begun tests =
+        inr (first, unwatched, (middle, begun, subst (λ (all : Vec Mark Global). TestsAll hash accepted exchanged all.items middle after) same tests))
+    begins (Err fault) marks marks' middle after unwatched same begun tests = tt

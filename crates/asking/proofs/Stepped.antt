@@ -1,0 +1,98 @@
+-- Monitors that took a step.
+use Rattle.std.proofs.Common.{◌≡◌, ◌∙◌, ◌+◌, ◌-◌, ◌<◌, ◌≤◌, ℕ, zero, suc, Bool, true, false, List, [], ◌∷◌, Option, Some, None, Result, Ok, Err, Global, Vec, ap, arith, length, refl, rules, subst, sym, inl, inr, slice_set}
+use Rattle.std.specs.Prelude.{slice_get, OnOk}
+use Rattle.commands.specs.Operations.{Lookup}
+use Rattle.monitor.specs.Monitors.{Monitor}
+use Rattle.monitor.specs.Stepping.{IsNextEpoch}
+use Rattle.wire.specs.Frames.{Frame}
+use Rattle.wire.specs.Requests.{RequestContent, Query}
+use Rattle.asking.specs.declared.asker.Asker.{Asker}
+use Rattle.asking.specs.declared.said.Said.{Said}
+use Rattle.asking.specs.Told.{Tells, told_by}
+use Rattle.asking.specs.declared.asker.Mark.{Mark}
+use Rattle.asking.specs.Scenes.{GivesBody, Scene, scene}
+use Rattle.asking.specs.Visiting.{TestsAll}
+use Rattle.asking.specs.Watching.{AllStep, GoesOn, StepsOnce, StepsThrough, Watches, WatchesAt}
+use Rattle.asking.proofs.Going.{told_onto}
+
+same-some : {X : Type 0} (x y : X) (o : Option X) → o ≡ Some x → o ≡ Some y → x ≡ y
+same-some x y o one other = search (rules, sym one ∙ other)
+
+none-some : {X : Type 0} (x : X) (o : Option X) → o ≡ None → o ≡ Some x → ⊥
+none-some x o one other = search (rules, sym one ∙ other)
+
+-- an element that is set to itself
+pub set_to_itself : {X : Type 0} (xs : List X) (k : ℕ) (x : X) → slice_get xs k ≡ Some x → xs ≡ slice_set xs k x
+set_to_itself [] k x at = refl
+set_to_itself (y ∷ ys) zero x at = ap (λ z. z ∷ ys) (same-some y x (Some y) refl at)
+set_to_itself (y ∷ ys) (suc k) x at = ap (λ zs. y ∷ zs) (set_to_itself ys k x at)
+
+module _ {H V S T : Type 0} (hash : List ℕ → List ℕ) (accepted : List ℕ → List ℕ → List ℕ → Type 0) (exchanged : T → RequestContent → Frame → T → Type 0) where
+  module _ (asker : Asker H V S) (said : Said) (stream : T) (place : ℕ) (monitor : Monitor) (spelled : List ℕ) (epoch : ℕ) (frame : Frame) (later : T) where
+    -- the frame was no answer
+    pub steps_none : (said' : Said) → slice_get asker.monitors.items place ≡ Some monitor → IsNextEpoch monitor (Some epoch) → spelled ≡ monitor.name
+        → exchanged stream (Query (Lookup spelled epoch)) frame later → GivesBody (Query (Lookup spelled epoch)) frame said None said'
+        → StepsOnce hash accepted exchanged (scene asker said stream) place false (scene asker said' later)
+    steps_none said' at next named exchange gives =
+        let given = subst (λ (n : List ℕ). GivesBody (Query (Lookup n epoch)) frame said None said') named gives in
+        inr (inr (record {
+          monitor = monitor;
+          at = at;
+          epoch = epoch;
+          next = next;
+          frame = frame;
+          exchange = subst (λ (n : List ℕ). exchanged stream (Query (Lookup n epoch)) frame later) named exchange;
+          told = given.0;
+          watched = monitor;
+          shows = inl (given.1, refl, refl);
+          tells = told_onto said said' given.0 given.2;
+          monitors = set_to_itself asker.monitors.items place monitor at;
+          client = refl;
+        }))
+
+    -- the frame was one, and the monitor watched by it, or refused it
+    pub steps_some : (said' said'' : Said) (body : List ℕ) (went : Bool) (monitors' : List Monitor) → slice_get asker.monitors.items place ≡ Some monitor
+        → IsNextEpoch monitor (Some epoch) → spelled ≡ monitor.name → exchanged stream (Query (Lookup spelled epoch)) frame later
+        → GivesBody (Query (Lookup spelled epoch)) frame said (Some body) said' → WatchesAt hash accepted asker.monitors.items place epoch body said' went said'' monitors'
+        → StepsOnce hash accepted exchanged (scene asker said stream) place went (record { client = asker.client; monitors = monitors'; told = told_by said''; stream = later })
+    steps_some said' said'' body went monitors' at next named exchange gives (inl (none, not, still, same)) = absurd (none-some monitor (slice_get asker.monitors.items place) none at)
+    steps_some said' said'' body went monitors' at next named exchange gives (inr (found, watched, there, (told, watches, tells), set)) =
+        let given = subst (λ (n : List ℕ). GivesBody (Query (Lookup n epoch)) frame said (Some body) said') named gives in
+        let same : found ≡ monitor = same-some found monitor (slice_get asker.monitors.items place) there at in
+        let by_this = subst (λ (one : Monitor). Watches hash accepted one epoch body went told watched) same watches in
+        inr (inr (record {
+          monitor = monitor;
+          at = at;
+          epoch = epoch;
+          next = next;
+          frame = frame;
+          exchange = subst (λ (n : List ℕ). exchanged stream (Query (Lookup n epoch)) frame later) named exchange;
+          told = told;
+          watched = watched;
+          shows = inr (given.0, subst (λ (b : List ℕ). Watches hash accepted monitor epoch b went told watched) given.1 by_this);
+          tells = told_onto said said'' told (subst (λ (s : Said). Tells s told said'') given.2 tells);
+          monitors = set;
+          client = refl;
+        }))
+
+module _ {T : Type 0} (hash : List ℕ → List ℕ) (accepted : List ℕ → List ℕ → List ℕ → Type 0) (exchanged : T → RequestContent → Frame → T → Type 0) where
+  -- the monitor at a place stepped, and then those behind it
+  pub all_step_more : (place next end count : ℕ) (before middle after : Scene T) → place < end → next ≡ suc place → StepsThrough hash accepted exchanged count before place middle
+      → AllStep hash accepted exchanged (end - next) middle next after → AllStep hash accepted exchanged (end - place) before place after
+  all_step_more place next end count before middle after below is through rest =
+      let left : suc (end - suc place) ≡ end - place = omega (arith, below) in
+      let behind = subst (λ (n : ℕ). AllStep hash accepted exchanged (end - n) middle n after) is rest in
+      subst (λ (n : ℕ). AllStep hash accepted exchanged n before place after) left (count, middle, through, behind)
+
+  -- all monitors stepped, and then the promises were tested
+  pub goes_on : {A E : Type 0} (result : Result A E) (marks marks' : Vec Mark Global) (place end : ℕ) (before middle after : Scene T) → marks ≡ marks' → end ≡ length before.monitors → end ≤ place
+      → ((x : Scene T) → AllStep hash accepted exchanged (end - place) middle place x → AllStep hash accepted exchanged end before 0 x)
+      → OnOk result (TestsAll hash accepted exchanged marks.items middle after) → OnOk result (GoesOn hash accepted exchanged marks'.items before after)
+  goes_on (Ok done) marks marks' place end before middle after same is past all tests =
+      let none : 0 ≡ end - place = omega (arith, past) in
+      let whole = all middle (subst (λ (n : ℕ). AllStep hash accepted exchanged n middle place middle) none refl) in (
+        middle,
+        subst (λ (n : ℕ). AllStep hash accepted exchanged n before 0 middle) is whole,
+        subst (λ (m : Vec Mark Global). TestsAll hash accepted exchanged m.items middle after) same tests,
+      )
+  goes_on (Err fault) marks marks' place end before middle after same is past all tests = tt

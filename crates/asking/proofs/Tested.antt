@@ -1,0 +1,76 @@
+-- Promises that were tested.
+use Rattle.std.proofs.Common.{◌≡◌, ℕ, suc, Bool, true, false, if◌then◌else◌, List, Option, Some, None, Global, Vec, refl, subst, inl, inr}
+use Rattle.std.specs.Prelude.{slice_get}
+use Rattle.commands.specs.Operations.{Lookup}
+use Rattle.rootchain.specs.declared.signed_promise.SignedPromise.{SignedPromise}
+use Rattle.client.specs.Clients.{Client}
+use Rattle.client.specs.Dues.{Dues, IsDueEpoch}
+use Rattle.wire.specs.Frames.{Frame}
+use Rattle.wire.specs.Requests.{RequestContent, Query}
+use Rattle.asking.specs.declared.asker.Asker.{Asker}
+use Rattle.asking.specs.declared.asker.Mark.{Mark}
+use Rattle.asking.specs.declared.said.Said.{Said}
+use Rattle.asking.specs.Scenes.{GivesBody, Scene, scene}
+use Rattle.asking.specs.Testing.{due_told, TellsDue}
+use Rattle.asking.specs.Told.{Told, Tells, told_by}
+use Rattle.asking.specs.Visiting.{TestsName, Visits, Waits}
+use Rattle.asking.proofs.Going.{told_onto}
+
+module _ {H V S T : Type 0} (hash : List ℕ → List ℕ) (accepted : List ℕ → List ℕ → List ℕ → Type 0) (exchanged : T → RequestContent → Frame → T → Type 0) where
+  module _ (asker : Asker H V S) (said : Said) (stream : T) (name spelled : List ℕ) (epoch : ℕ) (frame : Frame) (later : T) where
+    -- the frame was no answer
+    pub tests_none : (said' : Said) → IsDueEpoch asker.client name (Some epoch) → spelled ≡ name → exchanged stream (Query (Lookup spelled epoch)) frame later
+        → GivesBody (Query (Lookup spelled epoch)) frame said None said' → TestsName hash accepted exchanged (scene asker said stream) name false (scene asker said' later)
+    tests_none said' due named exchange gives =
+        let given = subst (λ (n : List ℕ). GivesBody (Query (Lookup n epoch)) frame said None said') named gives in
+        inr (record {
+          epoch = epoch;
+          due = due;
+          frame = frame;
+          exchange = subst (λ (n : List ℕ). exchanged stream (Query (Lookup n epoch)) frame later) named exchange;
+          told = given.0;
+          shows = inl (given.1, refl, refl);
+          tells = told_onto said said' given.0 given.2;
+          monitors = refl;
+        })
+
+    -- the frame was one, and this is what comes of the test
+    pub tests_some : (said' said'' : Said) (body : List ℕ) (kept : Bool) (client' : Client) → IsDueEpoch asker.client name (Some epoch) → spelled ≡ name
+        → exchanged stream (Query (Lookup spelled epoch)) frame later → GivesBody (Query (Lookup spelled epoch)) frame said (Some body) said'
+        → TellsDue hash accepted asker.client name body said' kept said'' client'
+        → TestsName hash accepted exchanged (scene asker said stream) name kept (record { client = client'; monitors = asker.monitors.items; told = told_by said''; stream = later })
+    tests_some said' said'' body kept client' due named exchange gives (found, dues, was, tells) =
+        let given = subst (λ (n : List ℕ). GivesBody (Query (Lookup n epoch)) frame said (Some body) said') named gives in
+        inr (record {
+          epoch = epoch;
+          due = due;
+          frame = frame;
+          exchange = subst (λ (n : List ℕ). exchanged stream (Query (Lookup n epoch)) frame later) named exchange;
+          told = due_told found;
+          shows = inr (given.0, (found, subst (λ (b : List ℕ). Dues hash accepted asker.client name b found client') given.1 dues, was, refl));
+          tells = told_onto said said'' (due_told found) (subst (λ (s : Said). Tells s (due_told found) said'') given.2 tells);
+          monitors = refl;
+        })
+
+module _ {T : Type 0} (hash : List ℕ → List ℕ) (accepted : List ℕ → List ℕ → List ℕ → Type 0) (exchanged : T → RequestContent → Frame → T → Type 0) where
+  module _ (marks : List Mark) (before after : Scene T) (place next : ℕ) (signed : SignedPromise) (name : List ℕ) where
+    -- the promise waits for its monitor
+    pub visits_waiting : slice_get before.client.promises place ≡ Some signed → name ≡ signed.promise.name → Waits marks before.monitors name → next ≡ suc place
+        → Visits hash accepted exchanged marks before place (Some next) before
+    visits_waiting at named waits is = (signed, at, inl (subst (λ (n : List ℕ). Waits marks before.monitors n) named waits, is, refl))
+
+    -- it was tested
+    pub visits_tested : (kept : Bool) → slice_get before.client.promises place ≡ Some signed → name ≡ signed.promise.name → ¬ Waits marks before.monitors name
+        → TestsName hash accepted exchanged before name kept after → next ≡ (if kept then place else suc place) → Visits hash accepted exchanged marks before place (Some next) after
+    visits_tested kept at named not tests is = (
+      signed,
+      at,
+      inr (subst (λ (n : List ℕ). ¬ Waits marks before.monitors n) named not, (kept, subst (λ (n : List ℕ). TestsName hash accepted exchanged before n kept after) named tests, is)),
+    )
+
+  -- a visit with the marks and the outcome under other names
+  pub visits_as : (marks marks' : Vec Mark Global) (before after : Scene T) (place : ℕ) (next next' : Option ℕ) → marks ≡ marks' → next ≡ next'
+      → Visits hash accepted exchanged marks.items before place next after → Visits hash accepted exchanged marks'.items before place next' after
+  visits_as marks marks' before after place next next' same is visits =
+      subst (λ (all : Vec Mark Global). Visits hash accepted exchanged all.items before place next' after) same
+      (subst (λ (n : Option ℕ). Visits hash accepted exchanged marks.items before place n after) is visits)

@@ -1,0 +1,14 @@
+use Rattle.std.proofs.Common.{ℕ}
+use Rattle.asking.specs.Exchanges.{Exchanges}
+use Rattle.asking.specs.Following.{Follows}
+use Rattle.asking.specs.Scenes.{scene, Scene, Stays}
+use Rattle.asking.proofs.asker.Asker.follow.Given as goal
+
+-- whatever follows from here follows from the beginning
+abbrev pub invariant-loop : goal.invariant-loop
+invariant-loop g l = record {
+  follows : (count : ℕ) (after : Scene g.row.T.Denot)
+      → Follows g.H.NodeHash.digest_of g.S.Verifier.verified (Exchanges g.T.Write.contents g.T.Read.remaining) count (scene l.self l.said l.stream) after
+      → (whole : ℕ) × Follows g.H.NodeHash.digest_of g.S.Verifier.verified (Exchanges g.T.Write.contents g.T.Read.remaining) whole (scene l.fn.self l.fn.said l.fn.stream) after;
+  stays : Stays l.fn.self l.self;
+}

@@ -1,0 +1,87 @@
+-- What comes of a line that asks.
+use Rattle.std.specs.Prelude.{◌≡◌, ◌≢◌, ◌⊎◌, ℕ, ◌<◌, ◌≤◌, ◌-◌, List, length, Option, Some, Result, Ok, Err, slice_get}
+use Rattle.std.specs.List.{AllZip}
+use Rattle.rootchain.specs.Chains.{IsHead}
+use Rattle.rootchain.specs.declared.signed_promise.SignedPromise.{SignedPromise}
+use Rattle.rootchain.specs.declared.signed_root.SignedRoot.{SignedRoot}
+use Rattle.client.specs.declared.refusal.Refusal.TheVariants.{Memory}
+use Rattle.monitor.specs.Expecting.{Expects}
+use Rattle.monitor.specs.Monitors.{Monitor}
+use Rattle.monitor.specs.declared.refusal.Refusal.{Refusal}
+use Rattle.monitor.specs.declared.refusal.Refusal.TheVariants.{Client}
+use Rattle.wire.specs.Frames.{Frame}
+use Rattle.wire.specs.Requests.{RequestContent, Query, Put, Turn}
+use Rattle.wire.specs.Responses.{ResponseContent, Promise, Proof, Roots, Root, Refused, Responds, ReadsResponse}
+use Rattle.wire.specs.declared.refusals.ReadRefusal.{ReadRefusal}
+use Rattle.asking.specs.declared.asker.Mark.{Mark}
+use Rattle.asking.specs.Answering.{Answers, with_token}
+use Rattle.asking.specs.Checking.{HearsFrame}
+use Rattle.asking.specs.Following.{Follows}
+use Rattle.asking.specs.Scenes.{Scene}
+use Rattle.asking.specs.Told.{Told, onto}
+use Rattle.asking.specs.Watching.{GoesOn}
+
+-- the epoch of a response
+abbrev pub response_epoch : ResponseContent → ℕ
+response_epoch (Promise signed) = signed.promise.epoch
+response_epoch (Proof reply) = reply.body.epoch
+response_epoch (Root root) = root.body.epoch
+response_epoch (Roots roots) = 0
+response_epoch (Refused code) = 0
+
+-- the epoch of a frame that answers what was asked, or 0
+abbrev pub SpeaksOf : RequestContent → Frame → ℕ → Type 0
+SpeaksOf asked frame epoch =
+    ((responded : ResponseContent) × Responds frame.kind frame.body responded
+    × ((Answers asked responded × (epoch ≡ response_epoch responded)) ⊎ ((¬ Answers asked responded) × (epoch ≡ 0))))
+    ⊎ (((why : ReadRefusal) × ReadsResponse frame.kind frame.body (Err why)) × (epoch ≡ 0))
+
+module _ (hash : List ℕ → List ℕ) (accepted verified : List ℕ → List ℕ → List ℕ → Type 0) where
+  -- a monitor of the promise's name is given it, and the others are left alone
+  abbrev pub HandsTo : SignedPromise → List ℕ → Monitor → Monitor → Type 0
+  HandsTo signed promise before after =
+      ((before.name ≡ signed.promise.name) × ((answer : Result (Unit {0}) Refusal) × (answer ≢ Err (Client Memory)) × Expects hash verified before signed.promise.key promise answer after))
+      ⊎ ((before.name ≢ signed.promise.name) × (after ≡ before))
+
+  -- a promise for a change of the client's own that it kept, the last of those it has, is handed to the monitors
+  abbrev pub Hands : RequestContent → List ℕ → List SignedPromise → List SignedPromise → List Monitor → List Monitor → Type 0
+  Hands (Put verb name key) promise before after monitors monitors' =
+      ((length after ≤ length before) × (monitors' ≡ monitors))
+      ⊎ ((length before < length after) × ((signed : SignedPromise) × (slice_get after (length after - 1) ≡ Some signed) × AllZip (HandsTo signed promise) monitors monitors'))
+  Hands (Query question) promise before after monitors monitors' = monitors' ≡ monitors
+  Hands (Turn _ _ _) promise before after monitors monitors' = monitors' ≡ monitors
+
+  module _ {T : Type 0} (exchanged : T → RequestContent → Frame → T → Type 0) where
+    -- the chain has a root of this epoch or a later one, or all roots that are new are taken
+    abbrev pub CatchesUp : ℕ → Scene T → Scene T → Type 0
+    CatchesUp epoch before after = (head : SignedRoot) × IsHead before.client.chain head
+        × (((epoch ≤ head.body.epoch) × (after ≡ before)) ⊎ ((head.body.epoch < epoch) × ((count : ℕ) × Follows hash verified exchanged count before after)))
+
+    -- what the client makes of a frame, and what the monitors are given of it
+    pub record HearsOne (asked : RequestContent) (frame : Frame) (before after : Scene T) : Type 0 where
+      pub told : Told
+      pub hears : HearsFrame hash accepted verified before.client asked frame told after.client
+      pub tells : after.told ≡ onto before.told told
+      pub hands : Hands asked frame.body before.client.promises after.client.promises before.monitors after.monitors
+      pub stream : after.stream ≡ before.stream
+
+    -- if the chain has epochs above this one, the monitors watch, and the promises are tested
+    abbrev pub GoesOnAbove : List Mark → ℕ → Scene T → Scene T → Type 0
+    GoesOnAbove marks epoch before after = (head : SignedRoot) × IsHead before.client.chain head
+        × (((head.body.epoch ≤ epoch) × (after ≡ before)) ⊎ ((epoch < head.body.epoch) × GoesOn hash accepted exchanged marks before after))
+
+    -- The line is asked, with this token of the operator, and a frame comes back. Then, in this order: the chain gets as far
+    -- as the reply, what the client makes of it is told, and of new epochs what monitors and promises say.
+    pub record Asks (marks : List Mark) (token : List ℕ) (asked : RequestContent) (before after : Scene T) : Type 0 where
+      pub head : SignedRoot
+      pub is : IsHead before.client.chain head
+      pub frame : Frame
+      pub stream : T
+      pub exchange : exchanged before.stream (with_token token asked) frame stream
+      pub epoch : ℕ
+      pub speaks : SpeaksOf asked frame epoch
+      pub ready : Scene T
+      pub catches : CatchesUp epoch (record before { stream = stream }) ready
+      pub heard : Scene T
+      pub hears : HearsOne asked frame ready heard
+      pub goes : GoesOnAbove marks head.body.epoch heard after

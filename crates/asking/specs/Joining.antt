@@ -1,0 +1,105 @@
+-- How a monitor of a name is added, and begins to watch.
+use Rattle.std.specs.Prelude.{◌≡◌, ◌≢◌, ◌⊎◌, ℕ, zero, suc, ◌<◌, List, [], ◌∷◌, ◌++◌, length, Option, Some, None, Result, Ok, Err, codes}
+use Rattle.rootchain.specs.Chains.{IsHead, KeyedRoots}
+use Rattle.rootchain.specs.Places.{IsNextAfter}
+use Rattle.rootchain.specs.Promises.{signed_promise_bytes}
+use Rattle.rootchain.specs.RootLists.{root_list_bytes}
+use Rattle.rootchain.specs.SignedRoots.{signed_root_bytes}
+use Rattle.rootchain.specs.declared.signed_promise.SignedPromise.{SignedPromise}
+use Rattle.rootchain.specs.declared.signed_root.SignedRoot.{SignedRoot}
+use Rattle.client.specs.Clients.{Client}
+use Rattle.client.specs.Starting.{Starts}
+use Rattle.client.specs.Updating.{Updates}
+use Rattle.client.specs.declared.refusal.Refusal.{Refusal}
+use Rattle.monitor.specs.Monitors.{Monitor, begun}
+use Rattle.wire.specs.Frames.{Frame}
+use Rattle.wire.specs.Requests.{RequestContent}
+use Rattle.asking.specs.declared.asker.Mark.{Mark}
+use Rattle.asking.specs.Asking.{HandsTo}
+use Rattle.asking.specs.Refused.{client_refuses}
+use Rattle.asking.specs.Scenes.{Scene}
+use Rattle.asking.specs.Told.{onto}
+use Rattle.asking.specs.Visiting.{TestsAll}
+use Rattle.asking.specs.Watching.{StepsThrough}
+
+-- the chain's first root after an epoch, if it has one
+abbrev pub IsFirstAfter : KeyedRoots → ℕ → Option SignedRoot → Type 0
+IsFirstAfter chain epoch None = (root : SignedRoot) → ¬ IsNextAfter chain epoch root
+IsFirstAfter chain epoch (Some root) = IsNextAfter chain epoch root
+
+-- the first root that is to be watched for a name: the one after its first mark, or the head where it has none
+abbrev pub IsUnwatched : KeyedRoots → List ℕ → List Mark → Option SignedRoot → Type 0
+IsUnwatched chain name [] first = (root : SignedRoot) × IsHead chain root × (first ≡ Some root)
+IsUnwatched chain name (mark ∷ more) first =
+    ((mark.name ≡ name) × IsFirstAfter chain mark.epoch first) ⊎ ((mark.name ≢ name) × IsUnwatched chain name more first)
+
+-- the promise is one for the name, from before an epoch, and later than the last one that was
+abbrev pub IsLater : List ℕ → ℕ → Option SignedPromise → SignedPromise → Type 0
+IsLater name epoch None signed = (signed.promise.name ≡ name) × (signed.promise.epoch < epoch)
+IsLater name epoch (Some last) signed = (signed.promise.name ≡ name) × (signed.promise.epoch < epoch) × (last.promise.epoch < signed.promise.epoch)
+
+-- the last of these, or else the one before them
+abbrev pub IsLatest : List ℕ → ℕ → Option SignedPromise → List SignedPromise → Option SignedPromise → Type 0
+IsLatest name epoch last [] found = found ≡ last
+IsLatest name epoch last (signed ∷ more) found =
+    (IsLater name epoch last signed × IsLatest name epoch (Some signed) more found) ⊎ ((¬ IsLater name epoch last signed) × IsLatest name epoch last more found)
+
+-- what is expected at first: the key of that promise, or else the one that was given
+abbrev pub first_expected : Option SignedPromise → Option (List ℕ) → Option (List ℕ)
+first_expected (Some signed) given = Some signed.promise.key
+first_expected None given = given
+
+module _ (hash : List ℕ → List ℕ) (verified : List ℕ → List ℕ → List ℕ → Type 0) (chain : KeyedRoots) where
+  -- a client takes the chain's first root after an epoch, if there is one
+  abbrev pub RetracesOne : ℕ → Client → Option ℕ → Client → Type 0
+  RetracesOne epoch before None after = IsFirstAfter chain epoch None × (after ≡ before)
+  RetracesOne epoch before (Some next) after = (root : SignedRoot) × IsNextAfter chain epoch root × (next ≡ root.body.epoch)
+      × Updates hash verified before (root_list_bytes (root ∷ [])) {A = Unit {0}} (Ok tt) after
+
+  -- it refuses that root
+  abbrev pub RefusesOne : ℕ → Client → Refusal → Type 0
+  RefusesOne epoch before why = (root : SignedRoot) × IsNextAfter chain epoch root × Updates hash verified before (root_list_bytes (root ∷ [])) {A = Unit {0}} (Err why) before
+
+  -- so many roots are taken one after another, and then there are no more, or the next is refused
+  abbrev pub Retraces : ℕ → ℕ → Client → Result Client Refusal → Type 0
+  Retraces zero epoch before (Ok after) = RetracesOne epoch before None after
+  Retraces zero epoch before (Err why) = RefusesOne epoch before why
+  Retraces (suc count) epoch before result = (next : ℕ) × (middle : Client) × RetracesOne epoch before (Some next) middle × Retraces count next middle result
+
+  -- a client of its own is started with a root of the chain, and takes those after it
+  abbrev pub StartsFrom : List ℕ → SignedRoot → Result Client Refusal → Type 0
+  StartsFrom key first (Ok own) = (start : Client) × Starts verified key (signed_root_bytes first) (Ok start) × ((count : ℕ) × Retraces count first.body.epoch start (Ok own))
+  StartsFrom key first (Err why) = Starts verified key (signed_root_bytes first) (Err why)
+      ⊎ ((start : Client) × Starts verified key (signed_root_bytes first) (Ok start) × ((count : ℕ) × Retraces count first.body.epoch start (Err why)))
+
+module _ (hash : List ℕ → List ℕ) (accepted verified : List ℕ → List ℕ → List ℕ → Type 0) where
+  -- a monitor is given each of these promises that is one for its name
+  abbrev pub AllHand : List SignedPromise → Monitor → Monitor → Type 0
+  AllHand [] before after = after ≡ before
+  AllHand (signed ∷ more) before after = (middle : Monitor) × HandsTo hash accepted verified signed (signed_promise_bytes signed) before middle × AllHand more middle after
+
+  -- A monitor that watches a name from a root of the chain on. It expects what earlier runs were promised: the last before
+  -- that root at first, and those there as changes.
+  pub record IsBegun (key : List ℕ) (earlier : List SignedPromise) (chain : KeyedRoots) (first : SignedRoot) (name : List ℕ) (given : Option (List ℕ)) (monitor : Monitor) : Type 0 where
+    pub own : Client
+    pub starts : StartsFrom hash verified chain key first (Ok own)
+    pub last : Option SignedPromise
+    pub latest : IsLatest name first.body.epoch None earlier last
+    pub hands : AllHand earlier (begun own name (first_expected last given)) monitor
+
+  module _ {T : Type 0} (exchanged : T → RequestContent → Frame → T → Type 0) (marks : List Mark) (key : List ℕ) (earlier : List SignedPromise) (name : List ℕ) (given : Option (List ℕ)) where
+    -- such a monitor is added, behind the others, and watches each epoch of its chain; or a root is told as refused
+    abbrev pub BeginsAt : SignedRoot → Scene T → Scene T → Type 0
+    BeginsAt first before after =
+        ((monitor : Monitor) × IsBegun key earlier before.client.chain first name given monitor
+        × ((count : ℕ) × StepsThrough hash accepted exchanged count (record before { monitors = before.monitors ++ monitor ∷ [] }) (length before.monitors) after))
+        ⊎ ((why : Refusal) × StartsFrom hash verified before.client.chain key first (Err why)
+        × (after ≡ record before { told = onto before.told (client_refuses (codes "client refuses root") why) }))
+
+    -- a name is watched from the first root on that is to be watched, and then each promise is tested that is due; nothing
+    -- is asked where there is no such root
+    abbrev pub BeginsWatch : Scene T → Scene T → Type 0
+    BeginsWatch before after =
+        (IsUnwatched before.client.chain name marks None × (after ≡ before))
+        ⊎ ((first : SignedRoot) × IsUnwatched before.client.chain name marks (Some first)
+        × ((middle : Scene T) × BeginsAt first before middle × TestsAll hash accepted exchanged marks middle after))

@@ -1,0 +1,258 @@
+// A monitor of a name joins the others, and begins to watch.
+ghost use Rattle.std.specs.Prelude.{◌≡◌, ◌≢◌, ◌↔◌, ℕ, IfErr, IfOk, IsTrue, None, OnOk, Err, Ok, option_map};
+ghost use Rattle.client.specs.declared.refusal.Refusal.TheVariants.{Memory};
+ghost use Rattle.asking.specs.Exchanges.{Exchanges};
+ghost use Rattle.asking.specs.Joining.{first_expected, AllHand, BeginsAt, BeginsWatch, IsBegun, IsLater, IsLatest, IsUnwatched, RefusesOne, Retraces, RetracesOne, StartsFrom};
+ghost use Rattle.asking.specs.Scenes.{scene, Stays};
+
+use crate::asker::Mark;
+use crate::checking::tell_client;
+use crate::watching::hand_one;
+use crate::{AskFault, Asker, Checks, Said};
+use client::{Client, Refusal};
+use encoding::{Hash32, KeyData, Name};
+use monitor::Monitor;
+use nodehash::NodeHash;
+use rootchain::{SignedPromise, SignedRoot, write_list};
+use sigiface::Verifier;
+use std::alloc::{AllocError, Global};
+use std::io::{Read, Write};
+use vrfiface::VufCheck;
+
+impl<H, V, S> Asker<H, V, S>
+where
+    H: NodeHash + Drop,
+    V: VufCheck + Drop,
+    S: Verifier + Drop,
+{
+    /// Adds a monitor of a name that expects this key, or none, and lets it watch each epoch that is new: those
+    /// behind the mark of the name, or the latest one if there is no mark.
+    ///
+    /// # Errors
+    ///
+    /// `NoReply`; `OutOfMemory`.
+    pub fn watch<T: Read + Write>(
+        &mut self,
+        stream: &mut T,
+        name: &Name,
+        key: Option<&KeyData>,
+        said: &mut Said,
+    ) -> Result<(), AskFault>
+        ensures begins { OnOk result (BeginsWatch H.digest_of V.accepted S.verified (Exchanges T.contents T.remaining) (self.old).marks.items (self.old).key (self.old).earlier.items name.now (option_map (λ key. key.now) key.entry)
+            (scene self.old said.old stream.old) (scene self.new said.new stream.new)) }
+        ensures stays { OnOk result (Stays self.old self.new) }
+    {
+        let Some(first) = first_unwatched(&self.client, &self.marks, name) else {
+            return Ok(());
+        };
+        self.begin_watch(stream, &first, name, key, said)?;
+        self.test_promises(stream, said)
+    }
+
+    /// Adds a monitor that watches from this root on, and lets it watch.
+    fn begin_watch<T: Read + Write>(
+        &mut self,
+        stream: &mut T,
+        first: &SignedRoot,
+        name: &Name,
+        key: Option<&KeyData>,
+        said: &mut Said,
+    ) -> Result<(), AskFault>
+        ensures begins { OnOk result (BeginsAt H.digest_of V.accepted S.verified (Exchanges T.contents T.remaining) (self.old).marks.items (self.old).key (self.old).earlier.items name.now (option_map (λ key. key.now) key.entry)
+            first.now (scene self.old said.old stream.old) (scene self.new said.new stream.new)) }
+        ensures stays { OnOk result (Stays self.old self.new) }
+    {
+        let place = self.monitors.len();
+        match self.monitor_from(first, name, key) {
+            Ok(monitor) => {
+                self.monitors.push(monitor)?;
+                self.step_through(stream, place, said)
+            }
+            Err(why) => {
+                tell_client(self.alloc, b"client refuses root", why, said)?;
+                Ok(())
+            }
+        }
+    }
+
+    /// A monitor whose chain is that of the client from this root on. What earlier runs were promised for the
+    /// name before that root is expected at first, and what they were promised there changes it.
+    fn monitor_from(
+        &mut self,
+        first: &SignedRoot,
+        name: &Name,
+        key: Option<&KeyData>,
+    ) -> Result<Monitor<H, V, S>, Refusal>
+        ensures begun { IfOk result (λ monitor. IsBegun H.digest_of V.accepted S.verified (self.old).key (self.old).earlier.items (self.old).client.chain first.now name.now (option_map (λ key. key.now) key.entry) monitor) }
+        ensures refused { IfErr result (λ why. why ≢ Memory → StartsFrom H.digest_of S.verified (self.old).client.chain (self.old).key first.now (Err why)) }
+        ensures same { ((self.new).client ≡ (self.old).client) × ((self.new).monitors ≡ (self.old).monitors) × Stays self.old self.new }
+    {
+        let own = client_from(self.alloc, &mut self.checks, &self.client, self.key, first)?;
+        let last = last_before(&self.earlier, name, first.body.epoch);
+        let start = expected_at_first(last, key);
+        let mut monitor = Monitor::new(self.alloc, own, name.copied(), start);
+        if hand_all(&mut self.checks, &mut monitor, &self.earlier).is_err() {
+            return Err(Refusal::Memory);
+        }
+        Ok(monitor)
+    }
+}
+
+/// The first root whose epoch was not watched for a name in an earlier run.
+fn first_unwatched<H, V, S>(
+    client: &Client<H, V, S>,
+    marks: &[Mark],
+    name: &Name,
+) -> Option<SignedRoot>
+where
+    H: NodeHash + Drop,
+    V: VufCheck + Drop,
+    S: Verifier + Drop,
+    ensures { IsUnwatched client.now.chain name.now marks.now result }
+{
+    for mark in marks {
+        if mark.name == *name {
+            return match client.chain().after(mark.epoch) {
+                Some(root) => Some(root.copied()),
+                None => None,
+            };
+        }
+    }
+    Some(client.chain().head().copied())
+}
+
+/// A client whose chain is that of another one from this root on.
+fn client_from<H, V, S>(
+    alloc: Global,
+    checks: &mut Checks<H, V, S>,
+    other: &Client<H, V, S>,
+    key: Hash32,
+    first: &SignedRoot,
+) -> Result<Client<H, V, S>, Refusal>
+where
+    H: NodeHash + Drop,
+    V: VufCheck + Drop,
+    S: Verifier + Drop,
+    ensures ok { IfOk result (λ own. StartsFrom H.digest_of S.verified other.now.chain key first.now (Ok own)) }
+    ensures err { IfErr result (λ why. why ≢ Memory → StartsFrom H.digest_of S.verified other.now.chain key first.now (Err why)) }
+{
+    let root = first.write();
+    let mut own = Client::start(alloc, &checks.verifier, key, root.bytes())?;
+    retrace(alloc, &mut own, checks, other, first.body.epoch)?;
+    Ok(own)
+}
+
+/// Lets a client take the roots of another one's chain after an epoch.
+fn retrace<H, V, S>(
+    alloc: Global,
+    own: &mut Client<H, V, S>,
+    checks: &mut Checks<H, V, S>,
+    other: &Client<H, V, S>,
+    first: u64,
+) -> Result<(), Refusal>
+where
+    H: NodeHash + Drop,
+    V: VufCheck + Drop,
+    S: Verifier + Drop,
+    ensures ok { OnOk result ((count : ℕ) × Retraces H.digest_of S.verified other.now.chain count first own.old (Ok own.new)) }
+    ensures err { IfErr result (λ why. why ≢ Memory → (count : ℕ) × Retraces H.digest_of S.verified other.now.chain count first own.old (Err why)) }
+{
+    let mut epoch = first;
+    // Every loop of Rattle has an end: this one's is past any chain.
+    for _ in 0..u64::MAX {
+        match retrace_one(alloc, own, checks, other, epoch) {
+            Ok(Some(next)) => epoch = next,
+            Ok(None) => return Ok(()),
+            Err(why) => return Err(why),
+        }
+    }
+    Err(Refusal::Memory)
+}
+
+/// Lets a client take the first root of another one's chain after an epoch. Returns the root's epoch, if there is one.
+fn retrace_one<H, V, S>(
+    alloc: Global,
+    own: &mut Client<H, V, S>,
+    checks: &mut Checks<H, V, S>,
+    other: &Client<H, V, S>,
+    epoch: u64,
+) -> Result<Option<u64>, Refusal>
+where
+    H: NodeHash + Drop,
+    V: VufCheck + Drop,
+    S: Verifier + Drop,
+    ensures ok { IfOk result (λ next. RetracesOne H.digest_of S.verified other.now.chain epoch own.old next own.new) }
+    ensures err { IfErr result (λ why. why ≢ Memory → RefusesOne H.digest_of S.verified other.now.chain epoch own.old why) }
+{
+    let Some(root) = other.chain().after(epoch) else {
+        return Ok(None);
+    };
+    let mut list = Vec::new(alloc);
+    if write_list(&[root.copied()], &mut list).is_err() {
+        return Err(Refusal::Memory);
+    }
+    match own.update(&mut checks.hash, &checks.verifier, &list) {
+        Ok(()) => Ok(Some(root.body.epoch)),
+        Err(why) => Err(why),
+    }
+}
+
+/// The last promise for a name from before this epoch.
+fn last_before<'a>(
+    promises: &'a [SignedPromise],
+    name: &Name,
+    epoch: u64,
+) -> Option<&'a SignedPromise>
+    ensures { IsLatest name.now epoch None promises.entry.now (option_map (λ signed. signed.now) result) }
+{
+    let mut last: Option<&SignedPromise> = None;
+    for signed in promises {
+        if is_later(last, signed, name, epoch) {
+            last = Some(signed);
+        }
+    }
+    last
+}
+
+/// Whether a promise is one for a name from before this epoch, and later than the last one that was.
+fn is_later(last: Option<&SignedPromise>, signed: &SignedPromise, name: &Name, epoch: u64) -> bool
+    ensures { IsTrue result ↔ IsLater name.now epoch (option_map (λ signed. signed.now) last.entry) signed.now }
+{
+    if signed.promise.name != *name || epoch <= signed.promise.epoch {
+        return false;
+    }
+    match last {
+        Some(other) => other.promise.epoch < signed.promise.epoch,
+        None => true,
+    }
+}
+
+/// What a monitor expects at first: the key of the last promise, or else the one that is given.
+fn expected_at_first(last: Option<&SignedPromise>, given: Option<&KeyData>) -> Option<KeyData>
+    ensures { result ≡ first_expected (option_map (λ signed. signed.now) last.entry) (option_map (λ key. key.now) given.entry) }
+{
+    match (last, given) {
+        (Some(signed), _) => Some(signed.promise.key.copied()),
+        (None, Some(key)) => Some(key.copied()),
+        (None, None) => None,
+    }
+}
+
+/// Gives a monitor each promise of earlier runs that is one for its name. One from before the first root, or one that
+/// is kept twice, is refused.
+fn hand_all<H, V, S>(
+    checks: &mut Checks<H, V, S>,
+    monitor: &mut Monitor<H, V, S>,
+    earlier: &[SignedPromise],
+) -> Result<(), AllocError>
+where
+    H: NodeHash + Drop,
+    V: VufCheck + Drop,
+    S: Verifier + Drop,
+    ensures { OnOk result (AllHand H.digest_of V.accepted S.verified earlier.now monitor.old monitor.new) }
+{
+    for signed in earlier {
+        hand_one(monitor, checks, signed, signed.write().bytes())?;
+    }
+    Ok(())
+}
