@@ -1,4 +1,4 @@
-//! What asks a running directory: the lines of a script go out as frames over a stream, and each reply is
+//! Asks a running directory: the lines of a script go out as frames over a stream, and each reply is
 //! checked as a client checks it (after CONIKS, section 4), and told in the line that `play` prints.
 //!
 //! Callers can rely on this: whatever bytes come back, a reply is told only as the client's own calls
@@ -17,7 +17,7 @@ mod answering;
 mod asker;
 mod asking;
 mod checking;
-mod exchange;
+pub mod exchange;
 mod fault;
 mod following;
 mod joining;

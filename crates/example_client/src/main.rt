@@ -1,24 +1,32 @@
-//! A client of a directory that listens, for authors of clients to copy.
+//! A client of a directory, to copy: it registers a key for a name, and watches the name.
 //!
-//! It follows the provider's signed roots, looks a name up, registers a key for it, tests after the next root
-//! whether the provider kept its promise, and watches the name in each epoch. Nothing that the directory sends
-//! is believed before a call of `Client` or `Monitor` has accepted it.
+//! An `Asker` sends what is asked. Its `Client` and `Monitor`s check each reply, and it says what they make of it,
+//! in the lines that docs/FORMATS.md lists. Whoever wants values calls these two, as the crate `asking` does. A
+//! real client also stores its roots and promises.
 #![tactic(auto)]
 
-mod ask;
-mod directory;
-mod user;
-
 use anyhow::{Context, Result, ensure};
-use directory::Directory;
+use asking::exchange::{exchange, frame_in};
+use asking::{AskFault, Asker, Checks, Said};
+use commands::{Query, Verb};
 use encoding::{Hash32, KeyData, Name};
-use std::env;
-use user::User;
+use nodehash::Sha256Hash;
+use play::Ask;
+use sigiface::KeyedSign;
+use std::io::{self, Write};
+use std::net::TcpStream;
+use std::time::Duration;
+use std::{env, str, thread};
+use textio::option_hex32;
+use vrfiface::KeyedVuf;
+use wire::Request;
 
 const USAGE: &str = "usage: example_client ADDRESS PROVIDER_KEY NAME KEY ROOTS
 
 Registers KEY for NAME with the directory that listens on ADDRESS, unless the name has a key, and watches
 the name until ROOTS new roots have come. KEY and PROVIDER_KEY, which checks signatures, are hexadecimal.";
+
+type KeyedAsker = Asker<Sha256Hash, KeyedVuf, KeyedSign>;
 
 fn main(rt: HostRuntime) -> Result<()> {
     let alloc = rt.alloc();
@@ -28,25 +36,88 @@ fn main(rt: HostRuntime) -> Result<()> {
         println!(rt; "{USAGE}")?;
         return Ok(());
     };
-    let mut provider_key = [0; 32];
-    hex::decode_to_slice(provider.as_bytes(), &mut provider_key).context("reading PROVIDER_KEY")?;
-    let name = Name::new(name.as_bytes()).context("reading NAME")?;
+    let provider = Hash32::new(option_hex32(provider).context("reading PROVIDER_KEY")?);
+    let owned = Name::new(name.as_bytes()).context("reading NAME")?;
     let key = hex::decode(alloc, key.as_bytes()).context("reading KEY")?;
-    let key = KeyData::new(&key).context("reading KEY")?;
+    let expected = KeyData::new(&key).context("reading KEY")?;
     let roots = roots.parse::<u64>().context("reading ROOTS")?;
+    let mut stream = TcpStream::connect(&rt, address).context("connecting")?;
+    let mut asker = start(&rt, &mut stream, provider).context("starting")?;
+    let mut said = Said::new(alloc);
 
-    let directory = Directory { rt: &rt, address };
-    let mut user = User::start(directory, Hash32::new(provider_key))?;
-    // If the name has a key already, it has to be the owner's.
-    let is_bound = user.look_up(&name)?;
-    let expected = if is_bound { Some(key.copied()) } else { None };
-    let mut monitor = user.monitor(name, expected)?;
-    user.watch(&mut monitor)?;
+    // Look the name up. The line is `absent EPOCH`, or `present EPOCH KEY`; then the key has to be the owner's.
+    let name = Vec::from_slice(alloc, owned.bytes())?;
+    let asked = asker.ask(&mut stream, &Ask::Lookup { name, epoch: 0 }, &mut said);
+    let is_bound = said.text.starts_with(b"present");
+    print(&rt, asked, &mut said)?;
+
+    // Watch the name: a monitor looks it up in each epoch, from the latest one on.
+    let expected = if is_bound { Some(&expected) } else { None };
+    let asked = asker.watch(&mut stream, &owned, expected, &mut said);
+    print(&rt, asked, &mut said)?;
+
+    // Register the key. The client keeps the promise, and the monitor expects the key from the next epoch on.
     if !is_bound {
-        user.register(&mut monitor, &key)?;
+        let (verb, name) = (Verb::Register, Vec::from_slice(alloc, owned.bytes())?);
+        let asked = asker.ask(&mut stream, &Ask::Put { verb, name, key }, &mut said);
+        print(&rt, asked, &mut said)?;
     }
     for _ in 0..roots {
-        user.await_root(&mut monitor)?;
+        await_root(&rt, &mut stream, &mut asker)?;
     }
+    Ok(())
+}
+
+/// Starts a client at the latest root. Only `client::reconcile` tells whether others were shown the same roots.
+fn start(rt: &HostRuntime, stream: &mut TcpStream, provider: Hash32) -> Result<KeyedAsker> {
+    let reply = exchange(rt.alloc(), stream, &Request::Query(Query::Head));
+    let reply = reply.ok().context("no reply")?;
+    let root = frame_in(&reply).ok().context("no reply")?.body;
+    // To check takes no secret. The token, zeros, is the operator's.
+    let checks = Checks {
+        hash: Sha256Hash::new(),
+        vuf: KeyedVuf::new(provider),
+        verifier: KeyedSign::new(provider),
+    };
+    let asker = Asker::start(rt.alloc(), checks, provider, Hash32::default(), root)?;
+    let head = &asker.client().chain().head().body;
+    println!(rt; "root {} after {}", head.epoch, head.previous_epoch)?;
+    Ok(asker)
+}
+
+/// Follows the chain until it has a new root, and does what is due then.
+fn await_root(rt: &HostRuntime, stream: &mut TcpStream, asker: &mut KeyedAsker) -> Result<()> {
+    let mut said = Said::new(rt.alloc());
+    let latest = asker.client().chain().head().body.epoch;
+    println!(rt; "waits for the root after {latest}")?;
+    for _ in 0..u64::MAX {
+        let asked = asker.follow(stream, &mut said);
+        print(rt, asked, &mut said)?;
+        if latest < asker.client().chain().head().body.epoch {
+            break;
+        }
+        thread::sleep(rt, Duration::from_secs(1));
+    }
+    let head = &asker.client().chain().head().body;
+    println!(rt; "root {} after {}", head.epoch, head.previous_epoch)?;
+
+    // Test whether the promise was kept. If it was, the client drops it.
+    let promised = asker.client().promises().len();
+    let asked = asker.test_promises(stream, &mut said);
+    print(rt, asked, &mut said)?;
+    if asker.client().promises().len() < promised {
+        println!(rt; "promise kept")?;
+    }
+    // Let the monitor watch the new epochs.
+    let asked = asker.go_on(stream, &mut said);
+    print(rt, asked, &mut said)
+}
+
+/// Prints what was said. The program ends if something was refused or no reply came, but not at an alarm.
+fn print(rt: &HostRuntime, asked: Result<(), AskFault>, said: &mut Said) -> Result<()> {
+    io::writer(rt).write_all(&said.text)?;
+    said.text.clear();
+    ensure!(said.words.is_empty(), "{}", str::from_utf8(&said.words)?);
+    ensure!(asked.is_ok(), "no reply");
     Ok(())
 }

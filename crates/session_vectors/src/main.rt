@@ -40,8 +40,9 @@
 //!
 //! Of the public calls of the upper crates that no verb asks, `scripts/statuses.sh` asks `judge_at`, and `order`,
 //! `end`, `refuse` and `refuse_bytes` of `directoryd`; `scripts/listen.sh` asks `listen`, and
-//! `scripts/journal.sh` asks `listen` and `serve_directory` with a journal. The crate `faults` has keepers,
-//! readers and writers that fail, and asks `Journal` as the keeper of a directory.
+//! `scripts/journal.sh` asks `listen` and `serve_directory` with a journal; `scripts/asks.py` asks those of
+//! `asking`. The crate `faults` has keepers, readers and writers that fail, and asks `Journal` as the keeper of
+//! a directory.
 #![tactic(auto)]
 
 mod auditors;
