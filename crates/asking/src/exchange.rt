@@ -17,12 +17,8 @@ use wire::{FrameView, Front, MAX_FRAME_LEN, Request, front_of};
 /// How many bytes tell the length of a frame.
 const LENGTH: usize = 4;
 
-/// The frame that begins the bytes that came. Those of a reply that `exchange` returns are one frame.
-///
-/// # Errors
-///
-/// `NoReply` if no whole frame begins them.
-pub fn frame_in(bytes: &[u8]) -> Result<FrameView<'_>, AskFault>
+/// The frame that begins the bytes that came.
+pub(crate) fn frame_in(bytes: &[u8]) -> Result<FrameView<'_>, AskFault>
     ensures { IfOk result (λ frame. HoldsFrame bytes.entry.now (frame_seen frame)) }
 {
     match front_of(bytes) {
@@ -105,13 +101,12 @@ fn send<W: Write>(alloc: Global, writer: &mut W, request: &Request<'_>) -> Resul
     Ok(())
 }
 
-/// Sends a request as one frame, and reads exactly the next frame of the stream, its reply, which is not checked.
+/// Sends a request, and reads its reply.
 ///
 /// # Errors
 ///
-/// `NoReply` if the request has no frame or cannot be sent, or the stream ends or fails before the reply is
-/// whole, or the reply has a length that no frame has; `OutOfMemory`.
-pub fn exchange<T: Read + Write>(
+/// Those of `send` and of `read_reply`.
+pub(crate) fn exchange<T: Read + Write>(
     alloc: Global,
     stream: &mut T,
     request: &Request<'_>,

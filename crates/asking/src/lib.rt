@@ -7,7 +7,7 @@
 //! Contracts do not know what a socket or a file has; `scripts/asks.py` shows those.
 //!
 //! ```text
-//! let mut asker = Asker::start(alloc, checks, key, token, root_bytes)?;
+//! let mut asker = Asker::start_at_head(alloc, &mut stream, checks, key, token, &mut said)?;
 //! asker.ask(&mut stream, &Ask::Head, &mut said)?;
 //! write_text(&mut writer, &said.text)?;
 //! ```
@@ -17,7 +17,7 @@ mod answering;
 mod asker;
 mod asking;
 mod checking;
-pub mod exchange;
+mod exchange;
 mod fault;
 mod following;
 mod joining;

@@ -5,10 +5,9 @@
 //! real client also stores its roots and promises.
 #![tactic(auto)]
 
-use anyhow::{Context, Result, ensure};
-use asking::exchange::{exchange, frame_in};
+use anyhow::{Context, Result, bail, ensure};
 use asking::{AskFault, Asker, Checks, Said};
-use commands::{Query, Verb};
+use commands::Verb;
 use encoding::{Hash32, KeyData, Name};
 use nodehash::Sha256Hash;
 use play::Ask;
@@ -19,7 +18,6 @@ use std::time::Duration;
 use std::{env, str, thread};
 use textio::option_hex32;
 use vrfiface::KeyedVuf;
-use wire::Request;
 
 const USAGE: &str = "usage: example_client ADDRESS PROVIDER_KEY NAME KEY ROOTS
 
@@ -70,16 +68,18 @@ fn main(rt: HostRuntime) -> Result<()> {
 
 /// Starts a client at the latest root. Only `client::reconcile` tells whether others were shown the same roots.
 fn start(rt: &HostRuntime, stream: &mut TcpStream, provider: Hash32) -> Result<KeyedAsker> {
-    let reply = exchange(rt.alloc(), stream, &Request::Query(Query::Head));
-    let reply = reply.ok().context("no reply")?;
-    let root = frame_in(&reply).ok().context("no reply")?.body;
     // To check takes no secret. The token, zeros, is the operator's.
+    let (alloc, token) = (rt.alloc(), Hash32::default());
     let checks = Checks {
         hash: Sha256Hash::new(),
         vuf: KeyedVuf::new(provider),
         verifier: KeyedSign::new(provider),
     };
-    let asker = Asker::start(rt.alloc(), checks, provider, Hash32::default(), root)?;
+    let mut said = Said::new(alloc);
+    let asked = Asker::start_at_head(alloc, stream, checks, provider, token, &mut said);
+    let Ok(asker) = asked else {
+        bail!("no root: {}", str::from_utf8(&said.words)?);
+    };
     let head = &asker.client().chain().head().body;
     println!(rt; "root {} after {}", head.epoch, head.previous_epoch)?;
     Ok(asker)
