@@ -1,20 +1,18 @@
 -- The line of the reply to what a line asks.
-use Rattle.std.proofs.Common.{◌≡◌, ◌≢◌, ℕ, Global, List, [], ◌∷◌, Option, Some, None, Ok, Err, AllPairs, Bool, true, false, cond, refl, sym, ap, subst, ◌∙◌}
+use Rattle.std.proofs.Common.{◌≡◌, ◌≢◌, ℕ, Global, length, arith, List, [], ◌∷◌, Option, Some, None, Ok, Err, AllPairs, Bool, true, false, cond, refl, sym, ap, subst, ◌∙◌}
 use Rattle.std.specs.Prelude.{Vec}
 use Rattle.std.specs.Str.{bytes_eq}
 use Rattle.rand_core.specs.Stream.{Stream}
 use Rattle.encoding.specs.Bytes.{IsBytes}
 use Rattle.rootchain.specs.declared.signed_root.SignedRoot.{SignedRoot}
-use Rattle.proofs.specs.Replies.{Reply as Spelled, Spells}
+use Rattle.proofs.specs.Replies.{Reply as Spelled, Spells, reply_bytes}
 use Rattle.commands.specs.Operations.{Operation, Question, Query, Edit, Put, Promise, Lookup, History, Head}
 use Rattle.commands.specs.Operations as ask
 use Rattle.wire.specs.Requests.{RequestContent, IsAsked}
 use Rattle.wire.specs.Requests as request
 use Rattle.wire.specs.Responses as response
-use Rattle.wire.specs.Responses.{response_seen, ResponseContent}
-use Rattle.wire.specs.declared.response.Response.{Response}
-use Rattle.wire.specs.declared.response.Response.TheVariants as read
-use Rattle.hub.specs.Desks.{command, IsResponseOf}
+use Rattle.wire.specs.Responses.{ResponseContent}
+use Rattle.hub.specs.Desks.{command, reply_frame, IsResponseOf}
 use Rattle.book.specs.declared.reply.Reply.{Reply}
 use Rattle.book.specs.declared.reply.Reply.TheVariants as reply
 use Rattle.book.specs.Answers.{Answer, Promised, Found, Told, Last}
@@ -25,7 +23,7 @@ use Rattle.book.specs.Maps.{at}
 use Rattle.book.specs.Refusals.{refusal_number}
 use Rattle.book.specs.Shows.{Provider, index_of, roots, IsReplyOf, IsRootOf}
 use Rattle.book.specs.Sound.{IsSound}
-use Rattle.book.specs.Steps.{Outcome}
+use Rattle.book.specs.Steps.{Answers, Outcome, step}
 use Rattle.book.specs.Turns.{Turn}
 use Rattle.book.proofs.Growing.{run-grows}
 use Rattle.book.proofs.Soundness.{IsBefore}
@@ -45,6 +43,10 @@ use Rattle.play.specs.Spoken.{ask_seen}
 use Rattle.play.proofs.Answering.{lookups-shown, same-text}
 use Rattle.play.proofs.Comes.{turn_comes, Comes, HasCome}
 use Rattle.play.proofs.Turns.{found_epoch, unchecked_told}
+
+-- two bytes and more are not one
+pub two_long : (one other : ℕ) (more : List ℕ) → length (one ∷ other ∷ more) ≢ 1
+two_long one other more e = absurd (omega (arith, e))
 
 -- ---- a proof answers a look-up
 
@@ -97,32 +99,19 @@ no-lookup (made.Rotate at_epoch _) none name epoch is = absurd cc
 
 -- ---- what was said, by the response that was read
 
--- a response that is no proof is no reply to a look-up
-pub unchecked-of : (said : Reply) (responded : ResponseContent) (got : Response) → IsResponseOf said responded → response_seen got ≡ responded → ((proof : Spelled) → got ≡ read.Proof proof → ⊥) → IsUnchecked said
-unchecked-of (reply.Promised signed) responded got of seen none = tt
-unchecked-of (reply.Found text) responded got (spelled, spells, of) seen none = by got none (seen ∙ of)
-  where
-    by : (one : Response) → ((proof : Spelled) → one ≡ read.Proof proof → ⊥) → response_seen one ≡ response.Proof spelled → ⊥
-    by (read.Proof proof) never e = never proof refl
-    by (read.Promise signed) never e = absurd cc
-    by (read.Roots some) never e = absurd cc
-    by (read.Root root) never e = absurd cc
-    by (read.Refused code) never e = absurd cc
-unchecked-of (reply.Told told) responded got of seen none = tt
-unchecked-of (reply.Last root) responded got of seen none = tt
-unchecked-of (reply.Refused why) responded got of seen none = tt
+-- a reply to a look-up is longer than a byte
+not-one : (text : List ℕ) (spelled : Spelled) → Spells text spelled → length text ≢ 1
+not-one text spelled spells one =
+    let few : length (reply_bytes spelled) ≡ 1 = sym (ap length spells.0) ∙ one in
+    absurd (two_long 0x52 0x01 _ few)
 
--- and one that is a proof is the reply to a look-up
-pub found-of : (said : Reply) (responded : ResponseContent) (got : Response) (proof : Spelled) → IsResponseOf said responded → response_seen got ≡ responded → got ≡ read.Proof proof
-    → (found : List ℕ) × (said ≡ reply.Found found) × Spells found proof
-found-of (reply.Found text) responded got proof (spelled, spells, of) seen is =
-    let e : response.Proof proof ≡ response.Proof spelled = sym (ap response_seen is) ∙ seen ∙ of in
-    let same : spelled ≡ proof = cc in
-    (text, refl, subst (Spells text) same spells)
-found-of (reply.Promised signed) responded got proof of seen is = let e : response.Proof proof ≡ response.Promise signed = sym (ap response_seen is) ∙ seen ∙ of in absurd cc
-found-of (reply.Told told) responded got proof of seen is = let e : response.Proof proof ≡ response.Roots told.items = sym (ap response_seen is) ∙ seen ∙ of in absurd cc
-found-of (reply.Last root) responded got proof of seen is = let e : response.Proof proof ≡ response.Root root = sym (ap response_seen is) ∙ seen ∙ of in absurd cc
-found-of (reply.Refused why) responded got proof of seen is = let e : response.Proof proof ≡ response.Refused (refusal_number why) = sym (ap response_seen is) ∙ seen ∙ of in absurd cc
+-- a body of one byte is no reply to a look-up
+pub short-unchecked : (said : Reply) (responded : ResponseContent) → IsResponseOf said responded → length (reply_frame said).body ≡ 1 → IsUnchecked said
+short-unchecked (reply.Found text) responded (spelled, spells, of) short = absurd (not-one text spelled spells short)
+short-unchecked (reply.Promised signed) responded of short = tt
+short-unchecked (reply.Told told) responded of short = tt
+short-unchecked (reply.Last root) responded of short = tt
+short-unchecked (reply.Refused why) responded of short = tt
 
 -- ---- the reply to one request
 
@@ -282,3 +271,37 @@ module _ {R : Type 0} (digest_of : List ℕ → List ℕ) (value_of signature_of
         told = ap (λ (p : Provider). found_text (index_of p) page name) same ∙ line-is;
         at_epoch = found_epoch (P before) (B after) found page name (at page.bindings name) root spelled sound.pages shown.2.rooted shown.2.shown spells;
       }
+
+  -- what answers another request than a look-up is not checked
+  pub unasked : ((name : List ℕ) (epoch : ℕ) → requested ≡ request.Query (Lookup name epoch) → ⊥) → IsUnchecked a.said
+  unasked none = by a.said refl
+    where
+      by : (said : Reply) → a.said ≡ said → IsUnchecked said
+      by (reply.Found text) is = let (name, epoch, of) = asked-lookup text is in absurd (none name epoch of)
+      by (reply.Promised signed) is = tt
+      by (reply.Told told) is = tt
+      by (reply.Last root) is = tt
+      by (reply.Refused why) is = tt
+
+  module _ (name : List ℕ) (epoch : ℕ) (of : requested ≡ request.Query (Lookup name epoch)) where
+    lookup-is : a.asked ≡ Query (Lookup name epoch)
+    lookup-is = let e : Some (Query (Lookup name epoch)) ≡ Some a.asked = sym (ap (command token) of) ∙ a.is in cc
+
+    of-page : (answer : Answer) → step index (B before) a.asked ≡ (Answers answer, B after) → IsOfPage answer
+    of-page answer steps =
+        let asked_so : step index (B before) (Query (Lookup name epoch)) ≡ (Answers answer, B after) = ap (step index (B before)) (sym lookup-is) ∙ steps in
+        let does = (stepped index (B before) (Query (Lookup name epoch)) answer (B after) asked_so).does in
+        let f : Finds (B before) (Lookup name epoch) answer = finds (B before) (Lookup name epoch) answer does.0 in
+        (f.0, name, at f.0.bindings name, f.2)
+
+    -- a reply to a look-up of more than a byte is what a page has
+    pub said-found : length (reply_frame a.said).body ≢ 1 → (found : List ℕ) × (a.said ≡ reply.Found found) × ((spelled : Spelled) × Spells found spelled)
+    said-found long = by a.said refl a.turn a.response long
+      where
+        by : (said : Reply) → a.said ≡ said → Turn (P before) KeepsNothing NeverFails (B before) before.hub.service.keeper a.asked said (B after) after.hub.service.keeper
+            → IsResponseOf said a.responded → length (reply_frame said).body ≢ 1 → (found : List ℕ) × (a.said ≡ reply.Found found) × ((spelled : Spelled) × Spells found spelled)
+        by (reply.Found text) is turn (spelled, spells, _) far = (text, is, (spelled, spells))
+        by (reply.Promised signed) is (answer, steps, keeps, shows) response far = absurd (not-promised (sym shows.3 ∙ (of-page answer steps).3))
+        by (reply.Told told) is (answer, steps, keeps, shows) response far = absurd (not-told (sym shows.1 ∙ (of-page answer steps).3))
+        by (reply.Last root) is (answer, steps, keeps, shows) response far = absurd (not-last (sym shows.1 ∙ (of-page answer steps).3))
+        by (reply.Refused why) is turn response far = absurd (far refl)

@@ -11,7 +11,7 @@ use Rattle.rand_core.specs.Stream.{Stream}
 use Rattle.encoding.specs.Limits.{IsKeyData}
 use Rattle.rootchain.specs.Bodies.{body_bytes}
 use Rattle.rootchain.specs.Chains.{Ascend, IsChain, KeyedRoots}
-use Rattle.rootchain.specs.Promises.{IsSignedPromise, PromiseVerifies, SpellsPromise}
+use Rattle.rootchain.specs.Promises.{signed_promise_bytes, IsSignedPromise, PromiseVerifies, SpellsPromise}
 use Rattle.rootchain.specs.declared.signed_promise.SignedPromise.{SignedPromise}
 use Rattle.rootchain.specs.declared.signed_root.SignedRoot.{SignedRoot}
 use Rattle.rootchain.proofs.Agreement.{unique}
@@ -22,11 +22,7 @@ use Rattle.commands.specs.Operations.{Operation, Edit}
 use Rattle.commands.specs.Operations as ask
 use Rattle.wire.specs.Frames.{Frame, frame_bytes, IsFrame}
 use Rattle.wire.specs.Requests as request
-use Rattle.wire.specs.Responses as responds
-use Rattle.wire.specs.Responses.{ResponseContent, response_seen}
-use Rattle.wire.specs.declared.response.Response.{Response}
-use Rattle.wire.specs.declared.response.Response.TheVariants as response
-use Rattle.hub.specs.Desks.{reply_frame, IsResponseOf}
+use Rattle.hub.specs.Desks.{reply_frame}
 use Rattle.book.specs.declared.reply.Reply.{Reply}
 use Rattle.book.specs.declared.reply.Reply.TheVariants as reply
 use Rattle.book.specs.declared.refusal.Refusal.{Refusal}
@@ -49,6 +45,7 @@ use Rattle.play.specs.Parties.{Parties, KeepsNothing, NeverFails, book_of, chain
 use Rattle.play.specs.Played.{after_promise}
 use Rattle.play.specs.Watchers.{Watcher, expecting, handed}
 use Rattle.play.proofs.Added.{EndsWith, ends-with}
+use Rattle.play.proofs.Answered.{two_long}
 use Rattle.play.proofs.Calling.{in-roots, rooted-epoch}
 use Rattle.play.proofs.Comes.{turn_comes, Comes, HasCome}
 use Rattle.play.proofs.InTime.{promises-later}
@@ -237,28 +234,19 @@ module _ {R : Type 0} (digest_of : List ℕ → List ℕ) (value_of signature_of
 
   -- ---- how the reply is read
 
-  -- a response that is a promise is the promise that was said
-  pub was-promise : (got : Response) (promised : SignedPromise) → response_seen got ≡ may.was.responded → got ≡ response.Promise promised → may.was.said ≡ reply.Promised promised
-  was-promise got promised read is = by_said may.was.said may.was.responded may.was.response (sym read ∙ ap response_seen is)
-    where
-      by_said : (said : Reply) (responded : ResponseContent) → IsResponseOf said responded → responded ≡ responds.Promise promised → said ≡ reply.Promised promised
-      by_said (reply.Promised signed) responded of is = let e : responds.Promise signed ≡ responds.Promise promised = sym of ∙ is in let f : signed ≡ promised = cc in ap (λ (p : SignedPromise). reply.Promised p) f
-      by_said (reply.Found found) responded of is = let e : responds.Proof of.0 ≡ responds.Promise promised = sym of.2 ∙ is in absurd cc
-      by_said (reply.Told told) responded of is = let e : responds.Roots told.items ≡ responds.Promise promised = sym of ∙ is in absurd cc
-      by_said (reply.Last root) responded of is = let e : responds.Root root ≡ responds.Promise promised = sym of ∙ is in absurd cc
-      by_said (reply.Refused why) responded of is = let e : responds.Refused (refusal_number why) ≡ responds.Promise promised = sym of ∙ is in absurd cc
+  -- a body of one byte is no promise
+  pub no-promise : (body : List ℕ) → body ≡ (reply_frame may.was.said).body → length body ≡ 1 → (promised : SignedPromise) → may.was.said ≡ reply.Promised promised → ⊥
+  no-promise body is short promised said =
+      let few : length (signed_promise_bytes promised) ≡ 1 = sym (ap length (is ∙ ap (λ (s : Reply). (reply_frame s).body) said)) ∙ short in
+      two_long 0x50 0x01 _ few
 
-  -- and where it is none, no promise was said
-  pub no-promise : (got : Response) → response_seen got ≡ may.was.responded → ((promised : SignedPromise) → got ≡ response.Promise promised → ⊥)
-      → (promised : SignedPromise) → may.was.said ≡ reply.Promised promised → ⊥
-  no-promise got read none promised is = by_response got none (read ∙ subst (λ (said : Reply). IsResponseOf said may.was.responded) is may.was.response)
+  -- and one of more is one
+  pub was-promise : (body : List ℕ) → body ≡ (reply_frame may.was.said).body → length body ≢ 1 → (promised : SignedPromise) × (may.was.said ≡ reply.Promised promised)
+  was-promise body is long = by_told come.told come.comes
     where
-      by_response : (one : Response) → ((p : SignedPromise) → one ≡ response.Promise p → ⊥) → response_seen one ≡ responds.Promise promised → ⊥
-      by_response (response.Promise p) none e = none p refl
-      by_response (response.Proof proof) none e = absurd cc
-      by_response (response.Roots some) none e = absurd cc
-      by_response (response.Root root) none e = absurd cc
-      by_response (response.Refused code) none e = absurd cc
+      by_told : (told : message.Numbered) → Comes by (now_book before) (now_book asked) command may.was.said told → (promised : SignedPromise) × (may.was.said ≡ reply.Promised promised)
+      by_told (Ok answer) comes = shows-promise by (now_book asked) name _ answer may.was.said comes.0.0 comes.1
+      by_told (Err code) (why, refused, numbered) = absurd (long (ap length is ∙ ap (λ (said : Reply). length (reply_frame said).body) refused))
 
   -- the body of its frame spells it
   pub spells-promise : (promised : SignedPromise) → may.was.said ≡ reply.Promised promised → (body : List ℕ) → ((whole : Frame) → IsFrame whole → text ≡ frame_bytes whole → body ≡ whole.body) → SpellsPromise body promised

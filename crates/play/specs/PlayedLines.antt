@@ -5,6 +5,7 @@ use Rattle.textio.specs.declared.program_fault.ProgramFault.{ProgramFault}
 use Rattle.textio.specs.declared.program_fault.ProgramFault.TheVariants as fault
 use Rattle.book.specs.Shows.{index_of}
 use Rattle.epochs.specs.DirectoryStates.{HasKeysOf}
+use Rattle.play.specs.Checked.{AnswersLine}
 use Rattle.play.specs.Parties.{provider_of, HaveDone, Parties}
 use Rattle.play.specs.Played.{line_played, Stand}
 use Rattle.play.specs.Scripts.{Line, line_of}
@@ -16,6 +17,7 @@ module _ {R : Type 0} (digest_of : List ℕ → List ℕ) (value_of signature_of
       × (let now = line_played (index_of (provider_of digest_of value_of signature_of stream accepted verified before)) stand said in
       HaveDone digest_of value_of signature_of stream accepted verified text now.0 now.1 grown after)
       × HasKeysOf before.hub.service.directory after.hub.service.directory
+      × AnswersLine digest_of value_of signature_of stream accepted verified before said after
   PlaysLine before stand place line text (Err (fault.NotACommand other)) grown after = (other ≡ place) × (line_of line ≡ None)
   PlaysLine before stand place line text (Err fault.OutOfMemory) grown after = ⊤
   PlaysLine before stand place line text (Err fault.CannotRead) grown after = ⊥

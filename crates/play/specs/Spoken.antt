@@ -1,5 +1,5 @@
 -- What a line that was read says, regardless of where its bytes lie.
-use Rattle.std.specs.Prelude.{ℕ, ◌≤◌, List, [], ◌∷◌, Option, Some, None, ⊤}
+use Rattle.std.specs.Prelude.{ℕ, ◌≤◌, List, [], ◌∷◌, drop, Option, Some, None, ⊤}
 use Rattle.std.specs.Int.NonZero.{non_zero_u32_get}
 use Rattle.commands.specs.Operations.{Promise, Lookup, History, Head}
 use Rattle.wire.specs.declared.frame.TheConstants.{MAX_FRAME_LEN}
@@ -9,7 +9,7 @@ use Rattle.play.specs.declared.ask.Ask.{Ask as AskMade}
 use Rattle.play.specs.declared.ask.Ask.TheVariants as ask
 use Rattle.play.specs.declared.line.Line.{Line as LineMade}
 use Rattle.play.specs.declared.line.Line.TheVariants as line
-use Rattle.play.specs.Scripts.{token, words, Line, Pass, Ask, Watch, Piece, End}
+use Rattle.play.specs.Scripts.{token, verbs, words, Line, Pass, Ask, Watch, Piece, End}
 
 abbrev pub ask_seen : AskMade → RequestContent
 ask_seen (ask.Put verb name key) = Put verb name.items key.items
@@ -27,6 +27,10 @@ line_seen (line.Watch name key) = Watch name key
 line_seen (line.Piece session piece) = Piece (non_zero_u32_get session) piece.items
 line_seen (line.End session) = End (non_zero_u32_get session)
 
+-- the line that asks it
+abbrev pub asked_line : AskMade → Line
+asked_line asked = Ask (ask_seen asked)
+
 -- a frame has room for the request
 abbrev pub HasRoom : RequestContent → Type 0
 HasRoom requested = frame_size (request_frame requested) ≤ MAX_FRAME_LEN
@@ -38,6 +42,10 @@ Fits (Ask requested) = HasRoom requested
 Fits (Watch name start) = ⊤
 Fits (Piece session piece) = ⊤
 Fits (End session) = ⊤
+
+-- the commands that ask nothing, behind those that do
+abbrev pub other_verbs : List (List ℕ × (List (List ℕ) → Option Line))
+other_verbs = drop 8 verbs
 
 -- the words that are left of a line, in the text behind the words before them, if there is one
 abbrev pub words_behind : Option (List ℕ) → List (List ℕ)

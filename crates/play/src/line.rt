@@ -1,13 +1,13 @@
 // A line is split at its spaces. The first word says how many there are and what they are.
 
-ghost use Rattle.std.specs.Prelude.{◌≡◌, ◌^◌, ◌-◌, ◌∷◌, [], IfOk, None, Some, option_map};
+ghost use Rattle.std.specs.Prelude.{◌≡◌, ◌^◌, ◌-◌, ◌∷◌, [], IfOk, IfSome, MatchOption, None, Some, option_map};
 ghost use Rattle.std.specs.Int.NonZero.{non_zero_u32_get};
 ghost use Rattle.commands.specs.Operations as asked;
 ghost use Rattle.wire.specs.Requests as asks;
 ghost use Rattle.textio.specs.Digits.{hex32};
 ghost use Rattle.play.specs.Scripts as script;
 ghost use Rattle.play.specs.Scripts.{asking, count_word, epoch_word, hex_word, line_of, number_word, said_among, session_word, token, verbs, watching, with_none, with_one, with_two, words};
-ghost use Rattle.play.specs.Spoken.{ask_seen, line_seen, one_of, two_of, words_behind};
+ghost use Rattle.play.specs.Spoken.{ask_seen, asked_line, line_seen, one_of, other_verbs, two_of, words_behind};
 
 use crate::ask::Ask;
 use commands::Verb;
@@ -79,6 +79,22 @@ pub fn read_line(alloc: Global, line: &[u8]) -> Result<Option<Line>, AllocError>
     read_command(alloc, verb, behind)
 }
 
+/// What a line asks, or `None` if it has no verb that asks. So a line that asks has no room for a name and a
+/// key, as a `Line` has.
+///
+/// # Errors
+///
+/// `AllocError` if memory runs out.
+pub(crate) fn read_asked(alloc: Global, line: &[u8]) -> Result<Option<Option<Ask>>, AllocError>
+    ensures { IfOk result (λ read. IfSome read (λ ask. option_map asked_line ask ≡ line_of line.now)) }
+{
+    if line.is_empty() || line[0] == b'#' {
+        return Ok(None);
+    }
+    let (verb, behind) = first_word(line);
+    read_ask(alloc, verb, behind)
+}
+
 /// What a verb says with the words behind it.
 fn read_command(
     alloc: Global,
@@ -87,31 +103,60 @@ fn read_command(
 ) -> Result<Option<Line>, AllocError>
     ensures { IfOk result (λ read. option_map line_seen read ≡ said_among verbs verb.now (words_behind (option_map (λ text. text.now) behind.entry))) }
 {
+    match read_ask(alloc, verb, behind)? {
+        Some(Some(ask)) => Ok(Some(Line::Ask(ask))),
+        Some(None) => Ok(None),
+        None => read_other(alloc, verb, behind),
+    }
+}
+
+/// What a verb asks with the words behind it, or `None` if it is none that asks.
+fn read_ask(
+    alloc: Global,
+    verb: &[u8],
+    behind: Option<&[u8]>,
+) -> Result<Option<Option<Ask>>, AllocError>
+    ensures { IfOk result (λ read. MatchOption read
+        (said_among verbs verb.now (words_behind (option_map (λ text. text.now) behind.entry)) ≡ said_among other_verbs verb.now (words_behind (option_map (λ text. text.now) behind.entry)))
+        (λ ask. option_map asked_line ask ≡ said_among verbs verb.now (words_behind (option_map (λ text. text.now) behind.entry)))) }
+{
     // Tests one after another, as the definition has them: a `match` on byte strings does not prove.
     if verb == b"register".as_slice() {
-        return read_put(alloc, Verb::Register, behind);
+        return Ok(Some(read_put(alloc, Verb::Register, behind)?));
     }
     if verb == b"change".as_slice() {
-        return read_put(alloc, Verb::Change, behind);
+        return Ok(Some(read_put(alloc, Verb::Change, behind)?));
     }
     if verb == b"promise".as_slice() {
-        return read_promise(alloc, behind);
+        return Ok(Some(read_promise(alloc, behind)?));
     }
     if verb == b"close".as_slice() {
-        return Ok(read_close(behind));
+        return Ok(Some(read_close(behind)));
     }
     if verb == b"rotate".as_slice() {
-        return Ok(read_rotate(behind));
+        return Ok(Some(read_rotate(behind)));
     }
     if verb == b"head".as_slice() {
-        return Ok(read_head(behind));
+        return Ok(Some(read_head(behind)));
     }
     if verb == b"lookup".as_slice() {
-        return read_lookup(alloc, behind);
+        return Ok(Some(read_lookup(alloc, behind)?));
     }
     if verb == b"history".as_slice() {
-        return Ok(read_history(behind));
+        return Ok(Some(read_history(behind)));
     }
+    Ok(None)
+}
+
+/// What a verb that asks nothing says with the words behind it. A function of its own, since a name and a key
+/// take room.
+fn read_other(
+    alloc: Global,
+    verb: &[u8],
+    behind: Option<&[u8]>,
+) -> Result<Option<Line>, AllocError>
+    ensures { IfOk result (λ read. option_map line_seen read ≡ said_among other_verbs verb.now (words_behind (option_map (λ text. text.now) behind.entry))) }
+{
     if verb == b"watch".as_slice() {
         return read_watch(alloc, behind);
     }
@@ -181,56 +226,52 @@ fn read_bytes(alloc: Global, word: &[u8]) -> Result<Option<Vec<u8>>, AllocError>
     }
 }
 
-/// The line that asks this, if a frame has room for it.
-fn asking(ask: Ask) -> Option<Line>
-    ensures { option_map line_seen result ≡ script.asking (ask_seen ask) }
+/// What is asked, if a frame has room for it.
+fn fitting(ask: Ask) -> Option<Ask>
+    ensures { option_map asked_line result ≡ asking (ask_seen ask) }
 {
-    if ask.fits() {
-        Some(Line::Ask(ask))
-    } else {
-        None
-    }
+    if ask.fits() { Some(ask) } else { None }
 }
 
 /// `head`
-fn read_head(behind: Option<&[u8]>) -> Option<Line>
-    ensures { option_map line_seen result ≡ with_none (script.asking (asks.Query asked.Head)) (words_behind (option_map (λ text. text.now) behind.entry)) }
+fn read_head(behind: Option<&[u8]>) -> Option<Ask>
+    ensures { option_map asked_line result ≡ with_none (asking (asks.Query asked.Head)) (words_behind (option_map (λ text. text.now) behind.entry)) }
 {
     match behind {
-        None => asking(Ask::Head),
+        None => fitting(Ask::Head),
         Some(_) => None,
     }
 }
 
 /// `promise NAME`
-fn read_promise(alloc: Global, behind: Option<&[u8]>) -> Result<Option<Line>, AllocError>
-    ensures { IfOk result (λ read. option_map line_seen read ≡ with_one hex_word (λ name. script.asking (asks.Query (asked.Promise name))) (words_behind (option_map (λ text. text.now) behind.entry))) }
+fn read_promise(alloc: Global, behind: Option<&[u8]>) -> Result<Option<Ask>, AllocError>
+    ensures { IfOk result (λ read. option_map asked_line read ≡ with_one hex_word (λ name. asking (asks.Query (asked.Promise name))) (words_behind (option_map (λ text. text.now) behind.entry))) }
 {
     let Some(name) = one_word(behind) else {
         return Ok(None);
     };
     match read_bytes(alloc, name)? {
-        Some(name) => Ok(asking(Ask::Promise { name })),
+        Some(name) => Ok(fitting(Ask::Promise { name })),
         None => Ok(None),
     }
 }
 
 /// `close EPOCH`
-fn read_close(behind: Option<&[u8]>) -> Option<Line>
-    ensures { option_map line_seen result ≡ with_one epoch_word (λ epoch. script.asking (asks.Turn token epoch None)) (words_behind (option_map (λ text. text.now) behind.entry)) }
+fn read_close(behind: Option<&[u8]>) -> Option<Ask>
+    ensures { option_map asked_line result ≡ with_one epoch_word (λ epoch. asking (asks.Turn token epoch None)) (words_behind (option_map (λ text. text.now) behind.entry)) }
 {
     let epoch = read_epoch(one_word(behind)?)?;
-    asking(Ask::Close { epoch })
+    fitting(Ask::Close { epoch })
 }
 
 /// `rotate EPOCH NONCE`
-fn read_rotate(behind: Option<&[u8]>) -> Option<Line>
-    ensures { option_map line_seen result ≡ with_two epoch_word hex32 (λ epoch nonce. script.asking (asks.Turn token epoch (Some nonce))) (words_behind (option_map (λ text. text.now) behind.entry)) }
+fn read_rotate(behind: Option<&[u8]>) -> Option<Ask>
+    ensures { option_map asked_line result ≡ with_two epoch_word hex32 (λ epoch nonce. asking (asks.Turn token epoch (Some nonce))) (words_behind (option_map (λ text. text.now) behind.entry)) }
 {
     let (epoch, nonce) = two_words(behind)?;
     let epoch = read_epoch(epoch)?;
     let nonce = Hash32::new(hex32(nonce)?);
-    asking(Ask::Rotate { epoch, nonce })
+    fitting(Ask::Rotate { epoch, nonce })
 }
 
 /// `end S`
@@ -242,39 +283,39 @@ fn read_end(behind: Option<&[u8]>) -> Option<Line>
 }
 
 /// `register NAME KEY`, `change NAME KEY`
-fn read_put(alloc: Global, verb: Verb, behind: Option<&[u8]>) -> Result<Option<Line>, AllocError>
-    ensures { IfOk result (λ read. option_map line_seen read ≡ with_two hex_word hex_word (λ name key. script.asking (asks.Put verb name key)) (words_behind (option_map (λ text. text.now) behind.entry))) }
+fn read_put(alloc: Global, verb: Verb, behind: Option<&[u8]>) -> Result<Option<Ask>, AllocError>
+    ensures { IfOk result (λ read. option_map asked_line read ≡ with_two hex_word hex_word (λ name key. asking (asks.Put verb name key)) (words_behind (option_map (λ text. text.now) behind.entry))) }
 {
     let Some((name, key)) = two_words(behind) else {
         return Ok(None);
     };
     match (read_bytes(alloc, name)?, read_bytes(alloc, key)?) {
-        (Some(name), Some(key)) => Ok(asking(Ask::Put { verb, name, key })),
+        (Some(name), Some(key)) => Ok(fitting(Ask::Put { verb, name, key })),
         _ => Ok(None),
     }
 }
 
 /// `lookup NAME EPOCH`
-fn read_lookup(alloc: Global, behind: Option<&[u8]>) -> Result<Option<Line>, AllocError>
-    ensures { IfOk result (λ read. option_map line_seen read ≡ with_two hex_word epoch_word (λ name epoch. script.asking (asks.Query (asked.Lookup name epoch))) (words_behind (option_map (λ text. text.now) behind.entry))) }
+fn read_lookup(alloc: Global, behind: Option<&[u8]>) -> Result<Option<Ask>, AllocError>
+    ensures { IfOk result (λ read. option_map asked_line read ≡ with_two hex_word epoch_word (λ name epoch. asking (asks.Query (asked.Lookup name epoch))) (words_behind (option_map (λ text. text.now) behind.entry))) }
 {
     let Some((name, epoch)) = two_words(behind) else {
         return Ok(None);
     };
     match (read_bytes(alloc, name)?, read_epoch(epoch)) {
-        (Some(name), Some(epoch)) => Ok(asking(Ask::Lookup { name, epoch })),
+        (Some(name), Some(epoch)) => Ok(fitting(Ask::Lookup { name, epoch })),
         _ => Ok(None),
     }
 }
 
 /// `history FROM COUNT`
-fn read_history(behind: Option<&[u8]>) -> Option<Line>
-    ensures { option_map line_seen result ≡ with_two epoch_word count_word (λ from count. script.asking (asks.Query (asked.History from count))) (words_behind (option_map (λ text. text.now) behind.entry)) }
+fn read_history(behind: Option<&[u8]>) -> Option<Ask>
+    ensures { option_map asked_line result ≡ with_two epoch_word count_word (λ from count. asking (asks.Query (asked.History from count))) (words_behind (option_map (λ text. text.now) behind.entry)) }
 {
     let (from, count) = two_words(behind)?;
     let from = read_epoch(from)?;
     let count = read_count(count)?;
-    asking(Ask::History { from, count })
+    fitting(Ask::History { from, count })
 }
 
 /// `watch NAME KEY`, or `-` as the key for none

@@ -10,6 +10,7 @@ ghost use Rattle.book.specs.Shows.{index_of};
 ghost use Rattle.epochs.specs.DirectoryStates.{provider, HasKeysOf};
 ghost use Rattle.play.specs.Checked.{line_of_reply, HasAnswered, HasAskedKnowing, HasChecked, HasLooked, IsFound};
 ghost use Rattle.play.specs.Handed.{HasHanded, MayHand};
+ghost use Rattle.play.specs.Hearing.{response_text};
 ghost use Rattle.play.specs.Lines.{found_text};
 ghost use Rattle.play.specs.Parties.{AreAt, HasAsked, HaveDone, IsReady, Parties};
 ghost use Rattle.play.specs.Played as played;
@@ -27,9 +28,11 @@ use book::{NoKeeper, Refusal};
 use encoding::{KeyData, Name};
 use hub::{Event, replies_are_honest};
 use nodehash::NodeHash;
+use proofs::ReplyView;
 use rand_core::Rng;
 use sigiface::Signer;
 use std::alloc::AllocError;
+use std::mem;
 use vrfiface::Vuf;
 use wire::{
     FrameView, Front, Response, body_spells_one_request, frames_are_read, front_of,
@@ -89,6 +92,15 @@ fn had_memory(frame: &FrameView<'_>) -> Result<(), AllocError>
     Ok(())
 }
 
+/// Appends the line of a reply that no client checks.
+fn tell_reply(reply: &[u8], text: &mut Vec<u8>) -> Result<(), AllocError>
+    requires { (frame : Frame) × (responded : ResponseContent) × IsReadAs frame responded × (reply.now ≡ frame_bytes frame) }
+    ensures { (frame : Frame) (responded : ResponseContent) → IsReadAs frame responded → reply.now ≡ frame_bytes frame
+        → OnOk result ((text.new.items ≡ text.old.items ++ response_text responded ++ 10 ∷ []) × (responded ≢ Refused 14)) }
+{
+    tell_response(text, response_of(&frame_of(reply))?)
+}
+
 impl<H, V, S, R> Engine<H, V, S, R>
 where
     H: NodeHash + Drop,
@@ -106,13 +118,14 @@ where
         requires ready { IsReady H.digest_of V.value_of S.signature_of R.stream V.accepted S.verified self.old }
         ensures { IfOk result (λ reply. HasAsked H.digest_of V.value_of S.signature_of R.stream V.accepted S.verified self.old (ask_seen ask.now) reply.items self.new) }
     {
-        let mut frame = Vec::new(self.alloc);
-        ask.write(&mut frame)?;
-        let mut reply = Vec::new(self.alloc);
+        self.request.clear();
+        ask.write(&mut self.request)?;
+        let mut reply = mem::replace(&mut self.reply, Vec::new(self.alloc));
+        reply.clear();
         // What the two calls of `head` ensure: the book is sound before and after, and the provider's
         // functions keep their laws.
         self.hub.head();
-        happen(&mut self.hub, &Event::Bytes(ASKING, &frame), &mut reply)?;
+        happen(&mut self.hub, &Event::Bytes(ASKING, &self.request), &mut reply)?;
         self.hub.head();
         // The request is one message, which is read as this request; its reply is honest.
         messages_are_computed();
@@ -124,7 +137,7 @@ where
 
     /// Asks what a line asks, and appends the line of what comes of it, which the client checks. What follows
     /// from it is then done.
-    pub(super) fn answer(&mut self, ask: &Ask, text: &mut Vec<u8>) -> Result<(), AllocError>
+    pub(crate) fn answer(&mut self, ask: &Ask, text: &mut Vec<u8>) -> Result<(), AllocError>
         requires fits { HasRoom (ask_seen ask.now) }
         requires at { (stand : Stand) × AreAt H.digest_of V.value_of S.signature_of R.stream V.accepted S.verified self.old stand }
         ensures done { (stand : Stand) → AreAt H.digest_of V.value_of S.signature_of R.stream V.accepted S.verified self.old stand → OnOk result (let now = played.ask (index_of (provider H.digest_of V.value_of S.signature_of (self.old).hub.service.directory)) stand (ask_seen ask.now) in HaveDone H.digest_of V.value_of S.signature_of R.stream V.accepted S.verified text.old.items now.0 now.1 text.new.items self.new) }
@@ -135,6 +148,7 @@ where
         let reply = self.ask(ask)?;
         self.tell_checked(ask, &reply, text)?;
         self.hand_on(ask, &reply)?;
+        self.reply = reply;
         if latest < self.latest() {
             self.follow(text)?;
         }
@@ -151,16 +165,19 @@ where
         requires asked { (before : Parties R) × HasAskedKnowing H.digest_of V.value_of S.signature_of R.stream V.accepted S.verified before (ask_seen ask.now) reply.now self.old }
         ensures told { (before : Parties R) (known : HasAskedKnowing H.digest_of V.value_of S.signature_of R.stream V.accepted S.verified before (ask_seen ask.now) reply.now self.old) → OnOk result ((text.new.items ≡ text.old.items ++ line_of_reply H.digest_of V.value_of S.signature_of R.stream V.accepted S.verified before (ask_seen ask.now) ++ 10 ∷ []) × HasChecked H.digest_of V.accepted self.old (ask_seen ask.now) known.asked.said self.new) }
     {
-        let found = match response_of(&frame_of(reply))? {
-            Response::Proof(found) => found,
-            response => return tell_response(text, response),
-        };
-        let found_at = found.body().epoch;
-        // A proof is the answer to a look-up alone.
         let Ask::Lookup { name, epoch } = ask else {
+            return tell_reply(reply, text);
+        };
+        let body = body_of(reply);
+        // Only a refusal has a body of one byte.
+        if body.len() == 1 {
+            return tell_reply(reply, text);
+        }
+        let Ok(found) = ReplyView::read(body) else {
             unreachable!()
         };
-        self.tell_look(name, *epoch, found_at, body_of(reply), text)
+        let found_at = found.body().epoch;
+        self.tell_look(name, *epoch, found_at, body, text)
     }
 
     /// Appends the line of what the client says of a reply to a look-up, which is of the root of this epoch.
@@ -212,9 +229,11 @@ where
             → MayHand H.digest_of V.value_of S.signature_of R.stream V.accepted S.verified before asked self.old (Put verb name.now key.now) reply.now watchers
             → OnOk result (HasHanded H.digest_of V.value_of S.signature_of R.stream V.accepted S.verified before asked self.old (Put verb name.now key.now) watchers self.new) }
     {
-        let Response::Promise(_) = response_of(&frame_of(reply))? else {
+        let promise = body_of(reply);
+        // Only a refusal has a body of one byte.
+        if promise.len() == 1 {
             return Ok(());
-        };
+        }
         let Ok(key) = KeyData::new(key) else {
             unreachable!()
         };
@@ -223,7 +242,7 @@ where
             &mut self.checks,
             name,
             &key,
-            body_of(reply),
+            promise,
         )
     }
 }

@@ -19,11 +19,10 @@ replaced : (g : Over) (inside : Inside g.row.H.Denot g.row.V.Denot g.row.S.Denot
     → ◌≡◌ {A = Parties g.row.R.Denot} (record { hub = inside.hub; key = inside.key; client = inside.client; auditor = inside.auditor; monitors = after }) (record parties { monitors = after })
 replaced g inside parties after is = ap (λ (p : Parties g.row.R.Denot). let q : Parties g.row.R.Denot = record p { monitors = after } in q) is
 
-pub returns-in_default : goal.returns-in_default
-returns-in_default g c = λ before asked verb watchers may.
-    let frame = c.frame_of.ensures (reply_frame may.was.said) may.was.read.0 may.was.frame in
-    let read = c.in_ok-response_of.ensures may.was.responded (subst (λ (f : Frame). IsReadAs f may.was.responded) (sym frame) may.was.read) in
-    nothing-handed g.H.NodeHash.digest_of g.V.Vuf.value_of g.S.Signer.signature_of g.R.Rng.stream g.V.VufCheck.accepted g.S.Verifier.verified before asked c.args.self.now verb c.args.name.now c.args.key.now c.args.reply.now watchers may (no-promise g.H.NodeHash.digest_of g.V.Vuf.value_of g.S.Signer.signature_of g.R.Rng.stream g.V.VufCheck.accepted g.S.Verifier.verified before asked c.args.self.now verb c.args.name.now c.args.key.now c.args.reply.now watchers may c.in_ok-response_of.field-0 read.0 c.in_default.not-Promise)
+pub returns-then-NAME : goal.returns-then-NAME
+returns-then-NAME g c = λ before asked verb watchers may.
+    let body = c.body_of.ensures (reply_frame may.was.said) may.was.read.0 may.was.frame in
+    nothing-handed g.H.NodeHash.digest_of g.V.Vuf.value_of g.S.Signer.signature_of g.R.Rng.stream g.V.VufCheck.accepted g.S.Verifier.verified before asked c.args.self.now verb c.args.name.now c.args.key.now c.args.reply.now watchers may (no-promise g.H.NodeHash.digest_of g.V.Vuf.value_of g.S.Signer.signature_of g.R.Rng.stream g.V.VufCheck.accepted g.S.Verifier.verified before asked c.args.self.now verb c.args.name.now c.args.key.now c.args.reply.now watchers may c.body_of.result.now body SHORT)
 
 pub unreachable-requires : goal.unreachable-requires
 unreachable-requires g c =
@@ -32,37 +31,32 @@ unreachable-requires g c =
     let verb = c.requires.asked.2 in
     let watchers = c.requires.asked.3 in
     let may = c.requires.asked.4 in
-    let frame = c.frame_of.ensures (reply_frame may.was.said) may.was.read.0 may.was.frame in
-    let read = c.in_ok-response_of.ensures may.was.responded (subst (λ (f : Frame). IsReadAs f may.was.responded) (sym frame) may.was.read) in
-    let fits = key-fits g.H.NodeHash.digest_of g.V.Vuf.value_of g.S.Signer.signature_of g.R.Rng.stream g.V.VufCheck.accepted g.S.Verifier.verified before asked c.args.self.now verb c.args.name.now c.args.key.now c.args.reply.now watchers may c.in-Promise.field-0 (was-promise g.H.NodeHash.digest_of g.V.Vuf.value_of g.S.Signer.signature_of g.R.Rng.stream g.V.VufCheck.accepted g.S.Verifier.verified before asked c.args.self.now verb c.args.name.now c.args.key.now c.args.reply.now watchers may c.in_ok-response_of.field-0 c.in-Promise.field-0 read.0 c.in-Promise.is) in
+    let (promised, said) = was-promise g.H.NodeHash.digest_of g.V.Vuf.value_of g.S.Signer.signature_of g.R.Rng.stream g.V.VufCheck.accepted g.S.Verifier.verified before asked c.args.self.now verb c.args.name.now c.args.key.now c.args.reply.now watchers may c.body_of.result.now (c.body_of.ensures (reply_frame may.was.said) may.was.read.0 may.was.frame) LONG in
+    let fits = key-fits g.H.NodeHash.digest_of g.V.Vuf.value_of g.S.Signer.signature_of g.R.Rng.stream g.V.VufCheck.accepted g.S.Verifier.verified before asked c.args.self.now verb c.args.name.now c.args.key.now c.args.reply.now watchers may promised said in
     let never : false ≡ true = c.in_default-new.ensures.limits.1 fits in
     absurd cc
 
 pub hand_all-requires : goal.hand_all-requires
 hand_all-requires g c =
     let (before, asked, verb, watchers, may) = c.requires.asked in
-    let frame = c.frame_of.ensures (reply_frame may.was.said) may.was.read.0 may.was.frame in
-    let read = c.in_ok-response_of.ensures may.was.responded (subst (λ (f : Frame). IsReadAs f may.was.responded) (sym frame) may.was.read) in
-    let said = was-promise g.H.NodeHash.digest_of g.V.Vuf.value_of g.S.Signer.signature_of g.R.Rng.stream g.V.VufCheck.accepted g.S.Verifier.verified before asked c.args.self.now verb c.args.name.now c.args.key.now c.args.reply.now watchers may c.in_ok-response_of.field-0 c.in-Promise.field-0 read.0 c.in-Promise.is in
-    let spells = spells-promise g.H.NodeHash.digest_of g.V.Vuf.value_of g.S.Signer.signature_of g.R.Rng.stream g.V.VufCheck.accepted g.S.Verifier.verified before asked c.args.self.now verb c.args.name.now c.args.key.now c.args.reply.now watchers may c.in-Promise.field-0 said c.body_of.result.now c.body_of.ensures in
+    let (promised, said) = was-promise g.H.NodeHash.digest_of g.V.Vuf.value_of g.S.Signer.signature_of g.R.Rng.stream g.V.VufCheck.accepted g.S.Verifier.verified before asked c.args.self.now verb c.args.name.now c.args.key.now c.args.reply.now watchers may c.body_of.result.now (c.body_of.ensures (reply_frame may.was.said) may.was.read.0 may.was.frame) LONG in
+    let spells = spells-promise g.H.NodeHash.digest_of g.V.Vuf.value_of g.S.Signer.signature_of g.R.Rng.stream g.V.VufCheck.accepted g.S.Verifier.verified before asked c.args.self.now verb c.args.name.now c.args.key.now c.args.reply.now watchers may promised said c.body_of.result.now c.body_of.ensures in
     let were : c.deref_mut.result.now ≡ c.args.self.now.monitors = c.deref_mut.ensures.value ∙ ap (λ (p : Parties g.row.R.Denot). p.monitors) c.self.view_is in
-    let may_all = may-be-handed g.H.NodeHash.digest_of g.V.Vuf.value_of g.S.Signer.signature_of g.R.Rng.stream g.V.VufCheck.accepted g.S.Verifier.verified before asked c.args.self.now verb c.args.name.now c.args.key.now c.args.reply.now watchers may c.in-Promise.field-0 said c.body_of.result.now spells in
+    let may_all = may-be-handed g.H.NodeHash.digest_of g.V.Vuf.value_of g.S.Signer.signature_of g.R.Rng.stream g.V.VufCheck.accepted g.S.Verifier.verified before asked c.args.self.now verb c.args.name.now c.args.key.now c.args.reply.now watchers may promised said c.body_of.result.now spells in
     subst (λ (own : List ℕ). AllByRecursion (MayBeHanded g.H.NodeHash.digest_of g.S.Verifier.verified c.args.name.now own c.body_of.result.now) c.deref_mut.result.now) (sym c.in-Ok.ensures.value)
     (subst (AllByRecursion (MayBeHanded g.H.NodeHash.digest_of g.S.Verifier.verified c.args.name.now c.args.key.now c.body_of.result.now)) (sym were) may_all)
 
 pub returns : goal.returns
 returns g c = λ before asked verb watchers may.
-    let frame = c.frame_of.ensures (reply_frame may.was.said) may.was.read.0 may.was.frame in
-    let read = c.in_ok-response_of.ensures may.was.responded (subst (λ (f : Frame). IsReadAs f may.was.responded) (sym frame) may.was.read) in
-    let said = was-promise g.H.NodeHash.digest_of g.V.Vuf.value_of g.S.Signer.signature_of g.R.Rng.stream g.V.VufCheck.accepted g.S.Verifier.verified before asked c.args.self.now verb c.args.name.now c.args.key.now c.args.reply.now watchers may c.in_ok-response_of.field-0 c.in-Promise.field-0 read.0 c.in-Promise.is in
-    let spells = spells-promise g.H.NodeHash.digest_of g.V.Vuf.value_of g.S.Signer.signature_of g.R.Rng.stream g.V.VufCheck.accepted g.S.Verifier.verified before asked c.args.self.now verb c.args.name.now c.args.key.now c.args.reply.now watchers may c.in-Promise.field-0 said c.body_of.result.now c.body_of.ensures in
+    let (promised, said) = was-promise g.H.NodeHash.digest_of g.V.Vuf.value_of g.S.Signer.signature_of g.R.Rng.stream g.V.VufCheck.accepted g.S.Verifier.verified before asked c.args.self.now verb c.args.name.now c.args.key.now c.args.reply.now watchers may c.body_of.result.now (c.body_of.ensures (reply_frame may.was.said) may.was.read.0 may.was.frame) LONG in
+    let spells = spells-promise g.H.NodeHash.digest_of g.V.Vuf.value_of g.S.Signer.signature_of g.R.Rng.stream g.V.VufCheck.accepted g.S.Verifier.verified before asked c.args.self.now verb c.args.name.now c.args.key.now c.args.reply.now watchers may promised said c.body_of.result.now c.body_of.ensures in
     let old : c.deref_mut.result.now ≡ c.self.inside.monitors.items = c.deref_mut.ensures.value in
     let were : c.deref_mut.result.now ≡ c.args.self.now.monitors = old ∙ ap (λ (p : Parties g.row.R.Denot). p.monitors) c.self.view_is in
     on_ok_weaker c.hand_all.result
     (λ all.
     let long : length c.hand_all.new.monitors ≡ c.self.inside.monitors.len
-    = AllZip-long (IsHanded c.args.name.now c.in-Promise.field-0) c.deref_mut.result.now c.hand_all.new.monitors all ∙ ap (λ (ms : List Monitor). length ms) old ∙ sym c.self.inside.monitors.ok.0 in
-    promise-handed g.H.NodeHash.digest_of g.V.Vuf.value_of g.S.Signer.signature_of g.R.Rng.stream g.V.VufCheck.accepted g.S.Verifier.verified before asked c.args.self.now verb c.args.name.now c.args.key.now c.args.reply.now watchers may c.in-Promise.field-0 said _ (replaced g c.self.inside c.args.self.now _ c.self.view_is)
-    (subst (λ (ms : List Monitor). AllZip (IsHanded c.args.name.now c.in-Promise.field-0) c.args.self.now.monitors ms) (sym (with_items_is c.self.inside.monitors c.hand_all.new.monitors long))
-    (subst (λ (ms : List Monitor). AllZip (IsHanded c.args.name.now c.in-Promise.field-0) ms c.hand_all.new.monitors) were all)))
-    (c.hand_all.ensures c.in-Promise.field-0 spells)
+    = AllZip-long (IsHanded c.args.name.now promised) c.deref_mut.result.now c.hand_all.new.monitors all ∙ ap (λ (ms : List Monitor). length ms) old ∙ sym c.self.inside.monitors.ok.0 in
+    promise-handed g.H.NodeHash.digest_of g.V.Vuf.value_of g.S.Signer.signature_of g.R.Rng.stream g.V.VufCheck.accepted g.S.Verifier.verified before asked c.args.self.now verb c.args.name.now c.args.key.now c.args.reply.now watchers may promised said _ (replaced g c.self.inside c.args.self.now _ c.self.view_is)
+    (subst (λ (ms : List Monitor). AllZip (IsHanded c.args.name.now promised) c.args.self.now.monitors ms) (sym (with_items_is c.self.inside.monitors c.hand_all.new.monitors long))
+    (subst (λ (ms : List Monitor). AllZip (IsHanded c.args.name.now promised) ms c.hand_all.new.monitors) were all)))
+    (c.hand_all.ensures promised spells)
