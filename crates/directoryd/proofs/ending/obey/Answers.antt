@@ -15,7 +15,7 @@ returns-in_err-prove-in-Prove g c =
 pub returns-in_err-audit-in-Audit : goal.returns-in_err-audit-in-Audit
 returns-in_err-audit-in-Audit g c =
     let passed : c.from_residual-in_err-audit-in-Audit.result ≡ Err c.in_err-audit-in-Audit.field-0.0 = search rules in
-    rw (passed, c.in-Audit.is) (tt, Keeps-refl _, (_, c.in_err-audit-in-Audit.ensures.audits))
+    rw (passed, c.in-Audit.is) (tt, Keeps-refl _, _, c.in_err-audit-in-Audit.ensures.audits)
 
 pub returns-in-Judge : goal.returns-in-Judge
 returns-in-Judge g c =
@@ -47,7 +47,7 @@ pub returns-in_ok-prove-in-Prove : goal.returns-in_ok-prove-in-Prove
 returns-in_ok-prove-in-Prove g c = rw c.in-Prove.is ((refl, c.in_ok-prove-in-Prove.ensures.ends), Keeps-refl _)
 
 pub returns-in_ok-audit-in-Audit : goal.returns-in_ok-audit-in-Audit
-returns-in_ok-audit-in-Audit g c = rw c.in-Audit.is (refl, Keeps-refl _, (_, c.in_ok-audit-in-Audit.ensures.audits))
+returns-in_ok-audit-in-Audit g c = rw c.in-Audit.is (refl, Keeps-refl _, _, c.in_ok-audit-in-Audit.ensures.audits)
 
 pub returns-in_ok-play-in-Play : goal.returns-in_ok-play-in-Play
 returns-in_ok-play-in-Play g c = rw c.in-Play.is (refl, Keeps-refl _, c.in_ok-play-in-Play.ensures)
