@@ -108,7 +108,7 @@ def of_altered_roots(q, rng):
             q.ask(*(["chains start", KEY] if is_read(SignedRoot.read, data) else ["roots root"]), data)
 
 
-@subject("a list of roots: each beginning, each byte raised by 1, counts, and splices")
+@subject("a list of roots: each beginning, each byte raised by 1, counts, lengths, and splices")
 def of_altered_lists(q, rng):
     roots, others = chain_of(3, 7, 9), chain_of(3, 7, 9, nonces=[run(1), run(2), run(3)])
     text = q.let("list", write_list(roots))
@@ -120,8 +120,9 @@ def of_altered_lists(q, rng):
         chain.take_list(read_list(data))
 
     counts = [u16(count) + text[2:] for count in [0, 1, 2, 4, 64, 65, 256, 65535]]
+    lengths = [changed_at(text, 148, *u16(number)) for number in (0, 31, 33, 257, 65535)]
     first, *more = ([u16(3), *joined(map(parts_of_root, listed))] for listed in (roots, others))
-    for altered in (beginnings(text), raised(text), counts, spliced(first, *more)):
+    for altered in (beginnings(text), raised(text), counts, lengths, spliced(first, *more)):
         for data in none_is_taken(taken, altered):
             q.ask("chains take-list" if is_read(read_list, data) else "roots list", data)
     q.ask("chains head")

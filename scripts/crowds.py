@@ -4,7 +4,7 @@
     scripts/crowds.py HOST:PORT checked COUNT SILENT  COUNT clients register and look up names, all at once, beside so many
                                                       that are silent; each reply is checked as a client checks it
     scripts/crowds.py HOST:PORT kept COUNT            the names of `checked` are there, in a server that began with its journal
-    scripts/crowds.py HOST:PORT slow                  a client that sends one byte at a time, and others beside it
+    scripts/crowds.py HOST:PORT slow                  a client that sends one byte a second, and others beside it
     scripts/crowds.py HOST:PORT deaf                  one that asks and takes no reply, others beside it, and then its replies
     scripts/crowds.py HOST:PORT resets COUNT          COUNT clients that reset their connections, and one beside them
     scripts/crowds.py HOST:PORT idle SECONDS          silent clients are closed after so long, and one that asks is not
@@ -173,7 +173,7 @@ def slow(address):
             client.sendall(bytes([byte]))
             if not is_answered(address):
                 yield "no answer beside a slow client"
-            time.sleep(0.1)
+            time.sleep(1)
         if len(answers(client, 2)) != 2:
             yield "the slow client was not answered"
 
