@@ -1,5 +1,5 @@
 -- Lists of roots that were asked for.
-use Rattle.std.proofs.Common.{◌≡◌, ◌∙◌, ℕ, ◌+◌, true, false, List, Option, Some, ap, refl, subst, sym, inr}
+use Rattle.std.proofs.Common.{◌≡◌, ◌∙◌, ℕ, ◌+◌, true, false, List, Some, ap, subst, sym, inr}
 use Rattle.rootchain.specs.Chains.{IsHead}
 use Rattle.rootchain.specs.declared.root_list.TheConstants.{MAX_ROOTS}
 use Rattle.rootchain.specs.declared.signed_root.SignedRoot.{SignedRoot}
@@ -8,9 +8,9 @@ use Rattle.wire.specs.Frames.{Frame}
 use Rattle.wire.specs.Requests.{RequestContent, Query}
 use Rattle.asking.specs.declared.asker.Asker.{Asker}
 use Rattle.asking.specs.declared.said.Said.{Said}
-use Rattle.asking.specs.Following.{AllUpdate, AsksRoots, TakesList, asks_roots, no_root}
-use Rattle.asking.specs.Scenes.{GivesBody, IsAnswered, Scene, scene}
-use Rattle.asking.specs.Told.{Told, told_by}
+use Rattle.asking.specs.Following.{AllUpdate, AsksRoots, TakesList, no_root}
+use Rattle.asking.specs.Scenes.{GivesBody, IsAnswered, scene}
+use Rattle.asking.specs.Told.{told_by}
 
 module _ {H V S T : Type 0} (hash : List ℕ → List ℕ) (verified : List ℕ → List ℕ → List ℕ → Type 0) (exchanged : T → RequestContent → Frame → T → Type 0) where
   module _ (asker : Asker H V S) (said : Said) (stream : T) (head : SignedRoot) (from : ℕ) (frame : Frame) (later : T) where

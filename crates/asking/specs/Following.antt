@@ -1,5 +1,5 @@
 -- How all take the roots that are new.
-use Rattle.std.specs.Prelude.{◌≡◌, ◌⊎◌, ℕ, zero, suc, ◌+◌, ◌-◌, ◌^◌, Bool, true, false, List, [], ◌∷◌, Result, Ok, Err, Contains, codes}
+use Rattle.std.specs.Prelude.{◌≡◌, ◌⊎◌, ℕ, zero, suc, ◌+◌, ◌-◌, ◌^◌, Bool, true, false, List, [], ◌∷◌, Ok, Err, Contains, codes}
 use Rattle.std.specs.List.{AllZip}
 use Rattle.commands.specs.Operations.{History}
 use Rattle.rootchain.specs.Chains.{IsHead}

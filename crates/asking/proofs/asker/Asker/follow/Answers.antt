@@ -1,4 +1,4 @@
-use Rattle.std.proofs.Common.{◌≡◌, ◌∙◌, ℕ, suc, Bool, true, false, refl, rules, subst}
+use Rattle.std.proofs.Common.{◌≡◌, ◌∙◌, suc, Bool, true, false, refl, rules, subst}
 use Rattle.asking.specs.Exchanges.{Exchanges}
 use Rattle.asking.specs.Following.{TakesList}
 use Rattle.asking.specs.Scenes.{scene}

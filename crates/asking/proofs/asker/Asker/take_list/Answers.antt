@@ -1,4 +1,4 @@
-use Rattle.std.proofs.Common.{◌≡◌, ◌+◌, rules, Some, arith}
+use Rattle.std.proofs.Common.{◌≡◌, ◌+◌, rules}
 use Rattle.wire.specs.FrameViews.{frame_seen}
 use Rattle.asking.specs.Exchanges.{Exchanges}
 use Rattle.asking.specs.Following.{no_root}

@@ -1,4 +1,4 @@
-use Rattle.std.proofs.Common.{◌≡◌, ◌∙◌}
+use Rattle.std.proofs.Common.{◌∙◌}
 use Rattle.wire.specs.FrameViews.{frame_seen}
 use Rattle.asking.specs.Exchanges.{Exchanges}
 use Rattle.asking.proofs.Tested.{tests_none, tests_some}
