@@ -14,7 +14,7 @@ import sys
 sys.dont_write_bytecode = True
 from formats import *
 from send_frames import told
-from sessions import KEPT, Played
+from sessions import Played
 from worked import SIGNING_KEY, TOKEN
 
 NAME, KEY, OTHER_KEY = b"alice", b"k1", b"evil"
@@ -40,18 +40,10 @@ class Pair:
         self.line("bytes", 1, frame)
 
     def close(self, epoch):
+        """The lines of the monitors in this epoch, which the operator closes. The example tells no root."""
         told(self.address, request_frame("close", TOKEN, epoch))
-        return self.line("close", epoch)
-
-    def keep_promise(self):
-        _, promise = self.model.ask("promise", NAME)
-        self.model.client.keep_promise(promise.write())
-
-    def due(self):
-        """The line of the promise that the model's client tests now."""
-        client = self.model.client
-        _, reply = self.model.ask("lookup", client.due_epoch(NAME), NAME)
-        return "promise kept" if client.due(NAME, reply.write()) == KEPT else "promise not kept"
+        _, *steps = self.line("close", epoch)
+        return steps
 
 
 def started(address, program, provider, roots):
@@ -79,13 +71,9 @@ def ended(process, status, cause):
 def registers(pair, program):
     """A run that registers the name, and in which somebody else changes the key in the second epoch."""
     process = started(pair.address, program, SIGNING_KEY, 2)
-    lines = pair.line("head") + pair.line("lookup", NAME, 0)
-    lines += pair.line("watch", NAME, b"") + pair.line("register", NAME, KEY)
-    pair.keep_promise()
-    yield from differences(process, [*lines, "waits for the root after 1"])
-    root, *steps = pair.close(2)
-    lines = [root, pair.due(), *steps]
-    yield from differences(process, [*lines, "waits for the root after 2"])
+    lines = pair.line("lookup", NAME, 0) + pair.line("watch", NAME, b"")
+    yield from differences(process, lines + pair.line("register", NAME, KEY))
+    yield from differences(process, pair.close(2))
     pair.change(OTHER_KEY)
     yield from differences(process, pair.close(3))
     yield from ended(process, 0, "")
@@ -95,8 +83,7 @@ def finds_other_key(pair, program):
     """A run at whose start the name has another key, and its owner's again after one epoch."""
     process = started(pair.address, program, SIGNING_KEY, 1)
     pair.model.monitors.clear()
-    lines = pair.line("head") + pair.line("lookup", NAME, 0) + pair.line("watch", NAME, KEY)
-    yield from differences(process, [*lines, "waits for the root after 3"])
+    yield from differences(process, pair.line("lookup", NAME, 0) + pair.line("watch", NAME, KEY))
     pair.change(KEY)
     yield from differences(process, pair.close(4))
     yield from ended(process, 0, "")

@@ -271,7 +271,7 @@ for option in "" "--count 0" "--count 00"; do
     server=
 done
 
-# A client that follows the directory over several connections.
+# A client that follows the directory and watches a name.
 starts
 well "the example of a client" scripts/example.py "$address" "$example"
 finish

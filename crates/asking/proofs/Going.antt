@@ -1,5 +1,5 @@
 -- What is told, one after another.
-use Rattle.std.proofs.Common.{◌≡◌, ◌∙◌, ℕ, List, ◌++◌, ap, sym}
+use Rattle.std.proofs.Common.{◌≡◌, ◌∙◌, ℕ, List, ap}
 use Rattle.asking.specs.declared.said.Said.{Said}
 use Rattle.asking.specs.Told.{Told, Tells, onto, told_by}
 

@@ -1,5 +1,5 @@
 -- Lists of roots that were asked for.
-use Rattle.std.proofs.Common.{◌≡◌, ◌∙◌, ℕ, ◌+◌, true, false, List, Option, Some, ap, refl, subst, sym, inr}
+use Rattle.std.proofs.Common.{◌≡◌, ◌∙◌, ℕ, ◌+◌, true, false, List, Some, None, ap, codes, refl, subst, sym, inl, inr}
 use Rattle.rootchain.specs.Chains.{IsHead}
 use Rattle.rootchain.specs.declared.root_list.TheConstants.{MAX_ROOTS}
 use Rattle.rootchain.specs.declared.signed_root.SignedRoot.{SignedRoot}
@@ -8,9 +8,11 @@ use Rattle.wire.specs.Frames.{Frame}
 use Rattle.wire.specs.Requests.{RequestContent, Query}
 use Rattle.asking.specs.declared.asker.Asker.{Asker}
 use Rattle.asking.specs.declared.said.Said.{Said}
-use Rattle.asking.specs.Following.{AllUpdate, AsksRoots, TakesList, asks_roots, no_root}
-use Rattle.asking.specs.Scenes.{GivesBody, IsAnswered, Scene, scene}
-use Rattle.asking.specs.Told.{Told, told_by}
+use Rattle.asking.specs.Following.{AllUpdate, AnyRefuses, AsksRoots, IsStopped, StopsList, TakesList, TellsRefusal, no_root}
+use Rattle.asking.specs.Refused.{client_refuses, other_reply}
+use Rattle.asking.specs.Scenes.{GivesBody, IsAnswered, scene}
+use Rattle.asking.specs.Told.{Told, Tells, told_by}
+use Rattle.asking.proofs.Going.{told_onto}
 
 module _ {H V S T : Type 0} (hash : List ℕ → List ℕ) (verified : List ℕ → List ℕ → List ℕ → Type 0) (exchanged : T → RequestContent → Frame → T → Type 0) where
   module _ (asker : Asker H V S) (said : Said) (stream : T) (head : SignedRoot) (from : ℕ) (frame : Frame) (later : T) where
@@ -45,3 +47,37 @@ module _ {H V S T : Type 0} (hash : List ℕ → List ℕ) (verified : List ℕ 
       subst (λ (list : List ℕ). AllUpdate hash verified list asker.client asker.monitors.items asker'.client asker'.monitors.items) same updates,
       ap told_by (still ∙ silent),
     )
+
+    stops-list : (told : Told) (after : Said) → IsHead asker.client.chain head → from ≡ head.body.epoch + 1 → exchanged stream (Query (History from MAX_ROOTS)) frame later
+        → IsStopped hash verified (Query (History from MAX_ROOTS)) asker.client asker.monitors.items frame told → Tells said told after → StopsList hash verified exchanged (scene asker said stream) (told_by after)
+    stops-list told after is from_is exchange stopped tells = (
+      head,
+      is,
+      frame,
+      later,
+      subst (λ (n : ℕ). exchanged stream (Query (History n MAX_ROOTS)) frame later) from_is exchange,
+      told,
+      subst (λ (n : ℕ). IsStopped hash verified (Query (History n MAX_ROOTS)) asker.client asker.monitors.items frame told) from_is stopped,
+      told_onto said after told tells,
+    )
+
+    -- no answer came
+    pub stops_unanswered : (said' : Said) → IsHead asker.client.chain head → from ≡ head.body.epoch + 1 → exchanged stream (Query (History from MAX_ROOTS)) frame later
+        → GivesBody (Query (History from MAX_ROOTS)) frame said None said' → StopsList hash verified exchanged (scene asker said stream) (told_by said')
+    stops_unanswered said' is from_is exchange (told, unanswered, tells) = stops-list told said' is from_is exchange (inl unanswered) tells
+
+    -- a list came that the client or a monitor refuses
+    pub stops_refused : (said' said'' : Said) (body : List ℕ) → IsHead asker.client.chain head → from ≡ head.body.epoch + 1 → exchanged stream (Query (History from MAX_ROOTS)) frame later
+        → GivesBody (Query (History from MAX_ROOTS)) frame said (Some body) said' → TellsRefusal (AnyRefuses hash verified body asker.client asker.monitors.items) said' said''
+        → StopsList hash verified exchanged (scene asker said stream) (told_by said'')
+    stops_refused said' said'' body is from_is exchange (answered, same, silent) (why, refuses, tells) =
+        let told : Told = client_refuses (codes "client refuses root") why in
+        stops-list told said'' is from_is exchange
+        (inr (answered, inl (why, subst (λ (list : List ℕ). AnyRefuses hash verified list asker.client asker.monitors.items why) same refuses, refl)))
+        (subst (λ (s : Said). Tells s told said'') silent tells)
+
+    -- a list came, and it had no root that is new
+    pub stops_other : (said' said'' after : Said) (body : List ℕ) → IsHead asker.client.chain head → from ≡ head.body.epoch + 1 → exchanged stream (Query (History from MAX_ROOTS)) frame later
+        → GivesBody (Query (History from MAX_ROOTS)) frame said (Some body) said' → said'' ≡ said' → Tells said'' other_reply after → StopsList hash verified exchanged (scene asker said stream) (told_by after)
+    stops_other said' said'' after body is from_is exchange (answered, same, silent) still tells =
+        stops-list other_reply after is from_is exchange (inr (answered, inr refl)) (subst (λ (s : Said). Tells s other_reply after) (still ∙ silent) tells)

@@ -1,5 +1,5 @@
 -- Monitors that took a step.
-use Rattle.std.proofs.Common.{◌≡◌, ◌∙◌, ◌+◌, ◌-◌, ◌<◌, ◌≤◌, ℕ, zero, suc, Bool, true, false, List, [], ◌∷◌, Option, Some, None, Result, Ok, Err, Global, Vec, ap, arith, length, refl, rules, subst, sym, inl, inr, slice_set}
+use Rattle.std.proofs.Common.{◌≡◌, ◌∙◌, ◌-◌, ◌<◌, ◌≤◌, ℕ, zero, suc, Bool, false, List, [], ◌∷◌, Option, Some, None, Result, Ok, Err, Global, Vec, ap, arith, length, refl, rules, subst, sym, inl, inr, slice_set}
 use Rattle.std.specs.Prelude.{slice_get, OnOk}
 use Rattle.commands.specs.Operations.{Lookup}
 use Rattle.monitor.specs.Monitors.{Monitor}

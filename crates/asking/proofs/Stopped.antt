@@ -1,11 +1,11 @@
 -- Lists of roots that are refused.
-use Rattle.std.proofs.Common.{◌≡◌, ◌∙◌, ℕ, ◌<◌, List, Result, Err, Contains, arith, codes, get_or, length, subst, sym}
+use Rattle.std.proofs.Common.{◌≡◌, ◌∙◌, ℕ, ◌<◌, List, Result, Err, arith, codes, get_or, length, subst, sym}
 use Rattle.client.specs.Clients.{Client}
 use Rattle.client.specs.Updating.{Updates}
 use Rattle.client.specs.declared.refusal.Refusal.{Refusal}
 use Rattle.monitor.specs.Monitors.{Monitor}
 use Rattle.asking.specs.declared.said.Said.{Said}
-use Rattle.asking.specs.Following.{AnyRefuses, OneRefuses, Refuses, TellsRefusal}
+use Rattle.asking.specs.Following.{OneRefuses, Refuses, TellsRefusal}
 use Rattle.asking.specs.Refused.{client_refuses}
 use Rattle.asking.specs.Told.{Tells}
 use Rattle.asking.proofs.Moved.{AreMoved}

@@ -1,5 +1,5 @@
 -- Promises that were tested.
-use Rattle.std.proofs.Common.{◌≡◌, ℕ, suc, Bool, true, false, if◌then◌else◌, List, Option, Some, None, Global, Vec, refl, subst, inl, inr}
+use Rattle.std.proofs.Common.{◌≡◌, ℕ, suc, Bool, false, if◌then◌else◌, List, Option, Some, None, Global, Vec, refl, subst, inl, inr}
 use Rattle.std.specs.Prelude.{slice_get}
 use Rattle.commands.specs.Operations.{Lookup}
 use Rattle.rootchain.specs.declared.signed_promise.SignedPromise.{SignedPromise}
@@ -12,7 +12,7 @@ use Rattle.asking.specs.declared.asker.Mark.{Mark}
 use Rattle.asking.specs.declared.said.Said.{Said}
 use Rattle.asking.specs.Scenes.{GivesBody, Scene, scene}
 use Rattle.asking.specs.Testing.{due_told, TellsDue}
-use Rattle.asking.specs.Told.{Told, Tells, told_by}
+use Rattle.asking.specs.Told.{Tells, told_by}
 use Rattle.asking.specs.Visiting.{TestsName, Visits, Waits}
 use Rattle.asking.proofs.Going.{told_onto}
 

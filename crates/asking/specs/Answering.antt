@@ -1,7 +1,7 @@
 -- What is asked of a directory that runs, and what answers it.
 use Rattle.std.specs.Prelude.{◌≡◌, ◌≤◌, ◌⊎◌, ℕ, List, length, Option, None, Some}
 use Rattle.encoding.specs.Limits.{IsName}
-use Rattle.commands.specs.Operations.{Question, Promise, Lookup, History, Head}
+use Rattle.commands.specs.Operations.{Promise, Lookup, History, Head}
 use Rattle.wire.specs.Requests.{RequestContent, Query, Put, Turn}
 use Rattle.wire.specs.Responses.{ResponseContent, Proof, Roots, Root, Refused}
 use Rattle.wire.specs.Responses as response

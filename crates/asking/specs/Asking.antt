@@ -1,5 +1,5 @@
 -- What comes of a line that asks.
-use Rattle.std.specs.Prelude.{◌≡◌, ◌≢◌, ◌⊎◌, ℕ, ◌<◌, ◌≤◌, ◌-◌, List, length, Option, Some, Result, Ok, Err, slice_get}
+use Rattle.std.specs.Prelude.{◌≡◌, ◌≢◌, ◌⊎◌, ℕ, ◌<◌, ◌≤◌, ◌-◌, List, length, Some, Result, Err, slice_get}
 use Rattle.std.specs.List.{AllZip}
 use Rattle.rootchain.specs.Chains.{IsHead}
 use Rattle.rootchain.specs.declared.signed_promise.SignedPromise.{SignedPromise}
@@ -16,7 +16,7 @@ use Rattle.wire.specs.declared.refusals.ReadRefusal.{ReadRefusal}
 use Rattle.asking.specs.declared.asker.Mark.{Mark}
 use Rattle.asking.specs.Answering.{Answers, with_token}
 use Rattle.asking.specs.Checking.{HearsFrame}
-use Rattle.asking.specs.Following.{Follows}
+use Rattle.asking.specs.Following.{Follows, StopsAfter}
 use Rattle.asking.specs.Scenes.{Scene}
 use Rattle.asking.specs.Told.{Told, onto}
 use Rattle.asking.specs.Watching.{GoesOn}
@@ -85,3 +85,16 @@ module _ (hash : List ℕ → List ℕ) (accepted verified : List ℕ → List �
       pub heard : Scene T
       pub hears : HearsOne asked frame ready heard
       pub goes : GoesOnAbove marks head.body.epoch heard after
+
+    -- the chain has no root of this epoch or a later one, and a frame stops the taking of roots
+    abbrev pub StopsBelow : ℕ → Scene T → Told → Type 0
+    StopsBelow epoch before after = (head : SignedRoot) × IsHead before.client.chain head × (head.body.epoch < epoch) × ((count : ℕ) × StopsAfter hash verified exchanged count before after)
+
+    -- the line is asked, and the chain does not get as far as the reply
+    pub record StopsAsking (token : List ℕ) (asked : RequestContent) (before : Scene T) (after : Told) : Type 0 where
+      pub frame : Frame
+      pub stream : T
+      pub exchange : exchanged before.stream (with_token token asked) frame stream
+      pub epoch : ℕ
+      pub speaks : SpeaksOf asked frame epoch
+      pub stops : StopsBelow epoch (record before { stream = stream }) after

@@ -1,6 +1,6 @@
 -- What the client makes of the reply to what was asked, and the lines that tell it.
 use Rattle.std.specs.Prelude.{◌≡◌, ◌≤◌, ◌<◌, ◌⊎◌, ℕ, List, [], ◌∷◌, Option, None, Some, Result, Ok, Err, codes}
-use Rattle.commands.specs.Operations.{Question, Promise, Lookup, History, Head}
+use Rattle.commands.specs.Operations.{Lookup, History}
 use Rattle.rootchain.specs.Chains.{KeyedRoots, Verifies}
 use Rattle.rootchain.specs.Places.{IsPlace}
 use Rattle.rootchain.specs.declared.chain.placing.Place.{Place}
@@ -12,7 +12,7 @@ use Rattle.proofs.specs.Views.{key_stated}
 use Rattle.proofs.specs.declared.statement.Statement.{Statement}
 use Rattle.wire.specs.Frames.{Frame}
 use Rattle.wire.specs.Refusals.{read_refusal_number}
-use Rattle.wire.specs.Requests.{RequestContent, Query, Put, Turn}
+use Rattle.wire.specs.Requests.{RequestContent, Query}
 use Rattle.wire.specs.Responses.{ResponseContent, Proof, Roots, Root, Refused, Responds, ReadsResponse}
 use Rattle.wire.specs.Responses as response
 use Rattle.wire.specs.declared.refusals.ReadRefusal.{ReadRefusal}

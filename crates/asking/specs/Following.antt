@@ -1,5 +1,5 @@
 -- How all take the roots that are new.
-use Rattle.std.specs.Prelude.{◌≡◌, ◌⊎◌, ℕ, zero, suc, ◌+◌, ◌-◌, ◌^◌, Bool, true, false, List, [], ◌∷◌, Result, Ok, Err, Contains, codes}
+use Rattle.std.specs.Prelude.{◌≡◌, ◌⊎◌, ℕ, zero, suc, ◌+◌, ◌-◌, ◌^◌, Bool, true, false, List, [], ◌∷◌, Ok, Err, Contains, codes}
 use Rattle.std.specs.List.{AllZip}
 use Rattle.commands.specs.Operations.{History}
 use Rattle.rootchain.specs.Chains.{IsHead}
@@ -12,9 +12,9 @@ use Rattle.monitor.specs.Monitors.{Monitor}
 use Rattle.wire.specs.Frames.{Frame}
 use Rattle.wire.specs.Requests.{RequestContent, Query}
 use Rattle.asking.specs.declared.said.Said.{Said}
-use Rattle.asking.specs.Refused.{client_refuses}
-use Rattle.asking.specs.Scenes.{Scene, IsAnswered}
-use Rattle.asking.specs.Told.{Tells}
+use Rattle.asking.specs.Refused.{client_refuses, other_reply}
+use Rattle.asking.specs.Scenes.{Scene, IsAnswered, IsUnanswered}
+use Rattle.asking.specs.Told.{Told, Tells, onto}
 
 -- the roots above a head, as many as a list has
 abbrev pub asks_roots : SignedRoot → RequestContent
@@ -46,6 +46,12 @@ module _ (hash : List ℕ → List ℕ) (verified : List ℕ → List ℕ → Li
   abbrev pub AnyRefuses : List ℕ → Client → List Monitor → Refusal → Type 0
   AnyRefuses list client monitors why = Refuses list client why ⊎ OneRefuses list monitors why
 
+  -- What comes of a frame that stops it: it is no answer, or the client or a monitor refuses its list, or it is told as a
+  -- reply to something else.
+  abbrev pub IsStopped : RequestContent → Client → List Monitor → Frame → Told → Type 0
+  IsStopped asked client monitors frame told = IsUnanswered asked frame told
+      ⊎ (IsAnswered asked frame × (((why : Refusal) × AnyRefuses frame.body client monitors why × (told ≡ client_refuses (codes "client refuses root") why)) ⊎ (told ≡ other_reply)))
+
   module _ {T : Type 0} (exchanged : T → RequestContent → Frame → T → Type 0) where
     -- the roots above the head are asked for, and this frame comes back
     pub record AsksRoots (before : Scene T) (frame : Frame) (stream : T) : Type 0 where
@@ -67,3 +73,13 @@ module _ (hash : List ℕ → List ℕ) (verified : List ℕ → List ℕ → Li
     abbrev pub Follows : ℕ → Scene T → Scene T → Type 0
     Follows zero before after = TakesList before false after
     Follows (suc count) before after = (middle : Scene T) × TakesList before true middle × Follows count middle after
+
+    -- the roots above the head are asked for, and a frame comes that stops it, which is told behind what was
+    abbrev pub StopsList : Scene T → Told → Type 0
+    StopsList before after = (head : SignedRoot) × IsHead before.client.chain head × (frame : Frame) × (stream : T) × exchanged before.stream (asks_roots head) frame stream
+        × (told : Told) × IsStopped (asks_roots head) before.client before.monitors frame told × (after ≡ onto before.told told)
+
+    -- so many lists are taken, and then a frame stops it
+    abbrev pub StopsAfter : ℕ → Scene T → Told → Type 0
+    StopsAfter zero before told = StopsList before told
+    StopsAfter (suc count) before told = (middle : Scene T) × TakesList before true middle × StopsAfter count middle told

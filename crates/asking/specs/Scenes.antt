@@ -1,10 +1,12 @@
 -- Where a client stands between two exchanges, and what comes of one.
-use Rattle.std.specs.Prelude.{◌≡◌, ◌⊎◌, ℕ, List, Option, Some, None, Result, Err, codes}
+use Rattle.std.specs.Prelude.{◌≡◌, ◌⊎◌, ℕ, List, Option, Some, None, Err, Ok, codes}
 use Rattle.client.specs.Clients.{Client}
+use Rattle.client.specs.Starting.{Starts}
+use Rattle.commands.specs.Operations.{Head}
 use Rattle.monitor.specs.Monitors.{Monitor}
 use Rattle.wire.specs.Frames.{Frame}
 use Rattle.wire.specs.Refusals.{read_refusal_number}
-use Rattle.wire.specs.Requests.{RequestContent}
+use Rattle.wire.specs.Requests.{RequestContent, Query}
 use Rattle.wire.specs.Responses.{ResponseContent, Promise, Proof, Roots, Root, Refused, Responds, ReadsResponse}
 use Rattle.wire.specs.declared.refusals.ReadRefusal.{ReadRefusal}
 use Rattle.play.specs.Hearing.{response_text}
@@ -53,3 +55,9 @@ Remains before after = (after.key ≡ before.key) × (after.token ≡ before.tok
 
 abbrev pub Stays : {H V S : Type 0} → Asker H V S → Asker H V S → Type 0
 Stays before after = (after.key ≡ before.key) × (after.token ≡ before.token) × (after.marks ≡ before.marks) × (after.earlier ≡ before.earlier) × (after.changes ≡ before.changes)
+
+-- The latest root is asked for, and a frame comes back whose body spells a root with a good signature. With this the
+-- client starts.
+abbrev pub StartsAtHead : {T : Type 0} → (List ℕ → List ℕ → List ℕ → Type 0) → (T → RequestContent → Frame → T → Type 0) → List ℕ → T → Client → T → Type 0
+StartsAtHead verified exchanged key before client after =
+    (frame : Frame) × exchanged before (Query Head) frame after × IsAnswered (Query Head) frame × Starts verified key frame.body (Ok client)

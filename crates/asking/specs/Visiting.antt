@@ -1,5 +1,5 @@
 -- How the promises that are kept are tested, one place of their list after another.
-use Rattle.std.specs.Prelude.{◌≡◌, ◌⊎◌, ℕ, zero, suc, Bool, true, false, if◌then◌else◌, List, Option, Some, None, Result, Contains, slice_get}
+use Rattle.std.specs.Prelude.{◌≡◌, ◌⊎◌, ℕ, zero, suc, Bool, false, if◌then◌else◌, List, Option, Some, None, Result, Contains, slice_get}
 use Rattle.commands.specs.Operations.{Lookup}
 use Rattle.rootchain.specs.declared.signed_promise.SignedPromise.{SignedPromise}
 use Rattle.client.specs.Clients.{Client}

@@ -1,5 +1,5 @@
 -- Steps of monitors, as they are told.
-use Rattle.std.specs.Prelude.{◌≡◌, ◌≢◌, ◌⊎◌, ℕ, zero, suc, Bool, true, false, List, [], ◌∷◌, ◌++◌, length, Option, Some, None, Result, Ok, Err, codes, slice_get, slice_set}
+use Rattle.std.specs.Prelude.{◌≡◌, ◌⊎◌, ℕ, zero, suc, Bool, true, false, List, [], ◌∷◌, ◌++◌, length, Some, None, Ok, Err, codes, slice_get, slice_set}
 use Rattle.commands.specs.Operations.{Lookup}
 use Rattle.client.specs.declared.refusal.Refusal.{Refusal}
 use Rattle.monitor.specs.Monitors.{Monitor}

@@ -2,14 +2,22 @@ ghost use Rattle.std.specs.Prelude.{◌≡◌, [], Err, IfErr, IfOk, Ok};
 ghost use Rattle.rootchain.specs.Chains.{IsHead};
 ghost use Rattle.rootchain.specs.declared.signed_root.SignedRoot.{SignedRoot};
 ghost use Rattle.client.specs.Starting.{Starts};
+ghost use Rattle.asking.specs.Exchanges.{Exchanges};
+ghost use Rattle.asking.specs.Scenes.{StartsAtHead};
 
+use crate::answering::{body_of, request_of};
+use crate::checking::tell_client;
+use crate::exchange::{exchange, frame_in};
+use crate::{AskFault, Said};
 use client::{Client, Refusal};
 use encoding::{Hash32, Name};
 use monitor::Monitor;
 use nodehash::NodeHash;
+use play::Ask;
 use rootchain::SignedPromise;
 use sigiface::Verifier;
 use std::alloc::Global;
+use std::io::{Read, Write};
 use vrfiface::VufCheck;
 
 /// The functions of those who check: their hash function, and what accepts values and signatures.
@@ -86,6 +94,38 @@ where
                 changes: Vec::new(alloc),
             }),
             Err(why) => Err(why),
+        }
+    }
+
+    /// One whose client starts with the directory's latest root. Why there is none is told.
+    ///
+    /// # Errors
+    ///
+    /// `NoReply`; `Stopped` if the directory replies no root, or the client refuses it; `OutOfMemory`.
+    pub fn start_at_head<T: Read + Write>(
+        alloc: Global,
+        stream: &mut T,
+        checks: Checks<H, V, S>,
+        key: Hash32,
+        token: Hash32,
+        said: &mut Said,
+    ) -> Result<Self, AskFault>
+        ensures starts { IfOk result (λ asker. StartsAtHead S.verified (Exchanges T.contents T.remaining) key stream.old asker.client stream.new) }
+        ensures keys { IfOk result (λ asker. (asker.key ≡ key) × (asker.token ≡ token)) }
+        ensures none { IfOk result (λ asker. (asker.monitors.items ≡ []) × (asker.marks.items ≡ []) × (asker.earlier.items ≡ []) × (asker.changes.items ≡ [])) }
+        ensures said { IfOk result (λ asker. said.new ≡ said.old) }
+    {
+        let reply = exchange(alloc, stream, &request_of(&Ask::Head, token))?;
+        let frame = frame_in(&reply)?;
+        let Some(root) = body_of(alloc, &Ask::Head, &frame, said)? else {
+            return Err(AskFault::Stopped);
+        };
+        match Asker::start(alloc, checks, key, token, root) {
+            Ok(asker) => Ok(asker),
+            Err(why) => {
+                tell_client(alloc, b"client refuses root", why, said)?;
+                Err(AskFault::Stopped)
+            }
         }
     }
 

@@ -1,15 +1,16 @@
 // A question over a stream: what the client makes of its reply, and what follows from it.
-ghost use Rattle.std.specs.Prelude.{◌≡◌, IfOk, OnOk};
+ghost use Rattle.std.specs.Prelude.{◌≡◌, ◌≢◌, Err, IfErr, IfOk, OnOk};
 ghost use Rattle.wire.specs.Frames.{Frame};
 ghost use Rattle.wire.specs.FrameViews.{frame_seen};
 ghost use Rattle.wire.specs.Responses.{response_seen};
 ghost use Rattle.play.specs.Spoken.{ask_seen};
 ghost use Rattle.asking.specs.Answering.{with_token};
-ghost use Rattle.asking.specs.Asking.{response_epoch, Asks, CatchesUp, GoesOnAbove, Hands, SpeaksOf};
+ghost use Rattle.asking.specs.Asking.{response_epoch, Asks, CatchesUp, GoesOnAbove, Hands, SpeaksOf, StopsAsking, StopsBelow};
 ghost use Rattle.asking.specs.Checking.{HearsFrame};
 ghost use Rattle.asking.specs.Exchanges.{Exchanges, HoldsFrame, IsOneFrame};
 ghost use Rattle.asking.specs.Scenes.{scene, Remains, Stays};
-ghost use Rattle.asking.specs.Told.{Told, Tells};
+ghost use Rattle.asking.specs.Told.{told_by, Told, Tells};
+ghost use Rattle.asking.specs.declared.fault.AskFault.TheVariants.{Stopped};
 
 use crate::answering::{answers, request_of};
 use crate::checking::hear;
@@ -62,7 +63,7 @@ where
     ///
     /// # Errors
     ///
-    /// `NoReply`; `Stopped`; `OutOfMemory`.
+    /// `NoReply`; `Stopped` if the roots up to the reply are not taken; `OutOfMemory`.
     pub fn ask<T: Read + Write>(
         &mut self,
         stream: &mut T,
@@ -71,6 +72,7 @@ where
     ) -> Result<(), AskFault>
         ensures asks { OnOk result (Asks H.digest_of V.accepted S.verified (Exchanges T.contents T.remaining) (self.old).marks.items (self.old).token (ask_seen ask.now) (scene self.old said.old stream.old) (scene self.new said.new stream.new)) }
         ensures stays { OnOk result (Remains self.old self.new) }
+        ensures stops { result ≡ Err Stopped → StopsAsking H.digest_of V.accepted S.verified (Exchanges T.contents T.remaining) (self.old).token (ask_seen ask.now) (scene self.old said.old stream.old) (told_by said.new) }
     {
         let head = self.head();
         let reply = self.request(stream, ask)?;
@@ -89,6 +91,7 @@ where
     ) -> Result<(), AskFault>
         ensures catches { OnOk result (CatchesUp H.digest_of V.accepted S.verified (Exchanges T.contents T.remaining) epoch (scene self.old said.old stream.old) (scene self.new said.new stream.new)) }
         ensures stays { OnOk result (Stays self.old self.new) }
+        ensures stops { result ≡ Err Stopped → StopsBelow H.digest_of V.accepted S.verified (Exchanges T.contents T.remaining) epoch (scene self.old said.old stream.old) (told_by said.new) }
     {
         if epoch <= self.head() {
             return Ok(());
@@ -127,6 +130,7 @@ where
     ) -> Result<(), AskFault>
         ensures goes { OnOk result (GoesOnAbove H.digest_of V.accepted S.verified (Exchanges T.contents T.remaining) (self.old).marks.items head (scene self.old said.old stream.old) (scene self.new said.new stream.new)) }
         ensures stays { OnOk result (Stays self.old self.new) }
+        ensures err { IfErr result (λ fault. fault ≢ Stopped) }
     {
         if self.head() <= head {
             return Ok(());
@@ -142,6 +146,7 @@ where
     ) -> Result<Vec<u8>, AskFault>
         ensures whole { IfOk result (λ bytes. (frame : Frame) × IsOneFrame bytes.items frame) }
         ensures sent { IfOk result (λ bytes. (frame : Frame) → HoldsFrame bytes.items frame → Exchanges T.contents T.remaining stream.old (with_token (self.now).token (ask_seen ask.now)) frame stream.new) }
+        ensures err { IfErr result (λ fault. fault ≢ Stopped) }
     {
         exchange(self.alloc, stream, &request_of(ask, self.token))
     }

@@ -1,12 +1,13 @@
 // A request goes out as one frame, and the next frame of the stream is its reply. Not a byte behind it is
 // read.
-ghost use Rattle.std.specs.Prelude.{◌≡◌, ◌++◌, length, IfOk, OnOk};
+ghost use Rattle.std.specs.Prelude.{◌≡◌, ◌≢◌, ◌++◌, length, IfErr, IfOk, OnOk};
 ghost use Rattle.std.specs.Io.KnownBytes.{Appends, Consumes};
 ghost use Rattle.encoding.specs.Bytes.{IsBytes};
 ghost use Rattle.wire.specs.Frames.{frame_bytes, Frame};
 ghost use Rattle.wire.specs.FrameViews.{frame_seen};
 ghost use Rattle.wire.specs.Requests.{request_frame, request_seen};
 ghost use Rattle.asking.specs.Exchanges.{Exchanges, HoldsFrame, IsOneFrame};
+ghost use Rattle.asking.specs.declared.fault.AskFault.TheVariants.{Stopped};
 
 use crate::AskFault;
 use std::alloc::{AllocError, Global};
@@ -19,7 +20,8 @@ const LENGTH: usize = 4;
 
 /// The frame that begins the bytes that came.
 pub(crate) fn frame_in(bytes: &[u8]) -> Result<FrameView<'_>, AskFault>
-    ensures { IfOk result (λ frame. HoldsFrame bytes.entry.now (frame_seen frame)) }
+    ensures ok { IfOk result (λ frame. HoldsFrame bytes.entry.now (frame_seen frame)) }
+    ensures err { IfErr result (λ fault. fault ≢ Stopped) }
 {
     match front_of(bytes) {
         Front::Whole(frame) => Ok(frame),
@@ -29,7 +31,8 @@ pub(crate) fn frame_in(bytes: &[u8]) -> Result<FrameView<'_>, AskFault>
 
 /// Reads the bytes that tell the length of the next frame.
 fn read_length<R: Read>(reader: &mut R) -> Result<[u8; LENGTH], AskFault>
-    ensures { IfOk result (λ length. Consumes (R.remaining reader.old) (R.remaining reader.new) length) }
+    ensures ok { IfOk result (λ length. Consumes (R.remaining reader.old) (R.remaining reader.new) length) }
+    ensures err { IfErr result (λ fault. fault ≢ Stopped) }
 {
     let mut length = [0; LENGTH];
     if reader.read_exact(&mut length).is_err() {
@@ -42,6 +45,7 @@ fn read_length<R: Read>(reader: &mut R) -> Result<[u8; LENGTH], AskFault>
 fn read_rest<R: Read>(alloc: Global, reader: &mut R, size: usize) -> Result<Vec<u8>, AskFault>
     ensures read { IfOk result (λ rest. Consumes (R.remaining reader.old) (R.remaining reader.new) rest.items) }
     ensures size { IfOk result (λ rest. length rest.items ≡ size) }
+    ensures err { IfErr result (λ fault. fault ≢ Stopped) }
 {
     let mut rest = Vec::new(alloc);
     rest.resize(size, 0)?;
@@ -59,6 +63,7 @@ fn read_rest<R: Read>(alloc: Global, reader: &mut R, size: usize) -> Result<Vec<
 pub(crate) fn read_reply<R: Read>(alloc: Global, reader: &mut R) -> Result<Vec<u8>, AskFault>
     ensures read { IfOk result (λ bytes. Consumes (R.remaining reader.old) (R.remaining reader.new) bytes.items) }
     ensures whole { IfOk result (λ bytes. (frame : Frame) × IsOneFrame bytes.items frame) }
+    ensures err { IfErr result (λ fault. fault ≢ Stopped) }
 {
     let length = read_length(reader)?;
     let size = u32::from_be_bytes(length) as usize;
@@ -88,7 +93,8 @@ fn joined(alloc: Global, front: [u8; LENGTH], rest: &[u8]) -> Result<Vec<u8>, Al
 ///
 /// `NoReply` if the request has no frame, or cannot be sent; `OutOfMemory`.
 fn send<W: Write>(alloc: Global, writer: &mut W, request: &Request<'_>) -> Result<(), AskFault>
-    ensures { OnOk result (Appends (W.contents writer.old) (W.contents writer.new) (frame_bytes (request_frame (request_seen request.now)))) }
+    ensures ok { OnOk result (Appends (W.contents writer.old) (W.contents writer.new) (frame_bytes (request_frame (request_seen request.now)))) }
+    ensures err { IfErr result (λ fault. fault ≢ Stopped) }
 {
     if !request.fits() {
         return Err(AskFault::NoReply);
@@ -113,6 +119,7 @@ pub(crate) fn exchange<T: Read + Write>(
 ) -> Result<Vec<u8>, AskFault>
     ensures whole { IfOk result (λ bytes. (frame : Frame) × IsOneFrame bytes.items frame) }
     ensures sent { IfOk result (λ bytes. (frame : Frame) → HoldsFrame bytes.items frame → Exchanges T.contents T.remaining stream.old (request_seen request.now) frame stream.new) }
+    ensures err { IfErr result (λ fault. fault ≢ Stopped) }
 {
     send(alloc, stream, request)?;
     read_reply(alloc, stream)

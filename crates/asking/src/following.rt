@@ -2,8 +2,9 @@
 ghost use Rattle.std.specs.Prelude.{◌≡◌, ℕ, Err, IfOk, OnOk};
 ghost use Rattle.std.specs.List.{AllZip};
 ghost use Rattle.asking.specs.Exchanges.{Exchanges};
-ghost use Rattle.asking.specs.Following.{AllUpdate, AnyRefuses, Follows, MonitorUpdates, OneRefuses, Refuses, TakesList, TellsRefusal};
+ghost use Rattle.asking.specs.Following.{AllUpdate, AnyRefuses, Follows, MonitorUpdates, OneRefuses, Refuses, StopsAfter, StopsList, TakesList, TellsRefusal};
 ghost use Rattle.asking.specs.Scenes.{scene, Stays};
+ghost use Rattle.asking.specs.Told.{told_by};
 ghost use Rattle.asking.specs.declared.fault.AskFault.TheVariants.{Stopped};
 
 use crate::answering::body_of;
@@ -40,6 +41,7 @@ where
     ) -> Result<(), AskFault>
         ensures follows { OnOk result ((count : ℕ) × Follows H.digest_of S.verified (Exchanges T.contents T.remaining) count (scene self.old said.old stream.old) (scene self.new said.new stream.new)) }
         ensures stays { OnOk result (Stays self.old self.new) }
+        ensures stops { result ≡ Err Stopped → (count : ℕ) × StopsAfter H.digest_of S.verified (Exchanges T.contents T.remaining) count (scene self.old said.old stream.old) (told_by said.new) }
     {
         // Every loop of Rattle has an end: this one's is past any chain.
         for _ in 0..u64::MAX {
@@ -58,6 +60,7 @@ where
     ) -> Result<bool, AskFault>
         ensures takes { IfOk result (λ went. TakesList H.digest_of S.verified (Exchanges T.contents T.remaining) (scene self.old said.old stream.old) went (scene self.new said.new stream.new)) }
         ensures stays { OnOk result (Stays self.old self.new) }
+        ensures stops { result ≡ Err Stopped → StopsList H.digest_of S.verified (Exchanges T.contents T.remaining) (scene self.old said.old stream.old) (told_by said.new) }
     {
         let Some(from) = self.head().checked_add(1) else {
             return Ok(false);

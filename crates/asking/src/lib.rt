@@ -7,7 +7,7 @@
 //! Contracts do not know what a socket or a file has; `scripts/asks.py` shows those.
 //!
 //! ```text
-//! let mut asker = Asker::start(alloc, checks, key, token, root_bytes)?;
+//! let mut asker = Asker::start_at_head(alloc, &mut stream, checks, key, token, &mut said)?;
 //! asker.ask(&mut stream, &Ask::Head, &mut said)?;
 //! write_text(&mut writer, &said.text)?;
 //! ```

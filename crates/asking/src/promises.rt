@@ -1,5 +1,5 @@
 // The promises that the client keeps are tested once the chain has the next root.
-ghost use Rattle.std.specs.Prelude.{◌≡◌, ◌++◌, ◌∷◌, ◌↔◌, [], codes, IfOk, IsTrue, OnOk};
+ghost use Rattle.std.specs.Prelude.{◌≡◌, ◌≢◌, ◌++◌, ◌∷◌, ◌↔◌, [], codes, IfErr, IfOk, IsTrue, OnOk};
 ghost use Rattle.auditor.specs.declared.evidence.Evidence.TheVariants as evidence;
 ghost use Rattle.audits.specs.Files.{evidence_text};
 ghost use Rattle.asking.specs.Exchanges.{Exchanges};
@@ -8,6 +8,7 @@ ghost use Rattle.asking.specs.Scenes.{scene, Stays};
 ghost use Rattle.asking.specs.Testing.{TellsDue};
 ghost use Rattle.asking.specs.Told.{refused, Tells};
 ghost use Rattle.asking.specs.Visiting.{IsMarked, IsWatched, TestsAll, TestsName, Visits, Waits};
+ghost use Rattle.asking.specs.declared.fault.AskFault.TheVariants.{Stopped};
 
 use crate::answering::body_of;
 use crate::asker::Mark;
@@ -45,6 +46,7 @@ where
     ) -> Result<(), AskFault>
         ensures tests { OnOk result (TestsAll H.digest_of V.accepted (Exchanges T.contents T.remaining) (self.old).marks.items (scene self.old said.old stream.old) (scene self.new said.new stream.new)) }
         ensures stays { OnOk result (Stays self.old self.new) }
+        ensures err { IfErr result (λ fault. fault ≢ Stopped) }
     {
         let mut place = 0;
         // Every loop of Rattle has an end: this one's is past any list.
@@ -66,6 +68,7 @@ where
     ) -> Result<Option<usize>, AskFault>
         ensures visits { IfOk result (λ next. Visits H.digest_of V.accepted (Exchanges T.contents T.remaining) (self.old).marks.items (scene self.old said.old stream.old) place next (scene self.new said.new stream.new)) }
         ensures stays { OnOk result (Stays self.old self.new) }
+        ensures err { IfErr result (λ fault. fault ≢ Stopped) }
     {
         let Some(signed) = self.client.promises().get(place) else {
             return Ok(None);
@@ -96,6 +99,7 @@ where
     ) -> Result<bool, AskFault>
         ensures tests { IfOk result (λ kept. TestsName H.digest_of V.accepted (Exchanges T.contents T.remaining) (scene self.old said.old stream.old) name.now kept (scene self.new said.new stream.new)) }
         ensures stays { OnOk result (Stays self.old self.new) }
+        ensures err { IfErr result (λ fault. fault ≢ Stopped) }
     {
         let Some(epoch) = self.client.due_epoch(name) else {
             return Ok(false);

@@ -4,15 +4,12 @@ ghost use Rattle.std.specs.Io.KnownBytes.{Keeps};
 ghost use Rattle.textio.specs.declared.program_fault.ProgramFault.TheVariants.{BadHex};
 ghost use Rattle.asking.specs.AskOptions.{ask_keys_of, values_of};
 
-use crate::answering::{body_of, request_of};
-use crate::checking::tell_client;
-use crate::exchange::{exchange, frame_in};
 use crate::said::REFUSED;
 use crate::state::State;
 use crate::{AskFault, AskOrder, Asker, Checks, Said};
 use encoding::Hash32;
 use nodehash::Sha256Hash;
-use play::{Ask, Line, next_line, push_number, read_line};
+use play::{Line, next_line, push_number, read_line};
 use sigiface::KeyedSign;
 use std::alloc::Global;
 use std::fs::{File, Files};
@@ -208,7 +205,8 @@ where
                 Err(unused) => checks = unused,
             }
         }
-        let asker = self.begin_at_head(checks, key, token)?;
+        let (stream, said) = (&mut *self.stream, &mut self.said);
+        let asker = Asker::start_at_head(self.alloc, stream, checks, key, token, said)?;
         if self.state.is_some() {
             let words = &mut self.said.words;
             words.extend_from_slice(b"state: begins at epoch ")?;
@@ -216,27 +214,6 @@ where
             words.push(b'\n')?;
         }
         Ok(asker)
-    }
-
-    /// What asks from the directory's head on.
-    fn begin_at_head(
-        &mut self,
-        checks: KeyedChecks,
-        key: Hash32,
-        token: Hash32,
-    ) -> Result<KeyedAsker, AskFault> {
-        let reply = exchange(self.alloc, self.stream, &request_of(&Ask::Head, token))?;
-        let frame = frame_in(&reply)?;
-        let Some(root) = body_of(self.alloc, &Ask::Head, &frame, &mut self.said)? else {
-            return Err(AskFault::Stopped);
-        };
-        match Asker::start(self.alloc, checks, key, token, root) {
-            Ok(asker) => Ok(asker),
-            Err(why) => {
-                tell_client(self.alloc, b"client refuses root", why, &mut self.said)?;
-                Err(AskFault::Stopped)
-            }
-        }
     }
 
     /// Asks each line of the input.

@@ -1,5 +1,5 @@
 // The monitors of names.
-ghost use Rattle.std.specs.Prelude.{◌≡◌, ◌-◌, ℕ, length, slice_get, IfOk, OnOk, Some};
+ghost use Rattle.std.specs.Prelude.{◌≡◌, ◌≢◌, ◌-◌, ℕ, length, slice_get, IfErr, IfOk, OnOk, Some};
 ghost use Rattle.std.specs.List.{AllZip};
 ghost use Rattle.rootchain.specs.declared.signed_promise.SignedPromise.{SignedPromise};
 ghost use Rattle.asking.specs.Asking.{HandsTo};
@@ -7,6 +7,7 @@ ghost use Rattle.asking.specs.Exchanges.{Exchanges};
 ghost use Rattle.asking.specs.Scenes.{scene, Remains, Stays};
 ghost use Rattle.asking.specs.Told.{Tells};
 ghost use Rattle.asking.specs.Watching.{step_told, GoesOn, StepsOnce, StepsThrough, WatchesAt, WatchesEpoch};
+ghost use Rattle.asking.specs.declared.fault.AskFault.TheVariants.{Stopped};
 
 use crate::answering::body_of;
 use crate::checking::tell_client;
@@ -36,6 +37,7 @@ where
     ) -> Result<(), AskFault>
         ensures goes { OnOk result (GoesOn H.digest_of V.accepted (Exchanges T.contents T.remaining) (self.old).marks.items (scene self.old said.old stream.old) (scene self.new said.new stream.new)) }
         ensures stays { OnOk result (Stays self.old self.new) }
+        ensures err { IfErr result (λ fault. fault ≢ Stopped) }
     {
         for place in 0..self.monitors.len() {
             self.step_through(stream, place, said)?;
@@ -68,6 +70,7 @@ where
     ) -> Result<(), AskFault>
         ensures steps { OnOk result ((count : ℕ) × StepsThrough H.digest_of V.accepted (Exchanges T.contents T.remaining) count (scene self.old said.old stream.old) place (scene self.new said.new stream.new)) }
         ensures stays { OnOk result (Stays self.old self.new) }
+        ensures err { IfErr result (λ fault. fault ≢ Stopped) }
     {
         // Every loop of Rattle has an end: this one's is past any chain.
         for _ in 0..u64::MAX {
@@ -87,6 +90,7 @@ where
     ) -> Result<bool, AskFault>
         ensures steps { IfOk result (λ went. StepsOnce H.digest_of V.accepted (Exchanges T.contents T.remaining) (scene self.old said.old stream.old) place went (scene self.new said.new stream.new)) }
         ensures stays { OnOk result (Stays self.old self.new) }
+        ensures err { IfErr result (λ fault. fault ≢ Stopped) }
     {
         let Some(monitor) = self.monitors.get(place) else {
             return Ok(false);

@@ -1,52 +1,80 @@
-//! A client of a directory that listens, for authors of clients to copy.
-//!
-//! It follows the provider's signed roots, looks a name up, registers a key for it, tests after the next root
-//! whether the provider kept its promise, and watches the name in each epoch. Nothing that the directory sends
-//! is believed before a call of `Client` or `Monitor` has accepted it.
+//! A client of a directory, to copy: it registers a key for a name, and watches the name. The `Asker` tells what
+//! comes of each reply, in the lines of docs/FORMATS.md. A real client also stores its roots and promises.
 #![tactic(auto)]
 
-mod ask;
-mod directory;
-mod user;
-
-use anyhow::{Context, Result, ensure};
-use directory::Directory;
+use anyhow::{Context, Result, bail, ensure};
+use asking::{AskFault, Asker, Checks, Said};
+use commands::Verb;
 use encoding::{Hash32, KeyData, Name};
-use std::env;
-use user::User;
-
-const USAGE: &str = "usage: example_client ADDRESS PROVIDER_KEY NAME KEY ROOTS
-
-Registers KEY for NAME with the directory that listens on ADDRESS, unless the name has a key, and watches
-the name until ROOTS new roots have come. KEY and PROVIDER_KEY, which checks signatures, are hexadecimal.";
+use nodehash::Sha256Hash;
+use play::Ask;
+use sigiface::KeyedSign;
+use std::net::TcpStream;
+use std::time::Duration;
+use std::{env, str, thread};
+use textio::option_hex32;
+use vrfiface::KeyedVuf;
 
 fn main(rt: HostRuntime) -> Result<()> {
     let alloc = rt.alloc();
     let words: Vec<String> = env::args(&rt)?.collect(alloc)?;
     let [_, address, provider, name, key, roots] = words.as_slice() else {
-        ensure!(words.len() < 2, "{USAGE}");
-        println!(rt; "{USAGE}")?;
+        println!(rt; "usage: example_client ADDRESS PROVIDER_KEY NAME KEY ROOTS")?;
         return Ok(());
     };
-    let mut provider_key = [0; 32];
-    hex::decode_to_slice(provider.as_bytes(), &mut provider_key).context("reading PROVIDER_KEY")?;
-    let name = Name::new(name.as_bytes()).context("reading NAME")?;
+    let provider = Hash32::new(option_hex32(provider).context("reading PROVIDER_KEY")?);
+    let owned = Name::new(name.as_bytes()).context("reading NAME")?;
     let key = hex::decode(alloc, key.as_bytes()).context("reading KEY")?;
-    let key = KeyData::new(&key).context("reading KEY")?;
+    let expected = KeyData::new(&key).context("reading KEY")?;
     let roots = roots.parse::<u64>().context("reading ROOTS")?;
 
-    let directory = Directory { rt: &rt, address };
-    let mut user = User::start(directory, Hash32::new(provider_key))?;
-    // If the name has a key already, it has to be the owner's.
-    let is_bound = user.look_up(&name)?;
-    let expected = if is_bound { Some(key.copied()) } else { None };
-    let mut monitor = user.monitor(name, expected)?;
-    user.watch(&mut monitor)?;
+    // Start at the directory's latest root. The token is that of the operator, which a user does not have.
+    let stream = &mut TcpStream::connect(&rt, address).context("connecting")?;
+    let (said, token) = (&mut Said::new(alloc), Hash32::default());
+    let checks = Checks {
+        hash: Sha256Hash::new(),
+        vuf: KeyedVuf::new(provider),
+        verifier: KeyedSign::new(provider),
+    };
+    let Ok(mut asker) = Asker::start_at_head(alloc, stream, checks, provider, token, said) else {
+        bail!("no root: {}", str::from_utf8(&said.words)?);
+    };
+
+    // Look the name up, and watch it from the latest epoch on. If it has a key, that has to be the owner's.
+    let name = Vec::from_slice(alloc, owned.bytes())?;
+    let asked = asker.ask(stream, &Ask::Lookup { name, epoch: 0 }, said);
+    let is_bound = said.text.starts_with(b"present");
+    tell(&rt, asked, said)?;
+    let expected = if is_bound { Some(&expected) } else { None };
+    tell(&rt, asker.watch(stream, &owned, expected, said), said)?;
+
+    // Register the key. The client keeps the promise, and the monitor expects the key from the next epoch on.
     if !is_bound {
-        user.register(&mut monitor, &key)?;
+        let (verb, name) = (Verb::Register, Vec::from_slice(alloc, owned.bytes())?);
+        let asked = asker.ask(stream, &Ask::Put { verb, name, key }, said);
+        tell(&rt, asked, said)?;
     }
+
+    // Follow the chain. At each new root, the monitor looks the name up, and the promise is tested if it is due.
     for _ in 0..roots {
-        user.await_root(&mut monitor)?;
+        let latest = asker.client().chain().head().body.epoch;
+        for _ in 0..u64::MAX {
+            thread::sleep(&rt, Duration::from_secs(1));
+            tell(&rt, asker.follow(stream, said), said)?;
+            if latest < asker.client().chain().head().body.epoch {
+                break;
+            }
+        }
+        tell(&rt, asker.go_on(stream, said), said)?;
     }
+    Ok(())
+}
+
+/// Prints what was said, and fails if something was refused or no reply came. An alarm is no failure.
+fn tell(rt: &HostRuntime, asked: Result<(), AskFault>, said: &mut Said) -> Result<()> {
+    print!(rt; "{}", str::from_utf8(&said.text)?)?;
+    said.text.clear();
+    ensure!(said.words.is_empty(), "{}", str::from_utf8(&said.words)?);
+    ensure!(asked.is_ok(), "{asked:?}");
     Ok(())
 }

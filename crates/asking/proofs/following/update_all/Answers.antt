@@ -1,4 +1,4 @@
-use Rattle.std.proofs.Common.{◌≡◌, ◌∙◌, Err, subst, arith, get_or, refl, rules, slice_index_or, sym}
+use Rattle.std.proofs.Common.{◌≡◌, ◌∙◌, Err, subst, arith, get_or, refl, rules, sym}
 use Rattle.std.proofs.lemmas.List.{get_or_default}
 use Rattle.monitor.specs.Monitors.{Monitor}
 use Rattle.asking.specs.Following.{MonitorUpdates}

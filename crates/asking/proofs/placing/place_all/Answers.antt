@@ -1,4 +1,4 @@
-use Rattle.std.proofs.Common.{◌∙◌, ◌∷◌, ◌++◌, [], ℕ, List, Option, Some, None, ap, refl, subst}
+use Rattle.std.proofs.Common.{◌∙◌, ◌∷◌, ◌++◌, [], ℕ, List, Option, Some, ap, refl, subst}
 use Rattle.asking.specs.Stopping.{epochs_text, Stops}
 use Rattle.asking.specs.declared.placing.Stop.{Stop}
 use Rattle.asking.specs.declared.placing.Stop.TheVariants.{OtherEpoch, Refused}

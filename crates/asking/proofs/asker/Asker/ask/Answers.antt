@@ -1,7 +1,8 @@
-use Rattle.std.proofs.Common.{◌∙◌}
+use Rattle.std.proofs.Common.{◌≡◌, ◌∙◌, Err, rules, sym}
 use Rattle.wire.specs.FrameViews.{frame_seen}
 use Rattle.play.specs.Spoken.{ask_seen}
 use Rattle.asking.specs.Exchanges.{Exchanges}
+use Rattle.asking.specs.declared.fault.AskFault.TheVariants.{Stopped}
 use Rattle.asking.proofs.Asked.{asks_all}
 use Rattle.asking.proofs.asker.Asker.ask.Goals as goal
 
@@ -10,5 +11,19 @@ returns-clause-asks g c =
     asks_all g.H.NodeHash.digest_of g.V.VufCheck.accepted g.S.Verifier.verified (Exchanges g.T.Write.contents g.T.Read.remaining) c.go_on_from.result c.args.self.now c.catch_up.new.self c.answer.new.self
     c.go_on_from.new.self c.args.said.now c.catch_up.new.said c.answer.new.said c.go_on_from.new.said c.args.stream.now c.request.new.stream c.catch_up.new.stream c.go_on_from.new.stream
     (ask_seen c.args.ask.now) (frame_seen c.in_ok-frame.frame) c.head-head.ensures.0 c.head-head.result c.epoch_of.result c.in_ok-answer.ensures.hears.0 c.head-head.ensures.1 c.head-head.ensures.2
-    (c.in_ok-reply.ensures.sent (frame_seen c.in_ok-frame.frame) (rw c.deref.ensures.value at c.in_ok-frame.ensures)) c.epoch_of.ensures c.in_ok-catch_up.ensures.catches c.in_ok-answer.ensures.hears.1
+    (c.in_ok-reply.ensures.sent (frame_seen c.in_ok-frame.frame) (rw c.deref.ensures.value at c.in_ok-frame.ensures.ok)) c.epoch_of.ensures c.in_ok-catch_up.ensures.catches c.in_ok-answer.ensures.hears.1
     c.in_ok-answer.ensures.hears.2 c.in_ok-answer.ensures.hands (c.in_ok-answer.ensures.stays.2 ∙ c.in_ok-catch_up.ensures.stays.2) c.go_on_from.ensures.goes
+
+pub returns-in_err-catch_up-clause-stops : goal.returns-in_err-catch_up-clause-stops
+returns-in_err-catch_up-clause-stops g c =
+    let passed : c.from_residual-in_err-catch_up.result ≡ Err c.in_err-catch_up.field-0.0 = search rules in
+    λ stopped.
+    let here : c.catch_up.result ≡ Err Stopped = search (rules, sym passed ∙ stopped) in
+    record {
+      frame = frame_seen c.in_ok-frame.frame;
+      stream = c.request.new.stream;
+      exchange = c.in_ok-reply.ensures.sent (frame_seen c.in_ok-frame.frame) (rw c.deref.ensures.value at c.in_ok-frame.ensures.ok);
+      epoch = c.epoch_of.result;
+      speaks = c.epoch_of.ensures;
+      stops = c.catch_up.ensures.stops here;
+    }

@@ -1,4 +1,4 @@
-use Rattle.std.proofs.Common.{◌≡◌, ◌-◌, ℕ, length}
+use Rattle.std.proofs.Common.{◌≡◌, ◌-◌, length}
 use Rattle.asking.specs.Exchanges.{Exchanges}
 use Rattle.asking.specs.Scenes.{scene, Scene, Stays}
 use Rattle.asking.specs.Watching.{AllStep}

@@ -20,7 +20,7 @@ returns-in_default-2-clause-steps g c =
     steps_none g.H.NodeHash.digest_of g.V.VufCheck.accepted (Exchanges g.T.Write.contents g.T.Read.remaining) c.args.self.now c.args.said.now c.args.stream.now c.args.place
     c.in-Some.monitor.now c.in_ok-name.name.items c.in-Some-next_epoch.epoch (frame_seen c.in_ok-frame_in.field-0) c.request.new.stream c.body_of.new.said at next
     (c.in_ok-name.ensures.items ∙ c.bytes.ensures.value ∙ c.name.ensures)
-    (c.in_ok-reply.ensures.sent (frame_seen c.in_ok-frame_in.field-0) (rw c.deref-2.ensures.value at c.in_ok-frame_in.ensures)) gives
+    (c.in_ok-reply.ensures.sent (frame_seen c.in_ok-frame_in.field-0) (rw c.deref-2.ensures.value at c.in_ok-frame_in.ensures.ok)) gives
 
 pub returns-clause-steps : goal.returns-clause-steps
 returns-clause-steps g c =
@@ -41,4 +41,4 @@ returns-clause-steps g c =
     c.in-Some.monitor.now c.in_ok-name.name.items c.in-Some-next_epoch.epoch (frame_seen c.in_ok-frame_in.field-0) c.request.new.stream c.body_of.new.said c.watch_at.new.said
     c.in-Some-2.found.now c.in_ok-watch_at.field-0 (with_items c.args.self.now.monitors c.watch_at.new.monitors).items at next
     (c.in_ok-name.ensures.items ∙ c.bytes.ensures.value ∙ c.name.ensures)
-    (c.in_ok-reply.ensures.sent (frame_seen c.in_ok-frame_in.field-0) (rw c.deref-2.ensures.value at c.in_ok-frame_in.ensures)) gives watched
+    (c.in_ok-reply.ensures.sent (frame_seen c.in_ok-frame_in.field-0) (rw c.deref-2.ensures.value at c.in_ok-frame_in.ensures.ok)) gives watched

@@ -1,4 +1,4 @@
-use Rattle.std.proofs.Common.{◌≡◌, ◌∙◌}
+use Rattle.std.proofs.Common.{◌∙◌}
 use Rattle.wire.specs.FrameViews.{frame_seen}
 use Rattle.asking.specs.Exchanges.{Exchanges}
 use Rattle.asking.proofs.Tested.{tests_none, tests_some}
@@ -10,7 +10,7 @@ returns-in_default-2-clause-tests g c =
     let gives = rw c.in_default-2.is at c.in_ok-found.ensures in
     tests_none g.H.NodeHash.digest_of g.V.VufCheck.accepted (Exchanges g.T.Write.contents g.T.Read.remaining) c.args.self.now c.args.said.now c.args.stream.now
     c.args.name.now c.in_ok-from_slice.field-0.items c.in-Some.epoch (frame_seen c.in_ok-frame_in.field-0) c.request.new.stream c.body_of.new.said due (c.in_ok-from_slice.ensures.items ∙ c.bytes.ensures.value)
-    (c.in_ok-reply.ensures.sent (frame_seen c.in_ok-frame_in.field-0) (rw c.deref.ensures.value at c.in_ok-frame_in.ensures)) gives
+    (c.in_ok-reply.ensures.sent (frame_seen c.in_ok-frame_in.field-0) (rw c.deref.ensures.value at c.in_ok-frame_in.ensures.ok)) gives
 
 pub returns-clause-tests : goal.returns-clause-tests
 returns-clause-tests g c =
@@ -19,4 +19,4 @@ returns-clause-tests g c =
     tests_some g.H.NodeHash.digest_of g.V.VufCheck.accepted (Exchanges g.T.Write.contents g.T.Read.remaining) c.args.self.now c.args.said.now c.args.stream.now
     c.args.name.now c.in_ok-from_slice.field-0.items c.in-Some.epoch (frame_seen c.in_ok-frame_in.field-0) c.request.new.stream c.body_of.new.said c.tell_due.new.said c.in-Some-2.found.now
     c.in_ok-tell_due.field-0 c.tell_due.new.client due (c.in_ok-from_slice.ensures.items ∙ c.bytes.ensures.value)
-    (c.in_ok-reply.ensures.sent (frame_seen c.in_ok-frame_in.field-0) (rw c.deref.ensures.value at c.in_ok-frame_in.ensures)) gives c.in_ok-tell_due.ensures
+    (c.in_ok-reply.ensures.sent (frame_seen c.in_ok-frame_in.field-0) (rw c.deref.ensures.value at c.in_ok-frame_in.ensures.ok)) gives c.in_ok-tell_due.ensures

@@ -1,4 +1,4 @@
-use Rattle.std.proofs.Common.{◌≡◌, ◌∙◌, suc, Some, None}
+use Rattle.std.proofs.Common.{◌∙◌, suc, Some, None}
 use Rattle.asking.specs.Exchanges.{Exchanges}
 use Rattle.asking.specs.Scenes.{scene}
 use Rattle.asking.proofs.Tested.{visits_as}
