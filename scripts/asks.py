@@ -112,12 +112,12 @@ class Asked:
         self.words.append(f"{line}: {words}")
         self.status = max(self.status, 1)
 
-    def refuse(self, what, refusal):
-        """Tells a refusal of the client, behind its evidence."""
+    def refuse(self, what, refusal, of=""):
+        """Tells a refusal of the client, behind its evidence. Its words begin with what it is of."""
         if getattr(refusal, "evidence", None) is not None:
             self.text.append(evidence_json(refusal.evidence))
         self.text.append(f"client refuses {what} {refusal.number}")
-        self.explain(self.text[-1], refusal.text)
+        self.explain(of + self.text[-1], refusal.text)
 
     def begin(self):
         """The client of the saved chain, or one that starts at the head."""
@@ -178,7 +178,7 @@ class Asked:
             try:
                 due = self.client.due(name, got[2])
             except Refusal as refusal:
-                self.refuse("proof", refusal)
+                self.refuse("proof", refusal, f"promise for {name.hex()}: ")
                 continue
             if due == OTHER_INDEX:
                 self.refuse("promise", ReplyRefused(26))
@@ -272,7 +272,7 @@ class Asked:
             try:
                 step = monitor.step(got[2])
             except Refusal as refusal:
-                return self.refuse("proof", refusal)
+                return self.refuse("proof", refusal, f"watching {monitor.name.hex()} at epoch {epoch}: ")
             self.text.append(step_line(monitor.name.hex(), epoch, step))
             if step != KEPT:
                 self.status = 3
@@ -305,7 +305,7 @@ class Asked:
                     self.line(line)
                 except NotACommand:
                     self.words.append(f"line {place}: not a command")
-                    self.status = 1
+                    self.status = max(self.status, 1)
                     return
         except NoReply:
             self.words.append("no reply")

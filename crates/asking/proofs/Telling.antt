@@ -29,3 +29,12 @@ pub tells_answer : {X A E : Type 0} (result : Result A E) (P : X → Type 0) (to
     → OnOk result (Tells before (told_of answer) after) → OnOk result ((x : X) × P x × Tells before (told_of x) after)
 tells_answer (Ok done) P told_of answer before after holds tells = (answer, holds, tells)
 tells_answer (Err fault) P told_of answer before after holds tells = tt
+
+-- only words were said before it
+pub told_behind : {A E : Type 0} (result : Result A E) (told : Told) (before after : Said) (text : List ℕ) (status : ℕ) → text ≡ before.text.items → status ≡ before.status
+    → OnOk result ((after.text.items ≡ text ++ told.lines) × (after.status ≡ worse status told.status)) → OnOk result (Tells before told after)
+told_behind (Ok done) told before after text status same stays tells = (
+  tells.0 ∙ ap (λ (t : List ℕ). t ++ told.lines) same,
+  tells.1 ∙ ap (λ (s : ℕ). worse s told.status) stays,
+)
+told_behind (Err fault) told before after text status same stays tells = tt

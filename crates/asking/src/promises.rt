@@ -21,7 +21,7 @@ use client::{Client, Due};
 use encoding::Name;
 use monitor::Monitor;
 use nodehash::NodeHash;
-use play::{Ask, push_hex};
+use play::Ask;
 use proofs::BrokenPromise;
 use sigiface::Verifier;
 use std::alloc::{AllocError, Global};
@@ -153,8 +153,7 @@ fn tell_broken(
     ensures { OnOk result (Tells said.old (refused (evidence_text (evidence.Broken broken))) said.new) }
 {
     tell_proof(alloc, broken, said)?;
-    said.words.extend_from_slice(b"promise for ")?;
-    push_hex(&mut said.words, name.bytes())?;
+    said.begin(b"promise for ", name)?;
     said.explain(b"it was not kept")
 }
 
@@ -196,6 +195,8 @@ where
             Ok(false)
         }
         Err(why) => {
+            said.begin(b"promise for ", name)?;
+            said.words.extend_from_slice(b": ")?;
             tell_client(alloc, b"client refuses proof", why, said)?;
             Ok(false)
         }

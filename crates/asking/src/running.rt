@@ -4,7 +4,7 @@ ghost use Rattle.std.specs.Io.KnownBytes.{Keeps};
 ghost use Rattle.textio.specs.declared.program_fault.ProgramFault.TheVariants.{BadHex};
 ghost use Rattle.asking.specs.AskOptions.{ask_keys_of, values_of};
 
-use crate::said::REFUSED;
+use crate::said::{ALARM, REFUSED};
 use crate::state::State;
 use crate::{AskFault, AskOrder, Asker, Checks, Said};
 use encoding::Hash32;
@@ -151,8 +151,20 @@ where
     W: Write,
     E: Write,
 {
-    /// Ends a run: what was said is written, and the status returned.
+    /// Ends a run: what was said is written, and the status returned. That of an alarm stays if a fault follows.
     fn end(&mut self, outcome: Result<(), AskFault>) -> Result<u8, ProgramFault> {
+        match self.conclude(outcome) {
+            Err(fault) if self.said.status != ALARM => Err(fault),
+            Err(fault) => {
+                let _told = fault.tell(self.errors);
+                Ok(ALARM)
+            }
+            Ok(()) => Ok(self.said.status),
+        }
+    }
+
+    /// Writes what was said of how the run went. Returns its fault, if there is one.
+    fn conclude(&mut self, outcome: Result<(), AskFault>) -> Result<(), ProgramFault> {
         match outcome {
             Ok(()) => {}
             Err(AskFault::Program(fault)) => {
@@ -165,8 +177,7 @@ where
                 self.said.raise(REFUSED);
             }
         }
-        self.write()?;
-        Ok(self.said.status)
+        self.write()
     }
 
     /// Begins with the chain of the state, or with the directory's head, and asks.
@@ -179,7 +190,7 @@ where
     ) -> Result<(), AskFault> {
         let mut asker = self.begin(key, token)?;
         let followed = self.follow(&mut asker);
-        self.save(&asker)?;
+        self.tell_and_save(&asker)?;
         followed?;
         match order.command {
             Some(_) => {
@@ -233,7 +244,7 @@ where
         Err(AskFault::Program(ProgramFault::CannotRead))
     }
 
-    /// Asks the line of this number, keeps what is new, and writes what is said.
+    /// Asks the line of this number.
     fn ask_line(
         &mut self,
         asker: &mut KeyedAsker,
@@ -252,14 +263,14 @@ where
             }
             Line::Piece { .. } | Line::End { .. } => return not_a_command,
         };
-        self.save(asker)?;
-        asked?;
-        self.write()?;
-        Ok(())
+        self.tell_and_save(asker)?;
+        asked
     }
 
-    /// Keeps what is new in the files of the state, if there is one.
-    fn save(&mut self, asker: &KeyedAsker) -> Result<(), ProgramFault> {
+    /// Writes what is said, and then keeps what is new in the files of the state, if there is one: an epoch counts
+    /// as watched only once its alarm was told.
+    fn tell_and_save(&mut self, asker: &KeyedAsker) -> Result<(), ProgramFault> {
+        self.write()?;
         match self.state.as_mut() {
             Some(state) => state.save(self.alloc, self.files, asker),
             None => Ok(()),

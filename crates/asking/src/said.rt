@@ -2,7 +2,8 @@ ghost use Rattle.std.specs.Prelude.{◌≡◌, ◌++◌, [], OnOk};
 ghost use Rattle.asking.specs.Refused.{other_reply, refuses_text};
 ghost use Rattle.asking.specs.Told.{refused, worse, Tells};
 
-use play::push_number;
+use encoding::Name;
+use play::{push_hex, push_number};
 use std::alloc::{AllocError, Global};
 
 /// The status of a run in which the directory or the client refused.
@@ -61,6 +62,16 @@ impl Said {
         self.text.push(b'\n')?;
         push_refusal(&mut self.words, what, number)?;
         self.explain(words)
+    }
+
+    /// Begins a line of the errors with a name and what is done for it.
+    pub(crate) fn begin(&mut self, what: &[u8], name: &Name) -> Result<(), AllocError>
+        ensures text { OnOk result ((self.new).text ≡ (self.old).text) }
+        ensures status { OnOk result ((self.new).status ≡ (self.old).status) }
+    {
+        self.words.extend_from_slice(what)?;
+        push_hex(&mut self.words, name.bytes())?;
+        Ok(())
     }
 
     /// Tells that a reply does not answer what was asked.

@@ -21,6 +21,8 @@ pub(crate) struct State<'a> {
     beside: String,
     /// The epoch of the last root in the file, or 0.
     epoch: u64,
+    /// Whether the last line of the file has no end.
+    is_cut: bool,
     /// What the second file has.
     kept: Vec<u8>,
 }
@@ -70,6 +72,7 @@ impl<'a> State<'a> {
             path,
             beside: format!(in alloc; "{path}.kept")?,
             epoch: 0,
+            is_cut: false,
             kept: Vec::new(alloc),
         })
     }
@@ -96,6 +99,7 @@ impl<'a> State<'a> {
         let Some(roots) = file_bytes(alloc, files, self.path)? else {
             return Ok(Err(checks));
         };
+        self.is_cut = roots.last() != Some(&b'\n');
         let mut lines = roots.split(|byte| *byte == b'\n');
         let first = line_bytes(alloc, lines.next().unwrap_or(b""), 1)?;
         let mut asker = match Asker::start(alloc, checks, key, token, &first) {
@@ -147,6 +151,10 @@ impl<'a> State<'a> {
             let Ok(mut file) = options.open(files, self.path) else {
                 return Err(ProgramFault::CannotWrite);
             };
+            if self.is_cut {
+                write_text(&mut file, b"\n")?;
+                self.is_cut = false;
+            }
             write_text(&mut file, &text)?;
             self.epoch = asker.head();
         }

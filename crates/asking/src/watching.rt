@@ -1,9 +1,10 @@
 // The monitors of names.
-ghost use Rattle.std.specs.Prelude.{◌≡◌, ◌≢◌, ◌-◌, ℕ, length, slice_get, IfErr, IfOk, OnOk, Some};
+ghost use Rattle.std.specs.Prelude.{◌≡◌, ◌≢◌, ◌-◌, ℕ, codes, length, slice_get, IfErr, IfOk, OnOk, Some};
 ghost use Rattle.std.specs.List.{AllZip};
 ghost use Rattle.rootchain.specs.declared.signed_promise.SignedPromise.{SignedPromise};
 ghost use Rattle.asking.specs.Asking.{HandsTo};
 ghost use Rattle.asking.specs.Exchanges.{Exchanges};
+ghost use Rattle.asking.specs.Refused.{client_refuses};
 ghost use Rattle.asking.specs.Scenes.{scene, Remains, Stays};
 ghost use Rattle.asking.specs.Told.{Tells};
 ghost use Rattle.asking.specs.Watching.{step_told, GoesOn, StepsOnce, StepsThrough, WatchesAt, WatchesEpoch};
@@ -14,9 +15,10 @@ use crate::checking::tell_client;
 use crate::exchange::frame_in;
 use crate::said::ALARM;
 use crate::{AskFault, Asker, Checks, Said};
+use encoding::Name;
 use monitor::{Monitor, Refusal, Step};
 use nodehash::NodeHash;
-use play::{Ask, tell_step};
+use play::{Ask, push_number, tell_step};
 use rootchain::SignedPromise;
 use sigiface::Verifier;
 use std::alloc::{AllocError, Global};
@@ -193,6 +195,23 @@ fn tell_watched(name: &[u8], epoch: u64, step: Step<'_>, said: &mut Said) -> Res
     }
 }
 
+/// Tells that the client of a monitor refuses a proof. The words name what is watched.
+fn refuse_proof(
+    alloc: Global,
+    name: &Name,
+    epoch: u64,
+    why: client::Refusal,
+    said: &mut Said,
+) -> Result<(), AllocError>
+    ensures { OnOk result (Tells said.old (client_refuses (codes "client refuses proof") why) said.new) }
+{
+    said.begin(b"watching ", name)?;
+    said.words.extend_from_slice(b" at epoch ")?;
+    push_number(&mut said.words, epoch)?;
+    said.words.extend_from_slice(b": ")?;
+    tell_client(alloc, b"client refuses proof", why, said)
+}
+
 /// Lets a monitor watch its next epoch by a reply, and tells its step. Returns whether its client accepted the
 /// proof.
 fn watch_epoch<H, V, S>(
@@ -215,7 +234,7 @@ where
             Ok(true)
         }
         Err(Refusal::Client(why)) => {
-            tell_client(alloc, b"client refuses proof", why, said)?;
+            refuse_proof(alloc, monitor.name(), epoch, why, said)?;
             Ok(false)
         }
         Err(Refusal::OtherPromise) => unreachable!(),
