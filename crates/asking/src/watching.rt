@@ -32,6 +32,10 @@ where
     S: Verifier + Drop,
 {
     /// Lets each monitor watch the epochs that are new, and tests the promises that are due.
+    ///
+    /// # Errors
+    ///
+    /// `NoReply`; `OutOfMemory`.
     pub fn go_on<T: Read + Write>(
         &mut self,
         stream: &mut T,
