@@ -300,12 +300,17 @@ for key in sign-key vuf-key salt-key token nonce provider other; do echo $key $z
 own=$keys keys="--keys $folder/keys"
 begins 0000000000000001
 begins 0000000000000001 --sign-key $ones
+begins 0000000000000001 --token= --nonce=
 keys=$own
 head -n 3 "$folder/keys" >"$folder/some"
 given "" serve --keys "$folder/some"
 ends 1 "" "bad hex"
 given "" ask --keys "$folder/some" nowhere
 ends 1 "" "bad hex"
+given "" serve --keys "$folder/some" --token=
+ends 1 "" "bad hex"
+given "" ask --keys "$folder/keys" --provider= --token= nowhere
+ends 1 "" "cannot connect"
 for line in "token $zeros " "token ${zeros%0}" "token  $zeros" "token" "" "token-$zeros"; do
     { cat "$folder/keys"; echo "$line"; } >"$folder/others"
     given "" serve --keys "$folder/others"

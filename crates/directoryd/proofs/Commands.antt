@@ -1,5 +1,5 @@
 -- What clap reads of a command with one more argument.
-use Rattle.std.proofs.Common.{◌≡◌, ◌∙◌, ◌||◌, ap, ap₂, refl, Bool, true, false}
+use Rattle.std.proofs.Common.{◌≡◌, ◌∙◌, ◌||◌, ap, ap₂, false}
 use Rattle.std.proofs.Math.Bool.{or-false}
 use Rattle.clap.specs.Words.{AddsArg, App, Rule, app_of, rule_of, with_rule}
 use Rattle.clap.specs.declared.builder.arg.Arg.{Arg}

@@ -1,4 +1,5 @@
 mod Commands
+mod KeyLines
 mod Numbers
 pub mod Faults
 mod Statuses

@@ -9,6 +9,7 @@ use Rattle.clap.specs.Words.{Row, Text, fault_of, first_of, subcommand_of}
 use Rattle.items.specs.declared.orders.HashChoice.{HashChoice}
 use Rattle.items.specs.declared.orders.HashChoice.TheVariants.{Sha256, Sum}
 use Rattle.items.specs.TreeOptions.{TreeOptions, values_of}
+use Rattle.server.specs.declared.order.ListenOrder.{ListenOrder}
 use Rattle.server.specs.DirectoryOptions.{DirectoryOptions, values_of as directory_values}
 use Rattle.asking.specs.AskOptions.{AskOptions, values_of as ask_values}
 use Rattle.directoryd.specs.declared.order.subcommands.Order.{Order}
@@ -37,6 +38,10 @@ pub data Task : Type 0 where
   the_connections : DirectoryOptions → ConnectionOptions → Option Text → Task
   the_questions : AskOptions → Option Text → Task
 
+-- how an order takes connections
+abbrev pub connections_of : ListenOrder → ConnectionOptions
+connections_of order = record { count = order.count; sessions = order.sessions; idle = order.idle; until_eof = order.until_eof; address = order.address.now }
+
 abbrev pub values_in : Order → Task
 values_in (Root order) = the_root (values_of order)
 values_in (Prove order) = the_path order.index.now (values_of order.root)
@@ -44,9 +49,7 @@ values_in (Audit order) = the_audit order.key.now
 values_in (Judge order) = the_verdict order.key.now order.file.now
 values_in Play = the_script
 values_in (Serve order keys) = the_session (directory_values order) (option_map (λ path. path.now) keys)
-values_in (Listen order keys) = the_connections (directory_values order.directory)
-    (record { count = order.count; sessions = order.sessions; idle = order.idle; until_eof = order.until_eof; address = order.address.now })
-    (option_map (λ path. path.now) keys)
+values_in (Listen order keys) = the_connections (directory_values order.directory) (connections_of order) (option_map (λ path. path.now) keys)
 values_in (Ask order keys) = the_questions (ask_values order) (option_map (λ path. path.now) keys)
 
 -- the hash function of a name: the sum, or else SHA-256

@@ -23,9 +23,10 @@ use Rattle.server.specs.Directories.{keys_of}
 use Rattle.server.specs.Listening.{ListenTells}
 use Rattle.server.specs.Programs.{DirectoryServes}
 use Rattle.directoryd.specs.declared.ending.Ending.{Ending}
+use Rattle.directoryd.specs.declared.refusing.TheConstants.{WRONG_WORDS}
 use Rattle.directoryd.specs.CommandLine.{status_of, Refuses}
 use Rattle.directoryd.specs.Orders.{IsTask, Task, the_root, the_path, the_audit, the_verdict, the_script, the_session, the_connections, the_questions}
-use Rattle.directoryd.specs.KeyFiles.{AreAskKeys, AreDirectoryKeys, HasNoKeys, Uses}
+use Rattle.directoryd.specs.KeyFiles.{ask_with, directory_with, HasNoKeys, Uses}
 use Rattle.server.specs.DirectoryOptions.{DirectoryOptions}
 use Rattle.asking.specs.AskOptions.{AskOptions, ask_keys_of}
 
@@ -52,19 +53,19 @@ verdict_outcome (Err fault) = Err fault
 abbrev pub ServesKeyed : DirectoryOptions → Option Text → Option (List ℕ) → Option (List ℕ) → Option (List ℕ) → Option (List ℕ) → Option (List ℕ) → Result (Unit {0}) ProgramFault → Type 0
 ServesKeyed asked keys input out out-new err err-new result =
     (HasNoKeys keys result × Keeps out out-new × Keeps err err-new)
-    ⊎ ((used : DirectoryOptions) × (left : Option (List ℕ)) × Uses AreDirectoryKeys keys asked used × DirectoryServes used input out err result left out-new err-new)
+    ⊎ ((used : DirectoryOptions) × (left : Option (List ℕ)) × Uses directory_with keys asked used × DirectoryServes used input out err result left out-new err-new)
 
 -- connections are answered with them
 abbrev pub ListensKeyed : DirectoryOptions → Option Text → Option (List ℕ) → Option (List ℕ) → Result (Unit {0}) ProgramFault → Type 0
 ListensKeyed asked keys err err-new result =
     (HasNoKeys keys result × Keeps err err-new)
-    ⊎ ((used : DirectoryOptions) × Uses AreDirectoryKeys keys asked used × ((result ≡ Err BadHex) ↔ (keys_of used ≡ None)) × ListenTells used err result err-new)
+    ⊎ ((used : DirectoryOptions) × Uses directory_with keys asked used × ((result ≡ Err BadHex) ↔ (keys_of used ≡ None)) × ListenTells used err result err-new)
 
 -- a directory is asked with them: a text that is no key is a fault before all else
 abbrev pub AsksKeyed : AskOptions → Option Text → Option (List ℕ) → Option (List ℕ) → Option (List ℕ) → Option (List ℕ) → Result ℕ ProgramFault → Type 0
 AsksKeyed asked keys out out-new err err-new outcome =
     (HasNoKeys keys outcome × Keeps out out-new × Keeps err err-new)
-    ⊎ ((used : AskOptions) × Uses AreAskKeys keys asked used
+    ⊎ ((used : AskOptions) × Uses ask_with keys asked used
     × (ask_keys_of used ≡ None → (outcome ≡ Err BadHex) × Keeps out out-new × Keeps err err-new))
 
 -- What is ordered is done: a root is written, or the path of an index; an input is audited; a file is
@@ -126,7 +127,7 @@ no_text = codes "error: invalid UTF-8 was detected in one or more arguments\n"
 abbrev pub Starts : {A B R : Type 0} → (R → Option (List ℕ)) → Result (Vec (String A) B) IoError → Result R IoError
     → Option (List ℕ) → Option (List ℕ) → Option (List ℕ) → Option (List ℕ) → Result ℕ ProgramFault → Type 0
 Starts remaining (Err error) reader out out-new err err-new outcome = Keeps out out-new
-    × Prints 2 no_text err err-new outcome × ((outcome ≡ Err OutOfMemory) ↔ (error_kind error ≡ io.OutOfMemory))
+    × Prints WRONG_WORDS no_text err err-new outcome × ((outcome ≡ Err OutOfMemory) ↔ (error_kind error ≡ io.OutOfMemory))
 Starts remaining (Ok words) (Err error) out out-new err err-new outcome = WantsMemory out out-new err err-new outcome
 Starts remaining (Ok words) (Ok reader) out out-new err err-new outcome = Runs (map string_bytes words.items) (remaining reader) out out-new err err-new outcome
 

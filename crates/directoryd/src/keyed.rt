@@ -4,7 +4,7 @@ ghost use Rattle.asking.specs.AskOptions.{values_of as ask_values};
 ghost use Rattle.server.specs.DirectoryOptions.{values_of as directory_values};
 ghost use Rattle.directoryd.specs.Programs.{AsksKeyed, ListensKeyed, ServesKeyed};
 
-use crate::keys::{ask_with, directory_with, keys_at};
+use crate::keys::{ask_with, directory_with, keys_at, listen_with};
 use crate::{ask, listen, serve_directory};
 use asking::AskOrder;
 use server::{DirectoryOrder, ListenOrder};
@@ -62,14 +62,7 @@ where
         None => listen(alloc, system, order, input, errors),
         Some(path) => {
             let file = keys_at(alloc, system, path)?;
-            let order = ListenOrder {
-                directory: directory_with(order.directory, file.as_str()),
-                count: order.count,
-                sessions: order.sessions,
-                idle: order.idle,
-                until_eof: order.until_eof,
-                address: order.address,
-            };
+            let order = listen_with(order, file.as_str());
             listen(alloc, system, order, input, errors)
         }
     }

@@ -1,26 +1,65 @@
 // Keys that stand in a file, where other users of the machine do not see them. A line is an option's name, a
-// space and 64 hexadecimal digits; of a name that stands there twice, the first counts. Contracts do not know
-// what a file has.
-ghost use Rattle.std.specs.Prelude.{IfErr, IfSome, IsSome, option_map};
-ghost use Rattle.textio.specs.Digits.{hex32};
+// space and 64 hexadecimal digits; of a name that stands there twice, the first counts. An option on the command
+// line wins over the file, unless it is empty. Contracts do not know which bytes a file has.
+ghost use Rattle.std.specs.Prelude.{◌≡◌, ◌⊎◌, Decides, IfErr, IfOk, MatchOption, MatchResult, false, option_map, string_bytes, true};
 ghost use Rattle.asking.specs.AskOptions.{values_of as ask_values};
 ghost use Rattle.server.specs.DirectoryOptions.{values_of as directory_values};
-ghost use Rattle.directoryd.specs.KeyFiles.{AreAskKeys, AreDirectoryKeys, IsKeysFault, IsOptionOr, IsTextOr};
+ghost use Rattle.directoryd.specs.KeyFiles.{HasKeyLines, IsKeysFault, IsKeysFile, ask_with, directory_with, gives, is_key_line, key_in, name_in, option_or, text_or, value_in};
+ghost use Rattle.directoryd.specs.Orders.{connections_of};
 
 use asking::AskOrder;
-use server::DirectoryOrder;
+use server::{DirectoryOrder, ListenOrder};
 use std::alloc::Global;
 use std::fs::{self, Files};
 use textio::{ProgramFault, file_fault, hex32, read_whole};
 
-/// The name of an option and its digits, as a line of a file gives them.
+/// The name and the digits of a line that is a name, a space and 64 hexadecimal digits.
 fn key_line(line: &str) -> Option<(&str, &str)>
-    ensures { IfSome result (λ pair. IsSome (hex32 pair.1.now)) }
+    ensures { MatchOption result (is_key_line line.now ≡ false)
+        (λ pair. (is_key_line line.now ≡ true) × (pair.0.now ≡ name_in line.now) × (pair.1.now ≡ value_in line.now)) }
 {
     let (name, digits) = line.split_once(' ')?;
     match hex32(digits.as_bytes()) {
         Some(_) => Some((name, digits)),
         None => None,
+    }
+}
+
+/// The digits that a line gives the option of this name.
+fn value_of<'a>(line: &'a str, option: &str) -> Option<&'a str>
+    ensures { MatchOption result (gives option.now line.now ≡ false)
+        (λ digits. (gives option.now line.now ≡ true) × (digits.now ≡ value_in line.now)) }
+{
+    match key_line(line) {
+        Some((name, digits)) if name == option => Some(digits),
+        _ => None,
+    }
+}
+
+/// Whether each line is a name, a space and 64 hexadecimal digits.
+fn has_key_lines(text: &str) -> bool
+    ensures { Decides result (HasKeyLines text.now) }
+{
+    for line in text.lines() {
+        if key_line(line).is_none() {
+            return false;
+        }
+    }
+    true
+}
+
+/// The text of these bytes.
+///
+/// # Errors
+///
+/// `BadHex` exactly if they are not those of a file of keys; `OutOfMemory`.
+fn keys_text(alloc: Global, bytes: &[u8]) -> Result<String, ProgramFault>
+    ensures { MatchResult result (λ text. IsKeysFile bytes.now × (string_bytes text ≡ bytes.now))
+        (λ fault. ((fault ≡ ProgramFault.BadHex) × ¬ (IsKeysFile bytes.now)) ⊎ (fault ≡ ProgramFault.OutOfMemory)) }
+{
+    match str::from_utf8(bytes) {
+        Ok(text) if has_key_lines(text) => Ok(String::from_str(alloc, text)?),
+        _ => Err(ProgramFault::BadHex),
     }
 }
 
@@ -35,40 +74,31 @@ pub(crate) fn keys_at<F: Files>(
     files: &F,
     path: &str,
 ) -> Result<String, ProgramFault>
-    ensures { IfErr result IsKeysFault }
+    ensures ok { IfOk result (λ text. IsKeysFile (string_bytes text)) }
+    ensures err { IfErr result IsKeysFault }
 {
     let bytes = match fs::open(files, path) {
         Ok(mut file) => read_whole(alloc, &mut file)?,
         Err(error) => return Err(file_fault(&error)),
     };
-    let Ok(text) = str::from_utf8(&bytes) else {
-        return Err(ProgramFault::BadHex);
-    };
-    for line in text.lines() {
-        if key_line(line).is_none() {
-            return Err(ProgramFault::BadHex);
-        }
-    }
-    Ok(String::from_str(alloc, text)?)
+    keys_text(alloc, &bytes)
 }
 
 /// The digits that a file has for an option.
 fn key_in<'a>(file: &'a str, option: &str) -> Option<&'a str>
-    ensures { IfSome result (λ digits. IsSome (hex32 digits.now)) }
+    ensures { option_map (λ digits. digits.now) result ≡ key_in file.now option.now }
 {
     for line in file.lines() {
-        if let Some((name, digits)) = key_line(line) {
-            if name == option {
-                return Some(digits);
-            }
+        if let Some(digits) = value_of(line, option) {
+            return Some(digits);
         }
     }
     None
 }
 
-/// The text of an option, or else what a file has for it.
+/// The text of an option, or if that is empty what a file has for it.
 fn text_or<'a>(given: &'a str, file: &'a str, option: &str) -> &'a str
-    ensures { IsTextOr given.entry.now result.now }
+    ensures { result.now ≡ text_or given.entry.now (key_in file.now option.now) }
 {
     if !given.is_empty() {
         return given;
@@ -81,17 +111,17 @@ fn text_or<'a>(given: &'a str, file: &'a str, option: &str) -> &'a str
 
 /// The text of an option that need not be given, or else what a file has for it.
 fn option_or<'a>(given: Option<&'a str>, file: &'a str, option: &str) -> Option<&'a str>
-    ensures { IsOptionOr (option_map (λ text. text.now) given.entry) (option_map (λ text. text.now) result) }
+    ensures { option_map (λ text. text.now) result ≡ option_or (option_map (λ text. text.now) given.entry) (key_in file.now option.now) }
 {
     match given {
-        Some(text) => Some(text),
+        Some(text) => Some(text_or(text, file, option)),
         None => key_in(file, option),
     }
 }
 
 /// The order, with the keys that were not given from a file.
 pub(crate) fn directory_with<'a>(order: DirectoryOrder<'a>, file: &'a str) -> DirectoryOrder<'a>
-    ensures { AreDirectoryKeys (directory_values order.entry) (directory_values result) }
+    ensures { directory_values result ≡ directory_with file.now (directory_values order.entry) }
 {
     DirectoryOrder {
         signing_key: text_or(order.signing_key, file, "sign-key"),
@@ -104,8 +134,24 @@ pub(crate) fn directory_with<'a>(order: DirectoryOrder<'a>, file: &'a str) -> Di
     }
 }
 
+/// The same of an order to listen. How it takes connections stays.
+pub(crate) fn listen_with<'a>(order: ListenOrder<'a>, file: &'a str) -> ListenOrder<'a>
+    ensures directory { directory_values result.directory ≡ directory_with file.now (directory_values order.entry.directory) }
+    ensures connections { connections_of result ≡ connections_of order.entry }
+{
+    ListenOrder {
+        directory: directory_with(order.directory, file),
+        count: order.count,
+        sessions: order.sessions,
+        idle: order.idle,
+        until_eof: order.until_eof,
+        address: order.address,
+    }
+}
+
+/// The same of what is asked of a directory.
 pub(crate) fn ask_with<'a>(order: AskOrder<'a>, file: &'a str) -> AskOrder<'a>
-    ensures { AreAskKeys (ask_values order.entry) (ask_values result) }
+    ensures { ask_values result ≡ ask_with file.now (ask_values order.entry) }
 {
     AskOrder {
         provider: text_or(order.provider, file, "provider"),

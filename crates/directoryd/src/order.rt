@@ -3,6 +3,7 @@ ghost use Rattle.std.specs.NonZero.{non_zero_u64_get};
 ghost use Rattle.clap.specs.Words.{app_of, first_of, found_of, kind_of, rows_of, rule_of};
 ghost use Rattle.clap.specs.declared.builder.command.Command.TheViews.{out-Command};
 ghost use Rattle.clap.specs.declared.error.kind.ErrorKind.TheVariants.{OutOfMemory};
+ghost use Rattle.directoryd.specs.declared.order.TheConstants.{MOST_SESSIONS};
 ghost use Rattle.directoryd.specs.CommandLine.{ask_app, audit_app, bounded_rule, directory_app, flag_rule, hash_rule, journal_rule, judge_app, listen_app, nonce_rule, number_rule, play_app, positional_rule, prove_app, required_rule, root_app, serve_app, text_rule, with_directory, with_keys, word_rule, IsHashNames, Refuses};
 ghost use Rattle.items.specs.TreeOptions.{values_of};
 ghost use Rattle.server.specs.DirectoryOptions.{values_of as directory_values};
@@ -153,6 +154,9 @@ static SALT_KEY_HELP: &str = "The key of the salts of commitments, 64 hexadecima
 static TOKEN_HELP: &str =
     "The token of the operator, who alone closes epochs, 64 hexadecimal digits";
 
+/// The most connections that `--sessions` allows at once: what `listen` can hold.
+const MOST_SESSIONS: u64 = 1024;
+
 /// The names of the hash functions.
 static HASHES: [&str; 2] = ["sha256", "sum"];
 
@@ -252,14 +256,14 @@ fn count_arg<'a>(alloc: Global) -> Arg<'a>
 
 /// `--sessions N`.
 fn sessions_arg<'a>(alloc: Global) -> Arg<'a>
-    ensures rule { rule_of result ≡ bounded_rule (codes "sessions") 1 1024 (codes "1000") }
+    ensures rule { rule_of result ≡ bounded_rule (codes "sessions") 1 MOST_SESSIONS (codes "1000") }
     ensures local { result.global ≡ false }
 {
     Arg::new(alloc, "sessions")
         .long("sessions")
         .value_name("N")
         .default_value("1000")
-        .value_parser(ValueParser::unsigned(1, 1024))
+        .value_parser(ValueParser::unsigned(1, MOST_SESSIONS))
         .help("How many connections are open at once, 1 to 1024")
 }
 

@@ -2,6 +2,7 @@ ghost use Rattle.std.specs.Prelude.{◌≡◌, ◌↔◌, Err, IfErr};
 ghost use Rattle.std.specs.IoError.{error_kind};
 ghost use Rattle.clap.specs.Words.{kind_of};
 ghost use Rattle.clap.specs.declared.error.kind.ErrorKind.TheVariants.{OutOfMemory};
+ghost use Rattle.directoryd.specs.declared.refusing.TheConstants.{WRONG_WORDS};
 ghost use Rattle.directoryd.specs.CommandLine.{status_of};
 ghost use Rattle.directoryd.specs.Programs.{no_text, Prints, Shows};
 
@@ -10,6 +11,9 @@ use clap::error::ErrorKind;
 use std::alloc::Global;
 use std::io::{self, ErrorKind as IoKind, Write};
 use textio::{ProgramFault, write_text};
+
+/// The status of words that order nothing.
+const WRONG_WORDS: u8 = 2;
 
 /// The line about words that are not UTF-8.
 static NO_TEXT: &[u8] = b"error: invalid UTF-8 was detected in one or more arguments\n";
@@ -27,7 +31,7 @@ fn print<W: Write>(writer: &mut W, text: &[u8], status: u8) -> Result<u8, Progra
 fn status(error: &Error) -> u8
     ensures { result ≡ status_of (kind_of error.now) }
 {
-    if error.use_stderr() { 2 } else { 0 }
+    if error.use_stderr() { WRONG_WORDS } else { 0 }
 }
 
 /// Writes clap's text about words that order nothing, to the output if they ask for help, else to the
@@ -63,10 +67,10 @@ pub fn refuse<W: Write, E: Write>(
 /// `OutOfMemory` if the error is one of memory; `CannotWrite`.
 pub fn refuse_bytes<E: Write>(error: &io::Error, errors: &mut E) -> Result<u8, ProgramFault>
     ensures memory { (result ≡ Err ProgramFault.OutOfMemory) ↔ (error_kind error.now ≡ IoKind.OutOfMemory) }
-    ensures prints { Prints 2 no_text (E.contents errors.old) (E.contents errors.new) result }
+    ensures prints { Prints WRONG_WORDS no_text (E.contents errors.old) (E.contents errors.new) result }
 {
     if error.kind() == IoKind::OutOfMemory {
         return Err(ProgramFault::OutOfMemory);
     }
-    print(errors, NO_TEXT, 2)
+    print(errors, NO_TEXT, WRONG_WORDS)
 }

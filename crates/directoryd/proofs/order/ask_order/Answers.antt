@@ -1,5 +1,5 @@
-use Rattle.std.proofs.Common.{ap₂, ◌≡◌, ◌∙◌, ◌∷◌, [], codes, Option, option_map}
-use Rattle.clap.specs.Words.{Text, first_of, found_of, rows_of}
+use Rattle.std.proofs.Common.{◌≡◌, ◌∙◌, ◌∷◌, [], codes, option_map}
+use Rattle.clap.specs.Words.{first_of, found_of, rows_of}
 use Rattle.clap.proofs.WalkLemmas.{first_value-rows}
 use Rattle.directoryd.proofs.order.ask_order.Goals as goal
 
