@@ -37,7 +37,7 @@ nobody yet.
 
 Status 0: done, or help or the version was asked for. Status 1: a fault, which is one line on standard
 error; or `ask` was refused something. Status 2: the command line is wrong. Status 3: `judge` printed
-`no evidence`, or a name that `ask` watches has another key.
+`no evidence`, or a monitor of `ask` gave an alarm.
 
 `directoryd COMMAND --help` shows the options of a command, and an example. In the repository, README.md
 says what this is, docs/OPERATING.md how to run a directory, and docs/FORMATS.md what each byte means.
