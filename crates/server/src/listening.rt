@@ -18,7 +18,7 @@ ghost use Rattle.vrfiface.specs.StandIns.{keyed_value};
 ghost use Rattle.textio.specs.declared.program_fault.ProgramFault.TheVariants.{BadHex};
 ghost use Rattle.server.specs.DirectoryOptions.{values_of};
 ghost use Rattle.server.specs.Directories.{keys_of, salts};
-ghost use Rattle.server.specs.Listening.{ListenTells, TellsAddress, TellsKept, TellsLine};
+ghost use Rattle.server.specs.Listening.{ListenTells, TellsAddress, TellsKept, TellsLine, TellsUnkept};
 ghost use Rattle.server.specs.Programs.{ShownBy};
 ghost use Rattle.server.specs.Sessions.{AreLines};
 
@@ -150,7 +150,7 @@ where
     R: BufRead,
     E: Write,
     ensures bad_hex { (result ≡ Err BadHex) ↔ (keys_of (values_of order.entry.directory) ≡ None) }
-    ensures tells { TellsAddress (E.contents errors.old) result (E.contents errors.new) }
+    ensures tells { TellsUnkept (values_of order.entry.directory) (E.contents errors.old) result (E.contents errors.new) }
 {
     let keys = Keys::read(&order.directory)?;
     let directory = keys.begin(alloc)?;
