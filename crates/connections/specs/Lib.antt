@@ -3,6 +3,7 @@ pub mod Fairness
 pub mod Fitting
 pub mod Histories
 pub mod Laws
+pub mod Pauses
 pub mod Rounds
 pub mod Soundness
 pub mod Telling

@@ -2,7 +2,7 @@
 //! its disk, and then tells each. A round that did anything is followed by one that does not wait: a place may
 //! have become free, and there may be more to read.
 
-ghost use Rattle.std.specs.Prelude.{◌≡◌, ◌≢◌, ◌⊎◌, ◌↔◌, ◌+◌, ◌^◌, ◌<◌, ◌≤◌, ℕ, [], ◌∷◌, None, IsTrue, get_or, length};
+ghost use Rattle.std.specs.Prelude.{◌≡◌, ◌≢◌, ◌⊎◌, ◌↔◌, ◌+◌, ◌^◌, ◌<◌, ◌≤◌, ℕ, [], ◌∷◌, None, IsTrue, get_or, if◌then◌else◌, length};
 ghost use Rattle.connections.specs.Endings.{AreInside, AreWithin, HasEnded, IsStopped, most_comers};
 ghost use Rattle.connections.specs.Fairness.{AreAttended, AreUsed, IsFair, IsWhole, NoneOrdered, NoneWaited};
 ghost use Rattle.connections.specs.Fitting.{AreFree, AreUnread, Has, Knows, MayOrder, Tours, Turns, size_of};
@@ -114,8 +114,10 @@ impl State {
         }
     }
 
-    /// How many milliseconds the next round may wait.
-    fn pause(self) -> u64 {
+    /// How many milliseconds the next round may wait: none after one that did anything.
+    fn pause(self) -> u64
+        ensures { result ≡ (if self.work.is_busy then 0 else self.work.pause) }
+    {
         if self.work.is_busy {
             0
         } else {

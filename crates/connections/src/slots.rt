@@ -5,6 +5,7 @@ ghost use Rattle.connections.specs.Rounds.{IsUnread};
 ghost use Rattle.connections.specs.Fairness.{IfThere, IsAttended, IsNotDue, IsServed};
 ghost use Rattle.connections.specs.Fitting.{Adds, Has, HasTried, Judged, KeepsTalk, Knows, Serves, Stays, came_by};
 ghost use Rattle.connections.specs.Histories.{History, Hearing, Telling, clock, course, stage, stopped};
+ghost use Rattle.connections.specs.Pauses.{until_due};
 ghost use Rattle.connections.specs.Soundness.{Here, IsReason};
 ghost use Rattle.connections.specs.Telling.{lost_by};
 
@@ -180,6 +181,7 @@ fn tell<C: Connections>(
         × IfOk result (λ _. Here (course after place) (IsServed round.idle after place)) }
     ensures other { IfErr result (λ why. lost_by why ≡ 0) }
     ensures same { work.new.wanting ≡ work.old.wanting }
+    ensures pause { IfOk result (λ _. work.new.pause ≡ until_due round.now round.idle round.stopped talk.new.active work.old.pause) }
 {
     if talk.tell(alloc, connections, place, round.now, round.is_synced)? {
         work.is_busy = true;
@@ -193,6 +195,7 @@ fn judge(talk: &Talk, round: Round, most: u64) -> Result<u64, Ending>
     ensures due { (acts : History) (place : ℕ) → clock acts ≡ round.now → stopped acts ≡ round.stopped → (stage acts ≡ Telling false → talk.now.output.items ≡ [])
         → Here (course acts place) (KeepsTalk talk.now)
         → Judged round.idle acts place result talk.now × IfOk result (λ _. Here (course acts place) (IsNotDue round.idle acts)) }
+    ensures left { IfOk result (λ left. left ≡ until_due round.now round.idle round.stopped talk.now.active most) }
     ensures other { IfErr result (λ why. lost_by why ≡ 0) }
 {
     talk.patience(round.now, round.idle, round.stopped, most)

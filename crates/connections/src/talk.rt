@@ -5,6 +5,7 @@ ghost use Rattle.std.specs.Prelude.{◌≡◌, ◌≢◌, ◌⊎◌, ◌↔◌, 
 ghost use Rattle.connections.specs.Rounds.{InRound, asks, offers};
 ghost use Rattle.connections.specs.Fitting.{Adds, Attends, Hearkens, HearsFrom, IsDone, IsIdleDue, IsJudged, IsStopDue, Judged, Keeps, KeepsTalk, Knows, MayHearFrom};
 ghost use Rattle.connections.specs.Histories.{History, Hearing, Telling, clock, course, stage, stopped};
+ghost use Rattle.connections.specs.Pauses.{until_due, until_idle, until_stopped};
 ghost use Rattle.connections.specs.Soundness.{Here, MayRead};
 ghost use Rattle.connections.specs.Telling.{lost_by};
 ghost use Rattle.connections.specs.declared.limits.TheConstants.{FULL_OUTPUT};
@@ -214,6 +215,7 @@ impl Talk {
         most: u64,
     ) -> Result<u64, Ending>
         ensures judged { IsJudged now idle stopped self.now result }
+        ensures left { IfOk result (λ left. left ≡ until_due now idle stopped self.now.active most) }
         ensures other { IfErr result (λ why. lost_by why ≡ 0) }
     {
         if self.wants_no_more() {
@@ -233,6 +235,7 @@ impl Talk {
     fn patience_of_stop(&self, now: u64, stopped: Option<u64>, most: u64) -> Result<u64, Ending>
         ensures due { IfErr result (λ why. (why ≡ Ending.Stopped) × IsStopDue now stopped self.now) }
         ensures not_due { IfOk result (λ _. ¬ IsStopDue now stopped self.now) }
+        ensures left { IfOk result (λ left. left ≡ until_stopped now stopped most) }
     {
         let Some(then) = stopped else {
             return Ok(most);
@@ -247,6 +250,7 @@ impl Talk {
     fn patience_of_idle(&self, now: u64, idle: u64, most: u64) -> Result<u64, Ending>
         ensures due { IfErr result (λ why. (why ≡ Ending.Idle) × IsIdleDue now idle self.now) }
         ensures not_due { IfOk result (λ _. ¬ IsIdleDue now idle self.now) }
+        ensures left { IfOk result (λ left. left ≡ until_idle now idle self.now.active most) }
     {
         if idle == 0 {
             return Ok(most);

@@ -2,7 +2,7 @@
 // carries, so the clauses say what the directory does: it answers messages, which show one run of it. What a
 // connection reads and takes is in the contract of the loop (`answer_all` of `connections`), for connections of
 // which contracts know it. `scripts/listen.sh` covers the rest.
-ghost use Rattle.std.specs.Prelude.{◌≡◌, ◌≢◌, ◌↔◌, List, [], Err, IfErr, None, OnOk};
+ghost use Rattle.std.specs.Prelude.{◌≡◌, ◌≢◌, ◌↔◌, ◌*◌, ◌-◌, ◌^◌, min, max, List, [], Err, IfErr, None, OnOk};
 ghost use Rattle.connections.specs.Endings.{AreInside, AreWithin, HasEnded};
 ghost use Rattle.connections.specs.Fairness.{IsFair, IsWhole};
 ghost use Rattle.connections.specs.Fitting.{size_of, AreFree};
@@ -18,7 +18,7 @@ ghost use Rattle.vrfiface.specs.StandIns.{keyed_value};
 ghost use Rattle.textio.specs.declared.program_fault.ProgramFault.TheVariants.{BadHex};
 ghost use Rattle.server.specs.DirectoryOptions.{values_of};
 ghost use Rattle.server.specs.Directories.{keys_of, salts};
-ghost use Rattle.server.specs.Listening.{ListenTells, TellsAddress, TellsKept, TellsLine};
+ghost use Rattle.server.specs.Listening.{ListenTells, TellsAddress, TellsKept, TellsLine, TellsUnkept};
 ghost use Rattle.server.specs.Programs.{ShownBy};
 ghost use Rattle.server.specs.Sessions.{AreLines};
 
@@ -88,12 +88,22 @@ where
     sessions.head();
 }
 
-/// What an order allows.
-fn limits_of(order: ListenOrder<'_>) -> Limits {
+/// What an order allows. Its seconds are milliseconds here.
+fn limits_of(order: ListenOrder<'_>) -> Limits
+    ensures count { result.count ≡ order.entry.count }
+    ensures idle { result.idle ≡ min (order.entry.idle * 1000) (2 ^ 64 - 1) }
+{
     Limits {
         count: order.count,
         idle: order.idle.saturating_mul(1000),
     }
+}
+
+/// How many connections are open at once.
+fn most_open(order: ListenOrder<'_>) -> usize
+    ensures { result ≡ max 1 (min order.entry.sessions 1024) }
+{
+    order.sessions.clamp(1, MOST_SESSIONS) as usize
 }
 
 /// Listens on the address, and answers connections from the hub.
@@ -115,7 +125,7 @@ where
     ensures tells { TellsAddress (E.contents errors.old) result (E.contents errors.new) }
     ensures served { OnOk result ((lines : List Line) × (after : DeskState ChaCha K) × ShownBy K.kept K.failed hub.service lines after) }
 {
-    let count = order.sessions.clamp(1, MOST_SESSIONS) as usize;
+    let count = most_open(order);
     let places = Places::free(alloc, count)?;
     let mut sessions = HubSessions::new(alloc, hub);
     let input = if order.until_eof { Some(input) } else { None };
@@ -150,7 +160,7 @@ where
     R: BufRead,
     E: Write,
     ensures bad_hex { (result ≡ Err BadHex) ↔ (keys_of (values_of order.entry.directory) ≡ None) }
-    ensures tells { TellsAddress (E.contents errors.old) result (E.contents errors.new) }
+    ensures tells { TellsUnkept (values_of order.entry.directory) (E.contents errors.old) result (E.contents errors.new) }
 {
     let keys = Keys::read(&order.directory)?;
     let directory = keys.begin(alloc)?;

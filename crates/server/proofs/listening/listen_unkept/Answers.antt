@@ -1,0 +1,12 @@
+use Rattle.std.proofs.Common.{rules, ◌≡◌, Some}
+use Rattle.server.specs.DirectoryOptions.{values_of}
+use Rattle.server.specs.Directories.{keys_of, Begins}
+use Rattle.server.proofs.Unkept.{serves_begun}
+use Rattle.server.proofs.listening.listen_unkept.Goals as goal
+
+pub returns-clause-tells : goal.returns-clause-tells
+returns-clause-tells g c =
+    let keys : keys_of (values_of c.args.order.directory) ≡ Some c.in_ok-keys.keys = search rules in
+    let begins : Begins c.in_ok-keys.keys c.new-hub.result.service.directory = search rules in
+    let token : c.new-hub.result.service.token ≡ (c.in_ok-keys.keys).token = search rules in
+    (c.listen_from.ensures.tells, serves_begun (values_of c.args.order.directory) c.in_ok-keys.keys c.new-hub.result.service _ keys begins token c.listen_from.ensures.served)
