@@ -190,7 +190,7 @@ where
     ) -> Result<(), AskFault> {
         let mut asker = self.begin(key, token)?;
         let followed = self.follow(&mut asker);
-        self.tell_and_save(&asker)?;
+        self.save(&asker)?;
         followed?;
         match order.command {
             Some(_) => {
@@ -263,16 +263,25 @@ where
             }
             Line::Piece { .. } | Line::End { .. } => return not_a_command,
         };
-        self.tell_and_save(asker)?;
+        self.save(asker)?;
+        self.write()?;
+        // An epoch counts as watched once its alarm was told.
+        self.mark(asker)?;
         asked
     }
 
-    /// Writes what is said, and then keeps what is new in the files of the state, if there is one: an epoch counts
-    /// as watched only once its alarm was told.
-    fn tell_and_save(&mut self, asker: &KeyedAsker) -> Result<(), ProgramFault> {
-        self.write()?;
+    /// Keeps the roots and the promises that are new in the files of the state, if there is one.
+    fn save(&mut self, asker: &KeyedAsker) -> Result<(), ProgramFault> {
         match self.state.as_mut() {
             Some(state) => state.save(self.alloc, self.files, asker),
+            None => Ok(()),
+        }
+    }
+
+    /// Keeps how far names were watched.
+    fn mark(&mut self, asker: &KeyedAsker) -> Result<(), ProgramFault> {
+        match self.state.as_mut() {
+            Some(state) => state.mark(self.alloc, self.files, asker),
             None => Ok(()),
         }
     }

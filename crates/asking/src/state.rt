@@ -25,6 +25,8 @@ pub(crate) struct State<'a> {
     is_cut: bool,
     /// What the second file has.
     kept: Vec<u8>,
+    /// Its lines of how far names were watched, up to what was told.
+    marks: Vec<u8>,
 }
 
 /// The bytes of a file, or `None` if there is none of this name.
@@ -74,6 +76,7 @@ impl<'a> State<'a> {
             epoch: 0,
             is_cut: false,
             kept: Vec::new(alloc),
+            marks: Vec::new(alloc),
         })
     }
 
@@ -123,11 +126,12 @@ impl<'a> State<'a> {
                 }
             }
             self.kept = kept;
+            self.marks = asker.mark_lines()?;
         }
         Ok(Ok(asker))
     }
 
-    /// Writes what is new of the chain and of what is kept.
+    /// Writes what is new of the chain and of the promises.
     ///
     /// # Errors
     ///
@@ -158,7 +162,8 @@ impl<'a> State<'a> {
             write_text(&mut file, &text)?;
             self.epoch = asker.head();
         }
-        let kept = asker.kept_lines()?;
+        let mut kept = asker.promise_lines()?;
+        kept.extend_from_slice(&self.marks)?;
         if kept != self.kept {
             let beside = self.beside.as_str();
             let written = format!(in alloc; "{beside}.new")?;
@@ -172,6 +177,27 @@ impl<'a> State<'a> {
             self.kept = kept;
         }
         Ok(())
+    }
+
+    /// Writes how far names were watched, once that was told.
+    ///
+    /// # Errors
+    ///
+    /// `CannotWrite`; `OutOfMemory`.
+    pub(crate) fn mark<F, H, V, S>(
+        &mut self,
+        alloc: Global,
+        files: &F,
+        asker: &Asker<H, V, S>,
+    ) -> Result<(), ProgramFault>
+    where
+        F: Files<File = File>,
+        H: NodeHash + Drop,
+        V: VufCheck + Drop,
+        S: Verifier + Drop,
+    {
+        self.marks = asker.mark_lines()?;
+        self.save(alloc, files, asker)
     }
 }
 
@@ -290,8 +316,8 @@ where
         self.earlier.iter().any(|own| own == signed) || self.changes.iter().any(|own| own == signed)
     }
 
-    /// The lines of the promises that are kept, and of how far names were watched.
-    fn kept_lines(&self) -> Result<Vec<u8>, AllocError> {
+    /// The lines of the promises that are kept.
+    fn promise_lines(&self) -> Result<Vec<u8>, AllocError> {
         let mut text = Vec::new(self.alloc);
         for signed in self.client.promises() {
             let word: &[u8] = if self.is_own(signed) {
@@ -303,6 +329,12 @@ where
             push_hex(&mut text, signed.write().bytes())?;
             text.push(b'\n')?;
         }
+        Ok(text)
+    }
+
+    /// The lines of how far names were watched.
+    fn mark_lines(&self) -> Result<Vec<u8>, AllocError> {
+        let mut text = Vec::new(self.alloc);
         for place in 0..self.monitors.len() {
             if let Some((name, epoch)) = self.new_mark(place) {
                 push_mark(&mut text, name, epoch)?;
