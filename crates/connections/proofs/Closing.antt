@@ -38,7 +38,7 @@ fits_used (Some talk) None fits some = absurd fits
 fits_used (Some talk) (Some of) fits some = some_there of
 
 -- a reason to close stays one when the session is ended
-reason_kept : (idle : ℕ) (acts : History) (place : ℕ) (of : Course) (why : Ending) → IsReason idle acts why of → IsReason idle (On place Ends ∷ acts) why (record of { is_open = false })
+reason_kept : (idle : ℕ) (acts : History) (place : ℕ) (of : Course) (why : Ending) → IsReason idle acts why of → IsReason idle (On place Ends ∷ acts) why (record of { is_open = false; has_ended = true })
 reason_kept idle acts place of Done reason = reason
 reason_kept idle acts place of Fault reason = reason
 reason_kept idle acts place of Idle reason = reason
@@ -138,7 +138,7 @@ module _ {S : Type 0} (opens : S → ℕ → S → Type 0) (refuses : S → ℕ 
       let found = here_of (course acts place) (λ (of : Course). (of.is_open ≡ true) × IsReason idle acts why of) here in
       let of : Course = found.0 in
       let once : History = On place Ends ∷ acts in
-      let shut : Course = record of { is_open = false } in
+      let shut : Course = record of { is_open = false; has_ended = true } in
       let there : course once place ≡ Some shut = went place Ends acts of found.1 in
       let due_end : IsDue idle acts Ends (course acts place) = here_at (course acts place) of (λ (of : Course). of.is_open ≡ true) found.1 found.2.0 in
       let due_close : IsDue idle once (Closes why) (course once place) =

@@ -51,9 +51,10 @@ History = List Act
 
 -- ---- one connection
 
--- what came of a connection so far, and whether its session is open
+-- what came of a connection so far, and whether its session is open, or has ended
 pub record Course : Type 0 where
   pub is_open : Bool
+  pub has_ended : Bool
   pub read : List ℕ
   pub heard : List ℕ
   pub answered : List ℕ
@@ -69,7 +70,7 @@ pub record Course : Type 0 where
 
 -- a connection that is just taken
 abbrev pub taken_at : ℕ → Course
-taken_at now = record { is_open = false; read = []; heard = []; answered = []; taken = []; active = now; is_over = false; has_failed = false; is_wanting = false; is_refused = false }
+taken_at now = record { is_open = false; has_ended = false; read = []; heard = []; answered = []; taken = []; active = now; is_over = false; has_failed = false; is_wanting = false; is_refused = false }
 
 -- the time of the last answer: now, unless the answer is empty
 abbrev pub if_answered : List ℕ → ℕ → ℕ → ℕ
@@ -92,7 +93,7 @@ went_on Lacks now course = Some (record course { is_wanting = true })
 went_on (Takes bytes) now course = Some (record course { taken = course.taken ++ bytes; active = now })
 went_on TakesNone now course = Some course
 went_on Fails now course = Some (record course { has_failed = true })
-went_on Ends now course = Some (record course { is_open = false })
+went_on Ends now course = Some (record course { is_open = false; has_ended = true })
 went_on (Closes why) now course = None
 
 -- a deed at a place, which is free or has a connection

@@ -1,7 +1,6 @@
 use Rattle.connections.proofs.Orderly.{in_order}
 use Rattle.hub.proofs.DeskHonest.{lines_show_honest_run}
-use Rattle.hub.specs.Desks.{DeskAnswers, DeskState}
-use Rattle.hub.specs.Events.{HubState}
+use Rattle.hub.specs.Desks.{DeskAnswers}
 use Rattle.server.proofs.Crowds.{crowd_answered}
 use Rattle.server.proofs.laws.crowds_show_one_run.Goals as goal
 
