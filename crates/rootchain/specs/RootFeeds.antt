@@ -4,6 +4,7 @@ use Rattle.std.specs.Prelude.{◌≡◌, ℕ, zero, suc, ◌+◌, ◌<◌, ◌�
 use Rattle.encoding.specs.declared.fault.Fault.{Fault}
 use Rattle.encoding.specs.declared.fault.Fault.TheVariants.{Short, Trailing, OutOfRange}
 use Rattle.encoding.specs.Reading.{Reading, read_bytes, read_number, read_then, whole_of}
+use Rattle.rootchain.specs.declared.root_list.TheConstants.{MAX_ROOTS}
 use Rattle.rootchain.specs.declared.signed_root.SignedRoot.{SignedRoot}
 use Rattle.rootchain.specs.RootLists.{read_root_count}
 use Rattle.rootchain.specs.SignedRoots.{read_signed_root}
@@ -49,6 +50,12 @@ pub data Held : Type 0 where
 -- the list has come, and nothing after it
 abbrev pub Done : Held
 Done = Owes 0 []
+
+-- the most roots that are still to come
+abbrev pub owed_by : Held → ℕ
+owed_by (Counts bytes) = MAX_ROOTS
+owed_by (Owes left bytes) = left
+owed_by Failed = 0
 
 abbrev pub told_by : Front → ℕ → List ℕ → (List ℕ → List SignedRoot × Held) → List SignedRoot × Held
 told_by Part left bytes next = ([], Owes left bytes)
