@@ -567,21 +567,48 @@ def silent(program):
     return None if got == (b"", b"no reply\n", 1) else f"a silent directory: {got}"
 
 
+def last_of(program, runs):
+    """What the last of some runs prints, and its status. Each is a script, whether it has the state of the others,
+    and whether its output can be written."""
+    server, address = listening(program, len(runs))
+    with tempfile.TemporaryDirectory() as folder, open("/dev/full", "wb") as full:
+        for script, has_state, is_written in runs:
+            state = ["--state", f"{folder}/state"] if has_state else []
+            order = [program, "ask", "--provider", PROVIDER.hex(), *state, address]
+            output = subprocess.PIPE if is_written else full
+            run = subprocess.run(order, input=script, stdout=output, stderr=subprocess.PIPE, timeout=60)
+    server.wait(60)
+    return run.stdout, run.returncode
+
+
 def changed_by_another(program):
     """Somebody else changes a key, and the owner asks for the promise of it: in the next run that is still an alarm."""
-    server, address = listening(program, 4)
-    with tempfile.TemporaryDirectory() as folder:
-        own = "--state", f"{folder}/state"
-        runs = [
-            (own, b"register 61 6b31\nclose 2\nwatch 61 6b31\n"), ((), b"change 61 6576\n"),
-            (own, b"promise 61\nclose 3\n"), (own, b"watch 61 6b31\n"),
-        ]
-        for state, script in runs:
-            order = [program, "ask", "--provider", PROVIDER.hex(), *state, address]
-            run = subprocess.run(order, input=script, capture_output=True, timeout=60)
-    server.wait(60)
-    got = run.stdout, run.returncode
+    got = last_of(program, [
+        (b"register 61 6b31\nclose 2\nwatch 61 6b31\n", True, True), (b"change 61 6576\n", False, True),
+        (b"promise 61\nclose 3\n", True, True), (b"watch 61 6b31\n", True, True),
+    ])
     return None if got == (b"alarm 61 3 6576\n", 3) else f"a change by somebody else: {got}"
+
+
+def alarm_unwritten(program):
+    """An alarm that could not be written is told by the next run."""
+    runs = [(b"register 61 6b31\nclose 2\n", True, True), *[(b"watch 61 6b32\n", True, is_written) for is_written in (False, True)]]
+    got = last_of(program, runs)
+    return None if got == (b"alarm 61 2 6b31\n", 3) else f"an alarm that was not written: {got}"
+
+
+def change_unwritten(program):
+    """A change of the owner's is no alarm, though the run that first watched it could not write."""
+    begun = [(b"register 61 6b31\nclose 2\nwatch 61 6b31\n", True, True), (b"change 61 6b32\nclose 3\n", True, True)]
+    got = last_of(program, [*begun, *[(b"watch 61 6b31\n", True, is_written) for is_written in (False, True)]])
+    return None if got == (b"kept 61 3\n", 0) else f"a change that was not written: {got}"
+
+
+def alarm_and_fault(program):
+    """The status of an alarm stays if a fault follows."""
+    got = last_of(program, [(b"register 61 6b31\nclose 2\nwatch 61 6b32\nbogus\n", True, True)])
+    wanted = b"promise 1\nroot 2 after 1\nalarm 61 2 6b31\n", 3
+    return None if got == wanted else f"an alarm and a fault: {got}"
 
 
 def main():
@@ -596,7 +623,7 @@ def main():
     thread.start()
     found = [*honest(program, words.drawn, words.seed), *lying(program, words.lies, words.seed)]
     thread.join()
-    waited.append(changed_by_another(program))
+    waited += [run(program) for run in (changed_by_another, alarm_unwritten, change_unwritten, alarm_and_fault)]
     failures = [difference for difference in [*found, *waited] if difference is not None]
     for difference in failures[:20]:
         print(difference)

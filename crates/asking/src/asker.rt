@@ -97,7 +97,7 @@ where
         }
     }
 
-    /// One whose client starts with the directory's latest root. Why there is none is told.
+    /// One whose client starts with the directory's latest root. A refusal is told.
     ///
     /// # Errors
     ///

@@ -190,7 +190,7 @@ where
     ) -> Result<(), AskFault> {
         let mut asker = self.begin(key, token)?;
         let followed = self.follow(&mut asker);
-        self.save(&asker)?;
+        self.settle(&asker)?;
         followed?;
         match order.command {
             Some(_) => {
@@ -263,35 +263,31 @@ where
             }
             Line::Piece { .. } | Line::End { .. } => return not_a_command,
         };
-        self.save(asker)?;
-        self.write()?;
-        // An epoch counts as watched once its alarm was told.
-        self.mark(asker)?;
+        self.settle(asker)?;
         asked
     }
 
-    /// Keeps the roots and the promises that are new in the files of the state, if there is one.
-    fn save(&mut self, asker: &KeyedAsker) -> Result<(), ProgramFault> {
-        match self.state.as_mut() {
-            Some(state) => state.save(self.alloc, self.files, asker),
-            None => Ok(()),
+    /// Keeps the roots and promises that are new, writes what is said, and then keeps what is left to test and how
+    /// far names were watched: so no promise is told and lost, and no alarm either.
+    fn settle(&mut self, asker: &KeyedAsker) -> Result<(), ProgramFault> {
+        if let Some(state) = self.state.as_mut() {
+            state.add(self.alloc, self.files, asker)?;
         }
-    }
-
-    /// Keeps how far names were watched.
-    fn mark(&mut self, asker: &KeyedAsker) -> Result<(), ProgramFault> {
-        match self.state.as_mut() {
-            Some(state) => state.mark(self.alloc, self.files, asker),
-            None => Ok(()),
+        self.write()?;
+        if let Some(state) = self.state.as_mut() {
+            state.save(self.alloc, self.files, asker)?;
         }
+        Ok(())
     }
 
     /// Writes what is said: the lines to the output, the words to the errors.
     fn write(&mut self) -> Result<(), ProgramFault> {
-        write_text(self.writer, &self.said.text)?;
+        let told = write_text(self.writer, &self.said.text);
         self.said.text.clear();
-        write_text(self.errors, &self.said.words)?;
+        told?;
+        let told = write_text(self.errors, &self.said.words);
         self.said.words.clear();
+        told?;
         Ok(())
     }
 }

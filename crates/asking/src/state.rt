@@ -25,8 +25,6 @@ pub(crate) struct State<'a> {
     is_cut: bool,
     /// What the second file has.
     kept: Vec<u8>,
-    /// Its lines of how far names were watched, up to what was told.
-    marks: Vec<u8>,
 }
 
 /// The bytes of a file, or `None` if there is none of this name.
@@ -61,6 +59,11 @@ fn fault_of(why: &client::Refusal, number: u64) -> ProgramFault {
     }
 }
 
+/// Whether a text has this line. The line without bytes is in each.
+fn has_line(text: &[u8], line: &[u8]) -> bool {
+    line.is_empty() || text.split(|byte| *byte == b'\n').any(|own| own == line)
+}
+
 /// Appends the list of one root, which these bytes are.
 fn push_list(list: &mut Vec<u8>, root: &[u8]) -> Result<(), AllocError> {
     list.extend_from_slice(&[0, 1])?;
@@ -76,7 +79,6 @@ impl<'a> State<'a> {
             epoch: 0,
             is_cut: false,
             kept: Vec::new(alloc),
-            marks: Vec::new(alloc),
         })
     }
 
@@ -126,17 +128,16 @@ impl<'a> State<'a> {
                 }
             }
             self.kept = kept;
-            self.marks = asker.mark_lines()?;
         }
         Ok(Ok(asker))
     }
 
-    /// Writes what is new of the chain and of the promises.
+    /// Adds the roots and the promises that are new to what the files have.
     ///
     /// # Errors
     ///
     /// `CannotWrite`; `OutOfMemory`.
-    pub(crate) fn save<F, H, V, S>(
+    pub(crate) fn add<F, H, V, S>(
         &mut self,
         alloc: Global,
         files: &F,
@@ -162,29 +163,26 @@ impl<'a> State<'a> {
             write_text(&mut file, &text)?;
             self.epoch = asker.head();
         }
-        let mut kept = asker.promise_lines()?;
-        kept.extend_from_slice(&self.marks)?;
-        if kept != self.kept {
-            let beside = self.beside.as_str();
-            let written = format!(in alloc; "{beside}.new")?;
-            let Ok(mut file) = fs::create(files, written.as_str()) else {
-                return Err(ProgramFault::CannotWrite);
-            };
-            write_text(&mut file, &kept)?;
-            if fs::rename(files, written.as_str(), beside).is_err() {
-                return Err(ProgramFault::CannotWrite);
-            }
-            self.kept = kept;
+        let promises = asker.promise_lines()?;
+        let mut kept = self.kept.clone()?;
+        if !kept.is_empty() && kept.last() != Some(&b'\n') {
+            kept.push(b'\n')?;
         }
-        Ok(())
+        for line in promises.split(|byte| *byte == b'\n') {
+            if !has_line(&self.kept, line) {
+                kept.extend_from_slice(line)?;
+                kept.push(b'\n')?;
+            }
+        }
+        self.write_kept(alloc, files, kept)
     }
 
-    /// Writes how far names were watched, once that was told.
+    /// Writes the promises that are left to test, and how far names were watched.
     ///
     /// # Errors
     ///
     /// `CannotWrite`; `OutOfMemory`.
-    pub(crate) fn mark<F, H, V, S>(
+    pub(crate) fn save<F, H, V, S>(
         &mut self,
         alloc: Global,
         files: &F,
@@ -196,8 +194,32 @@ impl<'a> State<'a> {
         V: VufCheck + Drop,
         S: Verifier + Drop,
     {
-        self.marks = asker.mark_lines()?;
-        self.save(alloc, files, asker)
+        let mut kept = asker.promise_lines()?;
+        kept.extend_from_slice(&asker.mark_lines()?)?;
+        self.write_kept(alloc, files, kept)
+    }
+
+    /// Lets the second file have these lines, by one that takes its place.
+    fn write_kept<F: Files<File = File>>(
+        &mut self,
+        alloc: Global,
+        files: &F,
+        kept: Vec<u8>,
+    ) -> Result<(), ProgramFault> {
+        if kept == self.kept {
+            return Ok(());
+        }
+        let beside = self.beside.as_str();
+        let written = format!(in alloc; "{beside}.new")?;
+        let Ok(mut file) = fs::create(files, written.as_str()) else {
+            return Err(ProgramFault::CannotWrite);
+        };
+        write_text(&mut file, &kept)?;
+        if fs::rename(files, written.as_str(), beside).is_err() {
+            return Err(ProgramFault::CannotWrite);
+        }
+        self.kept = kept;
+        Ok(())
     }
 }
 

@@ -6,8 +6,6 @@ use Rattle.clap.specs.declared.builder.value_parser.ValueParser.TheVariants.{Nam
 use Rattle.clap.specs.declared.error.Error.{Error}
 use Rattle.clap.specs.declared.error.kind.ErrorKind.{ErrorKind}
 use Rattle.clap.specs.declared.error.kind.ErrorKind.TheVariants.{DisplayHelp, DisplayVersion}
-use Rattle.directoryd.specs.declared.order.TheConstants.{MOST_SESSIONS}
-use Rattle.directoryd.specs.declared.refusing.TheConstants.{WRONG_WORDS}
 use Rattle.clap.specs.Words.{App, IsAmong, Rule, Text, fault_of, kind_of, new_app, new_rule, takes, with_rule, with_subcommand}
 
 -- the parser takes the names of the hash functions
@@ -94,7 +92,7 @@ serve_app = with_directory (new_app (codes "serve"))
 abbrev pub listen_app : App
 listen_app =
     with_rule (with_rule (with_rule (with_rule (with_rule (with_directory (new_app (codes "listen")))
-    (number_rule (codes "count") 0 (codes "0"))) (bounded_rule (codes "sessions") 1 MOST_SESSIONS (codes "1000"))) (number_rule (codes "idle") 0 (codes "60")))
+    (number_rule (codes "count") 0 (codes "0"))) (bounded_rule (codes "sessions") 1 1024 (codes "1000"))) (number_rule (codes "idle") 0 (codes "60")))
     (flag_rule (codes "until-eof"))) (positional_rule (codes "address"))
 
 abbrev pub ask_app : App
@@ -118,8 +116,8 @@ abbrev pub Refuses : List Text → Error → Type 0
 Refuses words fault = (names : ValueParser) × IsHashNames names × (takes (directory_app names) words ≡ false)
     × IsAmong (kind_of fault) (fault_of (directory_app names) words)
 
--- the status of a program whose words clap refused: 0 where they asked for help or the version, else 2
+-- the status of a program whose words clap refused: 0 where they asked for help or the version
 abbrev pub status_of : ErrorKind → ℕ
 status_of DisplayHelp = 0
 status_of DisplayVersion = 0
-status_of _ = WRONG_WORDS
+status_of _ = 2

@@ -23,7 +23,6 @@ use Rattle.server.specs.Directories.{keys_of}
 use Rattle.server.specs.Listening.{ListenTells}
 use Rattle.server.specs.Programs.{DirectoryServes}
 use Rattle.directoryd.specs.declared.ending.Ending.{Ending}
-use Rattle.directoryd.specs.declared.refusing.TheConstants.{WRONG_WORDS}
 use Rattle.directoryd.specs.CommandLine.{status_of, Refuses}
 use Rattle.directoryd.specs.Orders.{IsTask, Task, the_root, the_path, the_audit, the_verdict, the_script, the_session, the_connections, the_questions}
 use Rattle.directoryd.specs.KeyFiles.{ask_with, directory_with, HasNoKeys, Uses}
@@ -127,7 +126,7 @@ no_text = codes "error: invalid UTF-8 was detected in one or more arguments\n"
 abbrev pub Starts : {A B R : Type 0} → (R → Option (List ℕ)) → Result (Vec (String A) B) IoError → Result R IoError
     → Option (List ℕ) → Option (List ℕ) → Option (List ℕ) → Option (List ℕ) → Result ℕ ProgramFault → Type 0
 Starts remaining (Err error) reader out out-new err err-new outcome = Keeps out out-new
-    × Prints WRONG_WORDS no_text err err-new outcome × ((outcome ≡ Err OutOfMemory) ↔ (error_kind error ≡ io.OutOfMemory))
+    × Prints 2 no_text err err-new outcome × ((outcome ≡ Err OutOfMemory) ↔ (error_kind error ≡ io.OutOfMemory))
 Starts remaining (Ok words) (Err error) out out-new err err-new outcome = WantsMemory out out-new err err-new outcome
 Starts remaining (Ok words) (Ok reader) out out-new err err-new outcome = Runs (map string_bytes words.items) (remaining reader) out out-new err err-new outcome
 

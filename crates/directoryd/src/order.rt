@@ -3,7 +3,6 @@ ghost use Rattle.std.specs.NonZero.{non_zero_u64_get};
 ghost use Rattle.clap.specs.Words.{app_of, first_of, found_of, kind_of, rows_of, rule_of};
 ghost use Rattle.clap.specs.declared.builder.command.Command.TheViews.{out-Command};
 ghost use Rattle.clap.specs.declared.error.kind.ErrorKind.TheVariants.{OutOfMemory};
-ghost use Rattle.directoryd.specs.declared.order.TheConstants.{MOST_SESSIONS};
 ghost use Rattle.directoryd.specs.CommandLine.{ask_app, audit_app, bounded_rule, directory_app, flag_rule, hash_rule, journal_rule, judge_app, listen_app, nonce_rule, number_rule, play_app, positional_rule, prove_app, required_rule, root_app, serve_app, text_rule, with_directory, with_keys, word_rule, IsHashNames, Refuses};
 ghost use Rattle.items.specs.TreeOptions.{values_of};
 ghost use Rattle.server.specs.DirectoryOptions.{values_of as directory_values};
@@ -256,7 +255,7 @@ fn count_arg<'a>(alloc: Global) -> Arg<'a>
 
 /// `--sessions N`.
 fn sessions_arg<'a>(alloc: Global) -> Arg<'a>
-    ensures rule { rule_of result ≡ bounded_rule (codes "sessions") 1 MOST_SESSIONS (codes "1000") }
+    ensures rule { rule_of result ≡ bounded_rule (codes "sessions") 1 1024 (codes "1000") }
     ensures local { result.global ≡ false }
 {
     Arg::new(alloc, "sessions")

@@ -36,8 +36,9 @@ fn main(rt: HostRuntime) -> Result<()> {
         vuf: KeyedVuf::new(provider),
         verifier: KeyedSign::new(provider),
     };
-    let Ok(mut asker) = Asker::start_at_head(alloc, stream, checks, provider, token, said) else {
-        bail!("no root: {}", str::from_utf8(&said.words)?);
+    let mut asker = match Asker::start_at_head(alloc, stream, checks, provider, token, said) {
+        Ok(asker) => asker,
+        Err(why) => bail!("no root: {why:?} {}", str::from_utf8(&said.words)?),
     };
 
     // Look the name up, and watch it from the latest epoch on. If it has a key, that has to be the owner's.
