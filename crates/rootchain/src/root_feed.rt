@@ -53,9 +53,9 @@ pub struct RootFeed {
 
 impl Model for RootFeed {
     ghost use Rattle.rootchain.specs.FeedViews.{held_of};
-    ghost use Rattle.rootchain.specs.RootFeeds.{Held, IsHeld};
+    ghost use Rattle.rootchain.specs.RootFeeds.{FeedState, IsHeld};
 
-    ghost Value = { Held };
+    ghost Value = { FeedState };
 
     ghost view = { λ feed. held_of feed.stage feed.held };
 
