@@ -15,7 +15,7 @@ use Rattle.asking.specs.Answering.{with_token}
 use Rattle.asking.specs.Asking.{Asks, CatchesUp, GoesOnAbove, Hands, HandsTo, SpeaksOf}
 use Rattle.asking.specs.Checking.{HearsFrame}
 use Rattle.asking.specs.Scenes.{scene}
-use Rattle.asking.specs.Told.{Told, Tells}
+use Rattle.asking.specs.Reports.{Report, Tells}
 use Rattle.asking.proofs.Going.{told_onto}
 
 one-promise : (x y : SignedPromise) (o : Option SignedPromise) → o ≡ Some x → o ≡ Some y → x ≡ y
@@ -36,7 +36,7 @@ module _ (hash : List ℕ → List ℕ) (accepted verified : List ℕ → List �
 
   -- the steps of a question, in their order
   pub asks_all : {A E H V S T : Type 0} (exchanged : T → RequestContent → Frame → T → Type 0) (result : Result A E) (first ready heard last : Asker H V S) (said caught told_to said' : Said)
-      (stream sent later end : T) (asked : RequestContent) (frame : Frame) (head : SignedRoot) (low epoch : ℕ) (told : Told)
+      (stream sent later end : T) (asked : RequestContent) (frame : Frame) (head : SignedRoot) (low epoch : ℕ) (told : Report)
       → IsHead first.client.chain head → low ≡ head.body.epoch → exchanged stream (with_token first.token asked) frame sent → SpeaksOf asked frame epoch
       → CatchesUp hash accepted verified exchanged epoch (scene first said sent) (scene ready caught later)
       → HearsFrame hash accepted verified ready.client asked frame told heard.client → Tells caught told told_to

@@ -17,7 +17,7 @@ use Rattle.asking.specs.declared.said.Said.{Said}
 use Rattle.asking.specs.Joining.{BeginsAt, BeginsWatch, IsBegun, IsFirstAfter, IsUnwatched, StartsFrom}
 use Rattle.asking.specs.Refused.{client_refuses}
 use Rattle.asking.specs.Scenes.{Scene, scene}
-use Rattle.asking.specs.Told.{Told, Tells, onto, told_by}
+use Rattle.asking.specs.Reports.{Report, Tells, onto, told_by}
 use Rattle.asking.specs.Visiting.{TestsAll}
 use Rattle.asking.specs.Watching.{StepsThrough}
 use Rattle.asking.proofs.Going.{told_onto}
@@ -37,12 +37,12 @@ none-some root found none some = search (rules, sym none ∙ some)
 pub no_next : (chain : KeyedRoots) (epoch : ℕ) (found : Option SignedRoot) → ((root : SignedRoot) → (found ≡ Some root) ↔ IsNextAfter chain epoch root) → found ≡ None → IsFirstAfter chain epoch None
 no_next chain epoch found next none root after = none-some root found none ((next root).1 after)
 
-scene-of : {T : Type 0} (client client' : Client) (monitors monitors' : List Monitor) (told told' : Told) (stream : T) → client ≡ client' → monitors ≡ monitors' → told ≡ told'
+scene-of : {T : Type 0} (client client' : Client) (monitors monitors' : List Monitor) (told told' : Report) (stream : T) → client ≡ client' → monitors ≡ monitors' → told ≡ told'
     → ◌≡◌ {A = Scene T} (record { client = client; monitors = monitors; told = told; stream = stream }) (record { client = client'; monitors = monitors'; told = told'; stream = stream })
 scene-of {T} client client' monitors monitors' told told' stream one other third =
     ap (λ (x : Client). let s : Scene T = record { client = x; monitors = monitors; told = told; stream = stream } in s) one
     ∙ ap (λ (x : List Monitor). let s : Scene T = record { client = client'; monitors = x; told = told; stream = stream } in s) other
-    ∙ ap (λ (x : Told). let s : Scene T = record { client = client'; monitors = monitors'; told = x; stream = stream } in s) third
+    ∙ ap (λ (x : Report). let s : Scene T = record { client = client'; monitors = monitors'; told = x; stream = stream } in s) third
 
 module _ {H V S T : Type 0} (hash : List ℕ → List ℕ) (accepted verified : List ℕ → List ℕ → List ℕ → Type 0) (exchanged : T → RequestContent → Frame → T → Type 0) where
   module _ (key : List ℕ) (earlier : List SignedPromise) (name : List ℕ) (given : Option (List ℕ)) (asker : Asker H V S) (said : Said) (stream : T) (first : SignedRoot) where

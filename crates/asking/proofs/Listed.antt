@@ -11,7 +11,7 @@ use Rattle.asking.specs.declared.said.Said.{Said}
 use Rattle.asking.specs.Following.{AllUpdate, AnyRefuses, AsksRoots, IsStopped, StopsList, TakesList, TellsRefusal, no_root}
 use Rattle.asking.specs.Refused.{client_refuses, other_reply}
 use Rattle.asking.specs.Scenes.{GivesBody, IsAnswered, scene}
-use Rattle.asking.specs.Told.{Told, Tells, told_by}
+use Rattle.asking.specs.Reports.{Report, Tells, told_by}
 use Rattle.asking.proofs.Going.{told_onto}
 
 module _ {H V S T : Type 0} (hash : List ℕ → List ℕ) (verified : List ℕ → List ℕ → List ℕ → Type 0) (exchanged : T → RequestContent → Frame → T → Type 0) where
@@ -48,7 +48,7 @@ module _ {H V S T : Type 0} (hash : List ℕ → List ℕ) (verified : List ℕ 
       ap told_by (still ∙ silent),
     )
 
-    stops-list : (told : Told) (after : Said) → IsHead asker.client.chain head → from ≡ head.body.epoch + 1 → exchanged stream (Query (History from MAX_ROOTS)) frame later
+    stops-list : (told : Report) (after : Said) → IsHead asker.client.chain head → from ≡ head.body.epoch + 1 → exchanged stream (Query (History from MAX_ROOTS)) frame later
         → IsStopped hash verified (Query (History from MAX_ROOTS)) asker.client asker.monitors.items frame told → Tells said told after → StopsList hash verified exchanged (scene asker said stream) (told_by after)
     stops-list told after is from_is exchange stopped tells = (
       head,
@@ -71,7 +71,7 @@ module _ {H V S T : Type 0} (hash : List ℕ → List ℕ) (verified : List ℕ 
         → GivesBody (Query (History from MAX_ROOTS)) frame said (Some body) said' → TellsRefusal (AnyRefuses hash verified body asker.client asker.monitors.items) said' said''
         → StopsList hash verified exchanged (scene asker said stream) (told_by said'')
     stops_refused said' said'' body is from_is exchange (answered, same, silent) (why, refuses, tells) =
-        let told : Told = client_refuses (codes "client refuses root") why in
+        let told : Report = client_refuses (codes "client refuses root") why in
         stops-list told said'' is from_is exchange
         (inr (answered, inl (why, subst (λ (list : List ℕ). AnyRefuses hash verified list asker.client asker.monitors.items why) same refuses, refl)))
         (subst (λ (s : Said). Tells s told said'') silent tells)

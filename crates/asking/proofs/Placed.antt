@@ -12,7 +12,7 @@ use Rattle.asking.specs.declared.placing.Stop.TheVariants.{OtherEpoch, Refused}
 use Rattle.asking.specs.Checking.{AreTold, GoesOn}
 use Rattle.asking.specs.Refused.{client_refuses}
 use Rattle.asking.specs.Stopping.{epochs_text, stop_told, Stops, StopsAt}
-use Rattle.asking.specs.Told.{Told, Tells, fine, worse}
+use Rattle.asking.specs.Reports.{Report, Tells, fine, worse}
 
 worse-none : (status : ℕ) → status ≡ worse status 0
 worse-none status = grind arith
@@ -52,14 +52,14 @@ module _ (hash : List ℕ → List ℕ) (verified : List ℕ → List ℕ → Li
 
   -- what is told where it stops
   pub tells_stop : {A E : Type 0} (result : Result A E) (why : Stop) (before after : Said) → Stops hash verified chain from all (Some why) → OnOk result (Tells before (stop_told why) after)
-      → OnOk result ((told : Told) × AreTold hash verified chain from all all told × Tells before told after)
+      → OnOk result ((told : Report) × AreTold hash verified chain from all all told × Tells before told after)
   tells_stop (Ok done) why before after stops tells = (stop_told why, told_of_stop all why stops, tells)
   tells_stop (Err fault) why before after stops tells = tt
 
   -- and where it does not
   pub tells_all : {A E : Type 0} (result : Result A E) (line : List ℕ) (before after : Said) → Stops hash verified chain from all None
       → line ≡ (codes "roots" ++ epochs_text all) ++ 10 ∷ [] → after.text.items ≡ (if is_ok result then before.text.items ++ line else before.text.items) → after.status ≡ before.status
-      → OnOk result ((told : Told) × AreTold hash verified chain from all all told × Tells before told after)
+      → OnOk result ((told : Report) × AreTold hash verified chain from all all told × Tells before told after)
   tells_all (Ok done) line before after stops whole grown same = (
     fine (response_text (Roots all)),
     all_told all stops,

@@ -8,7 +8,7 @@ use Rattle.wire.specs.Frames.{Frame}
 use Rattle.wire.specs.Requests.{RequestContent, Query}
 use Rattle.asking.specs.declared.asker.Asker.{Asker}
 use Rattle.asking.specs.declared.said.Said.{Said}
-use Rattle.asking.specs.Told.{Tells, told_by}
+use Rattle.asking.specs.Reports.{Tells, told_by}
 use Rattle.asking.specs.declared.asker.Mark.{Mark}
 use Rattle.asking.specs.Scenes.{GivesBody, Scene, scene}
 use Rattle.asking.specs.Visiting.{TestsAll}

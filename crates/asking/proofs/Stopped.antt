@@ -7,7 +7,7 @@ use Rattle.monitor.specs.Monitors.{Monitor}
 use Rattle.asking.specs.declared.said.Said.{Said}
 use Rattle.asking.specs.Following.{OneRefuses, Refuses, TellsRefusal}
 use Rattle.asking.specs.Refused.{client_refuses}
-use Rattle.asking.specs.Told.{Tells}
+use Rattle.asking.specs.Reports.{Tells}
 use Rattle.asking.proofs.Moved.{AreMoved}
 
 module _ (hash : List ℕ → List ℕ) (verified : List ℕ → List ℕ → List ℕ → Type 0) (list : List ℕ) where

@@ -5,7 +5,7 @@ use Rattle.client.specs.Refusals.{refusal_number}
 use Rattle.client.specs.declared.refusal.Refusal.{Refusal}
 use Rattle.asking.specs.declared.said.Said.{Said}
 use Rattle.asking.specs.Refused.{client_refuses, evidence_before, refuses_text}
-use Rattle.asking.specs.Told.{Told, Tells, refused, worse}
+use Rattle.asking.specs.Reports.{Report, Tells, refused, worse}
 
 -- the number of a refusal behind its evidence
 pub behind_evidence : {A E : Type 0} (what : List ℕ) (why : Refusal) (number : ℕ) (before middle after : Said) (result : Result A E) → number ≡ refusal_number why
@@ -19,19 +19,19 @@ behind_evidence what why number before middle after (Ok done) numbered text stat
 behind_evidence what why number before middle after (Err fault) numbered text status told = tt
 
 -- this is told, and it is so
-pub tells_so : {A E : Type 0} (result : Result A E) (P : Told → Type 0) (told : Told) (before same after : Said) → same ≡ before → P told
-    → OnOk result (Tells same told after) → OnOk result ((x : Told) × P x × Tells before x after)
+pub tells_so : {A E : Type 0} (result : Result A E) (P : Report → Type 0) (told : Report) (before same after : Said) → same ≡ before → P told
+    → OnOk result (Tells same told after) → OnOk result ((x : Report) × P x × Tells before x after)
 tells_so (Ok done) P told before same after is holds tells = (told, holds, subst (λ (s : Said). Tells s told after) is tells)
 tells_so (Err fault) P told before same after is holds tells = tt
 
 -- this is the answer, and it is told so
-pub tells_answer : {X A E : Type 0} (result : Result A E) (P : X → Type 0) (told_of : X → Told) (answer : X) (before after : Said) → P answer
+pub tells_answer : {X A E : Type 0} (result : Result A E) (P : X → Type 0) (told_of : X → Report) (answer : X) (before after : Said) → P answer
     → OnOk result (Tells before (told_of answer) after) → OnOk result ((x : X) × P x × Tells before (told_of x) after)
 tells_answer (Ok done) P told_of answer before after holds tells = (answer, holds, tells)
 tells_answer (Err fault) P told_of answer before after holds tells = tt
 
 -- only words were said before it
-pub told_behind : {A E : Type 0} (result : Result A E) (told : Told) (before after : Said) (text : List ℕ) (status : ℕ) → text ≡ before.text.items → status ≡ before.status
+pub told_behind : {A E : Type 0} (result : Result A E) (told : Report) (before after : Said) (text : List ℕ) (status : ℕ) → text ≡ before.text.items → status ≡ before.status
     → OnOk result ((after.text.items ≡ text ++ told.lines) × (after.status ≡ worse status told.status)) → OnOk result (Tells before told after)
 told_behind (Ok done) told before after text status same stays tells = (
   tells.0 ∙ ap (λ (t : List ℕ). t ++ told.lines) same,

@@ -12,7 +12,7 @@ use Rattle.asking.specs.declared.asker.Mark.{Mark}
 use Rattle.asking.specs.declared.said.Said.{Said}
 use Rattle.asking.specs.Scenes.{GivesBody, Scene, scene}
 use Rattle.asking.specs.Testing.{due_told, TellsDue}
-use Rattle.asking.specs.Told.{Tells, told_by}
+use Rattle.asking.specs.Reports.{Tells, told_by}
 use Rattle.asking.specs.Visiting.{TestsName, Visits, Waits}
 use Rattle.asking.proofs.Going.{told_onto}
 

@@ -18,7 +18,7 @@ use Rattle.asking.specs.Answering.{Answers, with_token}
 use Rattle.asking.specs.Checking.{HearsFrame}
 use Rattle.asking.specs.Following.{Follows, StopsAfter}
 use Rattle.asking.specs.Scenes.{Scene}
-use Rattle.asking.specs.Told.{Told, onto}
+use Rattle.asking.specs.Reports.{Report, onto}
 use Rattle.asking.specs.Watching.{GoesOn}
 
 -- the epoch of a response
@@ -59,7 +59,7 @@ module _ (hash : List ℕ → List ℕ) (accepted verified : List ℕ → List �
 
     -- what the client makes of a frame, and what the monitors are given of it
     pub record HearsOne (asked : RequestContent) (frame : Frame) (before after : Scene T) : Type 0 where
-      pub told : Told
+      pub told : Report
       pub hears : HearsFrame hash accepted verified before.client asked frame told after.client
       pub tells : after.told ≡ onto before.told told
       pub hands : Hands asked frame.body before.client.promises after.client.promises before.monitors after.monitors
@@ -87,11 +87,11 @@ module _ (hash : List ℕ → List ℕ) (accepted verified : List ℕ → List �
       pub goes : GoesOnAbove marks head.body.epoch heard after
 
     -- the chain has no root of this epoch or a later one, and a frame stops the taking of roots
-    abbrev pub StopsBelow : ℕ → Scene T → Told → Type 0
+    abbrev pub StopsBelow : ℕ → Scene T → Report → Type 0
     StopsBelow epoch before after = (head : SignedRoot) × IsHead before.client.chain head × (head.body.epoch < epoch) × ((count : ℕ) × StopsAfter hash verified exchanged count before after)
 
     -- the line is asked, and the chain does not get as far as the reply
-    pub record StopsAsking (token : List ℕ) (asked : RequestContent) (before : Scene T) (after : Told) : Type 0 where
+    pub record StopsAsking (token : List ℕ) (asked : RequestContent) (before : Scene T) (after : Report) : Type 0 where
       pub frame : Frame
       pub stream : T
       pub exchange : exchanged before.stream (with_token token asked) frame stream

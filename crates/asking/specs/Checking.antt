@@ -26,20 +26,20 @@ use Rattle.play.specs.Hearing.{response_text}
 use Rattle.play.specs.Lines.{statement_text}
 use Rattle.asking.specs.Answering.{Answers}
 use Rattle.asking.specs.Refused.{client_refuses, other_reply, refuses_text}
-use Rattle.asking.specs.Told.{Told, fine, refused}
+use Rattle.asking.specs.Reports.{Report, fine, refused}
 
 -- what is told of a look at a reply that is of an epoch
-abbrev pub look_told : ℕ → Result Statement Refusal → Told
+abbrev pub look_told : ℕ → Result Statement Refusal → Report
 look_told epoch (Ok statement) = fine (statement_text epoch (key_stated statement))
 look_told epoch (Err why) = client_refuses (codes "client refuses proof") why
 
 -- what is told of a response that the client accepts or refuses
-abbrev pub promise_told : {A : Type 0} → ResponseContent → Result A Refusal → Told
+abbrev pub promise_told : {A : Type 0} → ResponseContent → Result A Refusal → Report
 promise_told responded (Ok _) = fine (response_text responded)
 promise_told responded (Err why) = client_refuses (codes "client refuses promise") why
 
 -- what is told of the latest root, by where it stands: the chain has to have it
-abbrev pub place_told : SignedRoot → Result Place RootRefusal → Told
+abbrev pub place_told : SignedRoot → Result Place RootRefusal → Report
 place_told told (Ok Known) = fine (response_text (Root told))
 place_told told (Ok Next) = client_refuses (codes "client refuses root") (of_root root.BadLink)
 place_told told (Ok Ahead) = client_refuses (codes "client refuses root") (of_root root.BadLink)
@@ -57,7 +57,7 @@ refusal_at (Ok BeforeStart) = None
 refusal_at (Err why) = Some (of_root why)
 
 -- behind a root that is not refused the others follow; one that is refused is told
-abbrev pub GoesOn : Type 0 → Option Refusal → Told → Type 0
+abbrev pub GoesOn : Type 0 → Option Refusal → Report → Type 0
 GoesOn later None told = later
 GoesOn later (Some why) told = told ≡ client_refuses (codes "client refuses root") why
 
@@ -69,7 +69,7 @@ module _ (hash : List ℕ → List ℕ) (verified : List ℕ → List ℕ → Li
 
   -- what is told of roots that were asked for from an epoch on, of which these are left: the first that is refused, or
   -- all of them
-  abbrev pub AreTold : KeyedRoots → ℕ → List SignedRoot → List SignedRoot → Told → Type 0
+  abbrev pub AreTold : KeyedRoots → ℕ → List SignedRoot → List SignedRoot → Report → Type 0
   AreTold chain from all [] told = told ≡ fine (response_text (Roots all))
   AreTold chain from all (first ∷ more) told =
       ((first.body.epoch < from) × (told ≡ other_reply))
@@ -78,7 +78,7 @@ module _ (hash : List ℕ → List ℕ) (verified : List ℕ → List ℕ → Li
 module _ (hash : List ℕ → List ℕ) (accepted verified : List ℕ → List ℕ → List ℕ → Type 0) where
   module _ (before : Client) (body : List ℕ) where
     -- a reply to a look-up, a promise, the latest root, or roots, and the client after it: it looks, or keeps the promise
-    abbrev pub IsCheckedAs : RequestContent → ResponseContent → Told → Client → Type 0
+    abbrev pub IsCheckedAs : RequestContent → ResponseContent → Report → Client → Type 0
     IsCheckedAs (Query (Lookup name epoch)) (Proof reply) told after =
         (answer : Result Statement Refusal) × Looks hash accepted before name epoch body answer after × (told ≡ look_told reply.body.epoch answer)
     IsCheckedAs asked (response.Promise signed) told after =
@@ -89,14 +89,14 @@ module _ (hash : List ℕ → List ℕ) (accepted verified : List ℕ → List �
     IsCheckedAs _ _ told after = ⊥
 
     -- a response to what was asked: a refusal of the directory is told, any other is checked if it answers
-    abbrev pub Hears : RequestContent → ResponseContent → Told → Client → Type 0
+    abbrev pub Hears : RequestContent → ResponseContent → Report → Client → Type 0
     Hears asked (Refused code) told after = (told ≡ refused (response_text (Refused code))) × (after ≡ before)
     Hears asked responded told after =
         ((¬ Answers asked responded) × (told ≡ other_reply) × (after ≡ before))
         ⊎ (Answers asked responded × IsCheckedAs asked responded told after)
 
   -- A frame that comes back, whatever it has: a response, or none.
-  abbrev pub HearsFrame : Client → RequestContent → Frame → Told → Client → Type 0
+  abbrev pub HearsFrame : Client → RequestContent → Frame → Report → Client → Type 0
   HearsFrame before asked frame told after =
       ((responded : ResponseContent) × Responds frame.kind frame.body responded × Hears before frame.body asked responded told after)
       ⊎ ((why : ReadRefusal) × ReadsResponse frame.kind frame.body (Err why) × (told ≡ refused (refuses_text (codes "client refuses reply") (read_refusal_number why))) × (after ≡ before))

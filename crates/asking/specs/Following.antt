@@ -14,7 +14,7 @@ use Rattle.wire.specs.Requests.{RequestContent, Query}
 use Rattle.asking.specs.declared.said.Said.{Said}
 use Rattle.asking.specs.Refused.{client_refuses, other_reply}
 use Rattle.asking.specs.Scenes.{Scene, IsAnswered, IsUnanswered}
-use Rattle.asking.specs.Told.{Told, Tells, onto}
+use Rattle.asking.specs.Reports.{Report, Tells, onto}
 
 -- the roots above a head, as many as a list has
 abbrev pub asks_roots : SignedRoot → RequestContent
@@ -48,7 +48,7 @@ module _ (hash : List ℕ → List ℕ) (verified : List ℕ → List ℕ → Li
 
   -- What comes of a frame that stops it: it is no answer, or the client or a monitor refuses its list, or it is told as a
   -- reply to something else.
-  abbrev pub IsStopped : RequestContent → Client → List Monitor → Frame → Told → Type 0
+  abbrev pub IsStopped : RequestContent → Client → List Monitor → Frame → Report → Type 0
   IsStopped asked client monitors frame told = IsUnanswered asked frame told
       ⊎ (IsAnswered asked frame × (((why : Refusal) × AnyRefuses frame.body client monitors why × (told ≡ client_refuses (codes "client refuses root") why)) ⊎ (told ≡ other_reply)))
 
@@ -75,11 +75,11 @@ module _ (hash : List ℕ → List ℕ) (verified : List ℕ → List ℕ → Li
     Follows (suc count) before after = (middle : Scene T) × TakesList before true middle × Follows count middle after
 
     -- the roots above the head are asked for, and a frame comes that stops it, which is told behind what was
-    abbrev pub StopsList : Scene T → Told → Type 0
+    abbrev pub StopsList : Scene T → Report → Type 0
     StopsList before after = (head : SignedRoot) × IsHead before.client.chain head × (frame : Frame) × (stream : T) × exchanged before.stream (asks_roots head) frame stream
-        × (told : Told) × IsStopped (asks_roots head) before.client before.monitors frame told × (after ≡ onto before.told told)
+        × (told : Report) × IsStopped (asks_roots head) before.client before.monitors frame told × (after ≡ onto before.told told)
 
     -- so many lists are taken, and then a frame stops it
-    abbrev pub StopsAfter : ℕ → Scene T → Told → Type 0
+    abbrev pub StopsAfter : ℕ → Scene T → Report → Type 0
     StopsAfter zero before told = StopsList before told
     StopsAfter (suc count) before told = (middle : Scene T) × TakesList before true middle × StopsAfter count middle told

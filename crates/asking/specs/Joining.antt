@@ -18,7 +18,7 @@ use Rattle.asking.specs.declared.asker.Mark.{Mark}
 use Rattle.asking.specs.Asking.{HandsTo}
 use Rattle.asking.specs.Refused.{client_refuses}
 use Rattle.asking.specs.Scenes.{Scene}
-use Rattle.asking.specs.Told.{onto}
+use Rattle.asking.specs.Reports.{onto}
 use Rattle.asking.specs.Visiting.{TestsAll}
 use Rattle.asking.specs.Watching.{StepsThrough}
 

@@ -9,6 +9,6 @@ pub mod Refused
 pub mod Scenes
 pub mod Stopping
 pub mod Testing
-pub mod Told
+pub mod Reports
 pub mod Visiting
 pub mod Watching

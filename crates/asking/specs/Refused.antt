@@ -5,14 +5,14 @@ use Rattle.audits.specs.Files.{evidence_text}
 use Rattle.client.specs.Refusals.{refusal_number}
 use Rattle.client.specs.declared.refusal.Refusal.{Refusal}
 use Rattle.client.specs.declared.refusal.Refusal.TheVariants.{Root, Proof, UnknownRoot, RootDiffers, Memory, NoPromise}
-use Rattle.asking.specs.Told.{Told, refused}
+use Rattle.asking.specs.Reports.{Report, refused}
 
 -- that the client refuses a root, a promise, a proof or a reply, and the number of the refusal
 abbrev pub refuses_text : List ℕ → ℕ → List ℕ
 refuses_text what number = what ++ codes " " ++ decimal number
 
 -- a reply that does not answer what was asked
-abbrev pub other_reply : Told
+abbrev pub other_reply : Report
 other_reply = refused (refuses_text (codes "client refuses reply") 25)
 
 -- the roots of a refusal that is evidence
@@ -25,5 +25,5 @@ evidence_before Memory = []
 evidence_before NoPromise = []
 
 -- a refusal of the client, behind its evidence
-abbrev pub client_refuses : List ℕ → Refusal → Told
+abbrev pub client_refuses : List ℕ → Refusal → Report
 client_refuses what why = record { lines = evidence_before why ++ (refuses_text what (refusal_number why) ++ 10 ∷ []); status = 1 }

@@ -14,13 +14,13 @@ use Rattle.asking.specs.declared.asker.Asker.{Asker}
 use Rattle.asking.specs.declared.said.Said.{Said}
 use Rattle.asking.specs.Answering.{Answers}
 use Rattle.asking.specs.Refused.{other_reply, refuses_text}
-use Rattle.asking.specs.Told.{Told, Tells, refused, told_by}
+use Rattle.asking.specs.Reports.{Report, Tells, refused, told_by}
 
 -- the client and the monitors, what was told so far, and the stream to the directory
 pub record Scene (T : Type 0) : Type 0 where
   pub client : Client
   pub monitors : List Monitor
-  pub told : Told
+  pub told : Report
   pub stream : T
 
 abbrev pub scene : {H V S T : Type 0} → Asker H V S → Said → T → Scene T
@@ -31,7 +31,7 @@ abbrev pub IsAnswered : RequestContent → Frame → Type 0
 IsAnswered asked frame = (responded : ResponseContent) × Responds frame.kind frame.body responded × Answers asked responded
 
 -- what is told of a response that is no answer: a refusal of the directory, or one to something else
-abbrev pub miss_told : ResponseContent → Told
+abbrev pub miss_told : ResponseContent → Report
 miss_told (Refused code) = refused (response_text (Refused code))
 miss_told (Promise signed) = other_reply
 miss_told (Proof reply) = other_reply
@@ -39,7 +39,7 @@ miss_told (Roots roots) = other_reply
 miss_told (Root root) = other_reply
 
 -- what is told of a frame that is no answer to what was asked
-abbrev pub IsUnanswered : RequestContent → Frame → Told → Type 0
+abbrev pub IsUnanswered : RequestContent → Frame → Report → Type 0
 IsUnanswered asked frame told =
     ((responded : ResponseContent) × Responds frame.kind frame.body responded × (¬ Answers asked responded) × (told ≡ miss_told responded))
     ⊎ ((why : ReadRefusal) × ReadsResponse frame.kind frame.body (Err why) × (told ≡ refused (refuses_text (codes "client refuses reply") (read_refusal_number why))))
@@ -47,7 +47,7 @@ IsUnanswered asked frame told =
 -- the body of a frame that answers what was asked, with nothing told; or none, and why
 abbrev pub GivesBody : RequestContent → Frame → Said → Option (List ℕ) → Said → Type 0
 GivesBody asked frame before (Some body) after = IsAnswered asked frame × (body ≡ frame.body) × (after ≡ before)
-GivesBody asked frame before None after = (told : Told) × IsUnanswered asked frame told × Tells before told after
+GivesBody asked frame before None after = (told : Report) × IsUnanswered asked frame told × Tells before told after
 
 -- what no answer changes, and what changes only by a promise that is kept for a change of the client's own
 abbrev pub Remains : {H V S : Type 0} → Asker H V S → Asker H V S → Type 0

@@ -9,14 +9,14 @@ use Rattle.asking.specs.declared.placing.Stop.{Stop}
 use Rattle.asking.specs.declared.placing.Stop.TheVariants.{OtherEpoch, Refused}
 use Rattle.asking.specs.Checking.{refusal_at, Places}
 use Rattle.asking.specs.Refused.{client_refuses, other_reply}
-use Rattle.asking.specs.Told.{Told}
+use Rattle.asking.specs.Reports.{Report}
 
 -- the epochs of roots, as a line has them
 abbrev pub epochs_text : List SignedRoot → List ℕ
 epochs_text roots = flat_map (λ (root : SignedRoot). codes " " ++ decimal root.body.epoch) roots
 
 -- what is told where it stops
-abbrev pub stop_told : Stop → Told
+abbrev pub stop_told : Stop → Report
 stop_told OtherEpoch = other_reply
 stop_told (Refused why) = client_refuses (codes "client refuses root") why
 

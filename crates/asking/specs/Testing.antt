@@ -9,10 +9,10 @@ use Rattle.client.specs.declared.due.Due.TheVariants.{Kept, Broken, OtherIndex}
 use Rattle.client.specs.declared.refusal.Refusal.{Refusal}
 use Rattle.asking.specs.declared.said.Said.{Said}
 use Rattle.asking.specs.Refused.{client_refuses, refuses_text}
-use Rattle.asking.specs.Told.{Told, Tells, refused, silent}
+use Rattle.asking.specs.Reports.{Report, Tells, refused, silent}
 
 -- nothing of one that was kept, and evidence of one that was broken
-abbrev pub due_told : Result Due Refusal → Told
+abbrev pub due_told : Result Due Refusal → Report
 due_told (Ok Kept) = silent
 due_told (Ok (Broken broken)) = refused (evidence_text (evidence.Broken broken))
 due_told (Ok OtherIndex) = refused (refuses_text (codes "client refuses promise") 26)

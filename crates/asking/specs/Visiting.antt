@@ -12,7 +12,7 @@ use Rattle.wire.specs.Requests.{RequestContent, Query}
 use Rattle.asking.specs.declared.asker.Mark.{Mark}
 use Rattle.asking.specs.Scenes.{Scene, IsAnswered, IsUnanswered}
 use Rattle.asking.specs.Testing.{due_told, was_kept}
-use Rattle.asking.specs.Told.{Told, onto}
+use Rattle.asking.specs.Reports.{Report, onto}
 
 -- the name has a mark of an earlier run; a monitor in this one; the first, and not the second
 abbrev pub IsMarked : List Mark → List ℕ → Type 0
@@ -26,7 +26,7 @@ Waits marks monitors name = IsMarked marks name × ¬ IsWatched monitors name
 
 module _ (hash : List ℕ → List ℕ) (accepted : List ℕ → List ℕ → List ℕ → Type 0) where
   -- what a frame that came for a look-up shows of the promise for the name: no answer, or what comes of the test
-  abbrev pub ShowsDue : Client → List ℕ → RequestContent → Frame → Bool → Told → Client → Type 0
+  abbrev pub ShowsDue : Client → List ℕ → RequestContent → Frame → Bool → Report → Client → Type 0
   ShowsDue before name asked frame kept told after =
       (IsUnanswered asked frame told × (kept ≡ false) × (after ≡ before))
       ⊎ (IsAnswered asked frame × ((due : Result Due Refusal) × Dues hash accepted before name frame.body due after × (kept ≡ was_kept due) × (told ≡ due_told due)))
@@ -38,7 +38,7 @@ module _ (hash : List ℕ → List ℕ) (accepted : List ℕ → List ℕ → Li
       pub due : IsDueEpoch before.client name (Some epoch)
       pub frame : Frame
       pub exchange : exchanged before.stream (Query (Lookup name epoch)) frame after.stream
-      pub told : Told
+      pub told : Report
       pub shows : ShowsDue before.client name (Query (Lookup name epoch)) frame kept told after.client
       pub tells : after.told ≡ onto before.told told
       pub monitors : after.monitors ≡ before.monitors

@@ -14,23 +14,23 @@ use Rattle.asking.specs.declared.asker.Mark.{Mark}
 use Rattle.asking.specs.declared.said.Said.{Said}
 use Rattle.asking.specs.Refused.{client_refuses}
 use Rattle.asking.specs.Scenes.{Scene, IsAnswered, IsUnanswered}
-use Rattle.asking.specs.Told.{Told, Tells, onto}
+use Rattle.asking.specs.Reports.{Report, Tells, onto}
 use Rattle.asking.specs.Visiting.{TestsAll}
 
 -- an alarm is status 3
-abbrev pub step_told : List ℕ → ℕ → Step → Told
+abbrev pub step_told : List ℕ → ℕ → Step → Report
 step_told name epoch Kept = record { lines = step_text name epoch Kept ++ 10 ∷ []; status = 0 }
 step_told name epoch (Alarm at found) = record { lines = step_text name epoch (Alarm at found) ++ 10 ∷ []; status = 3 }
 
 module _ (hash : List ℕ → List ℕ) (accepted : List ℕ → List ℕ → List ℕ → Type 0) where
   -- a monitor watched an epoch by a reply, or its client refused the proof
-  abbrev pub Watches : Monitor → ℕ → List ℕ → Bool → Told → Monitor → Type 0
+  abbrev pub Watches : Monitor → ℕ → List ℕ → Bool → Report → Monitor → Type 0
   Watches before epoch reply true told after = (step : Step) × Steps hash accepted before reply (Ok step) after × (told ≡ step_told before.name epoch step)
   Watches before epoch reply false told after =
       (why : Refusal) × Steps hash accepted before reply (Err (Client why)) after × (told ≡ client_refuses (codes "client refuses proof") why)
 
   abbrev pub WatchesEpoch : Monitor → ℕ → List ℕ → Said → Bool → Said → Monitor → Type 0
-  WatchesEpoch before epoch reply said went now after = (told : Told) × Watches before epoch reply went told after × Tells said told now
+  WatchesEpoch before epoch reply said went now after = (told : Report) × Watches before epoch reply went told after × Tells said told now
 
   -- the monitor at a place watches an epoch by a reply, if there is one
   abbrev pub WatchesAt : List Monitor → ℕ → ℕ → List ℕ → Said → Bool → Said → List Monitor → Type 0
@@ -39,7 +39,7 @@ module _ (hash : List ℕ → List ℕ) (accepted : List ℕ → List ℕ → Li
       ⊎ ((monitor : Monitor) × (watched : Monitor) × (slice_get before place ≡ Some monitor) × WatchesEpoch monitor epoch reply said went now watched × (after ≡ slice_set before place watched))
 
   -- what a frame that came for a look-up shows a monitor
-  abbrev pub ShowsEpoch : Monitor → ℕ → RequestContent → Frame → Bool → Told → Monitor → Type 0
+  abbrev pub ShowsEpoch : Monitor → ℕ → RequestContent → Frame → Bool → Report → Monitor → Type 0
   ShowsEpoch before epoch asked frame went told after =
       (IsUnanswered asked frame told × (went ≡ false) × (after ≡ before)) ⊎ (IsAnswered asked frame × Watches before epoch frame.body went told after)
 
@@ -52,7 +52,7 @@ module _ (hash : List ℕ → List ℕ) (accepted : List ℕ → List ℕ → Li
       pub next : IsNextEpoch monitor (Some epoch)
       pub frame : Frame
       pub exchange : exchanged before.stream (Query (Lookup monitor.name epoch)) frame after.stream
-      pub told : Told
+      pub told : Report
       pub watched : Monitor
       pub shows : ShowsEpoch monitor epoch (Query (Lookup monitor.name epoch)) frame went told watched
       pub tells : after.told ≡ onto before.told told

@@ -9,7 +9,7 @@ ghost use Rattle.play.specs.Spoken.{ask_seen};
 ghost use Rattle.asking.specs.Answering.{with_token, Answers};
 ghost use Rattle.asking.specs.Refused.{refuses_text};
 ghost use Rattle.asking.specs.Scenes.{miss_told, GivesBody};
-ghost use Rattle.asking.specs.Told.{refused, Tells};
+ghost use Rattle.asking.specs.Reports.{refused, Tells};
 
 use crate::said::{Said, directory_words};
 use commands::{Put, Query};

@@ -9,7 +9,7 @@ ghost use Rattle.asking.specs.Asking.{response_epoch, Asks, CatchesUp, GoesOnAbo
 ghost use Rattle.asking.specs.Checking.{HearsFrame};
 ghost use Rattle.asking.specs.Exchanges.{Exchanges, HoldsFrame, IsOneFrame};
 ghost use Rattle.asking.specs.Scenes.{scene, Remains, Stays};
-ghost use Rattle.asking.specs.Told.{told_by, Told, Tells};
+ghost use Rattle.asking.specs.Reports.{told_by, Report, Tells};
 ghost use Rattle.asking.specs.declared.fault.AskFault.TheVariants.{Stopped};
 
 use crate::answering::{answers, request_of};
@@ -107,7 +107,7 @@ where
         frame: &FrameView<'_>,
         said: &mut Said,
     ) -> Result<(), AllocError>
-        ensures hears { OnOk result ((told : Told) × HearsFrame H.digest_of V.accepted S.verified (self.old).client (ask_seen ask.now) (frame_seen frame.now) told (self.new).client × Tells said.old told said.new) }
+        ensures hears { OnOk result ((told : Report) × HearsFrame H.digest_of V.accepted S.verified (self.old).client (ask_seen ask.now) (frame_seen frame.now) told (self.new).client × Tells said.old told said.new) }
         ensures hands { OnOk result (Hands H.digest_of V.accepted S.verified (ask_seen ask.now) (frame_seen frame.now).body (self.old).client.promises (self.new).client.promises (self.old).monitors.items (self.new).monitors.items) }
         ensures stays { OnOk result (Remains self.old self.new) }
     {

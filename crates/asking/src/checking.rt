@@ -13,7 +13,7 @@ ghost use Rattle.audits.specs.Files.{evidence_text};
 ghost use Rattle.play.specs.Spoken.{ask_seen};
 ghost use Rattle.asking.specs.Checking.{look_told, promise_told, Hears, HearsFrame};
 ghost use Rattle.asking.specs.Refused.{client_refuses, evidence_before};
-ghost use Rattle.asking.specs.Told.{Told, Tells};
+ghost use Rattle.asking.specs.Reports.{Report, Tells};
 
 use crate::answering::{answers, tell_refused, tell_unread};
 use crate::placing::{place_all, place_latest};
@@ -96,7 +96,7 @@ where
     H: NodeHash + Drop,
     V: VufCheck + Drop,
     S: Verifier + Drop,
-    ensures { OnOk result ((told : Told) × HearsFrame H.digest_of V.accepted S.verified client.old (ask_seen ask.now) (frame_seen frame.now) told client.new × Tells said.old told said.new) }
+    ensures { OnOk result ((told : Report) × HearsFrame H.digest_of V.accepted S.verified client.old (ask_seen ask.now) (frame_seen frame.now) told client.new × Tells said.old told said.new) }
 {
     match Response::read(frame.kind, frame.body) {
         Ok(response) => hear_response(alloc, client, checks, ask, response, frame.body, said),
@@ -118,7 +118,7 @@ where
     H: NodeHash + Drop,
     V: VufCheck + Drop,
     S: Verifier + Drop,
-    ensures { OnOk result ((told : Told) × Hears H.digest_of V.accepted S.verified client.old body.now (ask_seen ask.now) (response_seen response.entry) told client.new × Tells said.old told said.new) }
+    ensures { OnOk result ((told : Report) × Hears H.digest_of V.accepted S.verified client.old body.now (ask_seen ask.now) (response_seen response.entry) told client.new × Tells said.old told said.new) }
 {
     let is_answer = answers(ask, &response);
     match response {

@@ -4,7 +4,7 @@ ghost use Rattle.std.specs.List.{AllZip};
 ghost use Rattle.asking.specs.Exchanges.{Exchanges};
 ghost use Rattle.asking.specs.Following.{AllUpdate, AnyRefuses, Follows, MonitorUpdates, OneRefuses, Refuses, StopsAfter, StopsList, TakesList, TellsRefusal};
 ghost use Rattle.asking.specs.Scenes.{scene, Stays};
-ghost use Rattle.asking.specs.Told.{told_by};
+ghost use Rattle.asking.specs.Reports.{told_by};
 ghost use Rattle.asking.specs.declared.fault.AskFault.TheVariants.{Stopped};
 
 use crate::answering::body_of;

@@ -7,7 +7,7 @@ ghost use Rattle.client.specs.Refusals.{of_root};
 ghost use Rattle.asking.specs.Checking.{place_told, refusal_at, AreTold, Places};
 ghost use Rattle.asking.specs.Refused.{client_refuses};
 ghost use Rattle.asking.specs.Stopping.{epochs_text, Stops, StopsAt};
-ghost use Rattle.asking.specs.Told.{Told, Tells};
+ghost use Rattle.asking.specs.Reports.{Report, Tells};
 
 use crate::checking::tell_client;
 use crate::{Checks, Said};
@@ -162,7 +162,7 @@ where
     H: NodeHash + Drop,
     V: VufCheck + Drop,
     S: Verifier + Drop,
-    ensures { OnOk result ((told : Told) × AreTold H.digest_of S.verified client.now.chain from roots.entry roots.entry told × Tells said.old told said.new) }
+    ensures { OnOk result ((told : Report) × AreTold H.digest_of S.verified client.now.chain from roots.entry roots.entry told × Tells said.old told said.new) }
 {
     let mut line = Vec::from_slice(alloc, b"roots")?;
     match push_epochs(client, checks, from, roots, &mut line)? {

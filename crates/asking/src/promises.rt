@@ -6,7 +6,7 @@ ghost use Rattle.asking.specs.Exchanges.{Exchanges};
 ghost use Rattle.asking.specs.Refused.{refuses_text};
 ghost use Rattle.asking.specs.Scenes.{scene, Stays};
 ghost use Rattle.asking.specs.Testing.{TellsDue};
-ghost use Rattle.asking.specs.Told.{refused, Tells};
+ghost use Rattle.asking.specs.Reports.{refused, Tells};
 ghost use Rattle.asking.specs.Visiting.{IsMarked, IsWatched, TestsAll, TestsName, Visits, Waits};
 ghost use Rattle.asking.specs.declared.fault.AskFault.TheVariants.{Stopped};
 

@@ -1,6 +1,6 @@
 ghost use Rattle.std.specs.Prelude.{◌≡◌, ◌++◌, [], OnOk};
 ghost use Rattle.asking.specs.Refused.{other_reply, refuses_text};
-ghost use Rattle.asking.specs.Told.{refused, worse, Tells};
+ghost use Rattle.asking.specs.Reports.{refused, worse, Tells};
 
 use encoding::Name;
 use play::{push_hex, push_number};

@@ -6,7 +6,7 @@ ghost use Rattle.asking.specs.Asking.{HandsTo};
 ghost use Rattle.asking.specs.Exchanges.{Exchanges};
 ghost use Rattle.asking.specs.Refused.{client_refuses};
 ghost use Rattle.asking.specs.Scenes.{scene, Remains, Stays};
-ghost use Rattle.asking.specs.Told.{Tells};
+ghost use Rattle.asking.specs.Reports.{Tells};
 ghost use Rattle.asking.specs.Watching.{step_told, GoesOn, StepsOnce, StepsThrough, WatchesAt, WatchesEpoch};
 ghost use Rattle.asking.specs.declared.fault.AskFault.TheVariants.{Stopped};
 

@@ -1,7 +1,7 @@
 -- A list of roots in pieces: the client's chain takes them, and the rest of the client stays.
 use Rattle.std.proofs.Common.{◌≡◌, ◌≢◌, ℕ, List, [], ◌∷◌, Result, Ok, Err, sym, ap, subst, ◌∙◌}
 use Rattle.rootchain.specs.Chains.{KeyedRoots}
-use Rattle.rootchain.specs.RootFeeds.{Held}
+use Rattle.rootchain.specs.RootFeeds.{FeedState}
 use Rattle.rootchain.specs.TakingPieces.{TakesPiece, TakesPieces}
 use Rattle.rootchain.specs.declared.piece_refusal.PieceRefusal.{PieceRefusal}
 use Rattle.rootchain.specs.declared.piece_refusal.PieceRefusal.TheVariants as piece
@@ -24,7 +24,7 @@ module _ (hash : List ℕ → List ℕ) (verified : List ℕ → List ℕ → Li
       same : piece_refused reason ≡ piece_refused piece.Memory → reason ≡ piece.Memory
       same e = cc
 
-  pub chain-takes : (pieces : List (List ℕ)) (before : Client) (held : Held) (after : Client) (held' : Held) → UpdatesInPieces hash verified before held pieces after held'
+  pub chain-takes : (pieces : List (List ℕ)) (before : Client) (held : FeedState) (after : Client) (held' : FeedState) → UpdatesInPieces hash verified before held pieces after held'
       → TakesPieces hash verified before.chain held pieces after.chain held' × (after ≡ with_chain before after.chain)
   chain-takes [] before held after held' calls = ((ap (λ (c : Client). c.chain) calls.0, calls.1), calls.0 ∙ ap (with_chain before) (sym (ap (λ (c : Client). c.chain) calls.0)))
   chain-takes (piece ∷ pieces) before held after held' (Ok done, middle, between, one, some, later) =

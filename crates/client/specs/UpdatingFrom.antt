@@ -1,7 +1,7 @@
 -- What comes of a list of roots in pieces: each root is taken once it is whole (after CONIKS, section 4).
 use Rattle.std.specs.Prelude.{◌≡◌, ◌≢◌, ℕ, List, [], ◌∷◌, Result, Ok, Err}
 use Rattle.rootchain.specs.Chains.{KeyedRoots}
-use Rattle.rootchain.specs.RootFeeds.{Held, Counts}
+use Rattle.rootchain.specs.RootFeeds.{FeedState, Counts}
 use Rattle.rootchain.specs.RootLists.{SpellsRoots}
 use Rattle.rootchain.specs.TakingPieces.{joined, TakesPiece, TakesUpTo}
 use Rattle.rootchain.specs.declared.signed_root.SignedRoot.{SignedRoot}
@@ -24,19 +24,19 @@ with_chain client chain = record client { chain = chain }
 
 module _ (hash : List ℕ → List ℕ) (verified : List ℕ → List ℕ → List ℕ → Type 0) where
   -- the answer to a piece, and the client and the feed after it: its chain takes the piece
-  abbrev pub UpdatesFrom : {A : Type 0} → Client → Held → List ℕ → Result A Refusal → Client → Held → Type 0
+  abbrev pub UpdatesFrom : {A : Type 0} → Client → FeedState → List ℕ → Result A Refusal → Client → FeedState → Type 0
   UpdatesFrom {A} before held bytes (Ok done) after held' = (chain : KeyedRoots) × TakesPiece hash verified {A = A} before.chain held bytes (Ok done) chain held' × (after ≡ with_chain before chain)
   UpdatesFrom {A} before held bytes (Err why) after held' = (chain : KeyedRoots) × (reason : PieceRefusal) × TakesPiece hash verified {A = A} before.chain held bytes (Err reason) chain held'
       × (after ≡ with_chain before chain) × (why ≡ piece_told_as reason)
 
   -- the pieces as they come, in calls of which none is refused for want of memory
-  abbrev pub UpdatesInPieces : Client → Held → List (List ℕ) → Client → Held → Type 0
+  abbrev pub UpdatesInPieces : Client → FeedState → List (List ℕ) → Client → FeedState → Type 0
   UpdatesInPieces before held [] after held' = (after ≡ before) × (held' ≡ held)
-  UpdatesInPieces before held (piece ∷ pieces) after held' = (answer : Result Unit Refusal) × (middle : Client) × (between : Held)
+  UpdatesInPieces before held (piece ∷ pieces) after held' = (answer : Result Unit Refusal) × (middle : Client) × (between : FeedState)
       × UpdatesFrom before held piece answer middle between × (answer ≢ Err Memory) × UpdatesInPieces middle between pieces after held'
 
   -- Where the bytes of a list are cut does not matter: the chain takes each root up to the first that is refused.
   abbrev pub CuttingDoesNotMatter : Type 0
-  CuttingDoesNotMatter = (before : Client) (roots : List SignedRoot) (pieces : List (List ℕ)) (after : Client) (held' : Held)
+  CuttingDoesNotMatter = (before : Client) (roots : List SignedRoot) (pieces : List (List ℕ)) (after : Client) (held' : FeedState)
       → SpellsRoots (joined pieces) roots → UpdatesInPieces before (Counts []) pieces after held'
       → TakesUpTo hash verified before.chain roots after.chain held' × (after ≡ with_chain before after.chain)

@@ -9,7 +9,7 @@ use Rattle.rootchain.specs.Chains.{Ascend, IsChain}
 use Rattle.rootchain.specs.declared.signed_promise.SignedPromise.{SignedPromise}
 use Rattle.rootchain.specs.declared.signed_root.SignedRoot.{SignedRoot}
 use Rattle.rootchain.proofs.Chains.{ascend-linked}
-use Rattle.rootchain.specs.RootFeeds.{Held}
+use Rattle.rootchain.specs.RootFeeds.{FeedState}
 use Rattle.rootchain.proofs.TakingLists.{takes-grows}
 use Rattle.rootchain.proofs.TakingPieces.{piece-grows}
 use Rattle.client.specs.Clients.{Client, Look}
@@ -91,7 +91,7 @@ updated-watching hash verified monitor is client bytes (Err why) updates linked 
 
 -- the same for a piece of a list
 pub updated-from-watching : (hash : List ℕ → List ℕ) (verified : List ℕ → List ℕ → List ℕ → Type 0) (monitor : Monitor) → IsWatching monitor
-    → (client : Client) (held held' : Held) (piece : List ℕ) (result : Result Unit Refusal) → UpdatesFrom hash verified monitor.client held piece result client held'
+    → (client : Client) (held held' : FeedState) (piece : List ℕ) (result : Result Unit Refusal) → UpdatesFrom hash verified monitor.client held piece result client held'
     → IsChain hash verified client.chain → IsWatching (record monitor { client = client })
 updated-from-watching hash verified monitor is client held held' piece (Ok done) (chain, takes, same) linked =
     let grown = piece-grows hash verified {A = Unit} monitor.client.chain held piece (Ok done) chain held' takes in

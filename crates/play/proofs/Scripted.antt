@@ -20,7 +20,7 @@ use Rattle.play.specs.Parties.{AreAt, KeepsNothing, NeverFails, Parties}
 use Rattle.play.specs.Played.{line_played, Stand}
 use Rattle.play.specs.PlayedLines.{PlaysLine}
 use Rattle.play.specs.Plays.{PlaysTo}
-use Rattle.play.specs.Printing.{by_line, onto, played_from, text, Printed}
+use Rattle.play.specs.Printing.{by_line, onto, played_from, text, Printout}
 use Rattle.play.specs.Reading.{TakesLine}
 use Rattle.play.specs.Scripts.{Line, line_of}
 
@@ -29,7 +29,7 @@ lines_append = flat_map-append (λ (line : List ℕ). line ++ 10 ∷ [])
 
 module _ (index : List ℕ → List ℕ) (begin : Stand) where
   -- what a script prints from the beginning on
-  abbrev pub whole : List ℕ → Printed
+  abbrev pub whole : List ℕ → Printout
   whole script = played_from index 1 begin (lines_of script)
 
   -- the lines before this one were printed, and the script stands so
@@ -86,7 +86,7 @@ module _ (index : List ℕ → List ℕ) (begin : Stand) where
   all_played (Some script) old place now left after new line so takes =
       let none : so.rest ≡ [] = subst (λ (l : Option (List ℕ)). TakesLine l after false line) so.is takes in
       let prints : whole script ≡ onto so.front (record { lines = []; stopped = None }) = so.prints ∙ ap (λ (rest : List ℕ). onto so.front (played_from index place now (lines_of rest))) none in (
-        ap (λ (p : Printed). p.stopped) prints,
+        ap (λ (p : Printout). p.stopped) prints,
         subst (Appends old new) (sym (ap text prints ∙ ap as_lines (append-nil so.front))) so.wrote,
       )
 
@@ -116,7 +116,7 @@ module _ (index : List ℕ → List ℕ) (begin : Stand) where
       let n = next_of script old place now left after new line so takes in
       let prints : whole script ≡ onto n.front (record { lines = []; stopped = Some place }) =
       n.prints ∙ ap (λ (said : Option Line). onto n.front (by_line index place now said (λ then_stand. played_from index (place + 1) then_stand (lines_of n.rest)))) none in (
-        ap (λ (p : Printed). p.stopped) prints ∙ ap (λ (k : ℕ). Some k) (sym same),
+        ap (λ (p : Printout). p.stopped) prints ∙ ap (λ (k : ℕ). Some k) (sym same),
         subst (Appends old new) (sym (ap text prints ∙ ap as_lines (append-nil n.front))) n.wrote,
       )
 
@@ -180,7 +180,7 @@ module _ {R : Type 0} (digest_of : List ℕ → List ℕ) (value_of signature_of
   pub goes_at_first : (first : Parties R) (begin : Stand) (input old : Option (List ℕ)) → AreAt digest_of value_of signature_of stream accepted verified first begin → GoesOn first begin input old 1 first input old
   goes_at_first first begin input old are = record { stand = begin; at = are; same = refl; so = at_first (index_of (P first)) begin input old }
 
-  abbrev Whole : Parties R → Stand → List ℕ → Printed
+  abbrev Whole : Parties R → Stand → List ℕ → Printout
   Whole first begin script = played_from (index_of (P first)) 1 begin (lines_of script)
 
   -- a line that is not played

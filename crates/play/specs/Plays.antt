@@ -3,7 +3,7 @@ use Rattle.std.specs.Prelude.{ℕ, List, Option, Some, None, Result, Ok, Err, Is
 use Rattle.textio.specs.declared.program_fault.ProgramFault.{ProgramFault}
 use Rattle.textio.specs.declared.program_fault.ProgramFault.TheVariants as fault
 use Rattle.play.specs.Ends.{Ending, Done, NotACommand, CannotRead, CannotWrite, OutOfMemory, Plays}
-use Rattle.play.specs.Printing.{Printed}
+use Rattle.play.specs.Printing.{Printout}
 
 -- the ending that was returned, if it is one
 abbrev pub ending_of : Result (Unit {0}) ProgramFault → Option Ending
@@ -21,5 +21,5 @@ ending_of (Err fault.OtherKeys) = None
 ending_of (Err fault.CannotListen) = None
 
 -- it ended so
-abbrev pub PlaysTo : (List ℕ → Printed) → Option (List ℕ) → Option (List ℕ) → Option (List ℕ) → Result (Unit {0}) ProgramFault → Type 0
+abbrev pub PlaysTo : (List ℕ → Printout) → Option (List ℕ) → Option (List ℕ) → Option (List ℕ) → Result (Unit {0}) ProgramFault → Type 0
 PlaysTo printed input old new result = IsSomeAnd (ending_of result) (Plays printed input old new)

@@ -30,5 +30,5 @@ pub use laws::{
     way_is_fold, worked_roots,
 };
 pub use path::{End, MAX_SIBLINGS, Path};
-pub use tree::Tree;
+pub use tree::{MAX_SIBLINGS_LEN, Tree};
 pub use way::{climb, end_text, joined_text, leads};

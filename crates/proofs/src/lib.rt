@@ -35,7 +35,7 @@ pub use laws::{
     bytes_spell_one_reply, honest_replies_are_accepted, no_spelling_begins_another,
     refused_is_not_accepted, reply_has_one_spelling, unique_values_never_differ,
 };
-pub use making::{make, write_front};
+pub use making::{FRONT_ROOM, make, write_front};
 pub use refusal::Refusal;
 pub use statement::Statement;
 pub use view::ReplyView;

@@ -2,6 +2,7 @@ ghost use Rattle.std.specs.Prelude.{◌≡◌, ◌+◌, ◌*◌, ◌≤◌, ◌+
 ghost use Rattle.rootchain.specs.Bodies.{IsWellFormed};
 ghost use Rattle.proofs.specs.Replies.{front_bytes, reply_end_bytes, reply_bytes, sibling_bytes, AreSiblings, IsEnd, IsReply};
 ghost use Rattle.proofs.specs.Views.{end_given};
+ghost use Rattle.proofs.specs.declared.making.TheConstants.{FRONT_ROOM};
 ghost use Rattle.encoding.specs.declared.fixed_text.TheConstants.{PROOF_TEXT_ROOM};
 
 use crate::End;
@@ -25,14 +26,14 @@ pub fn make(body: &Body, value: &Small, end: &End<'_>, path: &Path) -> ProofText
 }
 
 /// The room of a reply up to its siblings, which has at most 2,489 bytes.
-const FRONT_ROOM: usize = 2500;
+pub const FRONT_ROOM: usize = 2500;
 
 /// Appends a reply up to its siblings, with the number of these, into room that is there.
 pub fn write_front(output: &mut Vec<u8>, body: &Body, value: &Small, end: &End<'_>, siblings: usize)
     requires few { siblings ≤ 256 }
-    requires room { vec_len output.old + 2500 ≤ vec_capacity output.old }
+    requires room { vec_len output.old + FRONT_ROOM ≤ vec_capacity output.old }
     ensures value { output.new.items ≡ output.old.items ++ front_bytes body.now value.now (end_given end.now) siblings }
-    ensures len { vec_len output.new ≤ vec_len output.old + 2500 }
+    ensures len { vec_len output.new ≤ vec_len output.old + FRONT_ROOM }
     ensures capacity { vec_capacity output.old ≤ vec_capacity output.new }
 {
     let mut text: FixedText<FRONT_ROOM> = FixedText::new();

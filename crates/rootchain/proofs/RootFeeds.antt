@@ -21,7 +21,7 @@ use Rattle.rootchain.specs.declared.root_feed.Stage.TheVariants as stage
 use Rattle.rootchain.specs.FeedViews.{held_of, TellsNext}
 use Rattle.rootchain.specs.RootLists.{read_root_count, SpellsRoots}
 use Rattle.rootchain.specs.SignedRoots.{read_signed_root, signed_root_bytes, IsSignedRoot}
-use Rattle.rootchain.specs.RootFeeds.{front, front_read, front_sized, least_len, least_root_len, read_signature_len, told, told_by, told_counted, told_from, Front, Held, Bad, Counts, Done, Failed, IsHeld, Owes, Part, Whole}
+use Rattle.rootchain.specs.RootFeeds.{front, front_read, front_sized, least_len, least_root_len, read_signature_len, told, told_by, told_counted, told_from, Front, FeedState, Bad, Counts, Done, Failed, IsHeld, Owes, Part, Whole}
 use Rattle.rootchain.specs.Readable.{signed_root_field}
 use Rattle.rootchain.proofs.RootLists.{count_field}
 
@@ -231,7 +231,7 @@ count_fault bytes fault e = elim (cases_lt (length bytes) 2) [
 
 -- ---- the first answer of a feed that waits for the number
 
-pub tells-same : (held held' : Held) (piece piece' : List ℕ) (next : Next) (after : Held) → told_from held piece ≡ told_from held' piece' → TellsNext held' piece' next after → TellsNext held piece next after
+pub tells-same : (held held' : FeedState) (piece piece' : List ℕ) (next : Next) (after : FeedState) → told_from held piece ≡ told_from held' piece' → TellsNext held' piece' next after → TellsNext held piece next after
 tells-same held held' piece piece' (next.Root root rest) after same tells = same ∙ tells
 tells-same held held' piece piece' next.Wait after same tells = (same ∙ tells.0, tells.1)
 tells-same held held' piece piece' next.Failed after same tells = (same ∙ tells.0, tells.1)
@@ -296,7 +296,7 @@ front-more bytes more f some e = by_len (read_signature_len bytes) refl
     ]
 
 -- the roots that were told, and those that more bytes make whole
-abbrev pub after_told : List SignedRoot × Held → List ℕ → List SignedRoot × Held
+abbrev pub after_told : List SignedRoot × FeedState → List ℕ → List SignedRoot × FeedState
 after_told t more = let u = told_from t.1 more in (t.0 ++ u.0, u.1)
 
 told-more : (left : ℕ) (bytes more : List ℕ) → told left (bytes ++ more) ≡ after_told (told left bytes) more
@@ -305,14 +305,14 @@ told-more zero (byte ∷ bytes) more = refl
 told-more (suc left) bytes more = by_front (λ rest. told-more left rest more) (front bytes) refl
   where
     by_front : ((rest : List ℕ) → told left (rest ++ more) ≡ after_told (told left rest) more) → (f : Front) → front bytes ≡ f → told (suc left) (bytes ++ more) ≡ after_told (told (suc left) bytes) more
-    by_front later Part e = ap (λ (t : List SignedRoot × Held). after_told t more) (sym (ap (λ (f : Front). told_by f (suc left) bytes (told left)) e))
+    by_front later Part e = ap (λ (t : List SignedRoot × FeedState). after_told t more) (sym (ap (λ (f : Front). told_by f (suc left) bytes (told left)) e))
     by_front later Bad e =
         ap (λ (f : Front). told_by f (suc left) (bytes ++ more) (told left)) (front-more bytes more Bad (λ w. cc) e)
-        ∙ ap (λ (t : List SignedRoot × Held). after_told t more) (sym (ap (λ (f : Front). told_by f (suc left) bytes (told left)) e))
+        ∙ ap (λ (t : List SignedRoot × FeedState). after_told t more) (sym (ap (λ (f : Front). told_by f (suc left) bytes (told left)) e))
     by_front later (Whole root rest) e =
         ap (λ (f : Front). told_by f (suc left) (bytes ++ more) (told left)) (front-more bytes more (Whole root rest) (λ w. cc) e)
-        ∙ ap (λ (t : List SignedRoot × Held). (root ∷ t.0, t.1)) (later rest)
-        ∙ ap (λ (t : List SignedRoot × Held). after_told t more) (sym (ap (λ (f : Front). told_by f (suc left) bytes (told left)) e))
+        ∙ ap (λ (t : List SignedRoot × FeedState). (root ∷ t.0, t.1)) (later rest)
+        ∙ ap (λ (t : List SignedRoot × FeedState). after_told t more) (sym (ap (λ (f : Front). told_by f (suc left) bytes (told left)) e))
 
 counted-more : (bytes more : List ℕ) → told_counted (read_root_count (bytes ++ more)) (bytes ++ more) ≡ after_told (told_counted (read_root_count bytes) bytes) more
 counted-more bytes more = by_count (read_root_count bytes) refl
@@ -321,28 +321,28 @@ counted-more bytes more = by_count (read_root_count bytes) refl
     by_count (Ok (count, rest)) e =
         ap (λ (r : Reading ℕ). told_counted r (bytes ++ more)) ((count_more bytes count rest e).3 more)
         ∙ told-more count rest more
-        ∙ ap (λ (t : List SignedRoot × Held). after_told t more) (sym (ap (λ (r : Reading ℕ). told_counted r bytes) e))
+        ∙ ap (λ (t : List SignedRoot × FeedState). after_told t more) (sym (ap (λ (r : Reading ℕ). told_counted r bytes) e))
     by_count (Err fault) e = elim (count_fault bytes fault e) [
-      | inl less ↦ ap (λ (t : List SignedRoot × Held). after_told t more) (sym (ap (λ (r : Reading ℕ). told_counted r bytes) (e ∙ ap refused less.1)))
+      | inl less ↦ ap (λ (t : List SignedRoot × FeedState). after_told t more) (sym (ap (λ (r : Reading ℕ). told_counted r bytes) (e ∙ ap refused less.1)))
       | inr large ↦ (
           ap (λ (r : Reading ℕ). told_counted r (bytes ++ more)) (large.2 more)
-          ∙ ap (λ (t : List SignedRoot × Held). after_told t more) (sym (ap (λ (r : Reading ℕ). told_counted r bytes) (e ∙ ap refused large.1))))
+          ∙ ap (λ (t : List SignedRoot × FeedState). after_told t more) (sym (ap (λ (r : Reading ℕ). told_counted r bytes) (e ∙ ap refused large.1))))
     ]
 
 -- a piece in two parts
-pub from-more : (held : Held) (piece more : List ℕ) → told_from held (piece ++ more) ≡ after_told (told_from held piece) more
+pub from-more : (held : FeedState) (piece more : List ℕ) → told_from held (piece ++ more) ≡ after_told (told_from held piece) more
 from-more (Counts bytes) piece more = ap (λ (z : List ℕ). told_counted (read_root_count z) z) (sym (append_assoc bytes piece more)) ∙ counted-more (bytes ++ piece) more
 from-more (Owes left bytes) piece more = ap (told left) (sym (append_assoc bytes piece more)) ∙ told-more left (bytes ++ piece) more
 from-more Failed piece more = refl
 
 -- what is held tells no more by itself
-pub from-nothing : (held : Held) (piece : List ℕ) → told_from (told_from held piece).1 [] ≡ ([], (told_from held piece).1)
+pub from-nothing : (held : FeedState) (piece : List ℕ) → told_from (told_from held piece).1 [] ≡ ([], (told_from held piece).1)
 from-nothing held piece =
     let t = told_from held piece in
     let u = told_from t.1 [] in
     let same : t ≡ (t.0 ++ u.0, u.1) = ap (told_from held) (sym (append-nil piece)) ∙ from-more held piece [] in
-    let none : u.0 ≡ [] = no_roots u.0 (omega (arith, ap (λ (z : List SignedRoot × Held). length z.0) same, length-append t.0 u.0)) in
-    ap (λ (rs : List SignedRoot). (rs, u.1)) none ∙ ap (λ (h : Held). ([], h)) (sym (ap (λ (z : List SignedRoot × Held). z.1) same))
+    let none : u.0 ≡ [] = no_roots u.0 (omega (arith, ap (λ (z : List SignedRoot × FeedState). length z.0) same, length-append t.0 u.0)) in
+    ap (λ (rs : List SignedRoot). (rs, u.1)) none ∙ ap (λ (h : FeedState). ([], h)) (sym (ap (λ (z : List SignedRoot × FeedState). z.1) same))
   where
     no_roots : (roots : List SignedRoot) → length roots ≡ 0 → roots ≡ []
     no_roots [] e = refl
@@ -400,7 +400,7 @@ roots-spelled [] each = refl
 roots-spelled (root ∷ roots) each =
     let rest = flat_map signed_root_bytes roots in
     ap (λ (f : Front). told_by f (suc (length roots)) (signed_root_bytes root ++ rest) (told (length roots))) (front-spelled root rest each.0)
-    ∙ ap (λ (t : List SignedRoot × Held). (root ∷ t.0, t.1)) (roots-spelled roots each.1)
+    ∙ ap (λ (t : List SignedRoot × FeedState). (root ∷ t.0, t.1)) (roots-spelled roots each.1)
 
 -- a feed tells the roots of a list
 pub list-spelled : (bytes : List ℕ) (roots : List SignedRoot) → SpellsRoots bytes roots → told_from (Counts []) bytes ≡ (roots, Done)

@@ -6,14 +6,14 @@ use Rattle.rootchain.specs.declared.list_refusal.ListRefusal.TheVariants as list
 use Rattle.rootchain.specs.declared.piece_refusal.PieceRefusal.{PieceRefusal}
 use Rattle.rootchain.specs.declared.piece_refusal.PieceRefusal.TheVariants.{Malformed, Root, Memory}
 use Rattle.rootchain.specs.Chains.{IsChain, KeyedRoots}
-use Rattle.rootchain.specs.RootFeeds.{told_from, Held, Counts, Done, Failed}
+use Rattle.rootchain.specs.RootFeeds.{told_from, FeedState, Counts, Done, Failed}
 use Rattle.rootchain.specs.TakingLists.{with_roots, StopsAt, Takes}
 use Rattle.rootchain.specs.TakingPieces.{joined, of_piece, PieceRefusalHolds, TakesPiece, TakesPieces, TakesTold, CuttingDoesNotMatter}
 use Rattle.rootchain.proofs.RootFeeds.{from-more, from-nothing, from-start, list-spelled}
 use Rattle.rootchain.proofs.TakingLists.{grows-nothing, stop-holds, takes-chain, takes-grows}
 
 module _ (hash : List ℕ → List ℕ) (verified : List ℕ → List ℕ → List ℕ → Type 0) where
-  pub told-stops : (chain : KeyedRoots) (held : Held) (piece : List ℕ) (why : ListRefusal) (after : KeyedRoots) (held' : Held) → StopsAt hash verified chain (told_from held piece).0 why after
+  pub told-stops : (chain : KeyedRoots) (held : FeedState) (piece : List ℕ) (why : ListRefusal) (after : KeyedRoots) (held' : FeedState) → StopsAt hash verified chain (told_from held piece).0 why after
       → TakesTold hash verified {A = Unit} chain held piece (Err (of_piece why)) after held'
   told-stops chain held piece list.Memory after held' stops = stops
   told-stops chain held piece list.BadSignature after held' stops = (stops, λ e. cc)
@@ -21,7 +21,7 @@ module _ (hash : List ℕ → List ℕ) (verified : List ℕ → List ℕ → Li
   told-stops chain held piece list.Ahead after held' stops = (stops, λ e. cc)
   told-stops chain held piece (list.Evidence evidence) after held' stops = (stops, λ e. cc)
 
-  pub told-refused : (chain : KeyedRoots) (held : Held) (piece : List ℕ) (why : ListRefusal) (after : KeyedRoots) (held' : Held) → TakesTold hash verified {A = Unit} chain held piece (Err (of_piece why)) after held'
+  pub told-refused : (chain : KeyedRoots) (held : FeedState) (piece : List ℕ) (why : ListRefusal) (after : KeyedRoots) (held' : FeedState) → TakesTold hash verified {A = Unit} chain held piece (Err (of_piece why)) after held'
       → why ≢ list.Memory → TakesPiece hash verified {A = Unit} chain held piece (Err (of_piece why)) after Failed
   told-refused chain held piece list.Memory after held' stops other = absurd (other refl)
   told-refused chain held piece list.BadSignature after held' stops other = (stops.0, other, refl)
@@ -63,58 +63,58 @@ module _ (hash : List ℕ → List ℕ) (verified : List ℕ → List ℕ → Li
   no-stop chain why after (first ∷ front, root, rest, same, _, _) = absurd cc
 
   -- a feed that failed takes no more
-  failed-stays : (chain : KeyedRoots) (pieces : List (List ℕ)) (after : KeyedRoots) (held' : Held) → TakesPieces hash verified chain Failed pieces after held' → (after ≡ chain) × (held' ≡ Failed)
+  failed-stays : (chain : KeyedRoots) (pieces : List (List ℕ)) (after : KeyedRoots) (held' : FeedState) → TakesPieces hash verified chain Failed pieces after held' → (after ≡ chain) × (held' ≡ Failed)
   failed-stays chain [] after held' calls = calls
   failed-stays chain (piece ∷ pieces) after held' (Ok _, middle, between, one, _, later) = absurd (one.2 one.1)
   failed-stays chain (piece ∷ pieces) after held' (Err Malformed, middle, between, one, _, later) =
-      let rest = failed-stays middle pieces after held' (subst (λ (h : Held). TakesPieces hash verified middle h pieces after held') one.2 later) in
+      let rest = failed-stays middle pieces after held' (subst (λ (h : FeedState). TakesPieces hash verified middle h pieces after held') one.2 later) in
       (rest.0 ∙ one.0, rest.1)
   failed-stays chain (piece ∷ pieces) after held' (Err (Root why), middle, between, one, _, later) = absurd (no-stop chain why middle one.0)
   failed-stays chain (piece ∷ pieces) after held' (Err Memory, middle, between, one, some, later) = absurd (some refl)
 
   -- what the pieces tell together is taken, up to the first root that is refused
-  abbrev Comes : KeyedRoots → List SignedRoot × Held → KeyedRoots → Held → Type 0
+  abbrev Comes : KeyedRoots → List SignedRoot × FeedState → KeyedRoots → FeedState → Type 0
   Comes chain t after held' = (Takes hash verified chain t.0 after × (held' ≡ t.1)) ⊎ ((why : ListRefusal) × StopsAt hash verified chain t.0 why after × (why ≢ list.Memory) × (held' ≡ Failed))
 
-  pieces-come : (pieces : List (List ℕ)) (chain : KeyedRoots) (held : Held) (after : KeyedRoots) (held' : Held) → told_from held [] ≡ ([], held) → TakesPieces hash verified chain held pieces after held'
+  pieces-come : (pieces : List (List ℕ)) (chain : KeyedRoots) (held : FeedState) (after : KeyedRoots) (held' : FeedState) → told_from held [] ≡ ([], held) → TakesPieces hash verified chain held pieces after held'
       → Comes chain (told_from held (joined pieces)) after held'
-  pieces-come [] chain held after held' settled calls = subst (λ (t : List SignedRoot × Held). Comes chain t after held') (sym settled) (inl calls)
+  pieces-come [] chain held after held' settled calls = subst (λ (t : List SignedRoot × FeedState). Comes chain t after held') (sym settled) (inl calls)
   pieces-come (piece ∷ pieces) chain held after held' settled (Ok _, middle, between, one, _, later) =
       let t = told_from held piece in
-      let calls = subst (λ (h : Held). TakesPieces hash verified middle h pieces after held') one.1 later in
-      subst (λ (t : List SignedRoot × Held). Comes chain t after held') (sym (from-more held piece (joined pieces)))
+      let calls = subst (λ (h : FeedState). TakesPieces hash verified middle h pieces after held') one.1 later in
+      subst (λ (t : List SignedRoot × FeedState). Comes chain t after held') (sym (from-more held piece (joined pieces)))
       (elim (pieces-come pieces middle t.1 after held' (from-nothing held piece) calls) [
         | inl all ↦ inl (takes-append t.0 _ chain middle after one.0 all.0, all.1)
         | inr stop ↦ inr (stop.0, stops-after t.0 _ chain middle stop.0 after one.0 stop.1, stop.2, stop.3)
       ])
   pieces-come (piece ∷ pieces) chain held after held' settled (Err Malformed, middle, between, one, _, later) =
       let t = told_from held piece in
-      let rest = failed-stays middle pieces after held' (subst (λ (h : Held). TakesPieces hash verified middle h pieces after held') one.2 later) in
+      let rest = failed-stays middle pieces after held' (subst (λ (h : FeedState). TakesPieces hash verified middle h pieces after held') one.2 later) in
       let u = told_from t.1 (joined pieces) in
-      let none : u ≡ ([], Failed) = ap (λ (h : Held). told_from h (joined pieces)) one.1 in
-      subst (λ (t : List SignedRoot × Held). Comes chain t after held') (sym (from-more held piece (joined pieces)))
-      (inl (takes-append t.0 u.0 chain middle after one.0 (subst (λ (u : List SignedRoot × Held). Takes hash verified middle u.0 after) (sym none) rest.0), rest.1 ∙ sym (ap (λ (u : List SignedRoot × Held). u.1) none)))
+      let none : u ≡ ([], Failed) = ap (λ (h : FeedState). told_from h (joined pieces)) one.1 in
+      subst (λ (t : List SignedRoot × FeedState). Comes chain t after held') (sym (from-more held piece (joined pieces)))
+      (inl (takes-append t.0 u.0 chain middle after one.0 (subst (λ (u : List SignedRoot × FeedState). Takes hash verified middle u.0 after) (sym none) rest.0), rest.1 ∙ sym (ap (λ (u : List SignedRoot × FeedState). u.1) none)))
   pieces-come (piece ∷ pieces) chain held after held' settled (Err (Root why), middle, between, one, _, later) =
       let t = told_from held piece in
-      let rest = failed-stays middle pieces after held' (subst (λ (h : Held). TakesPieces hash verified middle h pieces after held') one.2 later) in
-      subst (λ (t : List SignedRoot × Held). Comes chain t after held') (sym (from-more held piece (joined pieces)))
+      let rest = failed-stays middle pieces after held' (subst (λ (h : FeedState). TakesPieces hash verified middle h pieces after held') one.2 later) in
+      subst (λ (t : List SignedRoot × FeedState). Comes chain t after held') (sym (from-more held piece (joined pieces)))
       (inr (why, stops-before t.0 _ chain why after (subst (λ (c : KeyedRoots). StopsAt hash verified chain t.0 why c) (sym rest.0) one.0), one.1, rest.1))
   pieces-come (piece ∷ pieces) chain held after held' settled (Err Memory, middle, between, one, some, later) = absurd (some refl)
 
   pub cuts : CuttingDoesNotMatter hash verified
   cuts chain roots pieces after held' spelled calls =
-      subst (λ (t : List SignedRoot × Held). Comes chain t after held') (list-spelled (joined pieces) roots spelled) (pieces-come pieces chain (Counts []) after held' from-start calls)
+      subst (λ (t : List SignedRoot × FeedState). Comes chain t after held') (list-spelled (joined pieces) roots spelled) (pieces-come pieces chain (Counts []) after held' from-start calls)
 
   -- ---- a chain stays one
 
-  pub piece-chain : {A : Type 0} (chain : KeyedRoots) (held : Held) (piece : List ℕ) (answer : Result A PieceRefusal) (after : KeyedRoots) (held' : Held)
+  pub piece-chain : {A : Type 0} (chain : KeyedRoots) (held : FeedState) (piece : List ℕ) (answer : Result A PieceRefusal) (after : KeyedRoots) (held' : FeedState)
       → IsChain hash verified chain → TakesPiece hash verified chain held piece answer after held' → IsChain hash verified after
   piece-chain chain held piece (Ok _) after held' is takes = takes-chain hash verified (told_from held piece).0 chain after is takes.0
   piece-chain chain held piece (Err Malformed) after held' is takes = takes-chain hash verified (told_from held piece).0 chain after is takes.0
   piece-chain chain held piece (Err (Root why)) after held' is takes = takes-chain hash verified takes.0.0 chain after is takes.0.4
   piece-chain chain held piece (Err Memory) after held' is takes = subst (IsChain hash verified) (sym takes.2) is
 
-  pub piece-grows : {A : Type 0} (chain : KeyedRoots) (held : Held) (piece : List ℕ) (answer : Result A PieceRefusal) (after : KeyedRoots) (held' : Held)
+  pub piece-grows : {A : Type 0} (chain : KeyedRoots) (held : FeedState) (piece : List ℕ) (answer : Result A PieceRefusal) (after : KeyedRoots) (held' : FeedState)
       → TakesPiece hash verified chain held piece answer after held' → (more : List SignedRoot) × (after ≡ with_roots chain more)
   piece-grows chain held piece (Ok _) after held' takes = takes-grows hash verified (told_from held piece).0 chain after takes.0
   piece-grows chain held piece (Err Malformed) after held' takes = takes-grows hash verified (told_from held piece).0 chain after takes.0
@@ -122,7 +122,7 @@ module _ (hash : List ℕ → List ℕ) (verified : List ℕ → List ℕ → Li
   piece-grows chain held piece (Err Memory) after held' takes = ([], takes.2 ∙ grows-nothing chain)
 
   -- a refusal holds
-  pub piece-holds : {A : Type 0} (chain : KeyedRoots) (held : Held) (piece : List ℕ) (answer : Result A PieceRefusal) (after : KeyedRoots) (held' : Held)
+  pub piece-holds : {A : Type 0} (chain : KeyedRoots) (held : FeedState) (piece : List ℕ) (answer : Result A PieceRefusal) (after : KeyedRoots) (held' : FeedState)
       → IsChain hash verified chain → TakesPiece hash verified chain held piece answer after held' → IfErr answer (PieceRefusalHolds hash verified chain.key)
   piece-holds chain held piece (Ok _) after held' is takes = tt
   piece-holds chain held piece (Err Malformed) after held' is takes = tt
@@ -135,7 +135,7 @@ module _ (hash : List ℕ → List ℕ) (verified : List ℕ → List ℕ → Li
   done-tells [] = refl
   done-tells (byte ∷ piece) = refl
 
-  pub done-never-stops : (chain after : KeyedRoots) (held : Held) (piece : List ℕ) (why : ListRefusal) → held ≡ Done → StopsAt hash verified chain (told_from held piece).0 why after → ⊥
+  pub done-never-stops : (chain after : KeyedRoots) (held : FeedState) (piece : List ℕ) (why : ListRefusal) → held ≡ Done → StopsAt hash verified chain (told_from held piece).0 why after → ⊥
   done-never-stops chain after held piece why done stops =
-      let none = ap length (ap (λ (h : Held). (told_from h piece).0) (sym done) ∙ stops.3) in
+      let none = ap length (ap (λ (h : FeedState). (told_from h piece).0) (sym done) ∙ stops.3) in
       omega (arith, ap length (done-tells piece), none, length-append stops.0 (stops.1 ∷ stops.2))

@@ -4,6 +4,7 @@ use Rattle.std.specs.Prelude.{◌≡◌, ℕ, zero, suc, ◌+◌, ◌<◌, ◌�
 use Rattle.encoding.specs.declared.fault.Fault.{Fault}
 use Rattle.encoding.specs.declared.fault.Fault.TheVariants.{Short, Trailing, OutOfRange}
 use Rattle.encoding.specs.Reading.{Reading, read_bytes, read_number, read_then, whole_of}
+use Rattle.rootchain.specs.declared.root_list.TheConstants.{MAX_ROOTS}
 use Rattle.rootchain.specs.declared.signed_root.SignedRoot.{SignedRoot}
 use Rattle.rootchain.specs.RootLists.{read_root_count}
 use Rattle.rootchain.specs.SignedRoots.{read_signed_root}
@@ -38,37 +39,43 @@ front bytes = front_sized (read_signature_len bytes) bytes
 
 -- ---- all roots
 
-pub data Held : Type 0 where
+pub data FeedState : Type 0 where
   -- these bytes of the number of roots
-  Counts : List ℕ → Held
+  Counts : List ℕ → FeedState
   -- so many roots are still to come, and these bytes of the first of them are there
-  Owes : ℕ → List ℕ → Held
+  Owes : ℕ → List ℕ → FeedState
   -- bytes came that no list has there, or a root was refused
-  Failed : Held
+  Failed : FeedState
 
 -- the list has come, and nothing after it
-abbrev pub Done : Held
+abbrev pub Done : FeedState
 Done = Owes 0 []
 
-abbrev pub told_by : Front → ℕ → List ℕ → (List ℕ → List SignedRoot × Held) → List SignedRoot × Held
+-- the most roots that are still to come
+abbrev pub owed_by : FeedState → ℕ
+owed_by (Counts bytes) = MAX_ROOTS
+owed_by (Owes left bytes) = left
+owed_by Failed = 0
+
+abbrev pub told_by : Front → ℕ → List ℕ → (List ℕ → List SignedRoot × FeedState) → List SignedRoot × FeedState
 told_by Part left bytes next = ([], Owes left bytes)
 told_by Bad left bytes next = ([], Failed)
 told_by (Whole root rest) left bytes next = let more = next rest in (root ∷ more.0, more.1)
 
 -- the roots that are whole in these bytes, of so many that are still to come; and what is then held
-abbrev pub told : ℕ → List ℕ → List SignedRoot × Held
+abbrev pub told : ℕ → List ℕ → List SignedRoot × FeedState
 told zero [] = ([], Done)
 told zero (_ ∷ _) = ([], Failed)
 told (suc left) bytes = told_by (front bytes) (suc left) bytes (told left)
 
-abbrev pub told_counted : Reading ℕ → List ℕ → List SignedRoot × Held
+abbrev pub told_counted : Reading ℕ → List ℕ → List SignedRoot × FeedState
 told_counted (Ok (count, rest)) bytes = told count rest
 told_counted (Err Short) bytes = ([], Counts bytes)
 told_counted (Err Trailing) bytes = ([], Failed)
 told_counted (Err OutOfRange) bytes = ([], Failed)
 
 -- the roots that a piece makes whole, and what is held after it
-abbrev pub told_from : Held → List ℕ → List SignedRoot × Held
+abbrev pub told_from : FeedState → List ℕ → List SignedRoot × FeedState
 told_from (Counts bytes) piece = told_counted (read_root_count (bytes ++ piece)) (bytes ++ piece)
 told_from (Owes left bytes) piece = told left (bytes ++ piece)
 told_from Failed piece = ([], Failed)
@@ -79,14 +86,14 @@ least_root_len (Ok (size, _)) = 148 + size
 least_root_len (Err fault) = 148
 
 -- how many bytes there are at least once the number of roots, or the first root, is whole; none where no root is to come
-abbrev pub least_len : Held → ℕ
+abbrev pub least_len : FeedState → ℕ
 least_len (Counts bytes) = 2
 least_len (Owes zero bytes) = 0
 least_len (Owes (suc left) bytes) = least_root_len (read_signature_len bytes)
 least_len Failed = 0
 
 -- what may be held: less than the number, or less than a root
-abbrev pub IsHeld : Held → Type 0
+abbrev pub IsHeld : FeedState → Type 0
 IsHeld (Counts bytes) = length bytes < 2
 IsHeld (Owes left bytes) = (left ≤ 64) × (front bytes ≡ Part) × (left ≡ 0 → bytes ≡ [])
 IsHeld Failed = Unit

@@ -8,7 +8,7 @@ use Rattle.rootchain.specs.declared.list_refusal.ListRefusal.TheVariants as list
 use Rattle.rootchain.specs.declared.piece_refusal.PieceRefusal.{PieceRefusal}
 use Rattle.rootchain.specs.declared.piece_refusal.PieceRefusal.TheVariants.{Malformed, Root, Memory}
 use Rattle.rootchain.specs.Chains.{KeyedRoots}
-use Rattle.rootchain.specs.RootFeeds.{told_from, Held, Counts, Done, Failed}
+use Rattle.rootchain.specs.RootFeeds.{told_from, FeedState, Counts, Done, Failed}
 use Rattle.rootchain.specs.RootLists.{SpellsRoots}
 use Rattle.rootchain.specs.TakingLists.{ListRefusalHolds, ListRefusalIsSpelled, StopsAt, Takes}
 
@@ -35,14 +35,14 @@ module _ (hash : List ℕ → List ℕ) (verified : List ℕ → List ℕ → Li
   -- What comes of a piece: the roots that it makes whole are taken in order, each before the next one is
   -- looked at, up to the first that is refused. After a refusal the feed has failed; only want of memory
   -- changes nothing, and it comes only while roots are still to come.
-  abbrev pub TakesPiece : {A : Type 0} → KeyedRoots → Held → List ℕ → Result A PieceRefusal → KeyedRoots → Held → Type 0
+  abbrev pub TakesPiece : {A : Type 0} → KeyedRoots → FeedState → List ℕ → Result A PieceRefusal → KeyedRoots → FeedState → Type 0
   TakesPiece chain held piece (Ok _) after held' = Takes hash verified chain (told_from held piece).0 after × (held' ≡ (told_from held piece).1) × (held' ≢ Failed)
   TakesPiece chain held piece (Err Malformed) after held' = Takes hash verified chain (told_from held piece).0 after × ((told_from held piece).1 ≡ Failed) × (held' ≡ Failed)
   TakesPiece chain held piece (Err (Root why)) after held' = StopsAt hash verified chain (told_from held piece).0 why after × (why ≢ list.Memory) × (held' ≡ Failed)
   TakesPiece chain held piece (Err Memory) after held' = (held ≢ Failed) × (held ≢ Done) × (after ≡ chain) × (held' ≡ held)
 
   -- the same, but where memory runs out some roots may have been taken
-  abbrev pub TakesTold : {A : Type 0} → KeyedRoots → Held → List ℕ → Result A PieceRefusal → KeyedRoots → Held → Type 0
+  abbrev pub TakesTold : {A : Type 0} → KeyedRoots → FeedState → List ℕ → Result A PieceRefusal → KeyedRoots → FeedState → Type 0
   TakesTold chain held piece (Ok _) after held' = Takes hash verified chain (told_from held piece).0 after × (held' ≡ (told_from held piece).1) × (held' ≢ Failed)
   TakesTold chain held piece (Err Malformed) after held' = Takes hash verified chain (told_from held piece).0 after × ((told_from held piece).1 ≡ Failed) × (held' ≡ Failed)
   TakesTold chain held piece (Err (Root why)) after held' = StopsAt hash verified chain (told_from held piece).0 why after × (why ≢ list.Memory)
@@ -57,19 +57,19 @@ module _ (hash : List ℕ → List ℕ) (verified : List ℕ → List ℕ → Li
   -- ---- call after call
 
   -- the pieces as they come, in calls of which none is refused for want of memory
-  abbrev pub TakesPieces : KeyedRoots → Held → List (List ℕ) → KeyedRoots → Held → Type 0
+  abbrev pub TakesPieces : KeyedRoots → FeedState → List (List ℕ) → KeyedRoots → FeedState → Type 0
   TakesPieces chain held [] after held' = (after ≡ chain) × (held' ≡ held)
-  TakesPieces chain held (piece ∷ pieces) after held' = (answer : Result Unit PieceRefusal) × (middle : KeyedRoots) × (between : Held)
+  TakesPieces chain held (piece ∷ pieces) after held' = (answer : Result Unit PieceRefusal) × (middle : KeyedRoots) × (between : FeedState)
       × TakesPiece chain held piece answer middle between × (answer ≢ Err Memory) × TakesPieces middle between pieces after held'
 
   -- each root of the list is taken, and the feed is done; or those before the first that is refused, and it has failed
-  abbrev pub TakesUpTo : KeyedRoots → List SignedRoot → KeyedRoots → Held → Type 0
+  abbrev pub TakesUpTo : KeyedRoots → List SignedRoot → KeyedRoots → FeedState → Type 0
   TakesUpTo chain roots after held' = (Takes hash verified chain roots after × (held' ≡ Done))
       ⊎ ((why : ListRefusal) × StopsAt hash verified chain roots why after × (why ≢ list.Memory) × (held' ≡ Failed))
 
   -- Where the bytes of a list are cut does not matter.
   abbrev pub CuttingDoesNotMatter : Type 0
-  CuttingDoesNotMatter = (chain : KeyedRoots) (roots : List SignedRoot) (pieces : List (List ℕ)) (after : KeyedRoots) (held' : Held)
+  CuttingDoesNotMatter = (chain : KeyedRoots) (roots : List SignedRoot) (pieces : List (List ℕ)) (after : KeyedRoots) (held' : FeedState)
       → SpellsRoots (joined pieces) roots → TakesPieces chain (Counts []) pieces after held' → TakesUpTo chain roots after held'
 
 -- if evidence is told, its roots have a spelling

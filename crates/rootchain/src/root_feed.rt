@@ -5,7 +5,7 @@
 ghost use Rattle.std.specs.Prelude.{◌≡◌, ◌⊎◌, ◌↔◌, ◌+◌, ◌≤◌, ◌++◌, [], length, IsTrue};
 ghost use Rattle.encoding.specs.Reading.{Gives};
 ghost use Rattle.rootchain.specs.FeedViews.{held_of, IsFront, IsRootOf, TakesPart, TellsNext};
-ghost use Rattle.rootchain.specs.RootFeeds.{front, least_len, read_signature_len, Counts, Done, Failed, IsHeld, Owes, Part};
+ghost use Rattle.rootchain.specs.RootFeeds.{front, least_len, owed_by, read_signature_len, Counts, Done, Failed, IsHeld, Owes, Part};
 ghost use Rattle.rootchain.specs.declared.signed_root.TheConstants.{MAX_SIGNED_ROOT_LEN};
 
 use crate::SignedRoot;
@@ -53,9 +53,9 @@ pub struct RootFeed {
 
 impl Model for RootFeed {
     ghost use Rattle.rootchain.specs.FeedViews.{held_of};
-    ghost use Rattle.rootchain.specs.RootFeeds.{Held, IsHeld};
+    ghost use Rattle.rootchain.specs.RootFeeds.{FeedState, IsHeld};
 
-    ghost Value = { Held };
+    ghost Value = { FeedState };
 
     ghost view = { λ feed. held_of feed.stage feed.held };
 
@@ -89,7 +89,7 @@ impl RootFeed {
 
     /// The most roots that are still to come.
     pub(crate) fn owed(&self) -> usize
-        ensures { self.now ≡ Done → result ≡ 0 }
+        ensures { result ≡ owed_by self.now }
     {
         match self.stage {
             Stage::Count => MAX_ROOTS,

@@ -128,6 +128,7 @@ pub fn write_list(roots: &[SignedRoot], output: &mut Vec<u8>) -> Result<(), Allo
     ensures ok { OnOk result (output.new.items ≡ output.old.items ++ root_list_bytes roots.now) }
     ensures err { OnErr result (output.new.items ≡ output.old.items) }
     ensures room { vec_len output.old + length (root_list_bytes roots.now) ≤ vec_capacity output.old → IsOk result }
+    ensures capacity { vec_capacity output.old ≤ vec_capacity output.new }
 {
     output.reserve(list_len(roots))?;
     let mut count = [0; 2];

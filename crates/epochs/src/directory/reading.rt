@@ -5,6 +5,7 @@ ghost use Rattle.proofs.specs.Replies.{front_bytes, reply_bytes};
 ghost use Rattle.encoding.specs.declared.fixed_text.TheConstants.{PROOF_TEXT_ROOM};
 ghost use Rattle.book.specs.declared.reply.Reply.TheVariants.{Found};
 ghost use Rattle.proofs.specs.Views.{end_given};
+ghost use Rattle.proofs.specs.declared.making.TheConstants.{FRONT_ROOM};
 ghost use Rattle.book.specs.Answers.{Told};
 ghost use Rattle.book.specs.Books.{Page, page_at, pages};
 ghost use Rattle.book.specs.Maps.{at};
@@ -200,9 +201,9 @@ fn write_front_of(
     found: Option<&Version>,
 )
     requires few { level ≤ 256 }
-    requires room { vec_len output.old + 2500 ≤ vec_capacity output.old }
+    requires room { vec_len output.old + FRONT_ROOM ≤ vec_capacity output.old }
     ensures value { output.new.items ≡ output.old.items ++ front_bytes body.now address.now.value (reply_end address.now.index (option_map (λ version. version.now.binding) found.entry) end) level }
-    ensures len { vec_len output.new ≤ vec_len output.old + 2500 }
+    ensures len { vec_len output.new ≤ vec_len output.old + FRONT_ROOM }
     ensures capacity { vec_capacity output.old ≤ vec_capacity output.new }
 {
     match found {

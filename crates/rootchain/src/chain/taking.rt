@@ -26,6 +26,7 @@ impl<H: NodeHash, S: Verifier> Chain<H, S> {
         ensures chain { IsChain H.digest_of S.verified self.old }
         ensures counted { H.digests hash.new ≤ H.digests hash.old + 1 }
         ensures spared { ¬ IsHashed self.old root → H.digests hash.new ≡ H.digests hash.old }
+        ensures unverified { ¬ Verifies S.verified self.old.key root → H.digests hash.new ≡ H.digests hash.old }
     {
         let place = self.place(hash, verifier, &root)?;
         if let Place::Next = place {

@@ -35,15 +35,15 @@ enum Outcome {
 
 impl<H: NodeHash, S: Verifier> Chain<H, S> {
     /// Takes the next piece of a list, or leaves it to `take_piece`, and returns whether it took it. It takes
-    /// only a piece that makes no root whole, as `take_piece` would. A piece that it leaves changes neither
-    /// the chain nor the feed.
+    /// only a piece that makes no root whole, as `take_piece` would, and only where memory for the roots to come
+    /// was reserved. A piece that it leaves changes neither the chain nor the feed.
     #[inline(always)]
     pub fn take_part(&mut self, feed: &mut RootFeed, piece: &[u8]) -> bool
         ensures part { TakesPart feed.old piece.now result feed.new }
         ensures stays { self.new ≡ self.old }
         ensures chain { IsChain H.digest_of S.verified self.old }
     {
-        self.roots.reserve(feed.owed()).is_ok() && feed.take_part(piece)
+        feed.owed() <= self.roots.capacity() - self.roots.len() && feed.take_part(piece)
     }
 
     /// Takes each root that the next piece of a list makes whole, as `take_list` does, before the next one

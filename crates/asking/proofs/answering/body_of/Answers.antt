@@ -3,7 +3,7 @@ use Rattle.wire.specs.Refusals.{read_refusal_number}
 use Rattle.wire.specs.Responses.{response_seen}
 use Rattle.asking.specs.Refused.{refuses_text}
 use Rattle.asking.specs.Scenes.{miss_told}
-use Rattle.asking.specs.Told.{refused}
+use Rattle.asking.specs.Reports.{refused}
 use Rattle.asking.proofs.answering.body_of.Goals as goal
 
 pub returns-in_ok-tell_miss-in-Ok : goal.returns-in_ok-tell_miss-in-Ok

@@ -1,7 +1,7 @@
 use Rattle.std.proofs.Common.{ℕ, codes, subst}
 use Rattle.std.specs.Prelude.{OnOk}
 use Rattle.asking.specs.Refused.{refuses_text}
-use Rattle.asking.specs.Told.{refused, Tells}
+use Rattle.asking.specs.Reports.{refused, Tells}
 use Rattle.asking.proofs.answering.tell_unread.Goals as goal
 
 pub returns : goal.returns

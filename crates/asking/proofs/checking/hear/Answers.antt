@@ -4,7 +4,7 @@ use Rattle.wire.specs.Refusals.{read_refusal_number}
 use Rattle.play.specs.Spoken.{ask_seen}
 use Rattle.asking.specs.Checking.{HearsFrame}
 use Rattle.asking.specs.Refused.{refuses_text}
-use Rattle.asking.specs.Told.{refused}
+use Rattle.asking.specs.Reports.{refused}
 use Rattle.asking.proofs.Telling.{tells_so}
 use Rattle.asking.proofs.checking.hear.Goals as goal
 

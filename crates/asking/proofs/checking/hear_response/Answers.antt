@@ -7,7 +7,7 @@ use Rattle.play.specs.Spoken.{ask_seen}
 use Rattle.asking.specs.Answering.{Answers}
 use Rattle.asking.specs.Checking.{Hears}
 use Rattle.asking.specs.Refused.{other_reply}
-use Rattle.asking.specs.Told.{refused}
+use Rattle.asking.specs.Reports.{refused}
 use Rattle.asking.proofs.Telling.{tells_so}
 use Rattle.asking.proofs.checking.hear_response.Goals as goal
 

@@ -2,7 +2,7 @@ use Rattle.std.proofs.Common.{codes, subst}
 use Rattle.std.specs.Prelude.{OnOk}
 use Rattle.client.specs.declared.refusal.Refusal.{Refusal}
 use Rattle.asking.specs.Refused.{client_refuses}
-use Rattle.asking.specs.Told.{Tells}
+use Rattle.asking.specs.Reports.{Tells}
 use Rattle.asking.proofs.placing.refuse_chain.Goals as goal
 
 pub returns : goal.returns

@@ -8,3 +8,4 @@ abbrev pub invariant-loop-root : goal.invariant-loop-root
 invariant-loop-root l =
     (l.output.items ++ flat_map signed_root_bytes (drop l.root-index l.roots) ≡ l.fn.output.items ++ root_list_bytes l.roots)
     × (vec_len l.output + length (flat_map signed_root_bytes (drop l.root-index l.roots)) ≤ vec_capacity l.output)
+    × (vec_capacity l.fn.output ≤ vec_capacity l.output)

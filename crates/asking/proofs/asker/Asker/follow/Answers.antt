@@ -2,7 +2,7 @@ use Rattle.std.proofs.Common.{◌≡◌, ◌∙◌, suc, Bool, true, false, Err,
 use Rattle.asking.specs.Exchanges.{Exchanges}
 use Rattle.asking.specs.Following.{TakesList}
 use Rattle.asking.specs.Scenes.{scene}
-use Rattle.asking.specs.Told.{told_by}
+use Rattle.asking.specs.Reports.{told_by}
 use Rattle.asking.specs.declared.fault.AskFault.TheVariants.{Stopped}
 use Rattle.asking.proofs.asker.Asker.follow.Goals as goal
 

@@ -2,7 +2,7 @@ use Rattle.std.proofs.Common.{ℕ}
 use Rattle.asking.specs.Exchanges.{Exchanges}
 use Rattle.asking.specs.Following.{Follows, StopsAfter}
 use Rattle.asking.specs.Scenes.{scene, Scene, Stays}
-use Rattle.asking.specs.Told.{Told}
+use Rattle.asking.specs.Reports.{Report}
 use Rattle.asking.proofs.asker.Asker.follow.Given as goal
 
 -- whatever follows from here follows from the beginning
@@ -11,7 +11,7 @@ invariant-loop g l = record {
   follows : (count : ℕ) (after : Scene g.row.T.Denot)
       → Follows g.H.NodeHash.digest_of g.S.Verifier.verified (Exchanges g.T.Write.contents g.T.Read.remaining) count (scene l.self l.said l.stream) after
       → (whole : ℕ) × Follows g.H.NodeHash.digest_of g.S.Verifier.verified (Exchanges g.T.Write.contents g.T.Read.remaining) whole (scene l.fn.self l.fn.said l.fn.stream) after;
-  stops : (count : ℕ) (told : Told)
+  stops : (count : ℕ) (told : Report)
       → StopsAfter g.H.NodeHash.digest_of g.S.Verifier.verified (Exchanges g.T.Write.contents g.T.Read.remaining) count (scene l.self l.said l.stream) told
       → (whole : ℕ) × StopsAfter g.H.NodeHash.digest_of g.S.Verifier.verified (Exchanges g.T.Write.contents g.T.Read.remaining) whole (scene l.fn.self l.fn.said l.fn.stream) told;
   stays : Stays l.fn.self l.self;

@@ -24,6 +24,7 @@ loop-node-init g c =
       items = rw (← items) (agreeing-root g.H.NodeHash.digest_of c.self.inside.nonce i c.self.inside.node size c.self.invariant);
       more = below_none (λ n. 1 < length (agreeing i n c.args.self.now.items));
       room = c.requires;
+      keeps = omega arith;
       grown = omega arith;
       siblings = [];
       long = refl;
@@ -52,6 +53,7 @@ loop-node-preserved g c =
       items = contents-below of nonce i level items size.0 inv.items down;
       more = below_more (λ n. 1 < length (agreeing i n items)) level inv.more (rw inv.items at down.two);
       room = omega (arith, long, inv.room, down.below_256, c.extend_from_slice.ensures.capacity);
+      keeps = omega (arith, inv.keeps, c.extend_from_slice.ensures.capacity);
       grown = omega (arith, long, inv.grown);
       siblings = siblings ++ beside ∷ [];
       long = length-append siblings (beside ∷ []) ∙ ap (λ n. n + 1) inv.long;
@@ -80,4 +82,5 @@ returns g c =
         inv.written,
       );
       len = omega (arith, inv.grown, inv.fits);
+      capacity = inv.keeps;
     }

@@ -15,6 +15,7 @@ invariant-loop-node g l = record {
   items : contents l.node ≡ agreeing l.index l.level l.self.items;
   more : (n : ℕ) → n < l.level → 1 < length (agreeing l.index n l.self.items);
   room : vec_len l.output + 32 * (256 - l.level) ≤ vec_capacity l.output;
+  keeps : vec_capacity l.fn.output ≤ vec_capacity l.output;
   grown : vec_len l.output ≡ vec_len l.fn.output + 32 * l.level;
   siblings : List (List ℕ);
   long : length siblings ≡ l.level;

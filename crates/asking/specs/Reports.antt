@@ -2,20 +2,20 @@
 use Rattle.std.specs.Prelude.{◌≡◌, ℕ, nat_lt, if◌then◌else◌, List, [], ◌∷◌, ◌++◌}
 use Rattle.asking.specs.declared.said.Said.{Said}
 
-pub record Told : Type 0 where
+pub record Report : Type 0 where
   -- each with its LF
   pub lines : List ℕ
   pub status : ℕ
 
 -- one line, where all went well, and where something was refused
-abbrev pub fine : List ℕ → Told
+abbrev pub fine : List ℕ → Report
 fine line = record { lines = line ++ 10 ∷ []; status = 0 }
 
-abbrev pub refused : List ℕ → Told
+abbrev pub refused : List ℕ → Report
 refused line = record { lines = line ++ 10 ∷ []; status = 1 }
 
 -- nothing
-abbrev pub silent : Told
+abbrev pub silent : Report
 silent = record { lines = []; status = 0 }
 
 -- the worse of two statuses
@@ -23,13 +23,13 @@ abbrev pub worse : ℕ → ℕ → ℕ
 worse one other = if nat_lt one other then other else one
 
 -- this is told after what was said before
-abbrev pub Tells : Said → Told → Said → Type 0
+abbrev pub Tells : Said → Report → Said → Type 0
 Tells before told after = (after.text.items ≡ before.text.items ++ told.lines) × (after.status ≡ worse before.status told.status)
 
 -- all that was said so far
-abbrev pub told_by : Said → Told
+abbrev pub told_by : Said → Report
 told_by said = record { lines = said.text.items; status = said.status }
 
 -- and this after it
-abbrev pub onto : Told → Told → Told
+abbrev pub onto : Report → Report → Report
 onto before told = record { lines = before.lines ++ told.lines; status = worse before.status told.status }
