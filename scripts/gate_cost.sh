@@ -3,8 +3,8 @@
 # proofs, edits, and programs that are built and run. docs/ARCHITECTURE.md, "The gate", has the targets. It
 # changes nothing.
 #
-#   scripts/gate_cost.sh                  # rt ci --anew: proves all, whatever earlier runs kept
-#   scripts/gate_cost.sh COMMAND WORD..   # another command, as rt ci --anew lanes, or .ci/run
+#   scripts/gate_cost.sh                  # rt ci: proves all, whatever earlier runs kept
+#   scripts/gate_cost.sh COMMAND WORD..   # another command, as .ci/run
 #   scripts/gate_cost.sh --watch PID      # a command that runs already, from now on
 #
 # What the command prints goes to standard error, and the tables to standard output. Needs Python 3.9 and
