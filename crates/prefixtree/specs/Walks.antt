@@ -8,8 +8,8 @@ use Rattle.prefixtree.specs.Built.{contents, IsBuilt}
 use Rattle.prefixtree.specs.Paths.{agreeing, sibling, EndsAt}
 use Rattle.prefixtree.specs.declared.node.Node.{Node}
 
--- which walk it is, and how far it has come
-pub record Walked : Type 0 where
+-- where a walk stands: on the way of an index in a tree, at a level
+pub record Waypoint : Type 0 where
   pub tree : Contents
   pub index : List ℕ
   pub level : ℕ
@@ -24,7 +24,7 @@ pub record IsOnWay (of : List ℕ → List ℕ) (tree : Contents) (index : List 
   pub more : (n : ℕ) → n < level → 1 < length (agreeing index n tree.items)
 
 -- a step goes down one level and gives the sibling there, or the walk is at its end and stays
-abbrev pub Steps : (List ℕ → List ℕ) → Walked → Option (List ℕ) → Walked → Type 0
+abbrev pub Steps : (List ℕ → List ℕ) → Waypoint → Option (List ℕ) → Waypoint → Type 0
 Steps of old (Some hash) new =
     (old.level < 256)
     × (hash ≡ sibling of old.tree.nonce old.tree.items old.index old.level)

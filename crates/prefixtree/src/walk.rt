@@ -11,7 +11,7 @@ use encoding::{Hash32, Index};
 use nodehash::NodeHash;
 use std::marker::Model;
 
-/// A walk down a tree, on the way of an index.
+/// A walk down a tree, on the way of an index. The tree itself is there for the contracts alone.
 #[derive(Drop)]
 pub(crate) struct Walk<'a, H: NodeHash> {
     tree: &'a Tree<H>,
@@ -21,9 +21,9 @@ pub(crate) struct Walk<'a, H: NodeHash> {
 }
 
 impl<'a, H: NodeHash> Model for Walk<'a, H> {
-    ghost use Rattle.prefixtree.specs.Walks.{Walked};
+    ghost use Rattle.prefixtree.specs.Walks.{Waypoint};
 
-    ghost Value = { Walked };
+    ghost Value = { Waypoint };
 
     ghost use Rattle.prefixtree.specs.Walks.{IsOnWay};
 

@@ -2,7 +2,7 @@ use Rattle.std.proofs.Common.{rules, ◌≡◌, ◌+◌, ◌++◌, ◌∷◌, �
 use Rattle.std.proofs.lemmas.List.{flat_map_more}
 use Rattle.std.specs.Prelude.{vec_len}
 use Rattle.prefixtree.specs.Paths.{sibling}
-use Rattle.prefixtree.specs.Walks.{Walked}
+use Rattle.prefixtree.specs.Walks.{Waypoint}
 use Rattle.prefixtree.proofs.Siblings.{hashes-push}
 use Rattle.prefixtree.proofs.tree.Tree.write_siblings.Goals as goal
 
@@ -12,8 +12,8 @@ loop-sibling-preserved g c =
     let hash : List ℕ = c.in-Some.sibling in
     let siblings : List (List ℕ) = inv.siblings in
     let step = rw (c.in-Some.is, inv.walk) at c.step.ensures in
-    let level : c.loop-sibling.walk.level ≡ length siblings = ap (λ (w : Walked). w.level) inv.walk in
-    let further : c.step.new.self.level ≡ length siblings + 1 = ap (λ (w : Walked). w.level) step.2 in
+    let level : c.loop-sibling.walk.level ≡ length siblings = ap (λ (w : Waypoint). w.level) inv.walk in
+    let further : c.step.new.self.level ≡ length siblings + 1 = ap (λ (w : Waypoint). w.level) step.2 in
     let grown : c.extend_from_slice.new.self.items ≡ c.loop-sibling.output.items ++ hash = search rules in
     let long : vec_len c.extend_from_slice.new.self ≡ vec_len c.loop-sibling.output + 32 = search rules in
     record {
