@@ -1,6 +1,5 @@
 pub mod Ascending
 pub mod Built
-pub mod Childless
 pub mod Climbs
 pub mod Counts
 pub mod Ends

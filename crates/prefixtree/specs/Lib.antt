@@ -7,6 +7,7 @@ pub mod Paths
 pub mod Placement
 pub mod Rows
 pub mod Under
+pub mod Walks
 pub mod WorkedRoots
 pub use Rattle.encoding.specs.Bits
 pub use Rattle.encoding.specs.Bytes

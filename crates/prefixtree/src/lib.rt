@@ -22,6 +22,7 @@ mod place;
 mod put;
 mod row;
 mod tree;
+mod walk;
 mod way;
 
 pub use items::{Item, placed};

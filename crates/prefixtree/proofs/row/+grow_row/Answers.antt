@@ -3,7 +3,7 @@ use Rattle.std.proofs.lemmas.List.{nil_from_length}
 use Rattle.std.proofs.lemmas.Result.{IfOk-weaker, on_ok_weaker}
 use Rattle.nodehash.specs.Digests.{after_digests}
 use Rattle.nodehash.proofs.Counting.{after_digests-join}
-use Rattle.prefixtree.specs.Rows.{AreSplit, row_count, row_digests, row_sides}
+use Rattle.prefixtree.specs.Rows.{AreSplit, row_count, row_digests}
 use Rattle.prefixtree.proofs.RowsMade.{built-length, made-built, split-count, split-level, split-places, split-sides}
 use Rattle.prefixtree.specs.declared.row.Place.{Place}
 use Rattle.prefixtree.proofs.row.+grow_row.Goals as goal
