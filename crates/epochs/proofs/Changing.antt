@@ -1,6 +1,7 @@
 -- What the calls that change a directory rest on.
-use Rattle.std.proofs.Common.{◌≡◌, ℕ, zero, suc, ◌-◌, ◌||◌, List, [], ◌∷◌, length, Bool, true, false, Some, None, refl, sym, ap, subst, inr, ◌∙◌}
+use Rattle.std.proofs.Common.{◌≡◌, ℕ, zero, suc, ◌-◌, ◌||◌, List, [], ◌∷◌, length, Bool, true, false, Option, Some, None, refl, sym, ap, subst, inl, inr, ◌∙◌}
 use Rattle.std.specs.Prelude.{is_some, slice_get, slice_index_or, IsSome}
+use Rattle.commands.specs.declared.edit.Verb.TheVariants.{Register}
 use Rattle.encoding.specs.Bytes.{Is32Bytes}
 use Rattle.encoding.specs.Limits.{IsKeyData, IsName}
 use Rattle.commit.specs.Commitments.{commitment_bytes}
@@ -13,20 +14,25 @@ use Rattle.rootchain.specs.declared.promise.Promise.{Promise as PromiseMade}
 use Rattle.rootchain.specs.declared.signed_promise.SignedPromise.{SignedPromise}
 use Rattle.rootchain.specs.declared.signed_root.SignedRoot.{SignedRoot}
 use Rattle.book.specs.declared.reply.Reply.TheVariants as reply
-use Rattle.book.specs.Answers.{has_its_index, with_pending, Promised}
+use Rattle.book.specs.declared.refusal.Refusal.{Refusal}
+use Rattle.book.specs.declared.refusal.Refusal.TheVariants.{IndexTaken, NameTaken, PendingExists}
+use Rattle.book.specs.Answers.{first, has_its_index, with_pending, Promised}
 use Rattle.book.specs.Books.{Binding}
 use Rattle.book.specs.Maps.{Map, at}
+use Rattle.book.specs.Replays.{put_refusal}
 use Rattle.book.specs.Shows.{Provider, index_of, placement, IsRootOf}
 use Rattle.book.specs.Sound.{IsHeld}
 use Rattle.book.specs.Turns.{Shows}
 use Rattle.book.proofs.Distinct.{HasName}
-use Rattle.book.proofs.Placed.{placed_none}
-use Rattle.epochs.specs.Histories.{Version}
+use Rattle.book.proofs.Entries.{Ascends}
+use Rattle.book.proofs.Placed.{commitment, placed_none, placed_some}
+use Rattle.epochs.specs.Histories.{Version, binding_at, waiting}
 use Rattle.epochs.specs.Parts.{Keeps, Parts, last_of, last_root, pending_of, tree_of}
 use Rattle.epochs.specs.Versions.{AllBefore, versions_of, with_version}
-use Rattle.epochs.proofs.Keeping.{book_with_pending, free_untaken, keeps_pending, taken_is, version_of, versions_before, with_waiting}
+use Rattle.epochs.proofs.Keeping.{book_with_pending, free_held, free_untaken, keeps_pending, taken_is, version_of, versions_before, with_waiting}
 use Rattle.epochs.proofs.Placing.{apart-alone}
 use Rattle.epochs.proofs.Parts.{book_of, last_get, last_root_kept, last_tree_kept}
+use Rattle.epochs.proofs.Versions.{chosen_ascends}
 
 -- what stands at a place
 reached : {X : Type 0} (xs : List X) (k : ℕ) (x y : X) → slice_get xs k ≡ Some x → y ≡ slice_index_or xs k y → y ≡ x
@@ -117,27 +123,104 @@ last_tree_is provider parts salt left keeps tree len long is =
 
 -- ---- whether an index is taken
 
-module _ (provider : Provider) (parts : Parts) (salt : List ℕ) (left : Stream) (keeps : Keeps provider parts (book_of parts salt left)) (name index : List ℕ)
-    (indexed : index ≡ index_of provider name) (new : at (last_of parts).bindings name ≡ None) (waits : at (pending_of parts) name ≡ None)
+-- the first refusal of a name that is to be registered: whether the last page shows it, whether it waits, and whether another one has its index
+abbrev first-of : Bool → Bool → Bool → Option Refusal
+first-of shown waits other = first ((shown, NameTaken) ∷ (waits, PendingExists) ∷ (other, IndexTaken) ∷ [])
+
+pub index_alone : (shown waits other : Bool) → IsSome (first-of shown waits other) → shown ≡ false → waits ≡ false → first-of shown waits other ≡ Some IndexTaken
+index_alone false false true some s w = refl
+index_alone false false false some s w = absurd cc
+index_alone false true other some s w = absurd cc
+index_alone true waits other some s w = absurd cc
+
+none-holds : (shown waits other : Bool) → is_some (first-of shown waits other) ≡ false → (waits ≡ false) × (other ≡ false)
+none-holds false false false e = (refl, refl)
+none-holds false false true e = absurd cc
+none-holds false true other e = absurd cc
+none-holds true waits other e = absurd cc
+
+waits-holds : (shown other : Bool) → true ≡ is_some (first-of shown true other)
+waits-holds true other = refl
+waits-holds false other = refl
+
+other-holds : (other : Bool) → other ≡ is_some (first-of false false other)
+other-holds true = refl
+other-holds false = refl
+
+or-true : (t : Bool) → (t || true) ≡ true
+or-true true = refl
+or-true false = refl
+
+is-none : (o : Option Binding) → is_some o ≡ false → o ≡ None
+is-none None e = refl
+is-none (Some x) e = absurd cc
+
+module _ (provider : Provider) (parts : Parts) (salt : List ℕ) (left : Stream) (keeps : Keeps provider parts (book_of parts salt left)) (name index : List ℕ) (indexed : index ≡ index_of provider name)
     (tree : Contents) (len : ℕ) (long : len ≡ length parts.trees) (is : tree ≡ slice_index_or parts.trees (len - 1) tree) (shown : Bool) (looked : shown ≡ is_some (commitment_of tree.items index)) where
   tree-is : tree ≡ tree_of provider (last_of parts)
   tree-is = last_tree_is provider parts salt left keeps tree len long is
 
-  abbrev other-has : Bool
-  other-has = has_its_index (index_of provider) name (last_of parts).bindings || has_its_index (index_of provider) name (pending_of parts)
+  abbrev now : Map Binding
+  now = (last_of parts).bindings
 
-  told : (shown || is_some (commitment_of parts.waiting index)) ≡ other-has
+  abbrev later : Map Binding
+  later = pending_of parts
+
+  abbrev other-has : Bool
+  other-has = has_its_index (index_of provider) name now || has_its_index (index_of provider) name later
+
+  abbrev due : Option Refusal
+  due = put_refusal (index_of provider) (book_of parts salt left) Register name
+
+  -- a name that is there has its index there
+  own : (bindings : Map Binding) (binding : Binding) → Ascends bindings → ((other : List ℕ) → HasName bindings other → IsHeld (book_of parts salt left) other) → IsHeld (book_of parts salt left) name
+      → at bindings name ≡ Some binding → commitment_of (placement provider bindings) (index_of provider name) ≡ Some (commitment provider name binding)
+  own bindings binding up all held found =
+      placed_some provider name bindings binding up (apart-alone provider bindings name (λ other has same. free_held provider parts salt left keeps name held other (all other has) same)) found
+
+  own-now : (binding : Binding) → at now name ≡ Some binding → commitment_of (placement provider now) (index_of provider name) ≡ Some (commitment provider name binding)
+  own-now binding found =
+      own now binding (chosen_ascends (binding_at (length parts.roots - 1)) parts.names keeps.histories.names_ascend) (λ other has. inl (some-name now other has)) (inl (subst IsSome (sym found) refl)) found
+
+  own-later : (binding : Binding) → at later name ≡ Some binding → commitment_of parts.waiting (index_of provider name) ≡ Some (commitment provider name binding)
+  own-later binding found =
+      ap (λ (items : Items). commitment_of items (index_of provider name)) keeps.waiting
+      ∙ own later binding (chosen_ascends (waiting (length parts.roots)) parts.names keeps.histories.names_ascend) (λ other has. inr (some-name later other has)) (inr (subst IsSome (sym found) refl)) found
+
+  abbrev at-index : Bool
+  at-index = is_some (commitment_of (placement provider now) (index_of provider name)) || is_some (commitment_of parts.waiting (index_of provider name))
+
+  by-names : (a b : Option Binding) → at now name ≡ a → at later name ≡ b → at-index ≡ is_some due
+  by-names (Some x) b a-is b-is =
+      ap (λ (o : Option (List ℕ)). is_some o || is_some (commitment_of parts.waiting (index_of provider name))) (own-now x a-is)
+      ∙ sym (ap (λ (o : Option Binding). is_some (first-of (is_some o) (is_some (at later name)) other-has)) a-is)
+  by-names None (Some y) a-is b-is =
+      ap (λ (o : Option (List ℕ)). is_some (commitment_of (placement provider now) (index_of provider name)) || is_some o) (own-later y b-is)
+      ∙ or-true _ ∙ waits-holds (is_some (at now name)) other-has
+      ∙ sym (ap (λ (o : Option Binding). is_some (first-of (is_some (at now name)) (is_some o) other-has)) b-is)
+  by-names None None a-is b-is =
+      taken_is provider parts salt left keeps name a-is b-is ∙ other-holds other-has
+      ∙ sym (ap (λ (o : Option Binding). is_some (first-of (is_some o) false other-has)) a-is)
+      ∙ sym (ap (λ (o : Option Binding). is_some (first-of (is_some (at now name)) (is_some o) other-has)) b-is)
+
+  told : (shown || is_some (commitment_of parts.waiting index)) ≡ is_some due
   told =
       ap (λ (s : Bool). s || is_some (commitment_of parts.waiting index)) (looked ∙ ap (λ (t : Contents). is_some (commitment_of t.items index)) tree-is)
-      ∙ ap (λ (i : List ℕ). is_some (commitment_of (placement provider (last_of parts).bindings) i) || is_some (commitment_of parts.waiting i)) indexed
-      ∙ taken_is provider parts salt left keeps name new waits
+      ∙ ap (λ (i : List ℕ). is_some (commitment_of (placement provider now) i) || is_some (commitment_of parts.waiting i)) indexed
+      ∙ by-names (at now name) (at later name) refl refl
 
-  pub taken_shown : shown ≡ true → shown ≡ other-has
+  pub taken_shown : shown ≡ true → shown ≡ is_some due
   taken_shown true-is = true-is ∙ sym (ap (λ (s : Bool). s || is_some (commitment_of parts.waiting index)) true-is) ∙ told
 
-  pub taken_waiting : (waiting : Bool) → waiting ≡ is_some (commitment_of parts.waiting index) → shown ≡ false → waiting ≡ other-has
-  taken_waiting waiting told-is false-is = told-is ∙ sym (ap (λ (s : Bool). s || is_some (commitment_of parts.waiting index)) false-is) ∙ told
+  module _ (waits : Bool) (told-is : waits ≡ is_some (commitment_of parts.waiting index)) (false-is : shown ≡ false) where
+    pub taken_waiting : waits ≡ is_some due
+    taken_waiting = told-is ∙ sym (ap (λ (s : Bool). s || is_some (commitment_of parts.waiting index)) false-is) ∙ told
 
-  pub taken_free : (waiting : Bool) → waiting ≡ is_some (commitment_of parts.waiting index) → shown ≡ false → waiting ≡ false
-      → (other : List ℕ) → IsHeld (book_of parts salt left) other → index_of provider other ≡ index_of provider name → other ≡ name
-  taken_free waiting told-is false-is none = free_untaken provider parts salt left keeps name (sym (taken_waiting waiting told-is false-is) ∙ none)
+    untaken : waits ≡ false → (is_some (at later name) ≡ false) × (other-has ≡ false)
+    untaken none = none-holds (is_some (at now name)) (is_some (at later name)) other-has (sym taken_waiting ∙ none)
+
+    pub taken_later : waits ≡ false → at later name ≡ None
+    taken_later none = is-none (at later name) (untaken none).0
+
+    pub taken_free : waits ≡ false → (other : List ℕ) → IsHeld (book_of parts salt left) other → index_of provider other ≡ index_of provider name → other ≡ name
+    taken_free none = free_untaken provider parts salt left keeps name (untaken none).1

@@ -1,9 +1,9 @@
 -- What calls read of a directory's parts: the page of an epoch, the promise that waits for a name, what a page has at a name, and roots from an epoch on.
 use Rattle.std.proofs.Common.{◌≡◌, ◌≢◌, ℕ, ◌-◌, ◌<◌, ◌≤◌, List, [], ◌∷◌, length, map, take, drop, get_or, slice_get, Bool, true, false, not, min, Option, Some, None, Ok, Err, ltb, refl, sym, ap, ap₂, subst, subst₂, ◌∙◌, ◌⊎◌, inl, inr, arith}
-use Rattle.std.specs.Prelude.{is_none}
+use Rattle.std.specs.Prelude.{IfSome, is_none}
 use Rattle.std.specs.List.{AllZip}
 use Rattle.std.specs.List.Sorted.{IsBinarySearchResult, IsNonDecreasingBy, IsPartitionPoint, IsPartitionedBy}
-use Rattle.std.specs.Option.{option_map}
+use Rattle.std.specs.Option.{option_and_then, option_map}
 use Rattle.std.specs.Ordering.{nat_cmp}
 use Rattle.std.specs.declared.cmp.Ordering.TheVariants.{Equal}
 use Rattle.std.proofs.lemmas.Bool.{cases_lt, le-leb}
@@ -23,15 +23,15 @@ use Rattle.proofs.specs.Replies.{reply_bytes}
 use Rattle.book.specs.declared.refusal.Refusal.{Refusal}
 use Rattle.book.specs.declared.refusal.Refusal.TheVariants.{BadName, NoPromise, NoSuchEpoch}
 use Rattle.book.specs.declared.reply.Reply.TheVariants as reply
-use Rattle.book.specs.Answers.{Found, Promised, Told, first, is_within, refusal, page_range}
+use Rattle.book.specs.Answers.{Found, Promised, Told, bad_name, first, is_within, refusal, page_range}
 use Rattle.commands.specs.Operations.{History, Lookup, Promise, Query}
 use Rattle.book.specs.Books.{Binding, Book, Page, page_at, pages}
 use Rattle.book.specs.Maps.{at}
 use Rattle.book.specs.Shows.{Provider, index_of, roots, reply_end, IsRootOf}
 use Rattle.book.specs.Steps.{found_in, promise_of}
-use Rattle.book.specs.Turns.{IsRead, Reads, Shows}
+use Rattle.book.specs.Turns.{IsRead, IsRefused, Reads, Shows}
 use Rattle.book.proofs.Rooted.{rooted-part}
-use Rattle.book.proofs.Stepping.{does_steps}
+use Rattle.book.proofs.Stepping.{does_steps, due_steps}
 use Rattle.epochs.specs.Histories.{chosen, binding_at}
 use Rattle.epochs.specs.Parts.{Keeps, Parts, last_root, page_of, tree_of}
 use Rattle.epochs.proofs.Finding.{ascend_beside, epochs_of, length_beside, page_found_beside, page_missing_beside, told_from_beside}
@@ -159,6 +159,17 @@ module _ (provider : Provider) (parts : Parts) (salt : List ℕ) (left : Stream)
 
       same_index : index ≡ index_of provider name
       same_index = index_is ∙ ap provider.hash value_is
+
+  -- a look-up of what is no name, or where no page was found, is one to refuse
+  pub lookup_refused : (name : List ℕ) (epoch : ℕ) (place : Option ℕ) (why : Refusal) → page_at the_book epoch ≡ option_and_then (λ (k : ℕ). slice_get (pages the_book) k) place
+      → IfSome place (λ (k : ℕ). k < length (pages the_book)) → first (bad_name name ∷ (is_none place, NoSuchEpoch) ∷ []) ≡ Some why
+      → IsRefused provider the_book (Query (Lookup name epoch)) why
+  lookup_refused name epoch place why is within due =
+      due_steps (index_of provider) the_book (Query (Lookup name epoch)) why (ap (λ (none : Bool). first (bad_name name ∷ (none, NoSuchEpoch) ∷ [])) (ap is_none is ∙ by place within) ∙ due)
+    where
+      by : (o : Option ℕ) → IfSome o (λ (k : ℕ). k < length (pages the_book)) → is_none (option_and_then (λ (k : ℕ). slice_get (pages the_book) k) o) ≡ is_none o
+      by None below = refl
+      by (Some k) below = ap (λ (o : Option Page). is_none o) (slice_get-get_or (pages the_book) k the_book.last below)
 
   -- epochs ascend, so that those below one stand before the others
   pub roots_parted : (from : ℕ) → IsPartitionedBy (λ (root : SignedRoot). ltb root.body.epoch from) parts.roots

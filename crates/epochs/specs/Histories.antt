@@ -3,6 +3,11 @@
 use Rattle.std.specs.Prelude.{ℕ, List, [], ◌∷◌, nat_le, nat_eq, if◌then◌else◌, Option, Some, None}
 use Rattle.book.specs.Books.{Binding}
 use Rattle.book.specs.Maps.{Map}
+use Rattle.epochs.specs.declared.directory.reading.Opening.{Opening}
+
+-- what an opening opens a leaf to
+abbrev pub opened : Opening → Binding
+opened opening = record { key = opening.key; salt = opening.salt }
 
 pub record Version : Type 0 where
   pub number : ℕ

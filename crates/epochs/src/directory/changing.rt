@@ -1,7 +1,7 @@
 //! Registrations, changes, closings and rotations. Each is tested, then takes all its memory, then its record is kept,
 //! and only then is the change made, which needs no memory and cannot fail. So a refused call leaves the
 //! directory as it was.
-ghost use Rattle.std.specs.Prelude.{◌≡◌, ◌||◌, ℕ, ◌+◌, ◌<◌, ◌≤◌, ◌++◌, ◌∷◌, [], false, List, None, IfOk, IfSome, MatchResult, Ok, Some, is_some, unwrap_or};
+ghost use Rattle.std.specs.Prelude.{◌≡◌, ℕ, ◌+◌, ◌<◌, ◌≤◌, ◌++◌, ◌∷◌, [], false, List, None, IfOk, IfSome, IsSome, MatchResult, Ok, Some, is_some, unwrap_or};
 ghost use Rattle.encoding.specs.Bytes.{Is32Bytes};
 ghost use Rattle.encoding.specs.Limits.{IsKeyData, IsName};
 ghost use Rattle.commands.specs.Operations as asks;
@@ -10,19 +10,19 @@ ghost use Rattle.commands.specs.declared.edit.Verb.TheVariants.{Change, Register
 ghost use Rattle.nodehash.specs.Digests.{one_more};
 ghost use Rattle.prefixtree.specs.Changes.{made_count};
 ghost use Rattle.prefixtree.specs.Node.{node_count};
-ghost use Rattle.prefixtree.specs.Placement.{commitment_of, put as put_item, put_all, IsPlacement};
+ghost use Rattle.prefixtree.specs.Placement.{put_all, IsPlacement};
 ghost use Rattle.book.specs.declared.record.Record.TheVariants as kept_as;
-ghost use Rattle.book.specs.Answers.{has_its_index, next_page, with_page, with_pending, Last, Promised};
+ghost use Rattle.book.specs.Answers.{next_page, with_page, with_pending, Last, Promised};
 ghost use Rattle.book.specs.Maps.{at, overwritten};
 ghost use Rattle.book.specs.Replays.{put_refusal, with_bound};
 ghost use Rattle.book.specs.Shows.{index_of as index_by, placement};
 ghost use Rattle.book.specs.Sound.{IsHeld};
 ghost use Rattle.book.specs.Turns.{Shows, Turn};
-ghost use Rattle.epochs.specs.Addresses.{address_of, with_name};
+ghost use Rattle.epochs.specs.Addresses.{address_of};
 ghost use Rattle.epochs.specs.DirectoryStates.{book, provider, HasKeysOf};
 ghost use Rattle.epochs.specs.Replayed.{changed_digests, tree_digests};
 ghost use Rattle.epochs.specs.Replied.{last, promised};
-ghost use Rattle.epochs.specs.Versions.{AllBefore, IsUnkept, versions_of};
+ghost use Rattle.epochs.specs.Versions.{IsUnkept};
 
 use super::Directory;
 use crate::address::Address;
@@ -278,18 +278,34 @@ impl<H: NodeHash, V: Vuf, S: Signer, R: Rng> Directory<H, V, S, R> {
         Address::computed(&mut self.hash, &self.vuf, name)
     }
 
-    /// Whether another name of the last page, or one that waits, has the index of this name, which
-    /// is neither.
+    /// Whether a name of the last page, or one that waits, has the index of this name: another one, or
+    /// this one itself.
     fn is_taken(&self, name: &Name, index: &Index) -> bool
-        requires indexed { index.now ≡ index_by (provider H.digest_of V.value_of S.signature_of self.now) name.now }
-        requires new { at self.now.last.bindings name.now ≡ None }
-        requires waits { at self.now.pending name.now ≡ None }
+        requires { index.now ≡ index_by (provider H.digest_of V.value_of S.signature_of self.now) name.now }
         ensures taken { let by = index_by (provider H.digest_of V.value_of S.signature_of self.now) in
-            result ≡ (has_its_index by name.now self.now.last.bindings || has_its_index by name.now self.now.pending) }
+            result ≡ is_some (put_refusal by (book R.stream self.now) Register name.now) }
+        ensures waits { result ≡ false → at self.now.pending name.now ≡ None }
         ensures free { let by = index_by (provider H.digest_of V.value_of S.signature_of self.now) in
             result ≡ false → (other : List ℕ) → IsHeld (book R.stream self.now) other → by other ≡ by name.now → other ≡ name.now }
     {
         self.trees[self.trees.len() - 1].get(index).is_some() || self.waiting.contains(index)
+    }
+
+    /// Why a name is not new, if its index is taken.
+    fn why_taken(&self, name: &Name) -> Refusal
+        requires { let by = index_by (provider H.digest_of V.value_of S.signature_of self.now) in
+            IsSome (put_refusal by (book R.stream self.now) Register name.now) }
+        ensures { let by = index_by (provider H.digest_of V.value_of S.signature_of self.now) in
+            put_refusal by (book R.stream self.now) Register name.now ≡ Some result }
+    {
+        let (shown, waits) = self.standing(name);
+        if shown {
+            return Refusal::NameTaken;
+        }
+        if waits {
+            return Refusal::PendingExists;
+        }
+        Refusal::IndexTaken
     }
 
     /// The address of a name that is new. Takes one digest.
@@ -303,16 +319,10 @@ impl<H: NodeHash, V: Vuf, S: Signer, R: Rng> Directory<H, V, S, R> {
         ensures stays { self.new ≡ record self.old { digests = self.new.digests } }
         ensures work { self.new.digests ≤ self.old.digests + 1 }
     {
-        let (shown, waits) = self.standing(name);
-        if shown {
-            return Err(Refusal::NameTaken);
-        }
-        if waits {
-            return Err(Refusal::PendingExists);
-        }
         let address = self.address(name);
+        // A name that is not new has taken its own index, so that a new one is not searched for here.
         if self.is_taken(name, &address.index) {
-            return Err(Refusal::IndexTaken);
+            return Err(self.why_taken(name));
         }
         Ok(address)
     }

@@ -1,30 +1,32 @@
-ghost use Rattle.std.specs.Prelude.{◌≡◌, ℕ, ◌+◌, ◌<◌, ◌≤◌, List, Option, Some, None, IfSome, MatchResult, length, option_and_then, option_map, slice_get, vec_len, vec_capacity, ◌++◌};
+ghost use Rattle.std.specs.Prelude.{◌≡◌, ℕ, ◌+◌, ◌<◌, ◌≤◌, List, Option, Some, None, IfSome, IsSome, MatchOption, MatchResult, is_none, length, option_and_then, option_map, slice_get, vec_len, vec_capacity, ◌++◌, ◌∷◌, []};
 ghost use Rattle.std.specs.List.{AllZip};
+ghost use Rattle.encoding.specs.Limits.{IsName};
 ghost use Rattle.commands.specs.Operations.{History, Lookup, Promise as PromiseOf, Query};
-ghost use Rattle.proofs.specs.Replies.{front_bytes, reply_bytes};
 ghost use Rattle.encoding.specs.declared.fixed_text.TheConstants.{PROOF_TEXT_ROOM};
 ghost use Rattle.book.specs.declared.reply.Reply.TheVariants.{Found};
 ghost use Rattle.proofs.specs.Views.{end_given};
-ghost use Rattle.proofs.specs.declared.making.TheConstants.{FRONT_ROOM};
-ghost use Rattle.book.specs.Answers.{Told};
+ghost use Rattle.book.specs.Answers.{Told, bad_name, first};
+ghost use Rattle.book.specs.declared.refusal.Refusal.TheVariants.{NoSuchEpoch};
 ghost use Rattle.book.specs.Books.{Page, page_at, pages};
 ghost use Rattle.book.specs.Maps.{at};
 ghost use Rattle.book.specs.Shows.{index_of as index_by, reply_end, IsRootOf};
 ghost use Rattle.book.specs.Sound.{IsHeld};
 ghost use Rattle.book.specs.Turns.{IsRead, IsRefused, Reads};
 ghost use Rattle.epochs.specs.DirectoryStates.{book, provider, HasKeysOf};
+ghost use Rattle.epochs.specs.Histories.{binding_at, opened};
 ghost use Rattle.epochs.specs.Replied.{found, promised};
 
 use super::Directory;
 use crate::address::Address;
 use crate::history::Version;
+use crate::names::Names;
 use book::Refusal;
-use encoding::{Index, KeyData, Name, ProofText, Small};
+use encoding::{Hash32, Index, KeyData, Name, ProofText};
 use nodehash::NodeHash;
-use prefixtree::{End as PathEnd, Path};
+use prefixtree::End as PathEnd;
 use proofs::{End, make, write_front};
 use rand_core::Rng;
-use rootchain::{Body, MAX_ROOTS, SignedPromise, SignedRoot};
+use rootchain::{MAX_ROOTS, SignedPromise, SignedRoot};
 use sigiface::Signer;
 use vrfiface::Vuf;
 
@@ -65,20 +67,18 @@ impl<H: NodeHash, V: Vuf, S: Signer, R: Rng> Directory<H, V, S, R> {
         ensures work { self.new.digests ≤ self.old.digests + 1 }
         ensures spared { IsHeld (book R.stream self.old) name.now → self.new.digests ≡ self.old.digests }
     {
-        let Ok(name) = Name::new(name) else {
-            return Err(Refusal::BadName);
+        let page = self.page(epoch);
+        let sought = match seek(&mut self.hash, &self.vuf, &self.names, name, page) {
+            Ok(sought) => sought,
+            Err(why) => return Err(why),
         };
-        let Some(page) = self.page(epoch) else {
-            return Err(Refusal::NoSuchEpoch);
-        };
-        let (address, found) = self.names.look_up(&mut self.hash, &self.vuf, &name, page);
-        let path = self.trees[page].path(&address.index);
-        Ok(reply_of(
-            &self.roots[page].body,
-            &address.value,
-            &address.index,
+        let path = self.trees[sought.page].path(&sought.address.index);
+        let opening = sought.opening();
+        Ok(make(
+            &self.roots[sought.page].body,
+            &sought.address.value,
+            &end_of(path.end, sought.address.index, &opening),
             &path,
-            found,
         ))
     }
 
@@ -105,17 +105,22 @@ impl<H: NodeHash, V: Vuf, S: Signer, R: Rng> Directory<H, V, S, R> {
         ensures work { self.new.digests ≤ self.old.digests + 1 }
         ensures spared { IsHeld (book R.stream self.old) name.now → self.new.digests ≡ self.old.digests }
     {
-        let Ok(name) = Name::new(name) else {
-            return Err(Refusal::BadName);
+        let page = self.page(epoch);
+        let sought = match seek(&mut self.hash, &self.vuf, &self.names, name, page) {
+            Ok(sought) => sought,
+            Err(why) => return Err(why),
         };
-        let Some(page) = self.page(epoch) else {
-            return Err(Refusal::NoSuchEpoch);
-        };
-        let (address, found) = self.names.look_up(&mut self.hash, &self.vuf, &name, page);
-        let tree = &self.trees[page];
-        let (level, end) = tree.path_end(&address.index);
-        write_front_of(output, &self.roots[page].body, &address, end, level, found);
-        tree.write_siblings(&address.index, output);
+        let tree = &self.trees[sought.page];
+        let (level, end) = tree.path_end(&sought.address.index);
+        let opening = sought.opening();
+        write_front(
+            output,
+            &self.roots[sought.page].body,
+            &sought.address.value,
+            &end_of(end, sought.address.index, &opening),
+            level,
+        );
+        tree.write_siblings(&sought.address.index, output);
         Ok(())
     }
 
@@ -172,83 +177,85 @@ impl<H: NodeHash, V: Vuf, S: Signer, R: Rng> Directory<H, V, S, R> {
     }
 }
 
-/// The reply under this body, of an index's path, to what was found at the name.
-fn reply_of(
-    body: &Body,
-    value: &Small,
-    index: &Index,
-    path: &Path,
-    found: Option<&Version>,
-) -> ProofText
-    ensures { result ≡ reply_bytes (record { body = body.now; value = value.now; end = reply_end index.now (option_map (λ version. version.now.binding) found.entry) path.now.end; siblings = path.now.siblings.items }) }
-{
-    match found {
-        Some(version) => {
-            let key = version.key();
-            make(body, value, &opened(path.end, version, &key), path)
+/// What a look-up finds: the place of the page, the address of the name, and what the page shows of it.
+#[derive(Drop)]
+struct Sought<'a> {
+    page: usize,
+    address: Address,
+    shown: Option<&'a Version>,
+}
+
+/// What opens the leaf of a name.
+#[derive(Drop)]
+struct Opening {
+    salt: Hash32,
+    key: KeyData,
+}
+
+impl Sought<'_> {
+    /// What opens the leaf of the name, where the page has it.
+    fn opening(&self) -> Option<Opening>
+        ensures { option_map opened result ≡ option_map (λ version. version.now.binding) self.now.shown }
+    {
+        match self.shown {
+            Some(version) => Some(Opening {
+                salt: version.salt(),
+                key: version.key(),
+            }),
+            None => None,
         }
-        None => make(body, value, &unopened(path.end, *index), path),
     }
 }
 
-/// Appends the reply under this body, at this address, up to the siblings of the path, which ends so.
-fn write_front_of(
-    output: &mut Vec<u8>,
-    body: &Body,
-    address: &Address,
-    end: PathEnd,
-    level: usize,
-    found: Option<&Version>,
-)
-    requires few { level ≤ 256 }
-    requires room { vec_len output.old + FRONT_ROOM ≤ vec_capacity output.old }
-    ensures value { output.new.items ≡ output.old.items ++ front_bytes body.now address.now.value (reply_end address.now.index (option_map (λ version. version.now.binding) found.entry) end) level }
-    ensures len { vec_len output.new ≤ vec_len output.old + FRONT_ROOM }
-    ensures capacity { vec_capacity output.old ≤ vec_capacity output.new }
+/// Looks a name up in the page at this place.
+fn seek<'a, H: NodeHash, V: Vuf>(
+    hash: &mut H,
+    vuf: &V,
+    names: &'a Names,
+    name: &[u8],
+    page: Option<usize>,
+) -> Result<Sought<'a>, Refusal>
+    ensures found { MatchResult result
+        (λ sought. IsName name.now × (page ≡ Some sought.page)
+        × MatchOption (at names.entry.now.addresses name.now)
+        (let value = V.value_of (V.public_key vuf.now) name.now in sought.address ≡ record { value = value; index = H.digest_of value })
+        (λ address. sought.address ≡ address)
+        × (option_map (λ version. version.now.binding) sought.shown ≡ option_and_then (binding_at sought.page) (at names.entry.now.versions name.now)))
+        (λ why. first (bad_name name.now ∷ (is_none page, NoSuchEpoch) ∷ []) ≡ Some why) }
+    ensures work { H.digests hash.new ≤ H.digests hash.old + 1 }
+    ensures spared { IsSome (at names.entry.now.versions name.now) → hash.new ≡ hash.old }
 {
-    match found {
-        Some(version) => {
-            let key = version.key();
-            write_front(
-                output,
-                body,
-                &address.value,
-                &opened(end, version, &key),
-                level,
-            )
-        }
-        None => write_front(
-            output,
-            body,
-            &address.value,
-            &unopened(end, address.index),
-            level,
-        ),
-    }
+    let Ok(name) = Name::new(name) else {
+        return Err(Refusal::BadName);
+    };
+    let Some(page) = page else {
+        return Err(Refusal::NoSuchEpoch);
+    };
+    let (address, shown) = names.look_up(hash, vuf, &name, page);
+    Ok(Sought {
+        page,
+        address,
+        shown,
+    })
 }
 
-/// The end of a path, where its leaf is the name's own.
-fn opened<'a>(end: PathEnd, version: &Version, key: &'a KeyData) -> End<'a>
-    requires { key.now ≡ version.now.binding.key }
-    ensures { (index : List ℕ) → end_given result ≡ reply_end index (Some version.now.binding) end }
+/// The end of a path to this index. Without an opening, a leaf of the index is another name's.
+fn end_of<'a>(end: PathEnd, index: Index, opening: &'a Option<Opening>) -> End<'a>
+    ensures { end_given result ≡ reply_end index (option_map opened opening.entry.now) end }
 {
-    match end {
-        PathEnd::Present(_) => End::Present {
-            salt: version.salt(),
-            key,
+    match opening {
+        Some(opening) => match end {
+            PathEnd::Present(_) => End::Present {
+                salt: opening.salt,
+                key: &opening.key,
+            },
+            PathEnd::Empty => End::Empty,
+            PathEnd::Other(index, commitment) => End::Other { index, commitment },
         },
-        PathEnd::Empty => End::Empty,
-        PathEnd::Other(index, commitment) => End::Other { index, commitment },
-    }
-}
-
-/// The end of a path, where a leaf of the index is another name's.
-fn unopened<'a>(end: PathEnd, index: Index) -> End<'a>
-    ensures { end_given result ≡ reply_end index None end }
-{
-    match end {
-        PathEnd::Present(commitment) => End::Other { index, commitment },
-        PathEnd::Empty => End::Empty,
-        PathEnd::Other(index, commitment) => End::Other { index, commitment },
+        None => match end {
+            PathEnd::Present(commitment) => End::Other { index, commitment },
+            PathEnd::Empty => End::Empty,
+            PathEnd::Other(index, commitment) => End::Other { index, commitment },
+        },
     }
 }

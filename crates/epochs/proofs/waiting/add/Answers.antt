@@ -1,4 +1,4 @@
-use Rattle.std.proofs.Common.{rules, ◌≡◌, ◌∙◌, Bool, true, false, ap, sym}
+use Rattle.std.proofs.Common.{rules, ◌≡◌, ◌∙◌, true, false, ap, sym}
 use Rattle.std.specs.HashMap.Entry.{map_with_value}
 use Rattle.std.specs.Prelude.{is_some}
 use Rattle.std.specs.declared.collections.hash_map.Entry.TheVariants.{Vacant}
