@@ -9,15 +9,17 @@ use Rattle.book.specs.declared.record.Record.{Record}
 use Rattle.book.specs.declared.record.Record.TheVariants.{Start, Bound, Turned}
 use Rattle.std.proofs.Common.{Result}
 use Rattle.journal.specs.Counting.{HasLater}
+use Rattle.journal.specs.Later.{later_seen}
+use Rattle.journal.specs.declared.later.Later.{Later}
 use Rattle.journal.specs.Reading.{read_later, read_start}
 use Rattle.journal.specs.declared.beginning.Beginning.{Beginning}
 use Rattle.journal.specs.Records.{record_bytes, records_bytes, start_bytes, IsLater, IsStart}
 use Rattle.journal.proofs.Spelled.{later_field, start_field}
 
 -- what the readers give is what they read
-pub later_is : (bytes : List ℕ) (result : Result Record Fault) (rest : List ℕ) → IsBytes bytes → Gives (λ kept. kept) result rest (read_later bytes)
-    → Reads (λ kept. kept) record_bytes IsLater bytes result rest
-later_is bytes result rest small gives = gives-reads (λ kept. kept) read_later record_bytes IsLater later_field bytes result rest small gives
+pub later_is : (bytes : List ℕ) (result : Result Later Fault) (rest : List ℕ) → IsBytes bytes → Gives later_seen result rest (read_later bytes)
+    → Reads later_seen record_bytes IsLater bytes result rest
+later_is bytes result rest small gives = gives-reads later_seen read_later record_bytes IsLater later_field bytes result rest small gives
 
 pub start_is : (bytes : List ℕ) (result : Result Beginning Fault) (rest : List ℕ) → IsBytes bytes → Gives (λ beginning. beginning) result rest (read_start bytes)
     → Reads (λ beginning. beginning) start_bytes IsStart bytes result rest

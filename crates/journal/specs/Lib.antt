@@ -1,5 +1,6 @@
 pub mod Counting
 pub mod Journals
+pub mod Later
 pub mod Opened
 pub mod Openings
 pub mod Reading

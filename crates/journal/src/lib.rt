@@ -18,6 +18,7 @@
 mod beginning;
 mod counting;
 mod journal;
+mod later;
 mod laws;
 mod opening;
 mod reading;

@@ -3,13 +3,14 @@
 // could mend it.
 ghost use Rattle.std.specs.Prelude.{◌/◌};
 ghost use Rattle.encoding.specs.Reading.{Gives, read_counted};
+ghost use Rattle.journal.specs.Later.{later_seen};
 ghost use Rattle.journal.specs.Reading.{read_bound, read_later, read_start, read_up_to, read_verb};
 
 use crate::beginning::Beginning;
+use crate::later::Later;
 use crate::text::{BOUND, ROTATED, START, START_VERSION, TURNED};
-use book::Record;
 use commands::Verb;
-use encoding::{Bounded, Cursor, Fault};
+use encoding::{Cursor, Fault, MAX_KEY_DATA_LEN, MAX_NAME_LEN, MIN_LEN};
 
 /// The start at the front of the bytes. Where it is refused, the cursor may stand anywhere.
 #[tactic(auto, unfolding(crate::specs::Reading::read_start))]
@@ -33,16 +34,16 @@ pub(crate) fn read_start(cursor: &mut Cursor<'_>) -> Result<Beginning, Fault>
 /// The record of a command at the front of the bytes. Where it is refused, the cursor may stand
 /// anywhere.
 #[tactic(auto, unfolding(crate::specs::Reading::read_later))]
-pub(crate) fn read_later(cursor: &mut Cursor<'_>) -> Result<Record, Fault>
-    ensures { Gives (λ kept. kept) result cursor.new (read_later cursor.old) }
+pub(crate) fn read_later<'a>(cursor: &mut Cursor<'a>) -> Result<Later<'a>, Fault>
+    ensures { Gives later_seen result cursor.new (read_later cursor.old) }
 {
     match cursor.u8()? {
         BOUND => read_bound(cursor),
-        TURNED => Ok(Record::Turned {
+        TURNED => Ok(Later::Turned {
             epoch: cursor.u64()?,
             nonce: None,
         }),
-        ROTATED => Ok(Record::Turned {
+        ROTATED => Ok(Later::Turned {
             epoch: cursor.u64()?,
             nonce: Some(cursor.hash32()?),
         }),
@@ -51,14 +52,14 @@ pub(crate) fn read_later(cursor: &mut Cursor<'_>) -> Result<Record, Fault>
 }
 
 #[tactic(auto, unfolding(crate::specs::Reading::read_bound))]
-fn read_bound(cursor: &mut Cursor<'_>) -> Result<Record, Fault>
-    ensures { Gives (λ kept. kept) result cursor.new (read_bound cursor.old) }
+fn read_bound<'a>(cursor: &mut Cursor<'a>) -> Result<Later<'a>, Fault>
+    ensures { Gives later_seen result cursor.new (read_bound cursor.old) }
 {
-    Ok(Record::Bound {
+    Ok(Later::Bound {
         verb: read_verb(cursor)?,
         salt: cursor.hash32()?,
-        name: read_up_to(cursor)?,
-        key: read_up_to(cursor)?,
+        name: read_up_to(cursor, MAX_NAME_LEN)?,
+        key: read_up_to(cursor, MAX_KEY_DATA_LEN)?,
     })
 }
 
@@ -73,12 +74,12 @@ fn read_verb(cursor: &mut Cursor<'_>) -> Result<Verb, Fault>
     }
 }
 
-/// Bytes behind their length, whose first byte is at most that of the greatest length.
-fn read_up_to<const MOST: usize>(cursor: &mut Cursor<'_>) -> Result<Bounded<MOST>, Fault>
-    ensures { Gives (λ text. text) result cursor.new (read_up_to (MOST / 256) (read_counted 1 MOST) cursor.old) }
+/// At least one byte behind their length, whose first byte is at most that of the greatest length.
+fn read_up_to<'a>(cursor: &mut Cursor<'a>, most: usize) -> Result<&'a [u8], Fault>
+    ensures { Gives (λ bytes. bytes.now) result cursor.new (read_up_to (most / 256) (read_counted 1 most) cursor.old) }
 {
     match cursor.copied().u8() {
-        Ok(first) if usize::from(first) > MOST / 256 => Err(Fault::OutOfRange),
-        _ => cursor.bounded(),
+        Ok(first) if usize::from(first) > most / 256 => Err(Fault::OutOfRange),
+        _ => cursor.counted(MIN_LEN, most),
     }
 }

@@ -1,5 +1,5 @@
 ghost use Rattle.std.specs.Prelude.{◌≡◌, length};
-ghost use Rattle.journal.specs.Records.{record_bytes, verb_byte, IsLater, IsRecord};
+ghost use Rattle.journal.specs.Records.{record_bytes, verb_byte, IsRecord};
 
 use book::Record;
 use commands::Verb;
@@ -82,21 +82,8 @@ pub(crate) const START_SIZE: usize = 106;
 
 /// How many bytes a binding has beside its name and its key, a new page, and one under a nonce of its
 /// own.
-const BOUND_SIZE: usize = 38;
+pub(crate) const BOUND_SIZE: usize = 38;
 
-const TURNED_SIZE: usize = 9;
+pub(crate) const TURNED_SIZE: usize = 9;
 
-const ROTATED_SIZE: usize = 41;
-
-/// How many bytes the record of a command has.
-pub(crate) fn later_size(what: &Record) -> usize
-    requires { IsLater what.now }
-    ensures { result ≡ length (record_bytes what.now) }
-{
-    match what {
-        Record::Start { .. } => START_SIZE,
-        Record::Bound { name, key, .. } => BOUND_SIZE + name.bytes().len() + key.bytes().len(),
-        Record::Turned { nonce: None, .. } => TURNED_SIZE,
-        Record::Turned { nonce: Some(_), .. } => ROTATED_SIZE,
-    }
-}
+pub(crate) const ROTATED_SIZE: usize = 41;

@@ -1,10 +1,11 @@
 use Rattle.std.proofs.Common.{arith, ap, sym, ◌∙◌, Ok, Err}
 use Rattle.journal.proofs.Counted.{counted_all, counted_out, counting_on, later_is}
+use Rattle.journal.specs.Later.{later_seen}
 use Rattle.journal.specs.Reading.{read_later}
 use Rattle.journal.proofs.counting.later_records.Goals as goal
 
 pub loop-preserved : goal.loop-preserved
-loop-preserved c = counting_on c.loop.invariant c.in-Ok.field-0 c.read_later.new.cursor
+loop-preserved c = counting_on c.loop.invariant (later_seen c.in-Ok.field-0) c.read_later.new.cursor
     (later_is c.loop.cursor (Ok c.in-Ok.field-0) c.read_later.new.cursor c.copied-ahead.ensures.bytes (ap read_later (sym c.copied-ahead.ensures.value) ∙ c.in-Ok.ensures))
 
 pub returns-after-loop-clause-counts : goal.returns-after-loop-clause-counts

@@ -4,6 +4,7 @@ use Rattle.book.specs.Replays.{replayed}
 use Rattle.epochs.specs.DirectoryStates.{book, provider}
 use Rattle.encoding.specs.declared.fault.Fault.TheVariants.{Trailing, OutOfRange}
 use Rattle.journal.specs.Opened.{IsNotReplayed}
+use Rattle.journal.specs.Later.{later_seen}
 use Rattle.journal.specs.Reading.{read_later}
 use Rattle.journal.specs.Records.{record_bytes}
 use Rattle.journal.proofs.Counted.{later_is}
@@ -17,23 +18,26 @@ returns-in-Err-Short-clause-replays g c = (
   c.loop.invariant.0.read,
 )
 
-pub replay-requires : goal.replay-requires
-replay-requires g c = (later_is c.loop.cursor (Ok c.in-Ok.what) c.read_later.new.cursor c.copied-ahead.ensures.bytes (ap read_later (sym c.copied-ahead.ensures.value) ∙ c.in-Ok.ensures)).1
+pub replay_later-requires : goal.replay_later-requires
+replay_later-requires g c = (later_is c.loop.cursor (Ok c.in-Ok.what) c.read_later.new.cursor c.copied-ahead.ensures.bytes (ap read_later (sym c.copied-ahead.ensures.value) ∙ c.in-Ok.ensures)).1
+
+pub later_size-taken-requires : goal.later_size-taken-requires
+later_size-taken-requires g c = (later_is c.loop.cursor (Ok c.in-Ok.what) c.read_later.new.cursor c.copied-ahead.ensures.bytes (ap read_later (sym c.copied-ahead.ensures.value) ∙ c.in-Ok.ensures)).1
 
 pub overflow_add-taken : goal.overflow_add-taken
 overflow_add-taken g c =
     let read = later_is c.loop.cursor (Ok c.in-Ok.what) c.read_later.new.cursor c.copied-ahead.ensures.bytes (ap read_later (sym c.copied-ahead.ensures.value) ∙ c.in-Ok.ensures) in
-    omega (arith, c.loop.invariant.0.read, c.requires, c.ranges.most.fits, c.later_size-taken.ensures, ap length read.0, length-append (record_bytes c.in-Ok.what) c.read_later.new.cursor)
+    omega (arith, c.loop.invariant.0.read, c.requires, c.ranges.most.fits, c.later_size-taken.ensures, ap length read.0, length-append (record_bytes (later_seen c.in-Ok.what)) c.read_later.new.cursor)
 
 pub loop-preserved : goal.loop-preserved
 loop-preserved g c =
     let read = later_is c.loop.cursor (Ok c.in-Ok.what) c.read_later.new.cursor c.copied-ahead.ensures.bytes (ap read_later (sym c.copied-ahead.ensures.value) ∙ c.in-Ok.ensures) in
     let by = index_of (provider g.H.NodeHash.digest_of g.V.Vuf.value_of g.S.Signer.signature_of c.args.directory.now) in
-    let one = subst (λ (index : List ℕ → List ℕ). replayed index (book g.R.Rng.stream c.loop.directory) c.in-Ok.what ≡ Some (book g.R.Rng.stream c.replay.new.directory))
+    let one = subst (λ (index : List ℕ → List ℕ). replayed index (book g.R.Rng.stream c.loop.directory) (later_seen c.in-Ok.what) ≡ Some (book g.R.Rng.stream c.replay_later.new.directory))
     (same_index g.H.NodeHash.digest_of g.V.Vuf.value_of g.S.Signer.signature_of c.args.directory.now c.loop.directory c.loop.invariant.1)
-    c.in_ok-replay.ensures.replays in
-    let on = replaying_on by c.loop.invariant.0 c.in-Ok.what c.read_later.new.cursor (book g.R.Rng.stream c.replay.new.directory) read one in
-    (rw c.later_size-taken.ensures on, (c.in_ok-replay.ensures.keys.0 ∙ c.loop.invariant.1.0, c.in_ok-replay.ensures.keys.1 ∙ c.loop.invariant.1.1))
+    c.in_ok-replay_later.ensures.replays in
+    let on = replaying_on by c.loop.invariant.0 (later_seen c.in-Ok.what) c.read_later.new.cursor (book g.R.Rng.stream c.replay_later.new.directory) read one in
+    (rw c.later_size-taken.ensures on, (c.in_ok-replay_later.ensures.keys.0 ∙ c.loop.invariant.1.0, c.in_ok-replay_later.ensures.keys.1 ∙ c.loop.invariant.1.1))
 
 pub returns-in-Err-Trailing : goal.returns-in-Err-Trailing
 returns-in-Err-Trailing g c =
@@ -55,16 +59,16 @@ returns-in-Err-OutOfRange g c =
       keys = c.loop.invariant.1;
     }
 
-pub returns-in_err-replay-clause-replays : goal.returns-in_err-replay-clause-replays
-returns-in_err-replay-clause-replays g c =
-    let passed : c.from_residual.result ≡ Err c.in_err-replay.field-0.0 = search rules in
+pub returns-in_err-replay_later-clause-replays : goal.returns-in_err-replay_later-clause-replays
+returns-in_err-replay_later-clause-replays g c =
+    let passed : c.from_residual.result ≡ Err c.in_err-replay_later.field-0.0 = search rules in
     let read = later_is c.loop.cursor (Ok c.in-Ok.what) c.read_later.new.cursor c.copied-ahead.ensures.bytes (ap read_later (sym c.copied-ahead.ensures.value) ∙ c.in-Ok.ensures) in
     let by = index_of (provider g.H.NodeHash.digest_of g.V.Vuf.value_of g.S.Signer.signature_of c.args.directory.now) in
-    let one = subst (λ (index : List ℕ → List ℕ). (book g.R.Rng.stream c.replay.new.directory ≡ book g.R.Rng.stream c.loop.directory)
-    × IsNotReplayed index (book g.R.Rng.stream c.loop.directory) c.in-Ok.what c.in_err-replay.field-0.0)
+    let one = subst (λ (index : List ℕ → List ℕ). (book g.R.Rng.stream c.replay_later.new.directory ≡ book g.R.Rng.stream c.loop.directory)
+    × IsNotReplayed index (book g.R.Rng.stream c.loop.directory) (later_seen c.in-Ok.what) c.in_err-replay_later.field-0.0)
     (same_index g.H.NodeHash.digest_of g.V.Vuf.value_of g.S.Signer.signature_of c.args.directory.now c.loop.directory c.loop.invariant.1)
-    c.in_err-replay.ensures.replays in
-    rw passed (stopped by c.loop.invariant.0 c.in-Ok.what c.read_later.new.cursor (book g.R.Rng.stream c.replay.new.directory) c.in_err-replay.field-0.0 read one)
+    c.in_err-replay_later.ensures.replays in
+    rw passed (stopped by c.loop.invariant.0 (later_seen c.in-Ok.what) c.read_later.new.cursor (book g.R.Rng.stream c.replay_later.new.directory) c.in_err-replay_later.field-0.0 read one)
 
 pub returns-clause-replays : goal.returns-clause-replays
 returns-clause-replays g c = (leads_here _ c.loop.invariant.0, nothing_cut c.loop.cursor (omega (arith, c.loop.invariant.0.within, c.loop-test.false)), c.loop.invariant.0.read)
