@@ -1,7 +1,7 @@
 ghost use Rattle.std.specs.Prelude.{◌≡◌, ℕ, ◌∷◌};
 ghost use Rattle.connections.specs.Histories.{History, On, Closes, course};
 ghost use Rattle.connections.specs.Soundness.{Here, IsHeard, IsSound, IsTold};
-ghost use Rattle.connections.specs.Laws.{AreInOrder};
+ghost use Rattle.connections.specs.Laws.{AlwaysWaitWithin, AreAnsweredWithin, AreInOrder};
 ghost use Rattle.connections.specs.declared.ending.Ending.TheVariants.{Done};
 ghost use Rattle.connections.specs.declared.limits.TheConstants.{FULL_OUTPUT, LAST_MILLISECONDS, PIECE_SIZE};
 
@@ -23,4 +23,10 @@ pub fn bytes_stay_in_order()
 /// heard all that was read.
 pub fn done_is_whole()
     ensures { (idle : ℕ) (acts : History) (place : ℕ) → IsSound idle (On place (Closes Done) ∷ acts) → Here (course acts place) (λ of. IsHeard of × IsTold of) }
+{}
+
+/// Where no part is answered with more than so many bytes, no more than 64 KiB and one such answer ever wait for
+/// a connection.
+pub fn outputs_are_bounded()
+    ensures { (idle most : ℕ) (acts : History) → IsSound idle acts → AreAnsweredWithin most acts → AlwaysWaitWithin most acts }
 {}

@@ -9,21 +9,12 @@ use Rattle.clap.specs.Words.{Row, Text, fault_of, first_of, subcommand_of}
 use Rattle.items.specs.declared.orders.HashChoice.{HashChoice}
 use Rattle.items.specs.declared.orders.HashChoice.TheVariants.{Sha256, Sum}
 use Rattle.items.specs.TreeOptions.{TreeOptions, values_of}
-use Rattle.server.specs.declared.order.ListenOrder.{ListenOrder}
+use Rattle.server.specs.ConnectionOptions.{ConnectionOptions, connections_of}
 use Rattle.server.specs.DirectoryOptions.{DirectoryOptions, values_of as directory_values}
 use Rattle.asking.specs.AskOptions.{AskOptions, values_of as ask_values}
 use Rattle.directoryd.specs.declared.order.subcommands.Order.{Order}
 use Rattle.directoryd.specs.declared.order.subcommands.Order.TheVariants.{Root, Prove, Audit, Judge, Play, Serve, Listen, Ask}
 use Rattle.directoryd.specs.CommandLine.{directory_app, greatest, IsHashNames}
-
--- how connections are taken: how many, and how many at once; for how many seconds one may be idle; whether the end
--- of the input is an order to stop; and the text of the address
-pub record ConnectionOptions : Type 0 where
-  pub count : ℕ
-  pub sessions : ℕ
-  pub idle : ℕ
-  pub until_eof : Bool
-  pub address : Text
 
 -- what is ordered: a root; the path of the index that a text gives; an audit under the key that a text
 -- gives; the verdict, under such a key, on the file of this name; a script; a directory for one session; one for
@@ -37,10 +28,6 @@ pub data Task : Type 0 where
   the_session : DirectoryOptions → Option Text → Task
   the_connections : DirectoryOptions → ConnectionOptions → Option Text → Task
   the_questions : AskOptions → Option Text → Task
-
--- how an order takes connections
-abbrev pub connections_of : ListenOrder → ConnectionOptions
-connections_of order = record { count = order.count; sessions = order.sessions; idle = order.idle; until_eof = order.until_eof; address = order.address.now }
 
 abbrev pub values_in : Order → Task
 values_in (Root order) = the_root (values_of order)

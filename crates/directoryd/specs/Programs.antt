@@ -26,6 +26,7 @@ use Rattle.directoryd.specs.declared.ending.Ending.{Ending}
 use Rattle.directoryd.specs.CommandLine.{status_of, Refuses}
 use Rattle.directoryd.specs.Orders.{IsTask, Task, the_root, the_path, the_audit, the_verdict, the_script, the_session, the_connections, the_questions}
 use Rattle.directoryd.specs.KeyFiles.{ask_with, directory_with, HasNoKeys, Uses}
+use Rattle.server.specs.ConnectionOptions.{ConnectionOptions}
 use Rattle.server.specs.DirectoryOptions.{DirectoryOptions}
 use Rattle.asking.specs.AskOptions.{AskOptions, ask_keys_of}
 
@@ -54,11 +55,11 @@ ServesKeyed asked keys input out out-new err err-new result =
     (HasNoKeys keys result × Keeps out out-new × Keeps err err-new)
     ⊎ ((used : DirectoryOptions) × (left : Option (List ℕ)) × Uses directory_with keys asked used × DirectoryServes used input out err result left out-new err-new)
 
--- connections are answered with them
-abbrev pub ListensKeyed : DirectoryOptions → Option Text → Option (List ℕ) → Option (List ℕ) → Result (Unit {0}) ProgramFault → Type 0
-ListensKeyed asked keys err err-new result =
+-- connections are answered with them, as ordered
+abbrev pub ListensKeyed : DirectoryOptions → ConnectionOptions → Option Text → Option (List ℕ) → Option (List ℕ) → Result (Unit {0}) ProgramFault → Type 0
+ListensKeyed asked taken keys err err-new result =
     (HasNoKeys keys result × Keeps err err-new)
-    ⊎ ((used : DirectoryOptions) × Uses directory_with keys asked used × ((result ≡ Err BadHex) ↔ (keys_of used ≡ None)) × ListenTells used err result err-new)
+    ⊎ ((used : DirectoryOptions) × Uses directory_with keys asked used × ((result ≡ Err BadHex) ↔ (keys_of used ≡ None)) × ListenTells used taken err result err-new)
 
 -- a directory is asked with them: a text that is no key is a fault before all else
 abbrev pub AsksKeyed : AskOptions → Option Text → Option (List ℕ) → Option (List ℕ) → Option (List ℕ) → Option (List ℕ) → Result ℕ ProgramFault → Type 0
@@ -82,7 +83,7 @@ Obeys the_script input out out-new err err-new outcome = IsZero outcome × Keeps
 Obeys (the_session asked keys) input out out-new err err-new outcome = IsZero outcome
     × ServesKeyed asked keys input out out-new err err-new (without_status outcome)
 Obeys (the_connections asked taken keys) input out out-new err err-new outcome = IsZero outcome × Keeps out out-new
-    × ListensKeyed asked keys err err-new (without_status outcome)
+    × ListensKeyed asked taken keys err err-new (without_status outcome)
 Obeys (the_questions asked keys) input out out-new err err-new outcome = AsksKeyed asked keys out out-new err err-new outcome
 
 -- a text is written whole, and this status returned; or less of it if a write failed, or nothing if

@@ -1,6 +1,7 @@
 // Servers, and questions, with keys of which some may stand in a file.
 ghost use Rattle.std.specs.Prelude.{option_map};
 ghost use Rattle.asking.specs.AskOptions.{values_of as ask_values};
+ghost use Rattle.server.specs.ConnectionOptions.{connections_of};
 ghost use Rattle.server.specs.DirectoryOptions.{values_of as directory_values};
 ghost use Rattle.directoryd.specs.Programs.{AsksKeyed, ListensKeyed, ServesKeyed};
 
@@ -56,7 +57,7 @@ where
     N: Net + Clock + Files<File = File>,
     R: BufRead,
     E: Write,
-    ensures { ListensKeyed (directory_values order.entry.directory) (option_map (λ path. path.now) keys.entry) (E.contents errors.old) (E.contents errors.new) result }
+    ensures { ListensKeyed (directory_values order.entry.directory) (connections_of order.entry) (option_map (λ path. path.now) keys.entry) (E.contents errors.old) (E.contents errors.new) result }
 {
     match keys {
         None => listen(alloc, system, order, input, errors),

@@ -5,7 +5,7 @@ ghost use Rattle.std.specs.Prelude.{◌≡◌, ◌⊎◌, Decides, IfErr, IfOk, 
 ghost use Rattle.asking.specs.AskOptions.{values_of as ask_values};
 ghost use Rattle.server.specs.DirectoryOptions.{values_of as directory_values};
 ghost use Rattle.directoryd.specs.KeyFiles.{HasKeyLines, IsKeysFault, IsKeysFile, ask_with, directory_with, gives, is_key_line, key_in, name_in, option_or, text_or, value_in};
-ghost use Rattle.directoryd.specs.Orders.{connections_of};
+ghost use Rattle.server.specs.ConnectionOptions.{connections_of};
 
 use asking::AskOrder;
 use server::{DirectoryOrder, ListenOrder};

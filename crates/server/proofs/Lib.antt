@@ -5,5 +5,8 @@ pub mod Ending
 pub mod Heard
 pub mod Joined
 pub mod Opened
+pub mod Ordered
 pub mod Reopened
+pub mod ReplySizes
 pub mod Unkept
+pub mod Waiting

@@ -1,3 +1,4 @@
+pub mod ConnectionOptions
 pub mod DirectoryOptions
 pub mod Directories
 pub mod Faults

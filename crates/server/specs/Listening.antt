@@ -1,17 +1,30 @@
--- What a server says of where it listens.
-use Rattle.std.specs.Prelude.{◌≡◌, ◌⊎◌, ℕ, List, ◌++◌, [], ◌∷◌, Option, None, Some, Result, Ok, Err, OnOk, codes, ⊤}
+-- What a server does with connections, and what it says of where it listens.
+use Rattle.std.specs.Prelude.{◌≡◌, ◌⊎◌, ℕ, List, ◌++◌, [], ◌∷◌, Option, None, Some, Result, Ok, Err, codes, ⊤}
 use Rattle.std.specs.Io.KnownBytes.{Appends, Keeps}
 use Rattle.textio.specs.declared.program_fault.ProgramFault.{ProgramFault}
 use Rattle.textio.specs.declared.program_fault.ProgramFault.TheVariants.{BadHex, CannotWrite}
 use Rattle.textio.specs.Output.{WritesBeginning}
+use Rattle.nodehash.specs.Sha256.{sha256}
+use Rattle.vrfiface.specs.StandIns.{keyed_value}
+use Rattle.sigiface.specs.StandIn.{keyed_signature}
 use Rattle.book.specs.declared.keeper.NoKeeper.{NoKeeper}
+use Rattle.book.specs.declared.record.Record.{Record}
 use Rattle.rand_chacha.specs.ChaCha.{ChaCha}
-use Rattle.connections.specs.Telling.{TellsMemory}
-use Rattle.hub.specs.Desks.{DeskState}
+use Rattle.wire.specs.declared.answer.TheConstants.{MAX_ANSWER_LEN}
+use Rattle.connections.specs.Endings.{AreInside, AreWithin, HasEnded}
+use Rattle.connections.specs.Fairness.{IsFair, IsWhole}
+use Rattle.connections.specs.Histories.{History}
+use Rattle.connections.specs.Laws.{AlwaysWaitWithin}
+use Rattle.connections.specs.Soundness.{IsSound}
+use Rattle.connections.specs.Telling.{TellsLosses}
+use Rattle.hub.specs.Desks.{DeskAnswers, DeskState}
+use Rattle.hub.specs.Events.{HubState}
 use Rattle.hub.specs.Runs.{Line}
+use Rattle.server.specs.ConnectionOptions.{ConnectionOptions, idle_limit, most_open}
 use Rattle.server.specs.DirectoryOptions.{DirectoryOptions}
-use Rattle.server.specs.Directories.{keys_of, Begins, DirectoryKeys}
-use Rattle.server.specs.Programs.{AfterJournal, KeepsInFile, KeepsNothing, KeptDesk, LosesInFile, NeverFails, ShownBy}
+use Rattle.server.specs.Directories.{keys_of, salts, Begins, DirectoryKeys}
+use Rattle.server.specs.Programs.{AfterJournal, KeepsInFile, KeepsNothing, LosesInFile, NeverFails, ShownBy}
+use Rattle.server.specs.Sessions.{AreLines}
 
 -- the line with an address
 abbrev pub address_line : List ℕ → List ℕ
@@ -23,34 +36,53 @@ TellsLine old (Ok done) new = (address : List ℕ) × Appends old new (address_l
 TellsLine old (Err CannotWrite) new = (address : List ℕ) × WritesBeginning old new (address_line address)
 TellsLine old (Err _) new = Keeps old new
 
--- the same, and behind the line those about connections that were closed for want of memory
-abbrev pub TellsAddress : Option (List ℕ) → Result (Unit {0}) ProgramFault → Option (List ℕ) → Type 0
-TellsAddress old (Ok done) new = (address : List ℕ) × (told : Option (List ℕ)) × Appends old told (address_line address) × TellsMemory told new
-TellsAddress old (Err fault) new = TellsLine old (Err fault) new
+-- the line is written, and this is what comes behind it; or none comes
+abbrev pub TellsAddress : (Option (List ℕ) → Option (List ℕ) → Type 0) → Option (List ℕ) → Result (Unit {0}) ProgramFault → Option (List ℕ) → Type 0
+TellsAddress Next old (Ok done) new = (address : List ℕ) × (told : Option (List ℕ)) × Appends old told (address_line address) × Next told new
+TellsAddress Next old (Err fault) new = TellsLine old (Err fault) new
 
--- connections are served from a desk on, if all went well: what their sessions are answered shows a run
-abbrev pub ServesConnections : Result (Unit {0}) ProgramFault → KeptDesk → Type 0
-ServesConnections result desk = OnOk result ((lines : List Line) × (after : KeptDesk) × ShownBy KeepsInFile LosesInFile desk lines after)
+-- What happened to connections is within these limits. It is sound, where one may be idle for so long; no more were
+-- taken than may be, at so many places; each round gave each its turn; and nothing is left to be done.
+pub record KeepsLimits (idle count size : ℕ) (acts : History) : Type 0 where
+  pub sound : IsSound idle acts
+  pub within : AreWithin count acts
+  pub ended : HasEnded count acts
+  pub fair : IsFair idle count size acts
+  pub whole : IsWhole idle acts
+  pub inside : AreInside size acts
 
--- the same behind a journal, whose line comes first
-abbrev pub TellsKept : DirectoryOptions → Option (List ℕ) → Result (Unit {0}) ProgramFault → Option (List ℕ) → Type 0
-TellsKept asked errors result new = ((result ≡ Err BadHex) × Keeps errors new)
+-- the limits of an order
+abbrev pub KeepsOrder : ConnectionOptions → History → Type 0
+KeepsOrder taken = KeepsLimits (idle_limit taken) taken.count (most_open taken)
+
+-- Connections are answered from a desk on, as ordered, by the sessions of its hub, which has none at first: this
+-- happened to them, and what is answered shows a run. No more than 64 KiB and the longest reply ever wait for one of
+-- them, and of each that was closed for want of memory there is a line on the errors.
+abbrev pub AnswersConnections : {K : Type 0} → (K → Record → K → Type 0) → (K → Record → K → Type 0) → ConnectionOptions → DeskState ChaCha K → Option (List ℕ) → Option (List ℕ) → Type 0
+AnswersConnections {K} kept failed taken desk errors new = (acts : History) × (lines : List Line) × (after : HubState (DeskState ChaCha K))
+    × KeepsOrder taken acts × AlwaysWaitWithin MAX_ANSWER_LEN acts
+    × AreLines (DeskAnswers sha256 keyed_value keyed_signature salts kept failed) (record { service = desk; sessions = [] }) acts after lines
+    × ShownBy kept failed desk lines after.service × TellsLosses acts errors new
+
+-- connections are answered from the desk of a journal's directory, whose line comes first
+abbrev pub TellsKept : DirectoryOptions → ConnectionOptions → Option (List ℕ) → Result (Unit {0}) ProgramFault → Option (List ℕ) → Type 0
+TellsKept asked taken errors result new = ((result ≡ Err BadHex) × Keeps errors new)
     ⊎ ((keys : DirectoryKeys) × (keys_of asked ≡ Some keys)
-    × AfterJournal keys errors new result ⊤ (λ desk told. TellsAddress told result new × ServesConnections result desk))
+    × AfterJournal keys errors new result ⊤ (λ desk told. TellsAddress (AnswersConnections KeepsInFile LosesInFile taken desk) told result new))
 
--- the directory of these keys is begun, and connections are served from its desk: what their sessions are answered shows a run
-abbrev pub ServesBegun : DirectoryOptions → Type 0
-ServesBegun asked = (keys : DirectoryKeys) × (begun after : DeskState ChaCha NoKeeper) × (lines : List Line)
-    × (keys_of asked ≡ Some keys) × Begins keys begun.directory × (begun.token ≡ keys.token) × ShownBy KeepsNothing NeverFails begun lines after
+-- the directory of these keys is begun, and connections are answered from its desk
+abbrev pub ServesBegun : DirectoryOptions → ConnectionOptions → Option (List ℕ) → Option (List ℕ) → Type 0
+ServesBegun asked taken errors new = (keys : DirectoryKeys) × (begun : DeskState ChaCha NoKeeper)
+    × (keys_of asked ≡ Some keys) × Begins keys begun.directory × (begun.token ≡ keys.token) × AnswersConnections KeepsNothing NeverFails taken begun errors new
 
 -- the same without a journal
-abbrev pub TellsUnkept : DirectoryOptions → Option (List ℕ) → Result (Unit {0}) ProgramFault → Option (List ℕ) → Type 0
-TellsUnkept asked errors result new = TellsAddress errors result new × OnOk result (ServesBegun asked)
+abbrev pub TellsUnkept : DirectoryOptions → ConnectionOptions → Option (List ℕ) → Result (Unit {0}) ProgramFault → Option (List ℕ) → Type 0
+TellsUnkept asked taken = TellsAddress (ServesBegun asked taken)
 
--- what is written to the errors, and from which desk connections are served, by whether there is a journal
-abbrev pub TellsBy : Option (List ℕ) → DirectoryOptions → Option (List ℕ) → Result (Unit {0}) ProgramFault → Option (List ℕ) → Type 0
-TellsBy None asked errors result new = TellsUnkept asked errors result new
-TellsBy (Some path) asked errors result new = TellsKept asked errors result new
+-- what is written to the errors, and from which desk connections are answered, by whether there is a journal
+abbrev pub TellsBy : Option (List ℕ) → DirectoryOptions → ConnectionOptions → Option (List ℕ) → Result (Unit {0}) ProgramFault → Option (List ℕ) → Type 0
+TellsBy None asked taken errors result new = TellsUnkept asked taken errors result new
+TellsBy (Some path) asked taken errors result new = TellsKept asked taken errors result new
 
-abbrev pub ListenTells : DirectoryOptions → Option (List ℕ) → Result (Unit {0}) ProgramFault → Option (List ℕ) → Type 0
+abbrev pub ListenTells : DirectoryOptions → ConnectionOptions → Option (List ℕ) → Result (Unit {0}) ProgramFault → Option (List ℕ) → Type 0
 ListenTells asked = TellsBy asked.journal asked

@@ -5,10 +5,11 @@ ghost use Rattle.hub.specs.Exchanges.{Exchange};
 ghost use Rattle.hub.specs.Events.{HubState};
 ghost use Rattle.hub.specs.Runs.{Line};
 ghost use Rattle.connections.specs.Histories.{course, History};
-ghost use Rattle.connections.specs.Laws.{AreInOrder};
+ghost use Rattle.connections.specs.Laws.{AlwaysWaitWithin, AreInOrder};
 ghost use Rattle.connections.specs.Soundness.{IsSound};
 ghost use Rattle.server.specs.Serving.{all_lines, AllServed};
 ghost use Rattle.server.specs.Sessions.{AreLines, HubLeads};
+ghost use Rattle.wire.specs.declared.answer.TheConstants.{MAX_ANSWER_LEN};
 
 use book::Keeper;
 use nodehash::NodeHash;
@@ -40,4 +41,14 @@ pub fn crowds_show_one_run<H: NodeHash, V: Vuf, S: Signer, G: Rng, K: Keeper>()
         → ((place : ℕ) → AreInOrder (course acts place))
         × ((lines : List Line) × AreLines (DeskAnswers H.digest_of V.value_of S.signature_of G.stream K.kept K.failed) before acts after lines
         × ShowHonestRun H.digest_of V.value_of S.signature_of G.stream K.kept K.failed V.accepted S.verified before.service lines after.service) }
+{}
+
+/// What happens there never leaves more than 64 KiB and the longest reply, which has 25,863 bytes, waiting for a
+/// connection.
+pub fn crowd_outputs_are_bounded<H: NodeHash, V: Vuf, S: Signer, G: Rng, K: Keeper>()
+    ensures { (before after : HubState (DeskState G K)) (idle : ℕ) (acts : History)
+        → IsWell H.digest_of V.value_of S.signature_of G.stream V.accepted S.verified before.service
+        → IsWell H.digest_of V.value_of S.signature_of G.stream V.accepted S.verified after.service
+        → HubLeads (DeskAnswers H.digest_of V.value_of S.signature_of G.stream K.kept K.failed) (λ hub. hub) before acts after
+        → IsSound idle acts → AlwaysWaitWithin MAX_ANSWER_LEN acts }
 {}

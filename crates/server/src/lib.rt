@@ -25,7 +25,7 @@ mod telling;
 pub use fault::ServeFault;
 pub use journal_file::{DiskFile, JournalFile};
 pub use keys::{ServedDesk, ServedDirectory};
-pub use laws::{crowds_show_one_run, sessions_show_one_run};
+pub use laws::{crowd_outputs_are_bounded, crowds_show_one_run, sessions_show_one_run};
 pub use listening::listen;
 pub use order::{DirectoryOrder, ListenOrder};
 pub use serving::serve;

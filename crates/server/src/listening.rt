@@ -1,24 +1,24 @@
 // Connections over TCP, many at once, each a session of one hub. Contracts do not know what a socket
-// carries, so the clauses say what the directory does: it answers messages, which show one run of it. What a
-// connection reads and takes is in the contract of the loop (`answer_all` of `connections`), for connections of
-// which contracts know it. `scripts/listen.sh` covers the rest.
-ghost use Rattle.std.specs.Prelude.{◌≡◌, ◌≢◌, ◌↔◌, ◌*◌, ◌-◌, ◌^◌, min, max, List, [], Err, IfErr, None, OnOk};
-ghost use Rattle.connections.specs.Endings.{AreInside, AreWithin, HasEnded};
-ghost use Rattle.connections.specs.Fairness.{IsFair, IsWhole};
+// carries, so the clauses say what the directory does: it answers messages, which show one run of it, in a
+// history that keeps the limits of the order. That the sockets had that very history is what the loop
+// (`answer_all` of `connections`) says of connections of which contracts know what they carry.
+// `scripts/listen.sh` covers the rest.
+ghost use Rattle.std.specs.Prelude.{◌≡◌, ◌≢◌, ◌↔◌, List, [], Err, IfErr, None};
 ghost use Rattle.connections.specs.Fitting.{size_of, AreFree};
 ghost use Rattle.connections.specs.Histories.{History, of_connections};
-ghost use Rattle.connections.specs.Soundness.{IsSound};
+ghost use Rattle.connections.specs.Laws.{AlwaysWaitWithin};
 ghost use Rattle.connections.specs.Telling.{TellsLosses, TellsMemory};
-ghost use Rattle.hub.specs.Desks.{DeskAnswers, DeskState};
+ghost use Rattle.hub.specs.Desks.{DeskAnswers};
 ghost use Rattle.hub.specs.Runs.{Line};
 ghost use Rattle.nodehash.specs.Sha256.{sha256};
-ghost use Rattle.rand_chacha.specs.ChaCha.{ChaCha};
 ghost use Rattle.sigiface.specs.StandIn.{keyed_signature};
 ghost use Rattle.vrfiface.specs.StandIns.{keyed_value};
 ghost use Rattle.textio.specs.declared.program_fault.ProgramFault.TheVariants.{BadHex};
+ghost use Rattle.wire.specs.declared.answer.TheConstants.{MAX_ANSWER_LEN};
+ghost use Rattle.server.specs.ConnectionOptions.{connections_of, idle_limit, most_open};
 ghost use Rattle.server.specs.DirectoryOptions.{values_of};
 ghost use Rattle.server.specs.Directories.{keys_of, salts};
-ghost use Rattle.server.specs.Listening.{ListenTells, TellsAddress, TellsKept, TellsLine, TellsUnkept};
+ghost use Rattle.server.specs.Listening.{AnswersConnections, KeepsLimits, ListenTells, TellsAddress, TellsKept, TellsLine, TellsUnkept};
 ghost use Rattle.server.specs.Programs.{ShownBy};
 ghost use Rattle.server.specs.Sessions.{AreLines};
 
@@ -60,7 +60,7 @@ fn tell_address<E: Write>(
 
 /// Answers connections by the sessions of a hub. Each connection takes a beginning of the replies to its own
 /// messages, which are those in the bytes that its session heard, and the messages of all show one run of the
-/// directory, as those of `Hub::run` do.
+/// directory, as those of `Hub::run` do. No more than 64 KiB and the longest reply ever wait for a connection.
 fn answer_crowd<K, C, E>(
     alloc: Global,
     places: Places,
@@ -75,9 +75,8 @@ where
     E: Write,
     requires { AreFree places }
     ensures tells { TellsMemory (E.contents errors.old) (E.contents errors.new) }
-    ensures shown { C.has connections.old [] → (acts : History) × C.has connections.new (of_connections acts) × IsSound limits.idle acts
-        × AreWithin limits.count acts × HasEnded limits.count acts
-        × IsFair limits.idle limits.count (size_of places) acts × IsWhole limits.idle acts × AreInside (size_of places) acts
+    ensures shown { C.has connections.old [] → (acts : History) × C.has connections.new (of_connections acts)
+        × KeepsLimits limits.idle limits.count (size_of places) acts × AlwaysWaitWithin MAX_ANSWER_LEN acts
         × ((lines : List Line) × AreLines (DeskAnswers sha256 keyed_value keyed_signature salts K.kept K.failed) sessions.old.hub acts sessions.new.hub lines × ShownBy K.kept K.failed sessions.old.hub.service lines sessions.new.hub.service)
         × TellsLosses acts (E.contents errors.old) (E.contents errors.new) }
 {
@@ -91,7 +90,7 @@ where
 /// What an order allows. Its seconds are milliseconds here.
 fn limits_of(order: ListenOrder<'_>) -> Limits
     ensures count { result.count ≡ order.entry.count }
-    ensures idle { result.idle ≡ min (order.entry.idle * 1000) (2 ^ 64 - 1) }
+    ensures idle { result.idle ≡ idle_limit (connections_of order.entry) }
 {
     Limits {
         count: order.count,
@@ -101,7 +100,7 @@ fn limits_of(order: ListenOrder<'_>) -> Limits
 
 /// How many connections are open at once.
 fn most_open(order: ListenOrder<'_>) -> usize
-    ensures { result ≡ max 1 (min order.entry.sessions 1024) }
+    ensures { result ≡ most_open (connections_of order.entry) }
 {
     order.sessions.clamp(1, MOST_SESSIONS) as usize
 }
@@ -121,9 +120,9 @@ where
     K: Keeper + Drop,
     R: BufRead,
     E: Write,
+    requires { hub.sessions ≡ [] }
     ensures good_hex { IfErr result (λ fault. fault ≢ BadHex) }
-    ensures tells { TellsAddress (E.contents errors.old) result (E.contents errors.new) }
-    ensures served { OnOk result ((lines : List Line) × (after : DeskState ChaCha K) × ShownBy K.kept K.failed hub.service lines after) }
+    ensures tells { TellsAddress (AnswersConnections K.kept K.failed (connections_of order.entry) hub.service) (E.contents errors.old) result (E.contents errors.new) }
 {
     let count = most_open(order);
     let places = Places::free(alloc, count)?;
@@ -160,7 +159,7 @@ where
     R: BufRead,
     E: Write,
     ensures bad_hex { (result ≡ Err BadHex) ↔ (keys_of (values_of order.entry.directory) ≡ None) }
-    ensures tells { TellsUnkept (values_of order.entry.directory) (E.contents errors.old) result (E.contents errors.new) }
+    ensures tells { TellsUnkept (values_of order.entry.directory) (connections_of order.entry) (E.contents errors.old) result (E.contents errors.new) }
 {
     let keys = Keys::read(&order.directory)?;
     let directory = keys.begin(alloc)?;
@@ -182,7 +181,7 @@ where
     R: BufRead,
     E: Write,
     ensures bad_hex { (result ≡ Err BadHex) ↔ (keys_of (values_of order.entry.directory) ≡ None) }
-    ensures tells { TellsKept (values_of order.entry.directory) (E.contents errors.old) result (E.contents errors.new) }
+    ensures tells { TellsKept (values_of order.entry.directory) (connections_of order.entry) (E.contents errors.old) result (E.contents errors.new) }
 {
     let keys = Keys::read(&order.directory)?;
     let disk = open_file(system, path)?;
@@ -217,7 +216,7 @@ where
     R: BufRead,
     E: Write,
     ensures bad_hex { (result ≡ Err BadHex) ↔ (keys_of (values_of order.entry.directory) ≡ None) }
-    ensures tells { ListenTells (values_of order.entry.directory) (E.contents errors.old) result (E.contents errors.new) }
+    ensures tells { ListenTells (values_of order.entry.directory) (connections_of order.entry) (E.contents errors.old) result (E.contents errors.new) }
 {
     match order.directory.journal {
         None => listen_unkept(alloc, system, order, input, errors),

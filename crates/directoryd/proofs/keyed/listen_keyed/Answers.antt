@@ -20,5 +20,5 @@ returns-in_ok-file-in-Some g c =
       directory_values c.listen_with-order.result.directory,
       (c.as_str.result.now, file, c.listen_with-order.ensures.directory),
       c.listen-in-Some.ensures.bad_hex,
-      c.listen-in-Some.ensures.tells,
+      rw (← c.listen_with-order.ensures.connections) c.listen-in-Some.ensures.tells,
     ))

@@ -11,5 +11,5 @@ returns-clause-tells g c =
       c.in_ok-keys.keys,
       c.in_ok-keys.ensures,
       told c.in_ok-keys.keys c.in-Ok.hub.service _ _ _ _ _ _ (c.in-Ok.ensures.ok.1, c.in-Ok.ensures.ok.2, c.in-Ok.ensures.ok.3, c.in-Ok.ensures.ok.4)
-          (c.listen_from.ensures.tells, c.listen_from.ensures.served),
+          c.listen_from.ensures.tells,
     )

@@ -1,0 +1,88 @@
+-- At most 64 KiB and one answer wait for a connection.
+use Rattle.std.proofs.Common.{◌≡◌, ℕ, ◌+◌, ◌≤◌, [], ◌∷◌, ◌++◌, Bool, true, false, Option, Some, None, length, refl, subst, arith}
+use Rattle.std.proofs.lemmas.Bool.{eqb-true}
+use Rattle.std.proofs.lemmas.List.{length-append}
+use Rattle.std.specs.Prelude.{◌==◌}
+use Rattle.connections.specs.declared.ending.SessionFault.TheVariants as fault
+use Rattle.connections.specs.declared.limits.TheConstants.{FULL_OUTPUT}
+use Rattle.connections.specs.Histories.{At, Ordered, GoesOn, Syncs, NoneWaits, On, Deed, Comes, Opens, Refuses, Reads, IsOver, IsSilent, Hears, Misses, Lacks, Takes, TakesNone, Fails, Ends, Closes, History, Course, clock, course, done_at}
+use Rattle.connections.specs.Laws.{AlwaysWaitWithin, AreAnsweredWithin, IsAnsweredWithin, WaitsWithin}
+use Rattle.connections.specs.Soundness.{IsDue, IsSound}
+
+stays_within : (idle most : ℕ) (acts : History) (deed : Deed) (now : ℕ) (there : Option Course) → IsDue idle acts deed there → IsAnsweredWithin most deed → WaitsWithin most there → WaitsWithin most (done_at deed now there)
+stays_within idle most acts Comes now None due few waits = omega arith
+stays_within idle most acts Comes now (Some of) due few waits = omega arith
+stays_within idle most acts Opens now None due few waits = tt
+stays_within idle most acts Opens now (Some of) due few waits = waits
+stays_within idle most acts (Refuses why) now None due few waits = tt
+stays_within idle most acts (Refuses fault.Memory) now (Some of) due few waits = waits
+stays_within idle most acts (Refuses fault.Refused) now (Some of) due few waits = waits
+stays_within idle most acts (Reads bytes) now None due few waits = tt
+stays_within idle most acts (Reads bytes) now (Some of) due few waits = waits
+stays_within idle most acts IsOver now None due few waits = tt
+stays_within idle most acts IsOver now (Some of) due few waits = waits
+stays_within idle most acts IsSilent now None due few waits = tt
+stays_within idle most acts IsSilent now (Some of) due few waits = waits
+stays_within idle most acts (Hears part reply) now None due few waits = tt
+stays_within idle most acts (Hears part reply) now (Some of) ((well, room, some, next), hearing) few waits =
+    let grown : length (of.answered ++ reply) ≡ length of.answered + length reply = length-append of.answered reply in
+    omega arith
+stays_within idle most acts (Misses part why) now None due few waits = tt
+stays_within idle most acts (Misses part fault.Memory) now (Some of) due few waits = waits
+stays_within idle most acts (Misses part fault.Refused) now (Some of) due few waits = waits
+stays_within idle most acts Lacks now None due few waits = tt
+stays_within idle most acts Lacks now (Some of) due few waits = waits
+stays_within idle most acts (Takes bytes) now None due few waits = tt
+stays_within idle most acts (Takes bytes) now (Some of) due few waits =
+    let grown : length (of.taken ++ bytes) ≡ length of.taken + length bytes = length-append of.taken bytes in
+    let before : length of.answered ≤ length of.taken + (FULL_OUTPUT + most) = waits in
+    omega arith
+stays_within idle most acts TakesNone now None due few waits = tt
+stays_within idle most acts TakesNone now (Some of) due few waits = waits
+stays_within idle most acts Fails now None due few waits = tt
+stays_within idle most acts Fails now (Some of) due few waits = waits
+stays_within idle most acts Ends now None due few waits = tt
+stays_within idle most acts Ends now (Some of) due few waits = waits
+stays_within idle most acts (Closes why) now None due few waits = tt
+stays_within idle most acts (Closes why) now (Some of) due few waits = tt
+
+-- by whether the deed is at this place
+at_place : (idle most : ℕ) (acts : History) (deed : Deed) (other place : ℕ) (here : Bool) → (other == place) ≡ here → IsDue idle acts deed (course acts other) → IsAnsweredWithin most deed
+    → WaitsWithin most (course acts place) → WaitsWithin most (course (On other deed ∷ acts) place)
+at_place idle most acts deed other place true is due few waits =
+    rw is (stays_within idle most acts deed (clock acts) (course acts place) (subst (λ (n : ℕ). IsDue idle acts deed (course acts n)) (eqb-true other place is) due) few waits)
+at_place idle most acts deed other place false is due few waits = rw is waits
+
+waits_now : (idle most : ℕ) (acts : History) (place : ℕ) → IsSound idle acts → AreAnsweredWithin most acts → WaitsWithin most (course acts place)
+waits_now idle most [] place sound few = tt
+waits_now idle most (At now ∷ acts) place sound few = waits_now idle most acts place sound few
+waits_now idle most (Ordered ∷ acts) place sound few = waits_now idle most acts place sound few
+waits_now idle most (Syncs kept ∷ acts) place sound few = waits_now idle most acts place sound.1 few
+waits_now idle most (GoesOn ∷ acts) place sound few = waits_now idle most acts place sound.1 few
+waits_now idle most (NoneWaits ∷ acts) place sound few = waits_now idle most acts place sound.2 few
+waits_now idle most (On other deed ∷ acts) place sound few =
+    at_place idle most acts deed other place (other == place) refl sound.0.0 few.0 (waits_now idle most acts place sound.1 few.1)
+
+-- ---- what is so of a history is so at each earlier time
+
+sound_before : (idle : ℕ) (later earlier : History) → IsSound idle (later ++ earlier) → IsSound idle earlier
+sound_before idle [] earlier sound = sound
+sound_before idle (At now ∷ later) earlier sound = sound_before idle later earlier sound
+sound_before idle (Ordered ∷ later) earlier sound = sound_before idle later earlier sound
+sound_before idle (Syncs kept ∷ later) earlier sound = sound_before idle later earlier sound.1
+sound_before idle (GoesOn ∷ later) earlier sound = sound_before idle later earlier sound.1
+sound_before idle (NoneWaits ∷ later) earlier sound = sound_before idle later earlier sound.2
+sound_before idle (On place deed ∷ later) earlier sound = sound_before idle later earlier sound.1
+
+few_before : (most : ℕ) (later earlier : History) → AreAnsweredWithin most (later ++ earlier) → AreAnsweredWithin most earlier
+few_before most [] earlier few = few
+few_before most (At now ∷ later) earlier few = few_before most later earlier few
+few_before most (Ordered ∷ later) earlier few = few_before most later earlier few
+few_before most (Syncs kept ∷ later) earlier few = few_before most later earlier few
+few_before most (GoesOn ∷ later) earlier few = few_before most later earlier few
+few_before most (NoneWaits ∷ later) earlier few = few_before most later earlier few
+few_before most (On place deed ∷ later) earlier few = few_before most later earlier few.1
+
+pub always_wait_within : (idle most : ℕ) (acts : History) → IsSound idle acts → AreAnsweredWithin most acts → AlwaysWaitWithin most acts
+always_wait_within idle most acts sound few later earlier place split =
+    waits_now idle most earlier place (sound_before idle later earlier (subst (IsSound idle) split sound)) (few_before most later earlier (subst (AreAnsweredWithin most) split few))
