@@ -1,5 +1,5 @@
 -- A monitor that joins the others.
-use Rattle.std.proofs.Common.{◌≡◌, ◌∙◌, ℕ, ◌+◌, ◌<◌, ◌≤◌, List, [], ◌∷◌, ◌++◌, Option, None, Some, ◌↔◌, Result, Ok, Err, Global, Vec, ap, codes, drop, get_or, inl, inr, length, refl, rules, subst, sym}
+use Rattle.std.proofs.Common.{◌≡◌, ◌≢◌, ◌∙◌, ℕ, ◌+◌, ◌<◌, ◌≤◌, List, [], ◌∷◌, ◌++◌, Option, None, Some, ◌↔◌, Result, Ok, Err, Global, Vec, ap, codes, drop, get_or, inl, inr, length, refl, rules, subst, sym}
 use Rattle.std.specs.Prelude.{OnOk}
 use Rattle.std.proofs.lemmas.List.{drop_all, drop_more}
 use Rattle.rootchain.specs.Chains.{KeyedRoots}
@@ -8,6 +8,7 @@ use Rattle.rootchain.specs.declared.signed_promise.SignedPromise.{SignedPromise}
 use Rattle.rootchain.specs.declared.signed_root.SignedRoot.{SignedRoot}
 use Rattle.client.specs.Clients.{Client}
 use Rattle.client.specs.declared.refusal.Refusal.{Refusal}
+use Rattle.client.specs.declared.refusal.Refusal.TheVariants.{Memory}
 use Rattle.monitor.specs.Monitors.{Monitor}
 use Rattle.wire.specs.Frames.{Frame}
 use Rattle.wire.specs.Requests.{RequestContent}
@@ -59,10 +60,11 @@ module _ {H V S T : Type 0} (hash : List ℕ → List ℕ) (accepted verified : 
 
     -- a root was refused
     pub joins_not : (marks : List Mark) (last : Asker H V S) (said' : Said) (why : Refusal) → last.client ≡ asker.client → last.monitors.items ≡ asker.monitors.items
-        → StartsFrom hash verified asker.client.chain key first (Err why) → Tells said (client_refuses (codes "client refuses root") why) said'
+        → why ≢ Memory → StartsFrom hash verified asker.client.chain key first (Err why) → Tells said (client_refuses (codes "client refuses root") why) said'
         → BeginsAt hash accepted verified exchanged marks key earlier name given first (scene asker said stream) (scene last said' stream)
-    joins_not marks last said' why client monitors starts tells = inr (
+    joins_not marks last said' why client monitors known starts tells = inr (
       why,
+      known,
       starts,
       scene_of last.client asker.client last.monitors.items asker.monitors.items (told_by said') (onto (told_by said) (client_refuses (codes "client refuses root") why)) stream client monitors
           (told_onto said said' (client_refuses (codes "client refuses root") why) tells),

@@ -30,6 +30,12 @@ pub tells_answer : {X A E : Type 0} (result : Result A E) (P : X → Type 0) (to
 tells_answer (Ok done) P told_of answer before after holds tells = (answer, holds, tells)
 tells_answer (Err fault) P told_of answer before after holds tells = tt
 
+-- the same of an answer of which more is known once it is told
+pub tells_known : {X A E : Type 0} (result : Result A E) (P Q : X → Type 0) (told_of : X → Report) (answer : X) (before after : Said) → P answer → OnOk result (Q answer)
+    → OnOk result (Tells before (told_of answer) after) → OnOk result ((x : X) × (P x × Q x) × Tells before (told_of x) after)
+tells_known (Ok done) P Q told_of answer before after holds known tells = (answer, (holds, known), tells)
+tells_known (Err fault) P Q told_of answer before after holds known tells = tt
+
 -- only words were said before it
 pub told_behind : {A E : Type 0} (result : Result A E) (told : Report) (before after : Said) (text : List ℕ) (status : ℕ) → text ≡ before.text.items → status ≡ before.status
     → OnOk result ((after.text.items ≡ text ++ told.lines) × (after.status ≡ worse status told.status)) → OnOk result (Tells before told after)

@@ -1,5 +1,5 @@
 -- What the client makes of the reply to what was asked, and the lines that tell it.
-use Rattle.std.specs.Prelude.{◌≡◌, ◌≤◌, ◌<◌, ◌⊎◌, ℕ, List, [], ◌∷◌, Option, None, Some, Result, Ok, Err, codes}
+use Rattle.std.specs.Prelude.{◌≡◌, ◌≢◌, ◌≤◌, ◌<◌, ◌⊎◌, ℕ, List, [], ◌∷◌, Option, None, Some, Result, Ok, Err, codes, ⊤}
 use Rattle.commands.specs.Operations.{Lookup, History}
 use Rattle.rootchain.specs.Chains.{KeyedRoots, Verifies}
 use Rattle.rootchain.specs.Places.{IsPlace}
@@ -21,12 +21,17 @@ use Rattle.client.specs.Looking.{Looks}
 use Rattle.client.specs.Promising.{Keeps}
 use Rattle.client.specs.Refusals.{of_root}
 use Rattle.client.specs.declared.refusal.Refusal.{Refusal}
-use Rattle.client.specs.declared.refusal.Refusal.TheVariants.{RootDiffers}
+use Rattle.client.specs.declared.refusal.Refusal.TheVariants.{Memory, RootDiffers}
 use Rattle.play.specs.Hearing.{response_text}
 use Rattle.play.specs.Lines.{statement_text}
 use Rattle.asking.specs.Answering.{Answers}
 use Rattle.asking.specs.Refused.{client_refuses, other_reply, refuses_text}
 use Rattle.asking.specs.Reports.{Report, fine, refused}
+
+-- an answer that is told: that memory ran out is none
+abbrev pub IsTellable : {A : Type 0} → Result A Refusal → Type 0
+IsTellable (Ok _) = ⊤
+IsTellable (Err why) = why ≢ Memory
 
 -- what is told of a look at a reply that is of an epoch
 abbrev pub look_told : ℕ → Result Statement Refusal → Report
@@ -80,9 +85,9 @@ module _ (hash : List ℕ → List ℕ) (accepted verified : List ℕ → List �
     -- a reply to a look-up, a promise, the latest root, or roots, and the client after it: it looks, or keeps the promise
     abbrev pub IsCheckedAs : RequestContent → ResponseContent → Report → Client → Type 0
     IsCheckedAs (Query (Lookup name epoch)) (Proof reply) told after =
-        (answer : Result Statement Refusal) × Looks hash accepted before name epoch body answer after × (told ≡ look_told reply.body.epoch answer)
+        (answer : Result Statement Refusal) × (Looks hash accepted before name epoch body answer after × IsTellable answer) × (told ≡ look_told reply.body.epoch answer)
     IsCheckedAs asked (response.Promise signed) told after =
-        (answer : Result (Unit {0}) Refusal) × Keeps hash verified before body answer after × (told ≡ promise_told (response.Promise signed) answer)
+        (answer : Result (Unit {0}) Refusal) × (Keeps hash verified before body answer after × IsTellable answer) × (told ≡ promise_told (response.Promise signed) answer)
     IsCheckedAs asked (Root latest) told after = (after ≡ before)
         × ((place : Result Place RootRefusal) × Places hash verified before.chain latest place × (told ≡ place_told latest place))
     IsCheckedAs (Query (History from count)) (Roots roots) told after = (after ≡ before) × AreTold hash verified before.chain from roots roots told

@@ -8,6 +8,7 @@ use Rattle.rootchain.specs.declared.signed_root.SignedRoot.{SignedRoot}
 use Rattle.client.specs.Clients.{Client}
 use Rattle.client.specs.Updating.{Updates}
 use Rattle.client.specs.declared.refusal.Refusal.{Refusal}
+use Rattle.client.specs.declared.refusal.Refusal.TheVariants.{Memory}
 use Rattle.monitor.specs.Monitors.{Monitor}
 use Rattle.wire.specs.Frames.{Frame}
 use Rattle.wire.specs.Requests.{RequestContent, Query}
@@ -24,10 +25,11 @@ asks_roots head = Query (History (head.body.epoch + 1) MAX_ROOTS)
 abbrev pub TellsRefusal : (Refusal → Type 0) → Said → Said → Type 0
 TellsRefusal Holds before after = (why : Refusal) × Holds why × Tells before (client_refuses (codes "client refuses root") why) after
 
--- the head of a client's chain is of a later epoch than before; it is not
+-- the head of a client's chain is of a later epoch than before
 abbrev pub IsAbove : Client → Client → Type 0
 IsAbove before after = (head : SignedRoot) × (latest : SignedRoot) × IsHead before.chain head × IsHead after.chain latest × (head.body.epoch < latest.body.epoch)
 
+-- it is of no later epoch
 abbrev pub IsNotAbove : Client → Client → Type 0
 IsNotAbove before after = (head : SignedRoot) × (latest : SignedRoot) × IsHead before.chain head × IsHead after.chain latest × (latest.body.epoch ≤ head.body.epoch)
 
@@ -43,9 +45,9 @@ module _ (hash : List ℕ → List ℕ) (verified : List ℕ → List ℕ → Li
   abbrev pub AllUpdate : List ℕ → Client → List Monitor → Client → List Monitor → Type 0
   AllUpdate list client monitors client' monitors' = Updates hash verified client list {A = Unit {0}} (Ok tt) client' × AllZip (MonitorUpdates list) monitors monitors'
 
-  -- a client refuses a list of roots; one of the monitors does; the client or one of them
+  -- a client refuses a list of roots, and not for want of memory; one of the monitors does; the client or one of them
   abbrev pub Refuses : List ℕ → Client → Refusal → Type 0
-  Refuses list client why = Updates hash verified client list {A = Unit {0}} (Err why) client
+  Refuses list client why = Updates hash verified client list {A = Unit {0}} (Err why) client × (why ≢ Memory)
 
   abbrev pub OneRefuses : List ℕ → List Monitor → Refusal → Type 0
   OneRefuses list monitors why = (monitor : Monitor) × Contains monitors monitor × Refuses list monitor.client why

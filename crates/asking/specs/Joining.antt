@@ -11,6 +11,7 @@ use Rattle.client.specs.Clients.{Client}
 use Rattle.client.specs.Starting.{Starts}
 use Rattle.client.specs.Updating.{Updates}
 use Rattle.client.specs.declared.refusal.Refusal.{Refusal}
+use Rattle.client.specs.declared.refusal.Refusal.TheVariants.{Memory}
 use Rattle.monitor.specs.Monitors.{Monitor, begun}
 use Rattle.wire.specs.Frames.{Frame}
 use Rattle.wire.specs.Requests.{RequestContent}
@@ -93,7 +94,7 @@ module _ (hash : List ℕ → List ℕ) (accepted verified : List ℕ → List �
     BeginsAt first before after =
         ((monitor : Monitor) × IsBegun key earlier before.client.chain first name given monitor
         × ((count : ℕ) × StepsThrough hash accepted exchanged count (record before { monitors = before.monitors ++ monitor ∷ [] }) (length before.monitors) after))
-        ⊎ ((why : Refusal) × StartsFrom hash verified before.client.chain key first (Err why)
+        ⊎ ((why : Refusal) × (why ≢ Memory) × StartsFrom hash verified before.client.chain key first (Err why)
         × (after ≡ record before { told = onto before.told (client_refuses (codes "client refuses root") why) }))
 
     -- a name is watched from the first root on that is to be watched, and then each promise is tested that is due; nothing

@@ -1,7 +1,8 @@
 -- Steps of monitors, as they are told.
-use Rattle.std.specs.Prelude.{◌≡◌, ◌⊎◌, ℕ, zero, suc, Bool, true, false, List, [], ◌∷◌, ◌++◌, length, Some, None, Ok, Err, codes, slice_get, slice_set}
+use Rattle.std.specs.Prelude.{◌≡◌, ◌≢◌, ◌⊎◌, ℕ, zero, suc, Bool, true, false, List, [], ◌∷◌, ◌++◌, length, Some, None, Ok, Err, codes, slice_get, slice_set}
 use Rattle.commands.specs.Operations.{Lookup}
 use Rattle.client.specs.declared.refusal.Refusal.{Refusal}
+use Rattle.client.specs.declared.refusal.Refusal.TheVariants.{Memory}
 use Rattle.monitor.specs.Monitors.{Monitor}
 use Rattle.monitor.specs.Stepping.{IsNextEpoch, Steps}
 use Rattle.monitor.specs.declared.refusal.Refusal.TheVariants.{Client}
@@ -23,11 +24,11 @@ step_told name epoch Kept = record { lines = step_text name epoch Kept ++ 10 ∷
 step_told name epoch (Alarm at found) = record { lines = step_text name epoch (Alarm at found) ++ 10 ∷ []; status = 3 }
 
 module _ (hash : List ℕ → List ℕ) (accepted : List ℕ → List ℕ → List ℕ → Type 0) where
-  -- a monitor watched an epoch by a reply, or its client refused the proof
+  -- a monitor watched an epoch by a reply, or its client refused the proof, and not for want of memory
   abbrev pub Watches : Monitor → ℕ → List ℕ → Bool → Report → Monitor → Type 0
   Watches before epoch reply true told after = (step : Step) × Steps hash accepted before reply (Ok step) after × (told ≡ step_told before.name epoch step)
   Watches before epoch reply false told after =
-      (why : Refusal) × Steps hash accepted before reply (Err (Client why)) after × (told ≡ client_refuses (codes "client refuses proof") why)
+      (why : Refusal) × (why ≢ Memory) × Steps hash accepted before reply (Err (Client why)) after × (told ≡ client_refuses (codes "client refuses proof") why)
 
   abbrev pub WatchesEpoch : Monitor → ℕ → List ℕ → Said → Bool → Said → Monitor → Type 0
   WatchesEpoch before epoch reply said went now after = (told : Report) × Watches before epoch reply went told after × Tells said told now

@@ -71,7 +71,7 @@ where
         said: &mut Said,
     ) -> Result<(), AskFault>
         ensures asks { OnOk result (Asks H.digest_of V.accepted S.verified (Exchanges T.contents T.remaining) (self.old).marks.items (self.old).token (ask_seen ask.now) (scene self.old said.old stream.old) (scene self.new said.new stream.new)) }
-        ensures stays { OnOk result (Remains self.old self.new) }
+        ensures stays { Remains self.old self.new }
         ensures stops { result ≡ Err Stopped → StopsAsking H.digest_of V.accepted S.verified (Exchanges T.contents T.remaining) (self.old).token (ask_seen ask.now) (scene self.old said.old stream.old) (told_by said.new) }
         ensures halts { IfErr result (λ fault. fault ≢ Stopped → HaltsAfter (AsksSome H.digest_of V.accepted S.verified (Exchanges T.contents T.remaining) (self.old).marks.items (self.old).token (ask_seen ask.now) (scene self.old said.old stream.old)) fault self.new said.new) }
     {
@@ -91,7 +91,7 @@ where
         said: &mut Said,
     ) -> Result<(), AskFault>
         ensures catches { OnOk result (CatchesUp H.digest_of V.accepted S.verified (Exchanges T.contents T.remaining) epoch (scene self.old said.old stream.old) (scene self.new said.new stream.new)) }
-        ensures stays { OnOk result (Stays self.old self.new) }
+        ensures stays { Stays self.old self.new }
         ensures stops { result ≡ Err Stopped → StopsBelow H.digest_of V.accepted S.verified (Exchanges T.contents T.remaining) epoch (scene self.old said.old stream.old) (told_by said.new) }
         ensures halts { IfErr result (λ fault. fault ≢ Stopped → HaltsAfter (CatchesSome H.digest_of V.accepted S.verified (Exchanges T.contents T.remaining) epoch (scene self.old said.old stream.old)) fault self.new said.new) }
     {
@@ -101,8 +101,8 @@ where
         self.follow(stream, said)
     }
 
-    /// Tells what the client makes of a frame that came back, or nothing. A promise that it keeps is handed to the
-    /// monitors of the name.
+    /// Tells what the client makes of a frame that came back, or nothing if memory runs out. A promise that it keeps
+    /// is handed to the monitors of the name.
     fn answer(
         &mut self,
         ask: &Ask,
@@ -111,7 +111,7 @@ where
     ) -> Result<(), AllocError>
         ensures hears { OnOk result ((told : Report) × HearsFrame H.digest_of V.accepted S.verified (self.old).client (ask_seen ask.now) (frame_seen frame.now) told (self.new).client × Tells said.old told said.new) }
         ensures hands { OnOk result (Hands H.digest_of V.accepted S.verified (ask_seen ask.now) (frame_seen frame.now).body (self.old).client.promises (self.new).client.promises (self.old).monitors.items (self.new).monitors.items) }
-        ensures stays { OnOk result (Remains self.old self.new) }
+        ensures stays { Remains self.old self.new }
         ensures told { (told_by said.new ≡ told_by said.old) ⊎ ((told : Report) × HearsFrame H.digest_of V.accepted S.verified (self.old).client (ask_seen ask.now) (frame_seen frame.now) told (self.new).client × Tells said.old told said.new) }
     {
         let kept = self.client.promises().len();
@@ -132,7 +132,7 @@ where
         said: &mut Said,
     ) -> Result<(), AskFault>
         ensures goes { OnOk result (GoesOnAbove H.digest_of V.accepted S.verified (Exchanges T.contents T.remaining) (self.old).marks.items head (scene self.old said.old stream.old) (scene self.new said.new stream.new)) }
-        ensures stays { OnOk result (Stays self.old self.new) }
+        ensures stays { Stays self.old self.new }
         ensures err { IfErr result (λ fault. fault ≢ Stopped) }
         ensures halts { IfErr result (λ fault. HaltsAfter (GoesSomeAbove H.digest_of V.accepted S.verified (Exchanges T.contents T.remaining) (self.old).marks.items head (scene self.old said.old stream.old)) fault self.new said.new) }
     {

@@ -11,7 +11,7 @@ ghost use Rattle.client.specs.declared.refusal.Refusal.TheVariants.{Memory};
 ghost use Rattle.proofs.specs.declared.statement.Statement.{Statement};
 ghost use Rattle.audits.specs.Files.{evidence_text};
 ghost use Rattle.play.specs.Spoken.{ask_seen};
-ghost use Rattle.asking.specs.Checking.{look_told, promise_told, Hears, HearsFrame};
+ghost use Rattle.asking.specs.Checking.{look_told, promise_told, Hears, HearsFrame, IsTellable};
 ghost use Rattle.asking.specs.Refused.{client_refuses, evidence_before};
 ghost use Rattle.asking.specs.Reports.{told_by, Report, Tells};
 
@@ -207,7 +207,7 @@ where
     V: VufCheck + Drop,
     S: Verifier + Drop,
     requires named { IsName name.now }
-    ensures { OnOk result ((answer : Result Statement Refusal) × Looks H.digest_of V.accepted client.old name.now epoch reply.now answer client.new × Tells said.old (look_told found_at answer) said.new) }
+    ensures { OnOk result ((answer : Result Statement Refusal) × (Looks H.digest_of V.accepted client.old name.now epoch reply.now answer client.new × IsTellable answer) × Tells said.old (look_told found_at answer) said.new) }
 {
     let Ok(name) = Name::new(name) else {
         unreachable!()
@@ -231,7 +231,7 @@ where
     H: NodeHash + Drop,
     V: VufCheck + Drop,
     S: Verifier + Drop,
-    ensures { OnOk result ((answer : Result (Unit {0}) Refusal) × Keeps H.digest_of S.verified client.old promise.now answer client.new × Tells said.old (promise_told (responds.Promise signed) answer) said.new) }
+    ensures { OnOk result ((answer : Result (Unit {0}) Refusal) × (Keeps H.digest_of S.verified client.old promise.now answer client.new × IsTellable answer) × Tells said.old (promise_told (responds.Promise signed) answer) said.new) }
 {
     match client.keep_promise(&mut checks.hash, &checks.verifier, promise) {
         Ok(()) => tell_response(&mut said.text, Response::Promise(signed)),

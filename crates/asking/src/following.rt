@@ -33,14 +33,15 @@ where
     ///
     /// # Errors
     ///
-    /// `NoReply`; `Stopped` if a root is refused, or no roots come; `OutOfMemory`.
+    /// `NoReply`; `Stopped` if what comes is no answer, or a root is refused, or none is above the head;
+    /// `OutOfMemory`.
     pub fn follow<T: Read + Write>(
         &mut self,
         stream: &mut T,
         said: &mut Said,
     ) -> Result<(), AskFault>
         ensures follows { OnOk result ((count : ℕ) × Follows H.digest_of S.verified (Exchanges T.contents T.remaining) count (scene self.old said.old stream.old) (scene self.new said.new stream.new)) }
-        ensures stays { OnOk result (Stays self.old self.new) }
+        ensures stays { Stays self.old self.new }
         ensures stops { result ≡ Err Stopped → (count : ℕ) × StopsAfter H.digest_of S.verified (Exchanges T.contents T.remaining) count (scene self.old said.old stream.old) (told_by said.new) }
         ensures halts { IfErr result (λ fault. fault ≢ Stopped → HaltsAfter (TakesSome H.digest_of S.verified (Exchanges T.contents T.remaining) (scene self.old said.old stream.old)) fault self.new said.new) }
     {
@@ -60,7 +61,7 @@ where
         said: &mut Said,
     ) -> Result<bool, AskFault>
         ensures takes { IfOk result (λ went. TakesList H.digest_of S.verified (Exchanges T.contents T.remaining) (scene self.old said.old stream.old) went (scene self.new said.new stream.new)) }
-        ensures stays { OnOk result (Stays self.old self.new) }
+        ensures stays { Stays self.old self.new }
         ensures stops { result ≡ Err Stopped → StopsList H.digest_of S.verified (Exchanges T.contents T.remaining) (scene self.old said.old stream.old) (told_by said.new) }
         ensures halts { IfErr result (λ fault. fault ≢ Stopped → HaltsIn fault (scene self.old said.old stream.old) self.new said.new) }
     {
@@ -88,7 +89,7 @@ where
     fn take(&mut self, list: &[u8], said: &mut Said) -> Result<(), AskFault>
         ensures updates { OnOk result (AllUpdate H.digest_of S.verified list.now (self.old).client (self.old).monitors.items (self.new).client (self.new).monitors.items) }
         ensures said { OnOk result (said.new ≡ said.old) }
-        ensures stays { OnOk result (Stays self.old self.new) }
+        ensures stays { Stays self.old self.new }
         ensures refused { result ≡ Err Stopped → TellsRefusal (AnyRefuses H.digest_of S.verified list.now (self.old).client (self.old).monitors.items) said.old said.new }
         ensures halts { IfErr result (λ fault. fault ≢ Stopped → (told_by said.new ≡ told_by said.old) × (fault ≢ NoReply)) }
     {

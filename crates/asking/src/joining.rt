@@ -40,7 +40,7 @@ where
     ) -> Result<(), AskFault>
         ensures begins { OnOk result (BeginsWatch H.digest_of V.accepted S.verified (Exchanges T.contents T.remaining) (self.old).marks.items (self.old).key (self.old).earlier.items name.now (option_map (λ key. key.now) key.entry)
             (scene self.old said.old stream.old) (scene self.new said.new stream.new)) }
-        ensures stays { OnOk result (Stays self.old self.new) }
+        ensures stays { Stays self.old self.new }
         ensures halts { IfErr result (λ fault. HaltsAfter (BeginsSome H.digest_of V.accepted S.verified (Exchanges T.contents T.remaining) (self.old).marks.items (self.old).key (self.old).earlier.items name.now (option_map (λ key. key.now) key.entry)
             (scene self.old said.old stream.old)) fault self.new said.new) }
     {
@@ -62,7 +62,7 @@ where
     ) -> Result<(), AskFault>
         ensures begins { OnOk result (BeginsAt H.digest_of V.accepted S.verified (Exchanges T.contents T.remaining) (self.old).marks.items (self.old).key (self.old).earlier.items name.now (option_map (λ key. key.now) key.entry)
             first.now (scene self.old said.old stream.old) (scene self.new said.new stream.new)) }
-        ensures stays { OnOk result (Stays self.old self.new) }
+        ensures stays { Stays self.old self.new }
         ensures halts { IfErr result (λ fault. HaltsAfter (BeginsSomeAt H.digest_of V.accepted S.verified (Exchanges T.contents T.remaining) (self.old).marks.items (self.old).key (self.old).earlier.items name.now (option_map (λ key. key.now) key.entry)
             first.now (scene self.old said.old stream.old)) fault self.new said.new) }
     {

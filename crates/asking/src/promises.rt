@@ -45,7 +45,7 @@ where
         said: &mut Said,
     ) -> Result<(), AskFault>
         ensures tests { OnOk result (TestsAll H.digest_of V.accepted (Exchanges T.contents T.remaining) (self.old).marks.items (scene self.old said.old stream.old) (scene self.new said.new stream.new)) }
-        ensures stays { OnOk result (Stays self.old self.new) }
+        ensures stays { Stays self.old self.new }
         ensures err { IfErr result (λ fault. fault ≢ Stopped) }
         ensures halts { IfErr result (λ fault. HaltsAfter (TestsSome H.digest_of V.accepted (Exchanges T.contents T.remaining) (self.old).marks.items (scene self.old said.old stream.old)) fault self.new said.new) }
     {
@@ -68,7 +68,7 @@ where
         said: &mut Said,
     ) -> Result<Option<usize>, AskFault>
         ensures visits { IfOk result (λ next. Visits H.digest_of V.accepted (Exchanges T.contents T.remaining) (self.old).marks.items (scene self.old said.old stream.old) place next (scene self.new said.new stream.new)) }
-        ensures stays { OnOk result (Stays self.old self.new) }
+        ensures stays { Stays self.old self.new }
         ensures err { IfErr result (λ fault. fault ≢ Stopped) }
         ensures halts { IfErr result (λ fault. HaltsIn fault (scene self.old said.old stream.old) self.new said.new) }
     {
@@ -100,7 +100,7 @@ where
         said: &mut Said,
     ) -> Result<bool, AskFault>
         ensures tests { IfOk result (λ kept. TestsName H.digest_of V.accepted (Exchanges T.contents T.remaining) (scene self.old said.old stream.old) name.now kept (scene self.new said.new stream.new)) }
-        ensures stays { OnOk result (Stays self.old self.new) }
+        ensures stays { Stays self.old self.new }
         ensures err { IfErr result (λ fault. fault ≢ Stopped) }
         ensures halts { IfErr result (λ fault. HaltsIn fault (scene self.old said.old stream.old) self.new said.new) }
     {

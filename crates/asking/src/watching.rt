@@ -1,6 +1,7 @@
 // The monitors of names.
 ghost use Rattle.std.specs.Prelude.{◌≡◌, ◌≢◌, ◌-◌, ℕ, codes, length, slice_get, IfErr, IfOk, OnErr, OnOk, Some};
 ghost use Rattle.std.specs.List.{AllZip};
+ghost use Rattle.client.specs.declared.refusal.Refusal.TheVariants.{Memory};
 ghost use Rattle.rootchain.specs.declared.signed_promise.SignedPromise.{SignedPromise};
 ghost use Rattle.asking.specs.Asking.{HandsTo};
 ghost use Rattle.asking.specs.Exchanges.{Exchanges};
@@ -42,7 +43,7 @@ where
         said: &mut Said,
     ) -> Result<(), AskFault>
         ensures goes { OnOk result (GoesOn H.digest_of V.accepted (Exchanges T.contents T.remaining) (self.old).marks.items (scene self.old said.old stream.old) (scene self.new said.new stream.new)) }
-        ensures stays { OnOk result (Stays self.old self.new) }
+        ensures stays { Stays self.old self.new }
         ensures err { IfErr result (λ fault. fault ≢ Stopped) }
         ensures halts { IfErr result (λ fault. HaltsAfter (GoesSome H.digest_of V.accepted (Exchanges T.contents T.remaining) (self.old).marks.items (scene self.old said.old stream.old)) fault self.new said.new) }
     {
@@ -57,7 +58,7 @@ where
     pub(crate) fn hand_out(&mut self, promise: &[u8]) -> Result<(), AllocError>
         ensures client { (self.new).client ≡ (self.old).client }
         ensures hands { OnOk result ((signed : SignedPromise) → slice_get (self.old).client.promises (length (self.old).client.promises - 1) ≡ Some signed → AllZip (HandsTo H.digest_of V.accepted S.verified signed promise.now) (self.old).monitors.items (self.new).monitors.items) }
-        ensures stays { OnOk result (Remains self.old self.new) }
+        ensures stays { Remains self.old self.new }
     {
         match self.client.promises().last() {
             Some(signed) => {
@@ -76,7 +77,7 @@ where
         said: &mut Said,
     ) -> Result<(), AskFault>
         ensures steps { OnOk result ((count : ℕ) × StepsThrough H.digest_of V.accepted (Exchanges T.contents T.remaining) count (scene self.old said.old stream.old) place (scene self.new said.new stream.new)) }
-        ensures stays { OnOk result (Stays self.old self.new) }
+        ensures stays { Stays self.old self.new }
         ensures err { IfErr result (λ fault. fault ≢ Stopped) }
         ensures halts { IfErr result (λ fault. HaltsAfter (StepsSome H.digest_of V.accepted (Exchanges T.contents T.remaining) (scene self.old said.old stream.old) place) fault self.new said.new) }
     {
@@ -97,7 +98,7 @@ where
         said: &mut Said,
     ) -> Result<bool, AskFault>
         ensures steps { IfOk result (λ went. StepsOnce H.digest_of V.accepted (Exchanges T.contents T.remaining) (scene self.old said.old stream.old) place went (scene self.new said.new stream.new)) }
-        ensures stays { OnOk result (Stays self.old self.new) }
+        ensures stays { Stays self.old self.new }
         ensures err { IfErr result (λ fault. fault ≢ Stopped) }
         ensures halts { IfErr result (λ fault. HaltsIn fault (scene self.old said.old stream.old) self.new said.new) }
     {
@@ -211,7 +212,8 @@ fn refuse_proof(
     why: client::Refusal,
     said: &mut Said,
 ) -> Result<(), AllocError>
-    ensures { OnOk result (Tells said.old (client_refuses (codes "client refuses proof") why) said.new) }
+    ensures told { OnOk result (Tells said.old (client_refuses (codes "client refuses proof") why) said.new) }
+    ensures known { OnOk result (why ≢ Memory) }
 {
     said.begin(b"watching ", name)?;
     said.words.extend_from_slice(b" at epoch ")?;

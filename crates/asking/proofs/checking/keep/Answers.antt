@@ -2,12 +2,12 @@ use Rattle.std.proofs.Common.{Result, Err}
 use Rattle.wire.specs.Responses as responds
 use Rattle.client.specs.Promising.{Keeps}
 use Rattle.client.specs.declared.refusal.Refusal.{Refusal}
-use Rattle.asking.specs.Checking.{promise_told}
-use Rattle.asking.proofs.Telling.{tells_answer}
+use Rattle.asking.specs.Checking.{promise_told, IsTellable}
+use Rattle.asking.proofs.Telling.{tells_known}
 use Rattle.asking.proofs.checking.keep.Goals as goal
 
 pub returns-in-Err : goal.returns-in-Err
 returns-in-Err g c =
-    tells_answer c.tell_client.result
+    tells_known c.tell_client.result
     (λ (answer : Result (Unit {0}) Refusal). Keeps g.H.NodeHash.digest_of g.S.Verifier.verified c.args.client.now c.args.promise.now answer c.keep_promise.new.self)
-    (λ (answer : Result (Unit {0}) Refusal). promise_told (responds.Promise c.args.signed) answer) (Err c.in-Err.why) c.args.said.now c.tell_client.new.said c.in-Err.ensures c.tell_client.ensures.told
+    (λ (answer : Result (Unit {0}) Refusal). IsTellable answer) (λ (answer : Result (Unit {0}) Refusal). promise_told (responds.Promise c.args.signed) answer) (Err c.in-Err.why) c.args.said.now c.tell_client.new.said c.in-Err.ensures c.tell_client.ensures.known c.tell_client.ensures.told

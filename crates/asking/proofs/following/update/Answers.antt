@@ -4,6 +4,7 @@ use Rattle.asking.proofs.following.update.Goals as goal
 pub returns-in_ok-tell_client-in-Err-clause-refused : goal.returns-in_ok-tell_client-in-Err-clause-refused
 returns-in_ok-tell_client-in-Err-clause-refused g c = λ stopped. (
   c.in-Err.why,
-  refuses_list g.H.NodeHash.digest_of g.S.Verifier.verified c.args.list.now c.args.monitor.now.client c.update.new.self.client c.update.result c.in-Err.why c.in-Err.is c.update.ensures.updates,
+  refuses_list g.H.NodeHash.digest_of g.S.Verifier.verified c.args.list.now c.args.monitor.now.client c.update.new.self.client c.update.result c.in-Err.why c.in-Err.is c.update.ensures.updates
+      c.in_ok-tell_client-in-Err.ensures.known,
   c.in_ok-tell_client-in-Err.ensures.told,
 )

@@ -7,7 +7,8 @@ use Rattle.asking.proofs.asker.Asker.take.Goals as goal
 pub returns-in_ok-tell_client-in-Err-clause-refused : goal.returns-in_ok-tell_client-in-Err-clause-refused
 returns-in_ok-tell_client-in-Err-clause-refused g c = λ stopped. (
   c.in-Err.why,
-  inl (refuses_list g.H.NodeHash.digest_of g.S.Verifier.verified c.args.list.now c.args.self.now.client c.update.new.self c.update.result c.in-Err.why c.in-Err.is c.update.ensures.updates),
+  inl (refuses_list g.H.NodeHash.digest_of g.S.Verifier.verified c.args.list.now c.args.self.now.client c.update.new.self c.update.result c.in-Err.why c.in-Err.is c.update.ensures.updates
+      c.in_ok-tell_client-in-Err.ensures.known),
   c.in_ok-tell_client-in-Err.ensures.told,
 )
 
