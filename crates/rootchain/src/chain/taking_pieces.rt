@@ -35,8 +35,8 @@ enum Outcome {
 
 impl<H: NodeHash, S: Verifier> Chain<H, S> {
     /// Takes the next piece of a list, or leaves it to `take_piece`, and returns whether it took it. It takes
-    /// only a piece that makes no root whole, as `take_piece` would, and only where memory for the roots to come
-    /// was reserved. A piece that it leaves changes neither the chain nor the feed.
+    /// only a piece that makes no root whole, as `take_piece` would. A piece that it leaves, as where no memory for
+    /// the roots to come was reserved, changes neither the chain nor the feed.
     #[inline(always)]
     pub fn take_part(&mut self, feed: &mut RootFeed, piece: &[u8]) -> bool
         ensures part { TakesPart feed.old piece.now result feed.new }
