@@ -20,6 +20,7 @@ ghost use Rattle.book.specs.Sound.{IsHeld};
 ghost use Rattle.book.specs.Turns.{Shows, Turn};
 ghost use Rattle.epochs.specs.Addresses.{address_of};
 ghost use Rattle.epochs.specs.DirectoryStates.{book, provider, HasKeysOf};
+ghost use Rattle.epochs.specs.KeyChanges.{IsRefusedSo};
 ghost use Rattle.epochs.specs.Replayed.{changed_digests, tree_digests};
 ghost use Rattle.epochs.specs.Replied.{last, promised};
 ghost use Rattle.epochs.specs.Versions.{IsUnkept};
@@ -28,7 +29,7 @@ use super::Directory;
 use crate::address::Address;
 use crate::history::Version;
 use crate::signing::{hash_of, next_salt, signed_promise, signed_root};
-use crate::waiting::let_wait;
+use crate::waiting::{let_change_wait, let_wait};
 use book::{Keeper, Record, Refusal};
 use commands::Verb;
 use commit::commit;
@@ -101,17 +102,13 @@ impl<H: NodeHash, V: Vuf, S: Signer, R: Rng> Directory<H, V, S, R> {
         let Ok(key) = KeyData::new(key) else {
             return Err(Refusal::BadKey);
         };
-        let address = match self.held_address(&name) {
-            Ok(address) => address,
-            Err(why) => return Err(why),
-        };
         let what = Record::Bound {
             verb: Verb::Change,
             salt: self.salt,
             name: name.copied(),
             key: key.copied(),
         };
-        self.accept(keeper, &what, &address, name, key)
+        self.accept_held(keeper, &what, name, key)
     }
 
     /// Ends the epoch: what waits goes into the page of a new one, whose root is signed. The page has
@@ -417,6 +414,72 @@ impl<H: NodeHash, V: Vuf, S: Signer, R: Rng> Directory<H, V, S, R> {
         }
         self.salt = next_salt(&mut self.salts);
         Ok(self.promised(address.index, name, key))
+    }
+
+    /// Lets another key of a name wait under this salt for the next page, once its record is kept. Gives the index of the name,
+    /// which is searched for once. Takes one digest.
+    pub(super) fn rebind<K: Keeper>(
+        &mut self,
+        keeper: &mut K,
+        what: &Record,
+        name: &Name,
+        key: &KeyData,
+        salt: Hash32,
+    ) -> Result<Index, Refusal>
+        ensures made { let by = index_by (provider H.digest_of V.value_of S.signature_of self.old) in MatchResult result
+            (λ index. (put_refusal by (book R.stream self.old) Change name.now ≡ None)
+            × (index ≡ by name.now)
+            × K.kept keeper.old what.now keeper.new
+            × (book R.stream self.new ≡ with_bound (book R.stream self.old) name.now (record { key = key.now; salt = salt })))
+            (λ why. (book R.stream self.new ≡ book R.stream self.old)
+            × IsRefusedSo K.failed keeper.old what.now (put_refusal by (book R.stream self.old) Change name.now) why keeper.new) }
+        ensures keys { HasKeysOf self.old self.new }
+        ensures work { self.new.digests ≤ self.old.digests + 1 }
+    {
+        // What these ensure: the name and the key are within their limits, and the salt has 32 bytes.
+        name.bytes();
+        key.bytes();
+        salt.bytes();
+        let page = self.roots.len();
+        let_change_wait(
+            &mut self.names,
+            &mut self.waiting,
+            &mut self.hash,
+            keeper,
+            what,
+            name,
+            key,
+            salt,
+            page,
+        )
+    }
+
+    /// Lets another key of a name wait for the next page, once its record is kept. Takes one digest.
+    fn accept_held<K: Keeper>(
+        &mut self,
+        keeper: &mut K,
+        what: &Record,
+        name: Name,
+        key: KeyData,
+    ) -> Result<SignedPromise, Refusal>
+        requires limits { IsName name × IsKeyData key }
+        ensures made { let by = index_by (provider H.digest_of V.value_of S.signature_of self.old) in MatchResult result
+            (λ promise. (put_refusal by (book R.stream self.old) Change name ≡ None)
+            × K.kept keeper.old what.now keeper.new
+            × (book R.stream self.new ≡ with_pending (book R.stream self.old) name key)
+            × Shows (provider H.digest_of V.value_of S.signature_of self.old) (book R.stream self.new) (Promised name (record { key = key; salt = self.old.salt })) (promised (Ok promise)))
+            (λ why. (book R.stream self.new ≡ book R.stream self.old)
+            × IsRefusedSo K.failed keeper.old what.now (put_refusal by (book R.stream self.old) Change name) why keeper.new) }
+        ensures keys { HasKeysOf self.old self.new }
+        ensures work { self.new.digests ≤ self.old.digests + 1 }
+    {
+        let salt = self.salt;
+        let index = match self.rebind(keeper, what, &name, &key, salt) {
+            Ok(index) => index,
+            Err(why) => return Err(why),
+        };
+        self.salt = next_salt(&mut self.salts);
+        Ok(self.promised(index, name, key))
     }
 
     /// The promise, over the last root, to bind the key to the name.
