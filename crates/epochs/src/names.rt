@@ -12,7 +12,6 @@ use crate::held::change_at;
 use crate::history::{History, Version};
 use crate::seeded::Seeded;
 use book::{Keeper, Record, Refusal};
-use commands::Verb;
 use encoding::{Hash32, Index, KeyData, Name};
 use nodehash::NodeHash;
 use std::alloc::{AllocError, Global};
@@ -102,29 +101,15 @@ impl Names {
             (λ _. K.kept keeper.old what.now keeper.new × (self.new ≡ with_name self.old name.now address.now version))
             (λ why. (self.new ≡ self.old) × IsUnkept K.failed keeper.old what.now why keeper.new) }
     {
-        match what {
-            Record::Bound {
-                verb: Verb::Change,
-                ..
-            } => add_to_held(
-                self.alloc,
-                &mut self.histories,
-                keeper,
-                what,
-                name,
-                address,
-                version,
-            ),
-            _ => add_to_new(
-                self.alloc,
-                &mut self.histories,
-                keeper,
-                what,
-                name,
-                address,
-                version,
-            ),
-        }
+        add_to_new(
+            self.alloc,
+            &mut self.histories,
+            keeper,
+            what,
+            name,
+            address,
+            version,
+        )
     }
 
     /// Adds a version of this page to a name that has others, and its commitment to these, once the record is kept. Gives the
@@ -207,27 +192,6 @@ fn change_held<H: NodeHash, K: Keeper>(
         ),
         None => Err(Refusal::NoSuchName),
     }
-}
-
-// Adds a version of a name that most likely is there: no room is made for it.
-fn add_to_held<K: Keeper>(
-    alloc: Global,
-    histories: &mut HashMap<Vec<u8>, History, Seeded>,
-    keeper: &mut K,
-    what: &Record,
-    name: &Name,
-    address: &Address,
-    version: Version,
-) -> Result<(), Refusal>
-    requires later { AllBefore version.number (versions_of (named (λ key. key.items) histories.old.entries).versions name.now) }
-    ensures { MatchResult result
-        (λ _. K.kept keeper.old what.now keeper.new × (named (λ key. key.items) histories.new.entries ≡ with_name (named (λ key. key.items) histories.old.entries) name.now address.now version))
-        (λ why. (named (λ key. key.items) histories.new.entries ≡ named (λ key. key.items) histories.old.entries) × IsUnkept K.failed keeper.old what.now why keeper.new) }
-{
-    if let Some(history) = histories.get_mut(name.bytes()) {
-        return history.add(keeper, what, version);
-    }
-    add_to_new(alloc, histories, keeper, what, name, address, version)
 }
 
 // Adds a version of a name that most likely is new: it is searched for once.

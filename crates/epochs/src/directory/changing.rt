@@ -251,22 +251,6 @@ impl<H: NodeHash, V: Vuf, S: Signer, R: Rng> Directory<H, V, S, R> {
         }
     }
 
-    /// The address of a name that the last page has, and whether an operation on it waits.
-    fn shown(&self, name: &Name) -> Option<(Address, bool)>
-        ensures shown { is_some result ≡ is_some (at self.now.last.bindings name.now) }
-        ensures waits { IfSome result (λ found. found.1 ≡ is_some (at self.now.pending name.now)) }
-        ensures address { IfSome result (λ found. found.0 ≡ address_of (provider H.digest_of V.value_of S.signature_of self.now) name.now) }
-    {
-        let Some(history) = self.names.find(name.bytes()) else {
-            return None;
-        };
-        if history.shown(self.roots.len() - 1).is_none() {
-            return None;
-        }
-        let waits = history.waiting(self.roots.len()).is_some();
-        Some((history.address(), waits))
-    }
-
     /// The address of a name that is new. Takes one digest.
     fn address(&mut self, name: &Name) -> Address
         ensures value { result ≡ address_of (provider H.digest_of V.value_of S.signature_of self.old) name.now }
@@ -320,26 +304,6 @@ impl<H: NodeHash, V: Vuf, S: Signer, R: Rng> Directory<H, V, S, R> {
         // A name that is not new has taken its own index, so that a new one is not searched for here.
         if self.is_taken(name, &address.index) {
             return Err(self.why_taken(name));
-        }
-        Ok(address)
-    }
-
-    /// The address of a name that the last page has, and no operation on which waits.
-    pub(super) fn held_address(&self, name: &Name) -> Result<Address, Refusal>
-        ensures opens { let by = index_by (provider H.digest_of V.value_of S.signature_of self.now) in MatchResult result
-            (λ address. (put_refusal by (book R.stream self.now) Change name.now ≡ None)
-            × (address ≡ address_of (provider H.digest_of V.value_of S.signature_of self.now) name.now)
-            × (at self.now.pending name.now ≡ None)
-            × ((other : List ℕ) → IsHeld (book R.stream self.now) other → by other ≡ by name.now → other ≡ name.now))
-            (λ why. put_refusal by (book R.stream self.now) Change name.now ≡ Some why) }
-    {
-        // The proof needs the invariant, which a borrow of a field brings.
-        let _ = &self.alloc;
-        let Some((address, waits)) = self.shown(name) else {
-            return Err(Refusal::NoSuchName);
-        };
-        if waits {
-            return Err(Refusal::PendingExists);
         }
         Ok(address)
     }
