@@ -1,4 +1,4 @@
-use Rattle.std.proofs.Common.{refl, subst, sym, ap, inr, ◌∙◌, ◌≡◌, ℕ, List, None}
+use Rattle.std.proofs.Common.{subst, sym, ap, inr, ℕ}
 use Rattle.book.specs.declared.refusal.Refusal.{Refusal}
 use Rattle.epochs.specs.Versions.{AllBefore, IsUnkept, in_order}
 use Rattle.epochs.specs.KeyChanges.{IsRefusedSo, refused_before}

@@ -1,4 +1,4 @@
-use Rattle.std.proofs.Common.{rules, arith, ◌≡◌, ◌<◌, Option, length}
+use Rattle.std.proofs.Common.{rules, arith, ◌≡◌, Option, length}
 use Rattle.book.specs.declared.refusal.Refusal.{Refusal}
 use Rattle.epochs.specs.Directories.{kept_of, parts_of}
 use Rattle.epochs.specs.DirectoryStates.{provider}
