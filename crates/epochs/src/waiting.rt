@@ -9,7 +9,7 @@ use crate::names::Names;
 use crate::seeded::Seeded;
 use book::{Keeper, Record, Refusal};
 use encoding::{Hash32, Index, Name};
-use prefixtree::{Item, placed};
+use prefixtree::{Item, placed_within};
 use std::alloc::{AllocError, Global};
 use std::collections::HashMap;
 use std::collections::hash_map::Entry;
@@ -54,7 +54,7 @@ impl Waiting {
         ensures { IfOk result (λ items. items.items ≡ self.now) }
     {
         let entries = listed(self.alloc, &self.commitments)?;
-        match placed(self.alloc, &entries)? {
+        match placed_within(entries) {
             Some(items) => Ok(items),
             None => unreachable!(),
         }
