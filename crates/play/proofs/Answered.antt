@@ -11,9 +11,7 @@ use Rattle.commands.specs.Operations as ask
 use Rattle.wire.specs.Requests.{RequestContent, IsAsked}
 use Rattle.wire.specs.Requests as request
 use Rattle.wire.specs.Responses as response
-use Rattle.wire.specs.Responses.{response_seen, ResponseContent}
-use Rattle.wire.specs.declared.response.Response.{Response}
-use Rattle.wire.specs.declared.response.Response.TheVariants as read
+use Rattle.wire.specs.Responses.{ResponseContent}
 use Rattle.hub.specs.Desks.{command, IsResponseOf}
 use Rattle.book.specs.declared.reply.Reply.{Reply}
 use Rattle.book.specs.declared.reply.Reply.TheVariants as reply
@@ -98,31 +96,24 @@ no-lookup (made.Rotate at_epoch _) none name epoch is = absurd cc
 -- ---- what was said, by the response that was read
 
 -- a response that is no proof is no reply to a look-up
-pub unchecked-of : (said : Reply) (responded : ResponseContent) (got : Response) → IsResponseOf said responded → response_seen got ≡ responded → ((proof : Spelled) → got ≡ read.Proof proof → ⊥) → IsUnchecked said
-unchecked-of (reply.Promised signed) responded got of seen none = tt
-unchecked-of (reply.Found text) responded got (spelled, spells, of) seen none = by got none (seen ∙ of)
-  where
-    by : (one : Response) → ((proof : Spelled) → one ≡ read.Proof proof → ⊥) → response_seen one ≡ response.Proof spelled → ⊥
-    by (read.Proof proof) never e = never proof refl
-    by (read.Promise signed) never e = absurd cc
-    by (read.Roots some) never e = absurd cc
-    by (read.Root root) never e = absurd cc
-    by (read.Refused code) never e = absurd cc
-unchecked-of (reply.Told told) responded got of seen none = tt
-unchecked-of (reply.Last root) responded got of seen none = tt
-unchecked-of (reply.Refused why) responded got of seen none = tt
+pub unchecked-of : (said : Reply) (responded : ResponseContent) → IsResponseOf said responded → ((proof : Spelled) → responded ≢ response.Proof proof) → IsUnchecked said
+unchecked-of (reply.Promised signed) responded of none = tt
+unchecked-of (reply.Found text) responded (spelled, spells, of) none = absurd (none spelled of)
+unchecked-of (reply.Told told) responded of none = tt
+unchecked-of (reply.Last root) responded of none = tt
+unchecked-of (reply.Refused why) responded of none = tt
 
 -- and one that is a proof is the reply to a look-up
-pub found-of : (said : Reply) (responded : ResponseContent) (got : Response) (proof : Spelled) → IsResponseOf said responded → response_seen got ≡ responded → got ≡ read.Proof proof
+pub found-of : (said : Reply) (responded : ResponseContent) (proof : Spelled) → IsResponseOf said responded → responded ≡ response.Proof proof
     → (found : List ℕ) × (said ≡ reply.Found found) × Spells found proof
-found-of (reply.Found text) responded got proof (spelled, spells, of) seen is =
-    let e : response.Proof proof ≡ response.Proof spelled = sym (ap response_seen is) ∙ seen ∙ of in
+found-of (reply.Found text) responded proof (spelled, spells, of) is =
+    let e : response.Proof proof ≡ response.Proof spelled = sym is ∙ of in
     let same : spelled ≡ proof = cc in
     (text, refl, subst (Spells text) same spells)
-found-of (reply.Promised signed) responded got proof of seen is = let e : response.Proof proof ≡ response.Promise signed = sym (ap response_seen is) ∙ seen ∙ of in absurd cc
-found-of (reply.Told told) responded got proof of seen is = let e : response.Proof proof ≡ response.Roots told.items = sym (ap response_seen is) ∙ seen ∙ of in absurd cc
-found-of (reply.Last root) responded got proof of seen is = let e : response.Proof proof ≡ response.Root root = sym (ap response_seen is) ∙ seen ∙ of in absurd cc
-found-of (reply.Refused why) responded got proof of seen is = let e : response.Proof proof ≡ response.Refused (refusal_number why) = sym (ap response_seen is) ∙ seen ∙ of in absurd cc
+found-of (reply.Promised signed) responded proof of is = let e : response.Proof proof ≡ response.Promise signed = sym is ∙ of in absurd cc
+found-of (reply.Told told) responded proof of is = let e : response.Proof proof ≡ response.Roots told.items = sym is ∙ of in absurd cc
+found-of (reply.Last root) responded proof of is = let e : response.Proof proof ≡ response.Root root = sym is ∙ of in absurd cc
+found-of (reply.Refused why) responded proof of is = let e : response.Proof proof ≡ response.Refused (refusal_number why) = sym is ∙ of in absurd cc
 
 -- ---- the reply to one request
 

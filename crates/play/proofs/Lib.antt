@@ -23,6 +23,7 @@ pub mod Looked
 pub mod Numbers
 pub mod Pieces
 pub mod Plain
+pub mod Promised
 pub mod Refused
 pub mod Scripted
 pub mod Seen

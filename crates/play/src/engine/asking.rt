@@ -1,15 +1,17 @@
-ghost use Rattle.std.specs.Prelude.{◌≡◌, ◌≢◌, ◌++◌, ◌∷◌, [], IfOk, List, OnOk};
+ghost use Rattle.std.specs.Prelude.{◌≡◌, ◌≢◌, ◌++◌, ◌∷◌, [], IfOk, List, MatchOption, OnOk};
 ghost use Rattle.commands.specs.declared.edit.Verb.{Verb};
+ghost use Rattle.proofs.specs.Replies.{Reply};
 ghost use Rattle.wire.specs.Frames.{frame_bytes, Frame, IsFrame};
 ghost use Rattle.wire.specs.FrameViews.{frame_seen};
 ghost use Rattle.wire.specs.Laws.{IsReadAs};
 ghost use Rattle.wire.specs.Requests.{Put};
-ghost use Rattle.wire.specs.Responses.{response_seen, Refused, ResponseContent};
+ghost use Rattle.wire.specs.Responses.{response_seen, Proof, Refused, ResponseContent};
 ghost use Rattle.book.specs.Books.{Page};
 ghost use Rattle.book.specs.Shows.{index_of};
 ghost use Rattle.epochs.specs.DirectoryStates.{provider, HasKeysOf};
 ghost use Rattle.play.specs.Checked.{line_of_reply, HasAnswered, HasAskedKnowing, HasChecked, HasLooked, IsFound};
 ghost use Rattle.play.specs.Handed.{HasHanded, MayHand};
+ghost use Rattle.play.specs.Hearing.{response_text};
 ghost use Rattle.play.specs.Lines.{found_text};
 ghost use Rattle.play.specs.Parties.{AreAt, HasAsked, HaveDone, IsReady, Parties};
 ghost use Rattle.play.specs.Played as played;
@@ -18,7 +20,7 @@ ghost use Rattle.play.specs.Spoken.{ask_seen, HasRoom};
 ghost use Rattle.play.specs.Watchers.{Watcher};
 
 use super::handing::hand_all;
-use super::reading::read_response;
+use super::reading::{PROMISED, PROOF, read_response, tell_promise};
 use super::wanting::happen;
 use super::{ASKING, Engine};
 use crate::ask::Ask;
@@ -28,6 +30,7 @@ use book::{NoKeeper, Refusal};
 use encoding::{KeyData, Name};
 use hub::{Event, replies_are_honest};
 use nodehash::NodeHash;
+use proofs::ReplyView;
 use rand_core::Rng;
 use sigiface::Signer;
 use std::alloc::AllocError;
@@ -88,6 +91,31 @@ fn had_memory(frame: &FrameView<'_>) -> Result<(), AllocError>
     }
     response_of(frame)?;
     Ok(())
+}
+
+/// The reply to a look-up that a frame of the directory is, if it is one.
+fn proof_of<'a>(frame: &FrameView<'a>) -> Option<ReplyView<'a>>
+    requires { (responded : ResponseContent) × IsReadAs (frame_seen frame.now) responded }
+    ensures { (responded : ResponseContent) → IsReadAs (frame_seen frame.now) responded → MatchOption result ((proof : Reply) → responded ≢ Proof proof) (λ found. responded ≡ Proof found) }
+{
+    if frame.kind != PROOF {
+        return None;
+    }
+    match ReplyView::read(frame.body) {
+        Ok(found) => Some(found),
+        Err(_) => unreachable!(),
+    }
+}
+
+/// Appends the line of a frame that is no reply to a look-up. Of a promise no more is read than the epoch.
+fn tell_reply(frame: &FrameView<'_>, text: &mut Vec<u8>) -> Result<(), AllocError>
+    requires { (responded : ResponseContent) × IsReadAs (frame_seen frame.now) responded }
+    ensures { (responded : ResponseContent) → IsReadAs (frame_seen frame.now) responded → OnOk result ((text.new.items ≡ text.old.items ++ response_text responded ++ 10 ∷ []) × (responded ≢ Refused 14)) }
+{
+    if frame.kind == PROMISED {
+        return tell_promise(text, frame.body);
+    }
+    tell_response(text, response_of(frame)?)
 }
 
 impl<H, V, S, R> Engine<H, V, S, R>
@@ -152,9 +180,9 @@ where
         requires asked { (before : Parties R) × HasAskedKnowing H.digest_of V.value_of S.signature_of R.stream V.accepted S.verified before (ask_seen ask.now) reply.now self.old }
         ensures told { (before : Parties R) (known : HasAskedKnowing H.digest_of V.value_of S.signature_of R.stream V.accepted S.verified before (ask_seen ask.now) reply.now self.old) → OnOk result ((text.new.items ≡ text.old.items ++ line_of_reply H.digest_of V.value_of S.signature_of R.stream V.accepted S.verified before (ask_seen ask.now) ++ 10 ∷ []) × HasChecked H.digest_of V.accepted self.old (ask_seen ask.now) known.asked.said self.new) }
     {
-        let found = match response_of(&frame_of(reply))? {
-            Response::Proof(found) => found,
-            response => return tell_response(text, response),
+        let frame = frame_of(reply);
+        let Some(found) = proof_of(&frame) else {
+            return tell_reply(&frame, text);
         };
         let found_at = found.body().epoch;
         // A proof is the answer to a look-up alone.

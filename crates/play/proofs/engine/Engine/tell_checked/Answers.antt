@@ -10,7 +10,6 @@ use Rattle.hub.specs.Desks.{reply_frame}
 use Rattle.book.specs.declared.reply.Reply.{Reply}
 use Rattle.book.specs.declared.reply.Reply.TheVariants.{Found}
 use Rattle.play.specs.Checked.{HasChecked, HasLooked}
-use Rattle.play.specs.Hearing.{response_text}
 use Rattle.play.specs.Spoken.{ask_seen}
 use Rattle.play.proofs.Answered.{asked-lookup, found-of, has-found, no-lookup, unchecked-line, unchecked-of}
 use Rattle.play.proofs.Looked.{unchecked_stays}
@@ -19,8 +18,14 @@ use Rattle.play.proofs.engine.Engine.tell_checked.Goals as goal
 pub frame_of-requires : goal.frame_of-requires
 frame_of-requires g c = let a = c.requires.asked.1.asked in (reply_frame a.said, a.read.0, a.frame)
 
-pub response_of-requires : goal.response_of-requires
-response_of-requires g c =
+pub proof_of-requires : goal.proof_of-requires
+proof_of-requires g c =
+    let a = c.requires.asked.1.asked in
+    let frame = c.frame_of.ensures (reply_frame a.said) a.read.0 a.frame in
+    (a.responded, subst (λ (f : Frame). IsReadAs f a.responded) (sym frame) a.read)
+
+pub tell_reply-requires : goal.tell_reply-requires
+tell_reply-requires g c =
     let a = c.requires.asked.1.asked in
     let frame = c.frame_of.ensures (reply_frame a.said) a.read.0 a.frame in
     (a.responded, subst (λ (f : Frame). IsReadAs f a.responded) (sym frame) a.read)
@@ -30,11 +35,12 @@ returns-in_default g c = record {
   told = λ before knowing.
       let a = knowing.asked in
       let frame = c.frame_of.ensures (reply_frame a.said) a.read.0 a.frame in
-      let seen = c.in_ok-response.ensures a.responded (subst (λ (f : Frame). IsReadAs f a.responded) (sym frame) a.read) in
-      let unchecked = unchecked-of a.said a.responded c.in_ok-response.response a.response seen.0 c.in_default.not-Proof in
-      let line = unchecked-line g.H.NodeHash.digest_of g.V.Vuf.value_of g.S.Signer.signature_of g.R.Rng.stream g.V.VufCheck.accepted g.S.Verifier.verified before c.args.self.now (ask_seen c.args.ask.now) c.args.reply.now a seen.1 unchecked in
-      let told = ap response_text seen.0 ∙ line in
-      on_ok_weaker c.tell_response.result (λ wrote. (wrote ∙ ap (λ (l : List ℕ). c.args.text.now.items ++ l ++ 10 ∷ []) told, unchecked_stays g.H.NodeHash.digest_of g.V.VufCheck.accepted c.args.self.now (ask_seen c.args.ask.now) a.said unchecked)) c.tell_response.ensures;
+      let read = subst (λ (f : Frame). IsReadAs f a.responded) (sym frame) a.read in
+      let unchecked = unchecked-of a.said a.responded a.response (c.in_default.ensures a.responded read) in
+      on_ok_weaker c.tell_reply.result (λ both. (
+        both.0 ∙ ap (λ (l : List ℕ). c.args.text.now.items ++ l ++ 10 ∷ []) (unchecked-line g.H.NodeHash.digest_of g.V.Vuf.value_of g.S.Signer.signature_of g.R.Rng.stream g.V.VufCheck.accepted g.S.Verifier.verified before c.args.self.now (ask_seen c.args.ask.now) c.args.reply.now a both.1 unchecked),
+        unchecked_stays g.H.NodeHash.digest_of g.V.VufCheck.accepted c.args.self.now (ask_seen c.args.ask.now) a.said unchecked,
+      )) (c.tell_reply.ensures a.responded read);
 }
 
 pub unreachable-requires : goal.unreachable-requires
@@ -43,8 +49,8 @@ unreachable-requires g c =
     let knowing = c.requires.asked.1 in
     let a = knowing.asked in
     let frame = c.frame_of.ensures (reply_frame a.said) a.read.0 a.frame in
-    let seen = c.in_ok-response.ensures a.responded (subst (λ (f : Frame). IsReadAs f a.responded) (sym frame) a.read) in
-    let (found, says, spells) = found-of a.said a.responded c.in_ok-response.response c.in-Proof.found a.response seen.0 c.in-Proof.is in
+    let seen = c.in-Some.ensures a.responded (subst (λ (f : Frame). IsReadAs f a.responded) (sym frame) a.read) in
+    let (found, says, spells) = found-of a.said a.responded c.in-Some.found a.response seen in
     let (name, epoch, is) = asked-lookup g.H.NodeHash.digest_of g.V.Vuf.value_of g.S.Signer.signature_of g.R.Rng.stream g.V.VufCheck.accepted g.S.Verifier.verified before c.args.self.now (ask_seen c.args.ask.now) c.args.reply.now a found says in
     no-lookup c.args.ask.now c.in_default-ask.not-Lookup name epoch is
 
@@ -54,13 +60,13 @@ tell_look-requires g c =
     let knowing = c.requires.asked.1 in
     let a = knowing.asked in
     let frame = c.frame_of.ensures (reply_frame a.said) a.read.0 a.frame in
-    let seen = c.in_ok-response.ensures a.responded (subst (λ (f : Frame). IsReadAs f a.responded) (sym frame) a.read) in
-    let (found, says, spells) = found-of a.said a.responded c.in_ok-response.response c.in-Proof.found a.response seen.0 c.in-Proof.is in
+    let seen = c.in-Some.ensures a.responded (subst (λ (f : Frame). IsReadAs f a.responded) (sym frame) a.read) in
+    let (found, says, spells) = found-of a.said a.responded c.in-Some.found a.response seen in
     let body : c.body_of.result.now ≡ found = c.body_of.ensures (reply_frame a.said) a.read.0 a.frame ∙ ap (λ (said : Reply). (reply_frame said).body) says in
     let of : ask_seen c.args.ask.now ≡ Query (Lookup c.deref.result.now c.in-Lookup.epoch)
     = ap ask_seen c.in-Lookup.is ∙ ap (λ (name : List ℕ). Query (Lookup name c.in-Lookup.epoch)) (sym c.deref.ensures.value) in
     let h = has-found g.H.NodeHash.digest_of g.V.Vuf.value_of g.S.Signer.signature_of g.R.Rng.stream g.V.VufCheck.accepted g.S.Verifier.verified before c.args.self.now (ask_seen c.args.ask.now) c.args.reply.now a
-    c.body_of.result.now (says ∙ ap (λ (text : List ℕ). Found text) (sym body)) c.deref.result.now c.in-Lookup.epoch of c.in-Proof.found (subst (λ (text : List ℕ). Spells text c.in-Proof.found) (sym body) spells) knowing.chain in
+    c.body_of.result.now (says ∙ ap (λ (text : List ℕ). Found text) (sym body)) c.deref.result.now c.in-Lookup.epoch of c.in-Some.found (subst (λ (text : List ℕ). Spells text c.in-Some.found) (sym body) spells) knowing.chain in
     let at_epoch = ap (λ (b : Body). b.epoch) c.body.ensures ∙ h.at_epoch in
     record { found = (h.page, h.is, at_epoch) }
 
@@ -69,13 +75,13 @@ returns g c = record {
   told = λ before knowing.
       let a = knowing.asked in
       let frame = c.frame_of.ensures (reply_frame a.said) a.read.0 a.frame in
-      let seen = c.in_ok-response.ensures a.responded (subst (λ (f : Frame). IsReadAs f a.responded) (sym frame) a.read) in
-      let (found, says, spells) = found-of a.said a.responded c.in_ok-response.response c.in-Proof.found a.response seen.0 c.in-Proof.is in
+      let seen = c.in-Some.ensures a.responded (subst (λ (f : Frame). IsReadAs f a.responded) (sym frame) a.read) in
+      let (found, says, spells) = found-of a.said a.responded c.in-Some.found a.response seen in
       let body : c.body_of.result.now ≡ found = c.body_of.ensures (reply_frame a.said) a.read.0 a.frame ∙ ap (λ (said : Reply). (reply_frame said).body) says in
       let of : ask_seen c.args.ask.now ≡ Query (Lookup c.deref.result.now c.in-Lookup.epoch)
       = ap ask_seen c.in-Lookup.is ∙ ap (λ (name : List ℕ). Query (Lookup name c.in-Lookup.epoch)) (sym c.deref.ensures.value) in
       let h = has-found g.H.NodeHash.digest_of g.V.Vuf.value_of g.S.Signer.signature_of g.R.Rng.stream g.V.VufCheck.accepted g.S.Verifier.verified before c.args.self.now (ask_seen c.args.ask.now) c.args.reply.now a
-      c.body_of.result.now (says ∙ ap (λ (text : List ℕ). Found text) (sym body)) c.deref.result.now c.in-Lookup.epoch of c.in-Proof.found (subst (λ (text : List ℕ). Spells text c.in-Proof.found) (sym body) spells) knowing.chain in
+      c.body_of.result.now (says ∙ ap (λ (text : List ℕ). Found text) (sym body)) c.deref.result.now c.in-Lookup.epoch of c.in-Some.found (subst (λ (text : List ℕ). Spells text c.in-Some.found) (sym body) spells) knowing.chain in
       let at_epoch = ap (λ (b : Body). b.epoch) c.body.ensures ∙ h.at_epoch in
       let looked = λ (looks : HasLooked g.H.NodeHash.digest_of g.V.VufCheck.accepted c.args.self.now c.deref.result.now c.in-Lookup.epoch c.body_of.result.now c.tell_look.new.self).
       subst (λ (said : Reply). HasChecked g.H.NodeHash.digest_of g.V.VufCheck.accepted c.args.self.now (ask_seen c.args.ask.now) said c.tell_look.new.self) (sym says)

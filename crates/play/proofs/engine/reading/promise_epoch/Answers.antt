@@ -1,0 +1,16 @@
+use Rattle.std.proofs.Common.{◌≡◌, Ok, Err, ap, sym, ◌∙◌}
+use Rattle.encoding.specs.Reading.{read_behind, read_number}
+use Rattle.rootchain.specs.Promises.{promise_head}
+use Rattle.play.proofs.Promised.{epoch_read}
+use Rattle.play.proofs.engine.reading.promise_epoch.Goals as goal
+
+pub unreachable-requires : goal.unreachable-requires
+unreachable-requires c =
+    let (signed, spells) = c.requires in
+    let e = sym c.in-Err.ensures ∙ ap (read_behind promise_head (read_number 8)) c.new.ensures ∙ epoch_read c.args.promise.now signed spells in
+    absurd cc
+
+pub returns : goal.returns
+returns c = λ signed spells.
+    let e = sym c.in-Ok.ensures ∙ ap (read_behind promise_head (read_number 8)) c.new.ensures ∙ epoch_read c.args.promise.now signed spells in
+    cc
