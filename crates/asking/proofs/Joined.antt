@@ -37,9 +37,9 @@ none-some root found none some = search (rules, sym none ∙ some)
 pub no_next : (chain : KeyedRoots) (epoch : ℕ) (found : Option SignedRoot) → ((root : SignedRoot) → (found ≡ Some root) ↔ IsNextAfter chain epoch root) → found ≡ None → IsFirstAfter chain epoch None
 no_next chain epoch found next none root after = none-some root found none ((next root).1 after)
 
-scene-of : {T : Type 0} (client client' : Client) (monitors monitors' : List Monitor) (told told' : Report) (stream : T) → client ≡ client' → monitors ≡ monitors' → told ≡ told'
+pub scene_of : {T : Type 0} (client client' : Client) (monitors monitors' : List Monitor) (told told' : Report) (stream : T) → client ≡ client' → monitors ≡ monitors' → told ≡ told'
     → ◌≡◌ {A = Scene T} (record { client = client; monitors = monitors; told = told; stream = stream }) (record { client = client'; monitors = monitors'; told = told'; stream = stream })
-scene-of {T} client client' monitors monitors' told told' stream one other third =
+scene_of {T} client client' monitors monitors' told told' stream one other third =
     ap (λ (x : Client). let s : Scene T = record { client = x; monitors = monitors; told = told; stream = stream } in s) one
     ∙ ap (λ (x : List Monitor). let s : Scene T = record { client = client'; monitors = x; told = told; stream = stream } in s) other
     ∙ ap (λ (x : Report). let s : Scene T = record { client = client'; monitors = monitors'; told = x; stream = stream } in s) third
@@ -52,7 +52,7 @@ module _ {H V S T : Type 0} (hash : List ℕ → List ℕ) (accepted verified : 
         → OnOk result ((count : ℕ) × StepsThrough hash accepted exchanged count (scene added said stream) place (scene last said' stream'))
         → OnOk result (BeginsAt hash accepted verified exchanged marks key earlier name given first (scene asker said stream) (scene last said' stream'))
     joins marks (Ok done) added last said' stream' monitor place client monitors at begun (count, steps) =
-        let same = scene-of added.client asker.client added.monitors.items (asker.monitors.items ++ monitor ∷ []) (told_by said) (told_by said) stream client monitors refl in
+        let same = scene_of added.client asker.client added.monitors.items (asker.monitors.items ++ monitor ∷ []) (told_by said) (told_by said) stream client monitors refl in
         let here = subst (λ (n : ℕ). StepsThrough hash accepted exchanged count (scene added said stream) n (scene last said' stream')) at steps in
         inl (monitor, begun, (count, subst (λ (s : Scene T). StepsThrough hash accepted exchanged count s (length asker.monitors.items) (scene last said' stream')) same here))
     joins marks (Err fault) added last said' stream' monitor place client monitors at begun steps = tt
@@ -64,7 +64,7 @@ module _ {H V S T : Type 0} (hash : List ℕ → List ℕ) (accepted verified : 
     joins_not marks last said' why client monitors starts tells = inr (
       why,
       starts,
-      scene-of last.client asker.client last.monitors.items asker.monitors.items (told_by said') (onto (told_by said) (client_refuses (codes "client refuses root") why)) stream client monitors
+      scene_of last.client asker.client last.monitors.items asker.monitors.items (told_by said') (onto (told_by said) (client_refuses (codes "client refuses root") why)) stream client monitors
           (told_onto said said' (client_refuses (codes "client refuses root") why) tells),
     )
 

@@ -1,5 +1,6 @@
 pub mod Asked
 pub mod Going
+pub mod Halted
 pub mod Joined
 pub mod Listed
 pub mod Moved

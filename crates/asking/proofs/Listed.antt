@@ -1,5 +1,5 @@
 -- Lists of roots that were asked for.
-use Rattle.std.proofs.Common.{◌≡◌, ◌∙◌, ℕ, ◌+◌, true, false, List, Some, None, ap, codes, refl, subst, sym, inl, inr}
+use Rattle.std.proofs.Common.{◌≡◌, ◌≢◌, ◌∙◌, ℕ, ◌+◌, ◌<◌, ◌≤◌, arith, true, false, List, Some, None, ap, codes, refl, subst, sym, inl, inr}
 use Rattle.rootchain.specs.Chains.{IsHead}
 use Rattle.rootchain.specs.declared.root_list.TheConstants.{MAX_ROOTS}
 use Rattle.rootchain.specs.declared.signed_root.SignedRoot.{SignedRoot}
@@ -8,7 +8,7 @@ use Rattle.wire.specs.Frames.{Frame}
 use Rattle.wire.specs.Requests.{RequestContent, Query}
 use Rattle.asking.specs.declared.asker.Asker.{Asker}
 use Rattle.asking.specs.declared.said.Said.{Said}
-use Rattle.asking.specs.Following.{AllUpdate, AnyRefuses, AsksRoots, IsStopped, StopsList, TakesList, TellsRefusal, no_root}
+use Rattle.asking.specs.Following.{AllUpdate, AnyRefuses, AsksRoots, IsStopped, BringsNone, StopsList, TakesList, TellsRefusal, no_root}
 use Rattle.asking.specs.Refused.{client_refuses, other_reply}
 use Rattle.asking.specs.Scenes.{GivesBody, IsAnswered, scene}
 use Rattle.asking.specs.Reports.{Report, Tells, told_by}
@@ -40,12 +40,14 @@ module _ {H V S T : Type 0} (hash : List ℕ → List ℕ) (verified : List ℕ 
     pub takes_some : (asker' : Asker H V S) (said' said'' : Said) (body : List ℕ) → IsHead asker.client.chain head → from ≡ head.body.epoch + 1
         → exchanged stream (Query (History from MAX_ROOTS)) frame later → GivesBody (Query (History from MAX_ROOTS)) frame said (Some body) said'
         → AllUpdate hash verified body asker.client asker.monitors.items asker'.client asker'.monitors.items → said'' ≡ said'
+        → (latest : SignedRoot) → IsHead asker'.client.chain latest → from ≤ latest.body.epoch
         → TakesList hash verified exchanged (scene asker said stream) true (scene asker' said'' later)
-    takes_some asker' said' said'' body is from_is exchange (answered, same, silent) updates still = (
+    takes_some asker' said' said'' body is from_is exchange (answered, same, silent) updates still latest now high = (
       frame,
       asks-list is from_is exchange answered,
       subst (λ (list : List ℕ). AllUpdate hash verified list asker.client asker.monitors.items asker'.client asker'.monitors.items) same updates,
       ap told_by (still ∙ silent),
+      (head, latest, is, now, omega (arith, from_is, high)),
     )
 
     stops-list : (told : Report) (after : Said) → IsHead asker.client.chain head → from ≡ head.body.epoch + 1 → exchanged stream (Query (History from MAX_ROOTS)) frame later
@@ -77,7 +79,11 @@ module _ {H V S T : Type 0} (hash : List ℕ → List ℕ) (verified : List ℕ 
         (subst (λ (s : Said). Tells s told said'') silent tells)
 
     -- a list came, and it had no root that is new
-    pub stops_other : (said' said'' after : Said) (body : List ℕ) → IsHead asker.client.chain head → from ≡ head.body.epoch + 1 → exchanged stream (Query (History from MAX_ROOTS)) frame later
-        → GivesBody (Query (History from MAX_ROOTS)) frame said (Some body) said' → said'' ≡ said' → Tells said'' other_reply after → StopsList hash verified exchanged (scene asker said stream) (told_by after)
-    stops_other said' said'' after body is from_is exchange (answered, same, silent) still tells =
-        stops-list other_reply after is from_is exchange (inr (answered, inr refl)) (subst (λ (s : Said). Tells s other_reply after) (still ∙ silent) tells)
+    pub stops_other : (asker' : Asker H V S) (said' said'' after : Said) (body : List ℕ) → IsHead asker.client.chain head → from ≡ head.body.epoch + 1
+        → exchanged stream (Query (History from MAX_ROOTS)) frame later → GivesBody (Query (History from MAX_ROOTS)) frame said (Some body) said' → body ≢ no_root
+        → AllUpdate hash verified body asker.client asker.monitors.items asker'.client asker'.monitors.items → (latest : SignedRoot) → IsHead asker'.client.chain latest → latest.body.epoch < from
+        → said'' ≡ said' → Tells said'' other_reply after → StopsList hash verified exchanged (scene asker said stream) (told_by after)
+    stops_other asker' said' said'' after body is from_is exchange (answered, same, silent) some updates latest now low still tells =
+        let none : BringsNone hash verified body asker.client asker.monitors.items = (some, (asker'.client, asker'.monitors.items, updates, (head, latest, is, now, omega (arith, from_is, low)))) in
+        let brings = subst (λ (list : List ℕ). BringsNone hash verified list asker.client asker.monitors.items) same none in
+        stops-list other_reply after is from_is exchange (inr (answered, inr (brings, refl))) (subst (λ (s : Said). Tells s other_reply after) (still ∙ silent) tells)

@@ -1,18 +1,19 @@
 -- Monitors that took a step.
 use Rattle.std.proofs.Common.{◌≡◌, ◌∙◌, ◌-◌, ◌<◌, ◌≤◌, ℕ, zero, suc, Bool, false, List, [], ◌∷◌, Option, Some, None, Result, Ok, Err, Global, Vec, ap, arith, length, refl, rules, subst, sym, inl, inr, slice_set}
-use Rattle.std.specs.Prelude.{slice_get, OnOk}
+use Rattle.std.specs.Prelude.{slice_get, IfErr, OnOk}
 use Rattle.commands.specs.Operations.{Lookup}
 use Rattle.monitor.specs.Monitors.{Monitor}
 use Rattle.monitor.specs.Stepping.{IsNextEpoch}
 use Rattle.wire.specs.Frames.{Frame}
 use Rattle.wire.specs.Requests.{RequestContent, Query}
 use Rattle.asking.specs.declared.asker.Asker.{Asker}
+use Rattle.asking.specs.declared.fault.AskFault.{AskFault}
 use Rattle.asking.specs.declared.said.Said.{Said}
 use Rattle.asking.specs.Reports.{Tells, told_by}
 use Rattle.asking.specs.declared.asker.Mark.{Mark}
-use Rattle.asking.specs.Scenes.{GivesBody, Scene, scene}
-use Rattle.asking.specs.Visiting.{TestsAll}
-use Rattle.asking.specs.Watching.{AllStep, GoesOn, StepsOnce, StepsThrough, Watches, WatchesAt}
+use Rattle.asking.specs.Scenes.{GivesBody, HaltsAfter, Scene, scene}
+use Rattle.asking.specs.Visiting.{TestsAll, TestsSome}
+use Rattle.asking.specs.Watching.{AllStep, GoesOn, GoesSome, SomeStep, StepsOnce, StepsSome, StepsThrough, Watches, WatchesAt}
 use Rattle.asking.proofs.Going.{told_onto}
 
 same-some : {X : Type 0} (x y : X) (o : Option X) → o ≡ Some x → o ≡ Some y → x ≡ y
@@ -96,3 +97,37 @@ module _ {T : Type 0} (hash : List ℕ → List ℕ) (accepted : List ℕ → Li
         subst (λ (m : Vec Mark Global). TestsAll hash accepted exchanged m.items middle after) same tests,
       )
   goes_on (Err fault) marks marks' place end before middle after same is past all tests = tt
+
+  -- the monitor at a place stepped, and of those behind it some
+  pub some_step_more : (place next end count : ℕ) (before middle after : Scene T) → place < end → next ≡ suc place → StepsThrough hash accepted exchanged count before place middle
+      → SomeStep hash accepted exchanged (end - next) middle next after → SomeStep hash accepted exchanged (end - place) before place after
+  some_step_more place next end count before middle after below is through rest =
+      let left : suc (end - suc place) ≡ end - place = omega (arith, below) in
+      let behind = subst (λ (n : ℕ). SomeStep hash accepted exchanged (end - n) middle n after) is rest in
+      subst (λ (n : ℕ). SomeStep hash accepted exchanged n before place after) left (inr (count, middle, through, behind))
+
+  -- the monitor at a place took some steps
+  pub some_step_here : (place end : ℕ) (before after : Scene T) → place < end → StepsSome hash accepted exchanged before place after
+      → SomeStep hash accepted exchanged (end - place) before place after
+  some_step_here place end before after below some =
+      let left : suc (end - suc place) ≡ end - place = omega (arith, below) in
+      subst (λ (n : ℕ). SomeStep hash accepted exchanged n before place after) left (inl some)
+
+  -- all monitors stepped, and then a fault came as the promises were tested
+  pub halts_testing : {A H V S : Type 0} (result : Result A AskFault) (asker : Asker H V S) (said : Said) (marks marks' : Vec Mark Global) (place end : ℕ) (before middle : Scene T) → marks ≡ marks'
+      → end ≡ length before.monitors → end ≤ place
+      → ((x : Scene T) → AllStep hash accepted exchanged (end - place) middle place x → AllStep hash accepted exchanged end before 0 x)
+      → IfErr result (λ fault. HaltsAfter (TestsSome hash accepted exchanged marks.items middle) fault asker said)
+      → IfErr result (λ fault. HaltsAfter (GoesSome hash accepted exchanged marks'.items before) fault asker said)
+  halts_testing (Ok done) asker said marks marks' place end before middle same is past all halts = tt
+  halts_testing (Err fault) asker said marks marks' place end before middle same is past all (reached, some, halts) =
+      let none : 0 ≡ end - place = omega (arith, past) in
+      let whole = all middle (subst (λ (n : ℕ). AllStep hash accepted exchanged n middle place middle) none refl) in (
+        reached,
+        inr (
+          middle,
+          subst (λ (n : ℕ). AllStep hash accepted exchanged n before 0 middle) is whole,
+          subst (λ (m : Vec Mark Global). TestsSome hash accepted exchanged m.items middle reached) same some,
+        ),
+        halts,
+      )

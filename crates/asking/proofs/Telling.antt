@@ -1,11 +1,11 @@
 -- What is told after a call that may run out of memory.
-use Rattle.std.proofs.Common.{◌≡◌, ◌∙◌, ◌++◌, ◌∷◌, [], ℕ, List, Result, Ok, Err, ap, subst, append_assoc}
+use Rattle.std.proofs.Common.{◌≡◌, ◌∙◌, ◌++◌, ◌∷◌, [], ℕ, zero, suc, List, Result, Ok, Err, ap, refl, rules, subst, append_assoc}
 use Rattle.std.specs.Prelude.{OnOk}
 use Rattle.client.specs.Refusals.{refusal_number}
 use Rattle.client.specs.declared.refusal.Refusal.{Refusal}
 use Rattle.asking.specs.declared.said.Said.{Said}
 use Rattle.asking.specs.Refused.{client_refuses, evidence_before, refuses_text}
-use Rattle.asking.specs.Reports.{Report, Tells, refused, worse}
+use Rattle.asking.specs.Reports.{Report, Tells, refused, told_by, worse}
 
 -- the number of a refusal behind its evidence
 pub behind_evidence : {A E : Type 0} (what : List ℕ) (why : Refusal) (number : ℕ) (before middle after : Said) (result : Result A E) → number ≡ refusal_number why
@@ -38,3 +38,14 @@ told_behind (Ok done) told before after text status same stays tells = (
   tells.1 ∙ ap (λ (s : ℕ). worse s told.status) stays,
 )
 told_behind (Err fault) told before after text status same stays tells = tt
+
+worse-none : (status : ℕ) → worse 0 status ≡ status
+worse-none zero = refl
+worse-none (suc n) = search rules
+
+-- this was said by one that had said nothing, which was then joined
+pub tells_joined : (before empty now after : Said) (told : Report) → empty.text.items ≡ [] → empty.status ≡ 0 → Tells empty told now → Tells before (told_by now) after → Tells before told after
+tells_joined before empty now after told silent fine tells joined = (
+  joined.0 ∙ ap (λ (xs : List ℕ). before.text.items ++ xs) (tells.0 ∙ ap (λ (xs : List ℕ). xs ++ told.lines) silent),
+  joined.1 ∙ ap (λ (s : ℕ). worse before.status s) (tells.1 ∙ ap (λ (s : ℕ). worse s told.status) fine ∙ worse-none told.status),
+)

@@ -16,10 +16,10 @@ use Rattle.wire.specs.declared.refusals.ReadRefusal.{ReadRefusal}
 use Rattle.asking.specs.declared.asker.Mark.{Mark}
 use Rattle.asking.specs.Answering.{Answers, with_token}
 use Rattle.asking.specs.Checking.{HearsFrame}
-use Rattle.asking.specs.Following.{Follows, StopsAfter}
+use Rattle.asking.specs.Following.{Follows, StopsAfter, TakesSome}
 use Rattle.asking.specs.Scenes.{Scene}
 use Rattle.asking.specs.Reports.{Report, onto}
-use Rattle.asking.specs.Watching.{GoesOn}
+use Rattle.asking.specs.Watching.{GoesOn, GoesSome}
 
 -- the epoch of a response
 abbrev pub response_epoch : ResponseContent → ℕ
@@ -98,3 +98,37 @@ module _ (hash : List ℕ → List ℕ) (accepted verified : List ℕ → List �
       pub epoch : ℕ
       pub speaks : SpeaksOf asked frame epoch
       pub stops : StopsBelow epoch (record before { stream = stream }) after
+
+    -- the chain has no root of this epoch or a later one, and some lists of roots are taken
+    abbrev pub CatchesSome : ℕ → Scene T → Scene T → Type 0
+    CatchesSome epoch before after = (head : SignedRoot) × IsHead before.client.chain head × (head.body.epoch < epoch) × TakesSome hash verified exchanged before after
+
+    -- what the client makes of a frame is told, and the monitors are given nothing of it yet
+    abbrev pub HearsOnly : RequestContent → Frame → Scene T → Scene T → Type 0
+    HearsOnly asked frame before after = (told : Report) × HearsFrame hash accepted verified before.client asked frame told after.client
+        × (after.told ≡ onto before.told told) × (after.monitors ≡ before.monitors) × (after.stream ≡ before.stream)
+
+    -- the chain has epochs above this one, and monitors and promises are at some point
+    abbrev pub GoesSomeAbove : List Mark → ℕ → Scene T → Scene T → Type 0
+    GoesSomeAbove marks epoch before after = (head : SignedRoot) × IsHead before.client.chain head × (epoch < head.body.epoch) × GoesSome hash accepted exchanged marks before after
+
+    -- a frame is heard, up to some point: it is not told yet; it is told; or monitors and promises go on
+    abbrev pub HearsSome : List Mark → ℕ → RequestContent → Frame → Scene T → Scene T → Type 0
+    HearsSome marks epoch asked frame before after = (after ≡ before) ⊎ (HearsOnly asked frame before after
+        ⊎ ((heard : Scene T) × HearsOne asked frame before heard × GoesSomeAbove marks epoch heard after))
+
+    -- The line is asked, and a frame comes back. Then the steps of Asks, up to some point.
+    pub record AsksOn (marks : List Mark) (token : List ℕ) (asked : RequestContent) (before after : Scene T) : Type 0 where
+      pub head : SignedRoot
+      pub is : IsHead before.client.chain head
+      pub frame : Frame
+      pub stream : T
+      pub exchange : exchanged before.stream (with_token token asked) frame stream
+      pub epoch : ℕ
+      pub speaks : SpeaksOf asked frame epoch
+      pub steps : CatchesSome epoch (record before { stream = stream }) after
+          ⊎ ((ready : Scene T) × CatchesUp epoch (record before { stream = stream }) ready × HearsSome marks head.body.epoch asked frame ready after)
+
+    -- no frame comes back, or the steps of a line are at some point
+    abbrev pub AsksSome : List Mark → List ℕ → RequestContent → Scene T → Scene T → Type 0
+    AsksSome marks token asked before after = (after ≡ before) ⊎ AsksOn marks token asked before after

@@ -1,5 +1,5 @@
 -- How all take the roots that are new.
-use Rattle.std.specs.Prelude.{◌≡◌, ◌⊎◌, ℕ, zero, suc, ◌+◌, ◌-◌, ◌^◌, Bool, true, false, List, [], ◌∷◌, Ok, Err, Contains, codes}
+use Rattle.std.specs.Prelude.{◌≡◌, ◌≢◌, ◌⊎◌, ℕ, zero, suc, ◌+◌, ◌-◌, ◌<◌, ◌≤◌, ◌^◌, Bool, true, false, List, [], ◌∷◌, Ok, Err, Contains, codes}
 use Rattle.std.specs.List.{AllZip}
 use Rattle.commands.specs.Operations.{History}
 use Rattle.rootchain.specs.Chains.{IsHead}
@@ -24,6 +24,13 @@ asks_roots head = Query (History (head.body.epoch + 1) MAX_ROOTS)
 abbrev pub TellsRefusal : (Refusal → Type 0) → Said → Said → Type 0
 TellsRefusal Holds before after = (why : Refusal) × Holds why × Tells before (client_refuses (codes "client refuses root") why) after
 
+-- the head of a client's chain is of a later epoch than before; it is not
+abbrev pub IsAbove : Client → Client → Type 0
+IsAbove before after = (head : SignedRoot) × (latest : SignedRoot) × IsHead before.chain head × IsHead after.chain latest × (head.body.epoch < latest.body.epoch)
+
+abbrev pub IsNotAbove : Client → Client → Type 0
+IsNotAbove before after = (head : SignedRoot) × (latest : SignedRoot) × IsHead before.chain head × IsHead after.chain latest × (latest.body.epoch ≤ head.body.epoch)
+
 -- the bytes of a list of no root
 abbrev pub no_root : List ℕ
 no_root = 0 ∷ 0 ∷ []
@@ -46,11 +53,17 @@ module _ (hash : List ℕ → List ℕ) (verified : List ℕ → List ℕ → Li
   abbrev pub AnyRefuses : List ℕ → Client → List Monitor → Refusal → Type 0
   AnyRefuses list client monitors why = Refuses list client why ⊎ OneRefuses list monitors why
 
-  -- What comes of a frame that stops it: it is no answer, or the client or a monitor refuses its list, or it is told as a
-  -- reply to something else.
+  -- a list that has roots is taken, and the head is not above the one before: no root of it is one that was asked for
+  abbrev pub BringsNone : List ℕ → Client → List Monitor → Type 0
+  BringsNone list client monitors = (list ≢ no_root)
+      × ((client' : Client) × (monitors' : List Monitor) × AllUpdate list client monitors client' monitors' × IsNotAbove client client')
+
+  -- What comes of a frame that stops it: it is no answer, or the client or a monitor refuses its list, or all take it and it
+  -- brings no root that was asked for, which is told as a reply to something else.
   abbrev pub IsStopped : RequestContent → Client → List Monitor → Frame → Report → Type 0
   IsStopped asked client monitors frame told = IsUnanswered asked frame told
-      ⊎ (IsAnswered asked frame × (((why : Refusal) × AnyRefuses frame.body client monitors why × (told ≡ client_refuses (codes "client refuses root") why)) ⊎ (told ≡ other_reply)))
+      ⊎ (IsAnswered asked frame × (((why : Refusal) × AnyRefuses frame.body client monitors why × (told ≡ client_refuses (codes "client refuses root") why))
+      ⊎ (BringsNone frame.body client monitors × (told ≡ other_reply))))
 
   module _ {T : Type 0} (exchanged : T → RequestContent → Frame → T → Type 0) where
     -- the roots above the head are asked for, and this frame comes back
@@ -67,12 +80,20 @@ module _ (hash : List ℕ → List ℕ) (verified : List ℕ → List ℕ → Li
         ((head : SignedRoot) × IsHead before.client.chain head × (head.body.epoch ≡ 2 ^ 64 - 1) × (after ≡ before))
         ⊎ ((frame : Frame) × (stream : T) × AsksRoots before frame stream × (frame.body ≡ no_root) × (after ≡ record before { stream = stream }))
     TakesList before true after = (frame : Frame) × AsksRoots before frame after.stream
-        × AllUpdate frame.body before.client before.monitors after.client after.monitors × (after.told ≡ before.told)
+        × AllUpdate frame.body before.client before.monitors after.client after.monitors × (after.told ≡ before.told) × IsAbove before.client after.client
 
     -- so many lists are taken, and then no more are
     abbrev pub Follows : ℕ → Scene T → Scene T → Type 0
     Follows zero before after = TakesList before false after
     Follows (suc count) before after = (middle : Scene T) × TakesList before true middle × Follows count middle after
+
+    -- so many lists are taken, and more may come; some lists
+    abbrev pub TakesLists : ℕ → Scene T → Scene T → Type 0
+    TakesLists zero before after = after ≡ before
+    TakesLists (suc count) before after = (middle : Scene T) × TakesList before true middle × TakesLists count middle after
+
+    abbrev pub TakesSome : Scene T → Scene T → Type 0
+    TakesSome before after = (count : ℕ) × TakesLists count before after
 
     -- the roots above the head are asked for, and a frame comes that stops it, which is told behind what was
     abbrev pub StopsList : Scene T → Report → Type 0

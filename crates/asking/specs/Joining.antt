@@ -19,8 +19,8 @@ use Rattle.asking.specs.Asking.{HandsTo}
 use Rattle.asking.specs.Refused.{client_refuses}
 use Rattle.asking.specs.Scenes.{Scene}
 use Rattle.asking.specs.Reports.{onto}
-use Rattle.asking.specs.Visiting.{TestsAll}
-use Rattle.asking.specs.Watching.{StepsThrough}
+use Rattle.asking.specs.Visiting.{TestsAll, TestsSome}
+use Rattle.asking.specs.Watching.{StepsSome, StepsThrough}
 
 -- the chain's first root after an epoch, if it has one
 abbrev pub IsFirstAfter : KeyedRoots → ℕ → Option SignedRoot → Type 0
@@ -103,3 +103,14 @@ module _ (hash : List ℕ → List ℕ) (accepted verified : List ℕ → List �
         (IsUnwatched before.client.chain name marks None × (after ≡ before))
         ⊎ ((first : SignedRoot) × IsUnwatched before.client.chain name marks (Some first)
         × ((middle : Scene T) × BeginsAt first before middle × TestsAll hash accepted exchanged marks middle after))
+
+    -- nothing is told of such a monitor yet; or it is added, and watches some epochs
+    abbrev pub BeginsSomeAt : SignedRoot → Scene T → Scene T → Type 0
+    BeginsSomeAt first before after = (after ≡ before)
+        ⊎ ((monitor : Monitor) × IsBegun key earlier before.client.chain first name given monitor
+        × StepsSome hash accepted exchanged (record before { monitors = before.monitors ++ monitor ∷ [] }) (length before.monitors) after)
+
+    -- a name is watched from such a root on, up to some point; or it is watched, and then some promises are tested
+    abbrev pub BeginsSome : Scene T → Scene T → Type 0
+    BeginsSome before after = (first : SignedRoot) × IsUnwatched before.client.chain name marks (Some first)
+        × (BeginsSomeAt first before after ⊎ ((middle : Scene T) × BeginsAt first before middle × TestsSome hash accepted exchanged marks middle after))

@@ -11,6 +11,8 @@ use Rattle.wire.specs.Responses.{ResponseContent, Promise, Proof, Roots, Root, R
 use Rattle.wire.specs.declared.refusals.ReadRefusal.{ReadRefusal}
 use Rattle.play.specs.Hearing.{response_text}
 use Rattle.asking.specs.declared.asker.Asker.{Asker}
+use Rattle.asking.specs.declared.fault.AskFault.{AskFault}
+use Rattle.asking.specs.declared.fault.AskFault.TheVariants.{NoReply}
 use Rattle.asking.specs.declared.said.Said.{Said}
 use Rattle.asking.specs.Answering.{Answers}
 use Rattle.asking.specs.Refused.{other_reply, refuses_text}
@@ -61,3 +63,12 @@ Stays before after = (after.key ≡ before.key) × (after.token ≡ before.token
 abbrev pub StartsAtHead : {T : Type 0} → (List ℕ → List ℕ → List ℕ → Type 0) → (T → RequestContent → Frame → T → Type 0) → List ℕ → T → Client → T → Type 0
 StartsAtHead verified exchanged key before client after =
     (frame : Frame) × exchanged before (Query Head) frame after × IsAnswered (Query Head) frame × Starts verified key frame.body (Ok client)
+
+-- A fault comes that nothing tells: all that was told so far was told in this scene. If no reply came, the client and the
+-- monitors are also those of the scene; memory may run out between a change of theirs and what is told of it.
+abbrev pub HaltsIn : {H V S T : Type 0} → AskFault → Scene T → Asker H V S → Said → Type 0
+HaltsIn fault reached asker said = (told_by said ≡ reached.told) × (fault ≡ NoReply → (asker.client ≡ reached.client) × (asker.monitors.items ≡ reached.monitors))
+
+-- it comes in a scene to which completed steps lead
+abbrev pub HaltsAfter : {H V S T : Type 0} → (Scene T → Type 0) → AskFault → Asker H V S → Said → Type 0
+HaltsAfter {H} {V} {S} {T} IsReached fault asker said = (reached : Scene T) × IsReached reached × HaltsIn fault reached asker said

@@ -67,3 +67,11 @@ module _ (hash : List ℕ → List ℕ) (accepted : List ℕ → List ℕ → Li
     -- each promise is tested that is due
     abbrev pub TestsAll : List Mark → Scene T → Scene T → Type 0
     TestsAll marks before after = (count : ℕ) × TestsFrom marks count before 0 after
+
+    -- so many visits from a place on, and more may come; some visits from the first place on
+    abbrev pub VisitsOn : List Mark → ℕ → Scene T → ℕ → Scene T → Type 0
+    VisitsOn marks zero before place after = after ≡ before
+    VisitsOn marks (suc count) before place after = (next : ℕ) × (middle : Scene T) × Visits marks before place (Some next) middle × VisitsOn marks count middle next after
+
+    abbrev pub TestsSome : List Mark → Scene T → Scene T → Type 0
+    TestsSome marks before after = (count : ℕ) × VisitsOn marks count before 0 after

@@ -15,7 +15,7 @@ use Rattle.asking.specs.declared.said.Said.{Said}
 use Rattle.asking.specs.Refused.{client_refuses}
 use Rattle.asking.specs.Scenes.{Scene, IsAnswered, IsUnanswered}
 use Rattle.asking.specs.Reports.{Report, Tells, onto}
-use Rattle.asking.specs.Visiting.{TestsAll}
+use Rattle.asking.specs.Visiting.{TestsAll, TestsSome}
 
 -- an alarm is status 3
 abbrev pub step_told : List ℕ → ℕ → Step → Report
@@ -79,3 +79,21 @@ module _ (hash : List ℕ → List ℕ) (accepted : List ℕ → List ℕ → Li
     -- each monitor watches what is new, and then each promise is tested that is due
     abbrev pub GoesOn : List Mark → Scene T → Scene T → Type 0
     GoesOn marks before after = (middle : Scene T) × AllStep (length before.monitors) before 0 middle × TestsAll hash accepted exchanged marks middle after
+
+    -- so many steps, each of which watches an epoch, and more may come; some steps
+    abbrev pub StepsOn : ℕ → Scene T → ℕ → Scene T → Type 0
+    StepsOn zero before place after = after ≡ before
+    StepsOn (suc count) before place after = (middle : Scene T) × StepsOnce before place true middle × StepsOn count middle place after
+
+    abbrev pub StepsSome : Scene T → ℕ → Scene T → Type 0
+    StepsSome before place after = (count : ℕ) × StepsOn count before place after
+
+    -- some steps of so many monitors from a place on, one after another
+    abbrev pub SomeStep : ℕ → Scene T → ℕ → Scene T → Type 0
+    SomeStep zero before place after = after ≡ before
+    SomeStep (suc more) before place after = StepsSome before place after ⊎ ((count : ℕ) × (middle : Scene T) × StepsThrough count before place middle × SomeStep more middle (suc place) after)
+
+    -- some steps of the monitors; or all of them, and then some promises are tested
+    abbrev pub GoesSome : List Mark → Scene T → Scene T → Type 0
+    GoesSome marks before after = SomeStep (length before.monitors) before 0 after
+        ⊎ ((middle : Scene T) × AllStep (length before.monitors) before 0 middle × TestsSome hash accepted exchanged marks middle after)

@@ -1,5 +1,5 @@
 // Whether a reply answers what was asked. Only then it is checked.
-ghost use Rattle.std.specs.Prelude.{◌≡◌, ◌↔◌, codes, option_map, IfOk, IsTrue, OnOk};
+ghost use Rattle.std.specs.Prelude.{◌≡◌, ◌↔◌, codes, option_map, IfOk, IsTrue, OnErr, OnOk};
 ghost use Rattle.wire.specs.FrameViews.{frame_seen};
 ghost use Rattle.wire.specs.Refusals.{read_refusal_number};
 ghost use Rattle.wire.specs.Requests.{request_seen};
@@ -7,9 +7,9 @@ ghost use Rattle.wire.specs.Responses.{response_seen, Refused};
 ghost use Rattle.play.specs.Hearing.{response_text};
 ghost use Rattle.play.specs.Spoken.{ask_seen};
 ghost use Rattle.asking.specs.Answering.{with_token, Answers};
-ghost use Rattle.asking.specs.Refused.{refuses_text};
+ghost use Rattle.asking.specs.Refused.{other_reply, refuses_text};
 ghost use Rattle.asking.specs.Scenes.{miss_told, GivesBody};
-ghost use Rattle.asking.specs.Reports.{refused, Tells};
+ghost use Rattle.asking.specs.Reports.{refused, told_by, Tells};
 
 use crate::said::{Said, directory_words};
 use commands::{Put, Query};
@@ -86,28 +86,44 @@ pub(crate) fn tell_refused(code: u8, said: &mut Said) -> Result<(), AllocError>
     said.explain(directory_words(code))
 }
 
-/// The body of a frame that answers what was asked; else tells why it does not.
+/// The body of a frame that answers what was asked; else tells why it does not, whole or not at all.
 pub(crate) fn body_of<'a>(
     alloc: Global,
     ask: &Ask,
     frame: &FrameView<'a>,
     said: &mut Said,
 ) -> Result<Option<&'a [u8]>, AllocError>
-    ensures { IfOk result (λ body. GivesBody (ask_seen ask.now) (frame_seen frame.now) said.old (option_map (λ bytes. bytes.now) body) said.new) }
+    ensures gives { IfOk result (λ body. GivesBody (ask_seen ask.now) (frame_seen frame.now) said.old (option_map (λ bytes. bytes.now) body) said.new) }
+    ensures untold { OnErr result (told_by said.new ≡ told_by said.old) }
 {
     match Response::read(frame.kind, frame.body) {
         Ok(response) => {
             if answers(ask, &response) {
                 return Ok(Some(frame.body));
             }
-            tell_miss(response, said)?;
+            let mut now = Said::new(alloc);
+            tell_miss(response, &mut now)?;
+            said.join(now)?;
             Ok(None)
         }
         Err(why) => {
-            tell_unread(alloc, why, said)?;
+            let mut now = Said::new(alloc);
+            tell_unread(alloc, why, &mut now)?;
+            said.join(now)?;
             Ok(None)
         }
     }
+}
+
+/// Tells that a reply does not answer what was asked, whole or not at all.
+pub(crate) fn tell_other(alloc: Global, said: &mut Said) -> Result<(), AllocError>
+    ensures tells { OnOk result (Tells said.old other_reply said.new) }
+    ensures untold { OnErr result (told_by said.new ≡ told_by said.old) }
+{
+    let mut now = Said::new(alloc);
+    now.refuse_other()?;
+    said.join(now)?;
+    Ok(())
 }
 
 /// Tells a response that does not answer what was asked: a refusal of the directory, or one to something else.

@@ -1,14 +1,14 @@
 // A question over a stream: what the client makes of its reply, and what follows from it.
-ghost use Rattle.std.specs.Prelude.{◌≡◌, ◌≢◌, Err, IfErr, IfOk, OnOk};
+ghost use Rattle.std.specs.Prelude.{◌≡◌, ◌≢◌, ◌⊎◌, Err, IfErr, IfOk, OnOk};
 ghost use Rattle.wire.specs.Frames.{Frame};
 ghost use Rattle.wire.specs.FrameViews.{frame_seen};
 ghost use Rattle.wire.specs.Responses.{response_seen};
 ghost use Rattle.play.specs.Spoken.{ask_seen};
 ghost use Rattle.asking.specs.Answering.{with_token};
-ghost use Rattle.asking.specs.Asking.{response_epoch, Asks, CatchesUp, GoesOnAbove, Hands, SpeaksOf, StopsAsking, StopsBelow};
+ghost use Rattle.asking.specs.Asking.{response_epoch, Asks, AsksSome, CatchesSome, CatchesUp, GoesOnAbove, GoesSomeAbove, Hands, SpeaksOf, StopsAsking, StopsBelow};
 ghost use Rattle.asking.specs.Checking.{HearsFrame};
 ghost use Rattle.asking.specs.Exchanges.{Exchanges, HoldsFrame, IsOneFrame};
-ghost use Rattle.asking.specs.Scenes.{scene, Remains, Stays};
+ghost use Rattle.asking.specs.Scenes.{scene, HaltsAfter, Remains, Stays};
 ghost use Rattle.asking.specs.Reports.{told_by, Report, Tells};
 ghost use Rattle.asking.specs.declared.fault.AskFault.TheVariants.{Stopped};
 
@@ -73,6 +73,7 @@ where
         ensures asks { OnOk result (Asks H.digest_of V.accepted S.verified (Exchanges T.contents T.remaining) (self.old).marks.items (self.old).token (ask_seen ask.now) (scene self.old said.old stream.old) (scene self.new said.new stream.new)) }
         ensures stays { OnOk result (Remains self.old self.new) }
         ensures stops { result ≡ Err Stopped → StopsAsking H.digest_of V.accepted S.verified (Exchanges T.contents T.remaining) (self.old).token (ask_seen ask.now) (scene self.old said.old stream.old) (told_by said.new) }
+        ensures halts { IfErr result (λ fault. fault ≢ Stopped → HaltsAfter (AsksSome H.digest_of V.accepted S.verified (Exchanges T.contents T.remaining) (self.old).marks.items (self.old).token (ask_seen ask.now) (scene self.old said.old stream.old)) fault self.new said.new) }
     {
         let head = self.head();
         let reply = self.request(stream, ask)?;
@@ -92,6 +93,7 @@ where
         ensures catches { OnOk result (CatchesUp H.digest_of V.accepted S.verified (Exchanges T.contents T.remaining) epoch (scene self.old said.old stream.old) (scene self.new said.new stream.new)) }
         ensures stays { OnOk result (Stays self.old self.new) }
         ensures stops { result ≡ Err Stopped → StopsBelow H.digest_of V.accepted S.verified (Exchanges T.contents T.remaining) epoch (scene self.old said.old stream.old) (told_by said.new) }
+        ensures halts { IfErr result (λ fault. fault ≢ Stopped → HaltsAfter (CatchesSome H.digest_of S.verified (Exchanges T.contents T.remaining) epoch (scene self.old said.old stream.old)) fault self.new said.new) }
     {
         if epoch <= self.head() {
             return Ok(());
@@ -99,8 +101,8 @@ where
         self.follow(stream, said)
     }
 
-    /// Tells what the client makes of a frame that came back. A promise that it keeps is handed to the monitors
-    /// of the name.
+    /// Tells what the client makes of a frame that came back, or nothing. A promise that it keeps is handed to the
+    /// monitors of the name.
     fn answer(
         &mut self,
         ask: &Ask,
@@ -110,6 +112,7 @@ where
         ensures hears { OnOk result ((told : Report) × HearsFrame H.digest_of V.accepted S.verified (self.old).client (ask_seen ask.now) (frame_seen frame.now) told (self.new).client × Tells said.old told said.new) }
         ensures hands { OnOk result (Hands H.digest_of V.accepted S.verified (ask_seen ask.now) (frame_seen frame.now).body (self.old).client.promises (self.new).client.promises (self.old).monitors.items (self.new).monitors.items) }
         ensures stays { OnOk result (Remains self.old self.new) }
+        ensures told { (told_by said.new ≡ told_by said.old) ⊎ ((told : Report) × HearsFrame H.digest_of V.accepted S.verified (self.old).client (ask_seen ask.now) (frame_seen frame.now) told (self.new).client × Tells said.old told said.new) }
     {
         let kept = self.client.promises().len();
         let checks = &mut self.checks;
@@ -131,6 +134,7 @@ where
         ensures goes { OnOk result (GoesOnAbove H.digest_of V.accepted S.verified (Exchanges T.contents T.remaining) (self.old).marks.items head (scene self.old said.old stream.old) (scene self.new said.new stream.new)) }
         ensures stays { OnOk result (Stays self.old self.new) }
         ensures err { IfErr result (λ fault. fault ≢ Stopped) }
+        ensures halts { IfErr result (λ fault. HaltsAfter (GoesSomeAbove H.digest_of V.accepted S.verified (Exchanges T.contents T.remaining) (self.old).marks.items head (scene self.old said.old stream.old)) fault self.new said.new) }
     {
         if self.head() <= head {
             return Ok(());

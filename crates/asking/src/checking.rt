@@ -1,5 +1,5 @@
 // What the client makes of the reply to what was asked.
-ghost use Rattle.std.specs.Prelude.{◌≡◌, ◌≢◌, ◌++◌, ◌∷◌, [], OnOk, Result};
+ghost use Rattle.std.specs.Prelude.{◌≡◌, ◌≢◌, ◌++◌, ◌∷◌, [], OnErr, OnOk, Result};
 ghost use Rattle.encoding.specs.Limits.{IsName};
 ghost use Rattle.wire.specs.FrameViews.{frame_seen};
 ghost use Rattle.wire.specs.Responses.{response_seen};
@@ -13,7 +13,7 @@ ghost use Rattle.audits.specs.Files.{evidence_text};
 ghost use Rattle.play.specs.Spoken.{ask_seen};
 ghost use Rattle.asking.specs.Checking.{look_told, promise_told, Hears, HearsFrame};
 ghost use Rattle.asking.specs.Refused.{client_refuses, evidence_before};
-ghost use Rattle.asking.specs.Reports.{Report, Tells};
+ghost use Rattle.asking.specs.Reports.{told_by, Report, Tells};
 
 use crate::answering::{answers, tell_refused, tell_unread};
 use crate::placing::{place_all, place_latest};
@@ -60,8 +60,25 @@ fn tell_roots(alloc: Global, why: Refusal, said: &mut Said) -> Result<(), AllocE
     }
 }
 
-/// Tells a refusal of the client, behind the evidence if there is some.
+/// Tells a refusal of the client, behind the evidence if there is some, whole or not at all.
 pub(crate) fn tell_client(
+    alloc: Global,
+    what: &[u8],
+    why: Refusal,
+    said: &mut Said,
+) -> Result<(), AllocError>
+    ensures told { OnOk result (Tells said.old (client_refuses what.now why) said.new) }
+    ensures known { OnOk result (why ≢ Memory) }
+    ensures untold { OnErr result (told_by said.new ≡ told_by said.old) }
+{
+    let mut now = Said::new(alloc);
+    tell_refusal(alloc, what, why, &mut now)?;
+    said.join(now)?;
+    Ok(())
+}
+
+/// Tells a refusal of the client, behind the evidence if there is some.
+fn tell_refusal(
     alloc: Global,
     what: &[u8],
     why: Refusal,
@@ -83,8 +100,30 @@ pub(crate) fn tell_client(
 ///
 /// # Errors
 ///
-/// `AllocError` if memory runs out.
+/// `AllocError` if memory runs out. Then nothing is told.
 pub fn hear<H, V, S>(
+    alloc: Global,
+    client: &mut Client<H, V, S>,
+    checks: &mut Checks<H, V, S>,
+    ask: &Ask,
+    frame: &FrameView<'_>,
+    said: &mut Said,
+) -> Result<(), AllocError>
+where
+    H: NodeHash + Drop,
+    V: VufCheck + Drop,
+    S: Verifier + Drop,
+    ensures hears { OnOk result ((told : Report) × HearsFrame H.digest_of V.accepted S.verified client.old (ask_seen ask.now) (frame_seen frame.now) told client.new × Tells said.old told said.new) }
+    ensures untold { OnErr result (told_by said.new ≡ told_by said.old) }
+{
+    let mut now = Said::new(alloc);
+    hear_frame(alloc, client, checks, ask, frame, &mut now)?;
+    said.join(now)?;
+    Ok(())
+}
+
+/// What the client makes of a frame.
+fn hear_frame<H, V, S>(
     alloc: Global,
     client: &mut Client<H, V, S>,
     checks: &mut Checks<H, V, S>,

@@ -1,13 +1,13 @@
 // The client and its monitors take the roots that are new.
-ghost use Rattle.std.specs.Prelude.{◌≡◌, ℕ, Err, IfOk, OnOk};
+ghost use Rattle.std.specs.Prelude.{◌≡◌, ◌≢◌, ℕ, Err, IfErr, IfOk, OnOk};
 ghost use Rattle.std.specs.List.{AllZip};
 ghost use Rattle.asking.specs.Exchanges.{Exchanges};
-ghost use Rattle.asking.specs.Following.{AllUpdate, AnyRefuses, Follows, MonitorUpdates, OneRefuses, Refuses, StopsAfter, StopsList, TakesList, TellsRefusal};
-ghost use Rattle.asking.specs.Scenes.{scene, Stays};
+ghost use Rattle.asking.specs.Following.{AllUpdate, AnyRefuses, Follows, MonitorUpdates, OneRefuses, Refuses, StopsAfter, StopsList, TakesList, TakesSome, TellsRefusal};
+ghost use Rattle.asking.specs.Scenes.{scene, HaltsAfter, HaltsIn, Stays};
 ghost use Rattle.asking.specs.Reports.{told_by};
-ghost use Rattle.asking.specs.declared.fault.AskFault.TheVariants.{Stopped};
+ghost use Rattle.asking.specs.declared.fault.AskFault.TheVariants.{NoReply, Stopped};
 
-use crate::answering::body_of;
+use crate::answering::{body_of, tell_other};
 use crate::checking::tell_client;
 use crate::exchange::frame_in;
 use crate::{AskFault, Asker, Checks, Said};
@@ -42,6 +42,7 @@ where
         ensures follows { OnOk result ((count : ℕ) × Follows H.digest_of S.verified (Exchanges T.contents T.remaining) count (scene self.old said.old stream.old) (scene self.new said.new stream.new)) }
         ensures stays { OnOk result (Stays self.old self.new) }
         ensures stops { result ≡ Err Stopped → (count : ℕ) × StopsAfter H.digest_of S.verified (Exchanges T.contents T.remaining) count (scene self.old said.old stream.old) (told_by said.new) }
+        ensures halts { IfErr result (λ fault. fault ≢ Stopped → HaltsAfter (TakesSome H.digest_of S.verified (Exchanges T.contents T.remaining) (scene self.old said.old stream.old)) fault self.new said.new) }
     {
         // Every loop of Rattle has an end: this one's is past any chain.
         for _ in 0..u64::MAX {
@@ -61,6 +62,7 @@ where
         ensures takes { IfOk result (λ went. TakesList H.digest_of S.verified (Exchanges T.contents T.remaining) (scene self.old said.old stream.old) went (scene self.new said.new stream.new)) }
         ensures stays { OnOk result (Stays self.old self.new) }
         ensures stops { result ≡ Err Stopped → StopsList H.digest_of S.verified (Exchanges T.contents T.remaining) (scene self.old said.old stream.old) (told_by said.new) }
+        ensures halts { IfErr result (λ fault. fault ≢ Stopped → HaltsIn fault (scene self.old said.old stream.old) self.new said.new) }
     {
         let Some(from) = self.head().checked_add(1) else {
             return Ok(false);
@@ -76,7 +78,7 @@ where
         }
         self.take(list, said)?;
         if self.head() < from {
-            said.refuse_other()?;
+            tell_other(self.alloc, said)?;
             return Err(AskFault::Stopped);
         }
         Ok(true)
@@ -88,6 +90,7 @@ where
         ensures said { OnOk result (said.new ≡ said.old) }
         ensures stays { OnOk result (Stays self.old self.new) }
         ensures refused { result ≡ Err Stopped → TellsRefusal (AnyRefuses H.digest_of S.verified list.now (self.old).client (self.old).monitors.items) said.old said.new }
+        ensures halts { IfErr result (λ fault. fault ≢ Stopped → (told_by said.new ≡ told_by said.old) × (fault ≢ NoReply)) }
     {
         let checks = &mut self.checks;
         match self.client.update(&mut checks.hash, &checks.verifier, list) {
@@ -115,6 +118,7 @@ where
     ensures updates { OnOk result (AllZip (MonitorUpdates H.digest_of S.verified list.now) monitors.old monitors.new) }
     ensures said { OnOk result (said.new ≡ said.old) }
     ensures refused { result ≡ Err Stopped → TellsRefusal (OneRefuses H.digest_of S.verified list.now monitors.old) said.old said.new }
+    ensures halts { IfErr result (λ fault. fault ≢ Stopped → (told_by said.new ≡ told_by said.old) × (fault ≢ NoReply)) }
 {
     for monitor in monitors.iter_mut() {
         update(alloc, monitor, checks, list, said)?;
@@ -137,6 +141,7 @@ where
     ensures updates { OnOk result (MonitorUpdates H.digest_of S.verified list.now monitor.old monitor.new) }
     ensures said { OnOk result (said.new ≡ said.old) }
     ensures refused { result ≡ Err Stopped → TellsRefusal (Refuses H.digest_of S.verified list.now monitor.old.client) said.old said.new }
+    ensures halts { IfErr result (λ fault. fault ≢ Stopped → (told_by said.new ≡ told_by said.old) × (fault ≢ NoReply)) }
 {
     match monitor.update(&mut checks.hash, &checks.verifier, list) {
         Ok(()) => Ok(()),

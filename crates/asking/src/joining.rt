@@ -2,8 +2,8 @@
 ghost use Rattle.std.specs.Prelude.{◌≡◌, ◌≢◌, ◌↔◌, ℕ, IfErr, IfOk, IsTrue, None, OnOk, Err, Ok, option_map};
 ghost use Rattle.client.specs.declared.refusal.Refusal.TheVariants.{Memory};
 ghost use Rattle.asking.specs.Exchanges.{Exchanges};
-ghost use Rattle.asking.specs.Joining.{first_expected, AllHand, BeginsAt, BeginsWatch, IsBegun, IsLater, IsLatest, IsUnwatched, RefusesOne, Retraces, RetracesOne, StartsFrom};
-ghost use Rattle.asking.specs.Scenes.{scene, Stays};
+ghost use Rattle.asking.specs.Joining.{first_expected, AllHand, BeginsAt, BeginsSome, BeginsSomeAt, BeginsWatch, IsBegun, IsLater, IsLatest, IsUnwatched, RefusesOne, Retraces, RetracesOne, StartsFrom};
+ghost use Rattle.asking.specs.Scenes.{scene, HaltsAfter, Stays};
 
 use crate::asker::Mark;
 use crate::checking::tell_client;
@@ -41,6 +41,8 @@ where
         ensures begins { OnOk result (BeginsWatch H.digest_of V.accepted S.verified (Exchanges T.contents T.remaining) (self.old).marks.items (self.old).key (self.old).earlier.items name.now (option_map (λ key. key.now) key.entry)
             (scene self.old said.old stream.old) (scene self.new said.new stream.new)) }
         ensures stays { OnOk result (Stays self.old self.new) }
+        ensures halts { IfErr result (λ fault. HaltsAfter (BeginsSome H.digest_of V.accepted S.verified (Exchanges T.contents T.remaining) (self.old).marks.items (self.old).key (self.old).earlier.items name.now (option_map (λ key. key.now) key.entry)
+            (scene self.old said.old stream.old)) fault self.new said.new) }
     {
         let Some(first) = first_unwatched(&self.client, &self.marks, name) else {
             return Ok(());
@@ -61,6 +63,8 @@ where
         ensures begins { OnOk result (BeginsAt H.digest_of V.accepted S.verified (Exchanges T.contents T.remaining) (self.old).marks.items (self.old).key (self.old).earlier.items name.now (option_map (λ key. key.now) key.entry)
             first.now (scene self.old said.old stream.old) (scene self.new said.new stream.new)) }
         ensures stays { OnOk result (Stays self.old self.new) }
+        ensures halts { IfErr result (λ fault. HaltsAfter (BeginsSomeAt H.digest_of V.accepted S.verified (Exchanges T.contents T.remaining) (self.old).marks.items (self.old).key (self.old).earlier.items name.now (option_map (λ key. key.now) key.entry)
+            first.now (scene self.old said.old stream.old)) fault self.new said.new) }
     {
         let place = self.monitors.len();
         match self.monitor_from(first, name, key) {

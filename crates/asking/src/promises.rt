@@ -1,13 +1,13 @@
 // The promises that the client keeps are tested once the chain has the next root.
-ghost use Rattle.std.specs.Prelude.{◌≡◌, ◌≢◌, ◌++◌, ◌∷◌, ◌↔◌, [], codes, IfErr, IfOk, IsTrue, OnOk};
+ghost use Rattle.std.specs.Prelude.{◌≡◌, ◌≢◌, ◌++◌, ◌∷◌, ◌↔◌, [], codes, IfErr, IfOk, IsTrue, OnErr, OnOk};
 ghost use Rattle.auditor.specs.declared.evidence.Evidence.TheVariants as evidence;
 ghost use Rattle.audits.specs.Files.{evidence_text};
 ghost use Rattle.asking.specs.Exchanges.{Exchanges};
 ghost use Rattle.asking.specs.Refused.{refuses_text};
-ghost use Rattle.asking.specs.Scenes.{scene, Stays};
+ghost use Rattle.asking.specs.Scenes.{scene, HaltsAfter, HaltsIn, Stays};
 ghost use Rattle.asking.specs.Testing.{TellsDue};
-ghost use Rattle.asking.specs.Reports.{refused, Tells};
-ghost use Rattle.asking.specs.Visiting.{IsMarked, IsWatched, TestsAll, TestsName, Visits, Waits};
+ghost use Rattle.asking.specs.Reports.{refused, told_by, Tells};
+ghost use Rattle.asking.specs.Visiting.{IsMarked, IsWatched, TestsAll, TestsName, TestsSome, Visits, Waits};
 ghost use Rattle.asking.specs.declared.fault.AskFault.TheVariants.{Stopped};
 
 use crate::answering::body_of;
@@ -47,6 +47,7 @@ where
         ensures tests { OnOk result (TestsAll H.digest_of V.accepted (Exchanges T.contents T.remaining) (self.old).marks.items (scene self.old said.old stream.old) (scene self.new said.new stream.new)) }
         ensures stays { OnOk result (Stays self.old self.new) }
         ensures err { IfErr result (λ fault. fault ≢ Stopped) }
+        ensures halts { IfErr result (λ fault. HaltsAfter (TestsSome H.digest_of V.accepted (Exchanges T.contents T.remaining) (self.old).marks.items (scene self.old said.old stream.old)) fault self.new said.new) }
     {
         let mut place = 0;
         // Every loop of Rattle has an end: this one's is past any list.
@@ -69,6 +70,7 @@ where
         ensures visits { IfOk result (λ next. Visits H.digest_of V.accepted (Exchanges T.contents T.remaining) (self.old).marks.items (scene self.old said.old stream.old) place next (scene self.new said.new stream.new)) }
         ensures stays { OnOk result (Stays self.old self.new) }
         ensures err { IfErr result (λ fault. fault ≢ Stopped) }
+        ensures halts { IfErr result (λ fault. HaltsIn fault (scene self.old said.old stream.old) self.new said.new) }
     {
         let Some(signed) = self.client.promises().get(place) else {
             return Ok(None);
@@ -100,6 +102,7 @@ where
         ensures tests { IfOk result (λ kept. TestsName H.digest_of V.accepted (Exchanges T.contents T.remaining) (scene self.old said.old stream.old) name.now kept (scene self.new said.new stream.new)) }
         ensures stays { OnOk result (Stays self.old self.new) }
         ensures err { IfErr result (λ fault. fault ≢ Stopped) }
+        ensures halts { IfErr result (λ fault. HaltsIn fault (scene self.old said.old stream.old) self.new said.new) }
     {
         let Some(epoch) = self.client.due_epoch(name) else {
             return Ok(false);
@@ -168,9 +171,31 @@ fn tell_other_index(said: &mut Said) -> Result<(), AllocError>
     )
 }
 
+/// Tells what a reply shows of the promise that is tested for a name, whole or not at all. Returns whether it was kept.
+fn tell_due<H, V, S>(
+    alloc: Global,
+    client: &mut Client<H, V, S>,
+    checks: &mut Checks<H, V, S>,
+    name: &Name,
+    reply: &[u8],
+    said: &mut Said,
+) -> Result<bool, AllocError>
+where
+    H: NodeHash + Drop,
+    V: VufCheck + Drop,
+    S: Verifier + Drop,
+    ensures tells { IfOk result (λ kept. TellsDue H.digest_of V.accepted client.old name.now reply.now said.old kept said.new client.new) }
+    ensures untold { OnErr result (told_by said.new ≡ told_by said.old) }
+{
+    let mut now = Said::new(alloc);
+    let kept = test_by(alloc, client, checks, name, reply, &mut now)?;
+    said.join(now)?;
+    Ok(kept)
+}
+
 /// Tells what a reply shows of the promise that is tested for a name: nothing where it was kept. Returns whether it
 /// was.
-fn tell_due<H, V, S>(
+fn test_by<H, V, S>(
     alloc: Global,
     client: &mut Client<H, V, S>,
     checks: &mut Checks<H, V, S>,

@@ -1,13 +1,13 @@
 // The monitors of names.
-ghost use Rattle.std.specs.Prelude.{◌≡◌, ◌≢◌, ◌-◌, ℕ, codes, length, slice_get, IfErr, IfOk, OnOk, Some};
+ghost use Rattle.std.specs.Prelude.{◌≡◌, ◌≢◌, ◌-◌, ℕ, codes, length, slice_get, IfErr, IfOk, OnErr, OnOk, Some};
 ghost use Rattle.std.specs.List.{AllZip};
 ghost use Rattle.rootchain.specs.declared.signed_promise.SignedPromise.{SignedPromise};
 ghost use Rattle.asking.specs.Asking.{HandsTo};
 ghost use Rattle.asking.specs.Exchanges.{Exchanges};
 ghost use Rattle.asking.specs.Refused.{client_refuses};
-ghost use Rattle.asking.specs.Scenes.{scene, Remains, Stays};
-ghost use Rattle.asking.specs.Reports.{Tells};
-ghost use Rattle.asking.specs.Watching.{step_told, GoesOn, StepsOnce, StepsThrough, WatchesAt, WatchesEpoch};
+ghost use Rattle.asking.specs.Scenes.{scene, HaltsAfter, HaltsIn, Remains, Stays};
+ghost use Rattle.asking.specs.Reports.{told_by, Tells};
+ghost use Rattle.asking.specs.Watching.{step_told, GoesOn, GoesSome, StepsOnce, StepsSome, StepsThrough, WatchesAt, WatchesEpoch};
 ghost use Rattle.asking.specs.declared.fault.AskFault.TheVariants.{Stopped};
 
 use crate::answering::body_of;
@@ -44,6 +44,7 @@ where
         ensures goes { OnOk result (GoesOn H.digest_of V.accepted (Exchanges T.contents T.remaining) (self.old).marks.items (scene self.old said.old stream.old) (scene self.new said.new stream.new)) }
         ensures stays { OnOk result (Stays self.old self.new) }
         ensures err { IfErr result (λ fault. fault ≢ Stopped) }
+        ensures halts { IfErr result (λ fault. HaltsAfter (GoesSome H.digest_of V.accepted (Exchanges T.contents T.remaining) (self.old).marks.items (scene self.old said.old stream.old)) fault self.new said.new) }
     {
         for place in 0..self.monitors.len() {
             self.step_through(stream, place, said)?;
@@ -77,6 +78,7 @@ where
         ensures steps { OnOk result ((count : ℕ) × StepsThrough H.digest_of V.accepted (Exchanges T.contents T.remaining) count (scene self.old said.old stream.old) place (scene self.new said.new stream.new)) }
         ensures stays { OnOk result (Stays self.old self.new) }
         ensures err { IfErr result (λ fault. fault ≢ Stopped) }
+        ensures halts { IfErr result (λ fault. HaltsAfter (StepsSome H.digest_of V.accepted (Exchanges T.contents T.remaining) (scene self.old said.old stream.old) place) fault self.new said.new) }
     {
         // Every loop of Rattle has an end: this one's is past any chain.
         for _ in 0..u64::MAX {
@@ -97,6 +99,7 @@ where
         ensures steps { IfOk result (λ went. StepsOnce H.digest_of V.accepted (Exchanges T.contents T.remaining) (scene self.old said.old stream.old) place went (scene self.new said.new stream.new)) }
         ensures stays { OnOk result (Stays self.old self.new) }
         ensures err { IfErr result (λ fault. fault ≢ Stopped) }
+        ensures halts { IfErr result (λ fault. HaltsIn fault (scene self.old said.old stream.old) self.new said.new) }
     {
         let Some(monitor) = self.monitors.get(place) else {
             return Ok(false);
@@ -172,7 +175,8 @@ where
     H: NodeHash + Drop,
     V: VufCheck + Drop,
     S: Verifier + Drop,
-    ensures { IfOk result (λ went. WatchesAt H.digest_of V.accepted monitors.old place epoch reply.now said.old went said.new monitors.new) }
+    ensures watches { IfOk result (λ went. WatchesAt H.digest_of V.accepted monitors.old place epoch reply.now said.old went said.new monitors.new) }
+    ensures untold { OnErr result (told_by said.new ≡ told_by said.old) }
 {
     if monitors.len() <= place {
         return Ok(false);
@@ -216,9 +220,32 @@ fn refuse_proof(
     tell_client(alloc, b"client refuses proof", why, said)
 }
 
+/// Lets a monitor watch its next epoch by a reply, and tells its step, whole or not at all. Returns whether its client
+/// accepted the proof.
+fn watch_epoch<H, V, S>(
+    alloc: Global,
+    monitor: &mut Monitor<H, V, S>,
+    checks: &mut Checks<H, V, S>,
+    epoch: u64,
+    reply: &[u8],
+    said: &mut Said,
+) -> Result<bool, AllocError>
+where
+    H: NodeHash + Drop,
+    V: VufCheck + Drop,
+    S: Verifier + Drop,
+    ensures watches { IfOk result (λ went. WatchesEpoch H.digest_of V.accepted monitor.old epoch reply.now said.old went said.new monitor.new) }
+    ensures untold { OnErr result (told_by said.new ≡ told_by said.old) }
+{
+    let mut now = Said::new(alloc);
+    let went = step_by(alloc, monitor, checks, epoch, reply, &mut now)?;
+    said.join(now)?;
+    Ok(went)
+}
+
 /// Lets a monitor watch its next epoch by a reply, and tells its step. Returns whether its client accepted the
 /// proof.
-fn watch_epoch<H, V, S>(
+fn step_by<H, V, S>(
     alloc: Global,
     monitor: &mut Monitor<H, V, S>,
     checks: &mut Checks<H, V, S>,

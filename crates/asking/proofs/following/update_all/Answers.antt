@@ -1,7 +1,8 @@
-use Rattle.std.proofs.Common.{◌≡◌, ◌∙◌, Err, subst, arith, get_or, refl, rules, sym}
+use Rattle.std.proofs.Common.{◌≡◌, ◌∙◌, Err, ap, subst, arith, get_or, refl, rules, sym}
 use Rattle.std.proofs.lemmas.List.{get_or_default}
 use Rattle.monitor.specs.Monitors.{Monitor}
 use Rattle.asking.specs.Following.{MonitorUpdates}
+use Rattle.asking.specs.Reports.{told_by}
 use Rattle.asking.specs.declared.fault.AskFault.TheVariants.{Stopped}
 use Rattle.asking.proofs.Moved.{moved-begin, moved-end, moved-step}
 use Rattle.asking.proofs.Stopped.{one_refuses}
@@ -32,3 +33,8 @@ returns-in_err-update-clause-refused g c =
     let is : monitor ≡ get_or c.loop-monitor.monitors c.loop-monitor.monitor-index monitor = get_or_default c.loop-monitor.monitors c.loop-monitor.monitor-index c.monitor-item.result monitor (omega arith) in
     one_refuses g.H.NodeHash.digest_of g.S.Verifier.verified c.args.list.now (MonitorUpdates g.H.NodeHash.digest_of g.S.Verifier.verified c.args.list.now) c.args.monitors.now c.loop-monitor.monitors
     c.loop-monitor.monitor-index monitor c.args.said.now c.loop-monitor.said c.update.new.said (omega arith) is c.loop-monitor.invariant.0 c.loop-monitor.invariant.1 (c.update.ensures.refused here)
+
+pub returns-in_err-update-clause-halts : goal.returns-in_err-update-clause-halts
+returns-in_err-update-clause-halts g c =
+    let passed : c.from_residual.result ≡ Err c.in_err-update.field-0.0 = search rules in
+    rw passed (λ unstopped. let halts = c.in_err-update.ensures.halts unstopped in (halts.0 ∙ ap told_by c.loop-monitor.invariant.1, halts.1))

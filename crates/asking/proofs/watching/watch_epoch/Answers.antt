@@ -1,17 +1,10 @@
-use Rattle.std.proofs.Common.{◌∙◌, Result, Err, ap, codes, refl, subst}
-use Rattle.monitor.specs.Stepping.{Steps}
-use Rattle.monitor.specs.declared.refusal.Refusal.{Refusal}
-use Rattle.monitor.specs.declared.step.Step.{Step}
-use Rattle.asking.specs.Refused.{client_refuses}
+use Rattle.asking.proofs.Telling.{tells_joined}
 use Rattle.asking.proofs.watching.watch_epoch.Goals as goal
 
-pub returns-in_ok-refuse_proof-in-Err-Client : goal.returns-in_ok-refuse_proof-in-Err-Client
-returns-in_ok-refuse_proof-in-Err-Client g c = (
-  client_refuses (codes "client refuses proof") c.in-Err-Client.why,
-  (
-    c.in-Err-Client.why,
-    subst (λ (answer : Result Step Refusal). Steps g.H.NodeHash.digest_of g.V.VufCheck.accepted c.args.monitor.now c.args.reply.now answer c.step.new.self) (c.in-Err-Client.is ∙ ap Err c.in-Err-Client.field-0-is) c.step.ensures,
-    refl,
-  ),
-  c.in_ok-refuse_proof-in-Err-Client.ensures,
-)
+pub returns-clause-watches : goal.returns-clause-watches
+returns-clause-watches g c =
+    let watched = c.in_ok-went.ensures in (
+      watched.0,
+      watched.1,
+      tells_joined c.args.said.now c.new-now.result c.step_by.new.said c.join.new.self watched.0 c.new-now.ensures.text c.new-now.ensures.status watched.2 c.in_ok-join.ensures.tells,
+    )

@@ -1,9 +1,13 @@
-use Rattle.std.proofs.Common.{◌≡◌, ◌∙◌, Err, rules, sym}
+use Rattle.std.proofs.Common.{◌≡◌, ◌≢◌, ◌∙◌, Err, inl, refl, rules, sym}
 use Rattle.wire.specs.FrameViews.{frame_seen}
 use Rattle.play.specs.Spoken.{ask_seen}
+use Rattle.asking.specs.Asking.{AsksSome}
 use Rattle.asking.specs.Exchanges.{Exchanges}
-use Rattle.asking.specs.declared.fault.AskFault.TheVariants.{Stopped}
+use Rattle.asking.specs.Scenes.{scene}
+use Rattle.asking.specs.declared.fault.AskFault.TheVariants.{NoReply, Program, Stopped}
+use Rattle.textio.specs.declared.program_fault.ProgramFault.TheVariants.{OutOfMemory}
 use Rattle.asking.proofs.Asked.{asks_all}
+use Rattle.asking.proofs.Halted.{halts_catching, halts_going, halts_hearing, halts_here}
 use Rattle.asking.proofs.asker.Asker.ask.Goals as goal
 
 pub returns-clause-asks : goal.returns-clause-asks
@@ -27,3 +31,43 @@ returns-in_err-catch_up-clause-stops g c =
       speaks = c.epoch_of.ensures;
       stops = c.catch_up.ensures.stops here;
     }
+
+pub returns-in_err-reply-clause-halts : goal.returns-in_err-reply-clause-halts
+returns-in_err-reply-clause-halts g c =
+    let passed : c.from_residual-in_err-reply.result ≡ Err c.in_err-reply.field-0.0 = search rules in
+    rw passed (λ unstopped. halts_here c.args.self.now c.args.said.now c.args.stream.now
+    (AsksSome g.H.NodeHash.digest_of g.V.VufCheck.accepted g.S.Verifier.verified (Exchanges g.T.Write.contents g.T.Read.remaining) c.args.self.now.marks.items c.args.self.now.token (ask_seen c.args.ask.now) (scene c.args.self.now c.args.said.now c.args.stream.now))
+    c.in_err-reply.field-0.0 (inl refl))
+
+pub returns-in_err-frame-clause-halts : goal.returns-in_err-frame-clause-halts
+returns-in_err-frame-clause-halts g c =
+    let passed : c.from_residual-in_err-frame.result ≡ Err c.in_err-frame.field-0.0 = search rules in
+    rw passed (λ unstopped. halts_here c.args.self.now c.args.said.now c.args.stream.now
+    (AsksSome g.H.NodeHash.digest_of g.V.VufCheck.accepted g.S.Verifier.verified (Exchanges g.T.Write.contents g.T.Read.remaining) c.args.self.now.marks.items c.args.self.now.token (ask_seen c.args.ask.now) (scene c.args.self.now c.args.said.now c.args.stream.now))
+    c.in_err-frame.field-0.0 (inl refl))
+
+pub returns-in_err-catch_up-clause-halts : goal.returns-in_err-catch_up-clause-halts
+returns-in_err-catch_up-clause-halts g c =
+    let passed : c.from_residual-in_err-catch_up.result ≡ Err c.in_err-catch_up.field-0.0 = search rules in
+    rw passed (λ unstopped. halts_catching g.H.NodeHash.digest_of g.V.VufCheck.accepted g.S.Verifier.verified (Exchanges g.T.Write.contents g.T.Read.remaining) c.args.self.now.marks c.args.self.now c.args.said.now c.args.stream.now
+    c.request.new.stream (ask_seen c.args.ask.now) (frame_seen c.in_ok-frame.frame) c.head-head.ensures.0 c.epoch_of.result
+    c.in_err-catch_up.field-0.0 c.catch_up.new.self c.catch_up.new.said c.head-head.ensures.1
+    (c.in_ok-reply.ensures.sent (frame_seen c.in_ok-frame.frame) (rw c.deref.ensures.value at c.in_ok-frame.ensures.ok)) c.epoch_of.ensures (c.in_err-catch_up.ensures.halts unstopped))
+
+pub returns-in_err-answer-clause-halts : goal.returns-in_err-answer-clause-halts
+returns-in_err-answer-clause-halts g c =
+    let passed : c.from_residual-in_err-answer.result ≡ Err (Program OutOfMemory) = search rules in
+    let not : Program OutOfMemory ≢ NoReply = search rules in
+    rw passed (λ unstopped. halts_hearing g.H.NodeHash.digest_of g.V.VufCheck.accepted g.S.Verifier.verified (Exchanges g.T.Write.contents g.T.Read.remaining) c.args.self.now.marks c.args.self.now c.args.said.now c.args.stream.now
+    c.request.new.stream (ask_seen c.args.ask.now) (frame_seen c.in_ok-frame.frame) c.head-head.ensures.0 c.epoch_of.result
+    c.catch_up.new.self c.catch_up.new.said c.catch_up.new.stream (Program OutOfMemory) c.answer.new.self c.answer.new.said c.head-head.ensures.1
+    (c.in_ok-reply.ensures.sent (frame_seen c.in_ok-frame.frame) (rw c.deref.ensures.value at c.in_ok-frame.ensures.ok)) c.epoch_of.ensures c.in_ok-catch_up.ensures.catches not c.answer.ensures.told)
+
+pub returns-clause-halts : goal.returns-clause-halts
+returns-clause-halts g c =
+    halts_going g.H.NodeHash.digest_of g.V.VufCheck.accepted g.S.Verifier.verified (Exchanges g.T.Write.contents g.T.Read.remaining) c.args.self.now.marks c.args.self.now c.args.said.now c.args.stream.now
+    c.request.new.stream (ask_seen c.args.ask.now) (frame_seen c.in_ok-frame.frame) c.head-head.ensures.0 c.epoch_of.result
+    c.catch_up.new.self c.catch_up.new.said c.catch_up.new.stream c.go_on_from.result c.answer.new.self c.go_on_from.new.self c.answer.new.said c.go_on_from.new.said c.head-head.result
+    c.in_ok-answer.ensures.hears.0 c.head-head.ensures.1
+    (c.in_ok-reply.ensures.sent (frame_seen c.in_ok-frame.frame) (rw c.deref.ensures.value at c.in_ok-frame.ensures.ok)) c.epoch_of.ensures c.in_ok-catch_up.ensures.catches c.head-head.ensures.2 c.in_ok-answer.ensures.hears.1
+    c.in_ok-answer.ensures.hears.2 c.in_ok-answer.ensures.hands (c.in_ok-answer.ensures.stays.2 ∙ c.in_ok-catch_up.ensures.stays.2) c.go_on_from.ensures.halts

@@ -1,6 +1,6 @@
 use Rattle.std.proofs.Common.{ℕ}
 use Rattle.asking.specs.Exchanges.{Exchanges}
-use Rattle.asking.specs.Following.{Follows, StopsAfter}
+use Rattle.asking.specs.Following.{Follows, StopsAfter, TakesLists}
 use Rattle.asking.specs.Scenes.{scene, Scene, Stays}
 use Rattle.asking.specs.Reports.{Report}
 use Rattle.asking.proofs.asker.Asker.follow.Given as goal
@@ -14,5 +14,8 @@ invariant-loop g l = record {
   stops : (count : ℕ) (told : Report)
       → StopsAfter g.H.NodeHash.digest_of g.S.Verifier.verified (Exchanges g.T.Write.contents g.T.Read.remaining) count (scene l.self l.said l.stream) told
       → (whole : ℕ) × StopsAfter g.H.NodeHash.digest_of g.S.Verifier.verified (Exchanges g.T.Write.contents g.T.Read.remaining) whole (scene l.fn.self l.fn.said l.fn.stream) told;
+  some : (count : ℕ) (reached : Scene g.row.T.Denot)
+      → TakesLists g.H.NodeHash.digest_of g.S.Verifier.verified (Exchanges g.T.Write.contents g.T.Read.remaining) count (scene l.self l.said l.stream) reached
+      → (whole : ℕ) × TakesLists g.H.NodeHash.digest_of g.S.Verifier.verified (Exchanges g.T.Write.contents g.T.Read.remaining) whole (scene l.fn.self l.fn.said l.fn.stream) reached;
   stays : Stays l.fn.self l.self;
 }

@@ -16,7 +16,7 @@ returns-in_default-2-clause-steps g c =
     subst (λ (all : List Monitor). slice_get all c.args.place ≡ Some c.in-Some.monitor.now) c.deref.ensures.value
     (slice_get_read c.deref.result.now (length c.deref.result.now) c.args.place c.in-Some.monitor.now refl c.in-Some.ensures.lookup.3.0 c.in-Some.ensures.lookup.1) in
     let next = rw c.in-Some-next_epoch.is at c.next_epoch.ensures in
-    let gives = rw c.in_default-2.is at c.in_ok-found.ensures in
+    let gives = rw c.in_default-2.is at c.in_ok-found.ensures.gives in
     steps_none g.H.NodeHash.digest_of g.V.VufCheck.accepted (Exchanges g.T.Write.contents g.T.Read.remaining) c.args.self.now c.args.said.now c.args.stream.now c.args.place
     c.in-Some.monitor.now c.in_ok-name.name.items c.in-Some-next_epoch.epoch (frame_seen c.in_ok-frame_in.field-0) c.request.new.stream c.body_of.new.said at next
     (c.in_ok-name.ensures.items ∙ c.bytes.ensures.value ∙ c.name.ensures)
@@ -28,13 +28,13 @@ returns-clause-steps g c =
     subst (λ (all : List Monitor). slice_get all c.args.place ≡ Some c.in-Some.monitor.now) c.deref.ensures.value
     (slice_get_read c.deref.result.now (length c.deref.result.now) c.args.place c.in-Some.monitor.now refl c.in-Some.ensures.lookup.3.0 c.in-Some.ensures.lookup.1) in
     let next = rw c.in-Some-next_epoch.is at c.next_epoch.ensures in
-    let gives = rw c.in-Some-2.is at c.in_ok-found.ensures in
+    let gives = rw c.in-Some-2.is at c.in_ok-found.ensures.gives in
     let old : c.deref_mut.result.now ≡ c.args.self.now.monitors.items = c.deref_mut.ensures.value in
     let long : length c.watch_at.new.monitors ≡ c.args.self.now.monitors.len =
     c.watch_at.auto.monitors ∙ ap (λ (ms : List Monitor). length ms) old ∙ sym c.args.self.now.monitors.ok.0 in
     let back = with_items_is c.args.self.now.monitors c.watch_at.new.monitors long in
     let watches = subst (λ (all : List Monitor). WatchesAt g.H.NodeHash.digest_of g.V.VufCheck.accepted all c.args.place c.in-Some-next_epoch.epoch c.in-Some-2.found.now c.body_of.new.said c.in_ok-watch_at.field-0
-    c.watch_at.new.said c.watch_at.new.monitors) old c.in_ok-watch_at.ensures in
+    c.watch_at.new.said c.watch_at.new.monitors) old c.in_ok-watch_at.ensures.watches in
     let watched = subst (λ (all : List Monitor). WatchesAt g.H.NodeHash.digest_of g.V.VufCheck.accepted c.args.self.now.monitors.items c.args.place c.in-Some-next_epoch.epoch c.in-Some-2.found.now c.body_of.new.said
     c.in_ok-watch_at.field-0 c.watch_at.new.said all) (sym back) watches in
     steps_some g.H.NodeHash.digest_of g.V.VufCheck.accepted (Exchanges g.T.Write.contents g.T.Read.remaining) c.args.self.now c.args.said.now c.args.stream.now c.args.place

@@ -1,6 +1,9 @@
-use Rattle.std.proofs.Common.{◌∙◌, suc, Some, None}
+use Rattle.std.proofs.Common.{◌≡◌, ◌∙◌, suc, Err, Some, None, refl, rules}
 use Rattle.asking.specs.Exchanges.{Exchanges}
 use Rattle.asking.specs.Scenes.{scene}
+use Rattle.asking.specs.Visiting.{TestsSome}
+use Rattle.asking.specs.declared.fault.AskFault.TheVariants.{NoReply}
+use Rattle.asking.proofs.Halted.{halts_here}
 use Rattle.asking.proofs.Tested.{visits_as}
 use Rattle.asking.proofs.asker.Asker.test_promises.Goals as goal
 
@@ -18,13 +21,21 @@ loop-preserved g c =
     let there = scene c.visit.new.self c.visit.new.said c.visit.new.stream in
     let stay = c.in_ok-next.ensures.stays in
     let stayed = c.loop.invariant.stays in
+    let visited = visits_as g.H.NodeHash.digest_of g.V.VufCheck.accepted (Exchanges g.T.Write.contents g.T.Read.remaining) c.loop.self.marks c.args.self.now.marks here there c.loop.place
+    c.in_ok-next.field-0 (Some c.in-Some.next) stayed.2 c.in-Some.is c.in_ok-next.ensures.visits in
     record {
-      tests = λ count after rest. c.loop.invariant.tests (suc count) after (
-        c.in-Some.next,
-        there,
-        visits_as g.H.NodeHash.digest_of g.V.VufCheck.accepted (Exchanges g.T.Write.contents g.T.Read.remaining) c.loop.self.marks c.args.self.now.marks here there c.loop.place
-            c.in_ok-next.field-0 (Some c.in-Some.next) stayed.2 c.in-Some.is c.in_ok-next.ensures.visits,
-        rest,
-      );
+      tests = λ count after rest. c.loop.invariant.tests (suc count) after (c.in-Some.next, there, visited, rest);
+      some = λ count reached rest. c.loop.invariant.some (suc count) reached (c.in-Some.next, there, visited, rest);
       stays = (stay.0 ∙ stayed.0, stay.1 ∙ stayed.1, stay.2 ∙ stayed.2, stay.3 ∙ stayed.3, stay.4 ∙ stayed.4);
     }
+
+pub returns-in_err-next-clause-halts : goal.returns-in_err-next-clause-halts
+returns-in_err-next-clause-halts g c =
+    let passed : c.from_residual.result ≡ Err c.in_err-next.field-0.0 = search rules in
+    let here = scene c.loop.self c.loop.said c.loop.stream in
+    rw passed (here, c.loop.invariant.some 0 here refl, c.in_err-next.ensures.halts)
+
+pub returns-clause-halts : goal.returns-clause-halts
+returns-clause-halts g c =
+    halts_here c.loop.self c.loop.said c.loop.stream (TestsSome g.H.NodeHash.digest_of g.V.VufCheck.accepted (Exchanges g.T.Write.contents g.T.Read.remaining) c.args.self.now.marks.items (scene c.args.self.now c.args.said.now c.args.stream.now)) NoReply
+    (c.loop.invariant.some 0 (scene c.loop.self c.loop.said c.loop.stream) refl)

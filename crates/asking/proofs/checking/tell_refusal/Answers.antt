@@ -1,5 +1,5 @@
 use Rattle.asking.proofs.Telling.{behind_evidence}
-use Rattle.asking.proofs.checking.tell_client.Goals as goal
+use Rattle.asking.proofs.checking.tell_refusal.Goals as goal
 
 pub returns-clause-told : goal.returns-clause-told
 returns-clause-told c =

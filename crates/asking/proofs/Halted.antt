@@ -1,0 +1,105 @@
+-- A fault that comes between the steps of a line.
+use Rattle.std.proofs.Common.{◌≡◌, ◌≢◌, ◌⊎◌, ◌<◌, ℕ, List, ◌++◌, [], ◌∷◌, length, Option, Some, Result, Ok, Err, Global, Vec, refl, rules, subst, inl, inr}
+use Rattle.std.specs.Prelude.{IfErr}
+use Rattle.rootchain.specs.Chains.{IsHead}
+use Rattle.rootchain.specs.declared.signed_promise.SignedPromise.{SignedPromise}
+use Rattle.rootchain.specs.declared.signed_root.SignedRoot.{SignedRoot}
+use Rattle.monitor.specs.Monitors.{Monitor}
+use Rattle.wire.specs.Frames.{Frame}
+use Rattle.wire.specs.Requests.{RequestContent}
+use Rattle.asking.specs.declared.asker.Asker.{Asker}
+use Rattle.asking.specs.declared.asker.Mark.{Mark}
+use Rattle.asking.specs.declared.fault.AskFault.{AskFault}
+use Rattle.asking.specs.declared.fault.AskFault.TheVariants.{NoReply, Program, Stopped}
+use Rattle.textio.specs.declared.program_fault.ProgramFault.TheVariants.{OutOfMemory}
+use Rattle.asking.specs.declared.said.Said.{Said}
+use Rattle.asking.specs.Answering.{with_token}
+use Rattle.asking.specs.Asking.{AsksOn, AsksSome, CatchesSome, CatchesUp, GoesSomeAbove, Hands, HearsSome, SpeaksOf}
+use Rattle.asking.specs.Checking.{HearsFrame}
+use Rattle.asking.specs.Joining.{BeginsAt, BeginsSome, BeginsSomeAt, IsBegun, IsUnwatched}
+use Rattle.asking.specs.Reports.{Report, Tells, told_by}
+use Rattle.asking.specs.Scenes.{HaltsAfter, Scene, scene}
+use Rattle.asking.specs.Visiting.{TestsSome}
+use Rattle.asking.specs.Watching.{StepsSome}
+use Rattle.asking.proofs.Going.{told_onto}
+use Rattle.asking.proofs.Joined.{scene_of}
+
+-- no reply came, and nothing changed
+pub halts_here : {H V S T : Type 0} (asker : Asker H V S) (said : Said) (stream : T) (IsReached : Scene T → Type 0) (fault : AskFault) → IsReached (scene asker said stream) → HaltsAfter IsReached fault asker said
+halts_here asker said stream IsReached fault is = (scene asker said stream, is, (refl, λ none. (refl, refl)))
+
+no-memory : Program OutOfMemory ≢ NoReply
+no-memory same = search (rules, same)
+
+-- memory ran out, and nothing was told of what came
+pub halts_untold : {H V S T : Type 0} (asker last : Asker H V S) (said said' : Said) (stream : T) (IsReached : Scene T → Type 0) → IsReached (scene asker said stream) → told_by said' ≡ told_by said
+    → HaltsAfter IsReached (Program OutOfMemory) last said'
+halts_untold asker last said said' stream IsReached is same = (scene asker said stream, is, (same, λ none. absurd (no-memory none)))
+
+module _ {H V S T : Type 0} (hash : List ℕ → List ℕ) (accepted verified : List ℕ → List ℕ → List ℕ → Type 0) (exchanged : T → RequestContent → Frame → T → Type 0) where
+  module _ (marks : Vec Mark Global) (first : Asker H V S) (said : Said) (stream sent : T) (asked : RequestContent) (frame : Frame) (head : SignedRoot) (epoch : ℕ) where
+    asks-on : (after : Scene T) → IsHead first.client.chain head → exchanged stream (with_token first.token asked) frame sent → SpeaksOf asked frame epoch
+        → CatchesSome hash verified exchanged epoch (scene first said sent) after
+            ⊎ ((ready : Scene T) × CatchesUp hash accepted verified exchanged epoch (scene first said sent) ready × HearsSome hash accepted verified exchanged marks.items head.body.epoch asked frame ready after)
+        → AsksSome hash accepted verified exchanged marks.items first.token asked (scene first said stream) after
+    asks-on after is exchange speaks steps = inr (record { head = head; is = is; frame = frame; stream = sent; exchange = exchange; epoch = epoch; speaks = speaks; steps = steps })
+
+    -- roots were taken
+    pub halts_catching : (fault : AskFault) (last : Asker H V S) (said' : Said) → IsHead first.client.chain head → exchanged stream (with_token first.token asked) frame sent → SpeaksOf asked frame epoch
+        → HaltsAfter (CatchesSome hash verified exchanged epoch (scene first said sent)) fault last said'
+        → HaltsAfter (AsksSome hash accepted verified exchanged marks.items first.token asked (scene first said stream)) fault last said'
+    halts_catching fault last said' is exchange speaks (reached, some, halts) = (reached, asks-on reached is exchange speaks (inl some), halts)
+
+    module _ (ready : Asker H V S) (caught : Said) (later : T) where
+      -- the frame was heard, and perhaps told
+      pub halts_hearing : (fault : AskFault) (last : Asker H V S) (said' : Said) → IsHead first.client.chain head → exchanged stream (with_token first.token asked) frame sent → SpeaksOf asked frame epoch
+          → CatchesUp hash accepted verified exchanged epoch (scene first said sent) (scene ready caught later) → fault ≢ NoReply
+          → (told_by said' ≡ told_by caught) ⊎ ((told : Report) × HearsFrame hash accepted verified ready.client asked frame told last.client × Tells caught told said')
+          → HaltsAfter (AsksSome hash accepted verified exchanged marks.items first.token asked (scene first said stream)) fault last said'
+      halts_hearing fault last said' is exchange speaks catches not (inl same) =
+          let here : Scene T = scene ready caught later in
+          (here, asks-on here is exchange speaks (inr (here, catches, inl refl)), (same, λ none. absurd (not none)))
+      halts_hearing fault last said' is exchange speaks catches not (inr (told, hears, tells)) =
+          let reached : Scene T = record { client = last.client; monitors = ready.monitors.items; told = told_by said'; stream = later } in (
+            reached,
+            asks-on reached is exchange speaks (inr (scene ready caught later, catches, inr (inl (told, hears, told_onto caught said' told tells, refl, refl)))),
+            (refl, λ none. absurd (not none)),
+          )
+
+      -- the frame was heard, and monitors and promises went on
+      pub halts_going : {A : Type 0} (result : Result A AskFault) (heard last : Asker H V S) (told_to said' : Said) (low : ℕ) (told : Report) → IsHead first.client.chain head
+          → exchanged stream (with_token first.token asked) frame sent → SpeaksOf asked frame epoch
+          → CatchesUp hash accepted verified exchanged epoch (scene first said sent) (scene ready caught later) → low ≡ head.body.epoch
+          → HearsFrame hash accepted verified ready.client asked frame told heard.client → Tells caught told told_to
+          → Hands hash accepted verified asked frame.body ready.client.promises heard.client.promises ready.monitors.items heard.monitors.items → heard.marks ≡ marks
+          → IfErr result (λ fault. HaltsAfter (GoesSomeAbove hash accepted verified exchanged heard.marks.items low (scene heard told_to later)) fault last said')
+          → IfErr result (λ fault. fault ≢ Stopped → HaltsAfter (AsksSome hash accepted verified exchanged marks.items first.token asked (scene first said stream)) fault last said')
+      halts_going (Ok done) heard last told_to said' low told is exchange speaks catches at hears tells hands same halts = tt
+      halts_going (Err fault) heard last told_to said' low told is exchange speaks catches at hears tells hands same (reached, goes, halts) =
+          let there : Scene T = scene heard told_to later in
+          let above = subst (λ (m : Vec Mark Global). GoesSomeAbove hash accepted verified exchanged m.items low there reached) same goes in
+          let from_head = subst (λ (n : ℕ). GoesSomeAbove hash accepted verified exchanged marks.items n there reached) at above in
+          let heard_one = record { told = told; hears = hears; tells = told_onto caught told_to told tells; hands = hands; stream = refl } in
+          λ unstopped. (reached, asks-on reached is exchange speaks (inr (scene ready caught later, catches, inr (inr (there, heard_one, from_head)))), halts)
+
+  module _ (key : List ℕ) (earlier : List SignedPromise) (name : List ℕ) (given : Option (List ℕ)) (asker : Asker H V S) (said : Said) (stream : T) (first : SignedRoot) where
+    -- a monitor was added, and took some steps
+    pub halts_stepping : {A : Type 0} (marks : List Mark) (result : Result A AskFault) (added last : Asker H V S) (said' : Said) (monitor : Monitor) (place : ℕ) → added.client ≡ asker.client
+        → added.monitors.items ≡ asker.monitors.items ++ monitor ∷ [] → place ≡ length asker.monitors.items → IsBegun hash accepted verified key earlier asker.client.chain first name given monitor
+        → IfErr result (λ fault. HaltsAfter (StepsSome hash accepted exchanged (scene added said stream) place) fault last said')
+        → IfErr result (λ fault. HaltsAfter (BeginsSomeAt hash accepted verified exchanged marks key earlier name given first (scene asker said stream)) fault last said')
+    halts_stepping marks (Ok done) added last said' monitor place client monitors at begun halts = tt
+    halts_stepping marks (Err fault) added last said' monitor place client monitors at begun (reached, steps, halts) =
+        let same = scene_of added.client asker.client added.monitors.items (asker.monitors.items ++ monitor ∷ []) (told_by said) (told_by said) stream client monitors refl in
+        let here = subst (λ (n : ℕ). StepsSome hash accepted exchanged (scene added said stream) n reached) at steps in
+        (reached, inr (monitor, begun, subst (λ (s : Scene T). StepsSome hash accepted exchanged s (length asker.monitors.items) reached) same here), halts)
+
+    -- the watch began, and some promises were tested
+    pub halts_begun : {A : Type 0} (result : Result A AskFault) (marks marks' : Vec Mark Global) (middle : Scene T) (last : Asker H V S) (said' : Said)
+        → IsUnwatched asker.client.chain name marks.items (Some first) → marks' ≡ marks
+        → BeginsAt hash accepted verified exchanged marks.items key earlier name given first (scene asker said stream) middle
+        → IfErr result (λ fault. HaltsAfter (TestsSome hash accepted exchanged marks'.items middle) fault last said')
+        → IfErr result (λ fault. HaltsAfter (BeginsSome hash accepted verified exchanged marks.items key earlier name given (scene asker said stream)) fault last said')
+    halts_begun (Ok done) marks marks' middle last said' unwatched same begun halts = tt
+    halts_begun (Err fault) marks marks' middle last said' unwatched same begun (reached, tests, halts) =
+        (reached, (first, unwatched, inr (middle, begun, subst (λ (all : Vec Mark Global). TestsSome hash accepted exchanged all.items middle reached) same tests)), halts)
