@@ -14,13 +14,14 @@ use Rattle.asking.specs.declared.fault.AskFault.TheVariants.{NoReply, Program, S
 use Rattle.textio.specs.declared.program_fault.ProgramFault.TheVariants.{OutOfMemory}
 use Rattle.asking.specs.declared.said.Said.{Said}
 use Rattle.asking.specs.Answering.{with_token}
-use Rattle.asking.specs.Asking.{AsksOn, AsksSome, CatchesSome, CatchesUp, GoesSomeAbove, Hands, HearsSome, SpeaksOf}
+use Rattle.asking.specs.Asking.{AsksSome, CatchesSome, CatchesUp, GoesSomeAbove, Hands, HearsSome, SpeaksOf}
 use Rattle.asking.specs.Checking.{HearsFrame}
+use Rattle.asking.specs.Following.{TakesSome}
 use Rattle.asking.specs.Joining.{BeginsAt, BeginsSome, BeginsSomeAt, IsBegun, IsUnwatched}
 use Rattle.asking.specs.Reports.{Report, Tells, told_by}
 use Rattle.asking.specs.Scenes.{HaltsAfter, Scene, scene}
 use Rattle.asking.specs.Visiting.{TestsSome}
-use Rattle.asking.specs.Watching.{StepsSome}
+use Rattle.asking.specs.Watching.{GoesSome, StepsSome}
 use Rattle.asking.proofs.Going.{told_onto}
 use Rattle.asking.proofs.Joined.{scene_of}
 
@@ -37,16 +38,30 @@ pub halts_untold : {H V S T : Type 0} (asker last : Asker H V S) (said said' : S
 halts_untold asker last said said' stream IsReached is same = (scene asker said stream, is, (same, λ none. absurd (no-memory none)))
 
 module _ {H V S T : Type 0} (hash : List ℕ → List ℕ) (accepted verified : List ℕ → List ℕ → List ℕ → Type 0) (exchanged : T → RequestContent → Frame → T → Type 0) where
+  -- roots were taken, since the head was below an epoch
+  pub halts_below : {A : Type 0} (result : Result A AskFault) (asker last : Asker H V S) (said said' : Said) (stream : T) (head : SignedRoot) (epoch : ℕ) → IsHead asker.client.chain head
+      → head.body.epoch < epoch → IfErr result (λ fault. fault ≢ Stopped → HaltsAfter (TakesSome hash verified exchanged (scene asker said stream)) fault last said')
+      → IfErr result (λ fault. fault ≢ Stopped → HaltsAfter (CatchesSome hash accepted verified exchanged epoch (scene asker said stream)) fault last said')
+  halts_below (Ok done) asker last said said' stream head epoch is low halts = tt
+  halts_below (Err fault) asker last said said' stream head epoch is low halts = λ unstopped. let found = halts unstopped in (found.0, (head, is, low, found.1), found.2)
+
+  -- monitors and promises went on, since the head was above an epoch
+  pub halts_above : {A : Type 0} (result : Result A AskFault) (marks : List Mark) (asker last : Asker H V S) (said said' : Said) (stream : T) (head : SignedRoot) (epoch : ℕ) → IsHead asker.client.chain head
+      → epoch < head.body.epoch → IfErr result (λ fault. HaltsAfter (GoesSome hash accepted exchanged marks (scene asker said stream)) fault last said')
+      → IfErr result (λ fault. HaltsAfter (GoesSomeAbove hash accepted verified exchanged marks epoch (scene asker said stream)) fault last said')
+  halts_above (Ok done) marks asker last said said' stream head epoch is high halts = tt
+  halts_above (Err fault) marks asker last said said' stream head epoch is high (reached, goes, halts) = (reached, (head, is, high, goes), halts)
+
   module _ (marks : Vec Mark Global) (first : Asker H V S) (said : Said) (stream sent : T) (asked : RequestContent) (frame : Frame) (head : SignedRoot) (epoch : ℕ) where
     asks-on : (after : Scene T) → IsHead first.client.chain head → exchanged stream (with_token first.token asked) frame sent → SpeaksOf asked frame epoch
-        → CatchesSome hash verified exchanged epoch (scene first said sent) after
+        → CatchesSome hash accepted verified exchanged epoch (scene first said sent) after
             ⊎ ((ready : Scene T) × CatchesUp hash accepted verified exchanged epoch (scene first said sent) ready × HearsSome hash accepted verified exchanged marks.items head.body.epoch asked frame ready after)
         → AsksSome hash accepted verified exchanged marks.items first.token asked (scene first said stream) after
     asks-on after is exchange speaks steps = inr (record { head = head; is = is; frame = frame; stream = sent; exchange = exchange; epoch = epoch; speaks = speaks; steps = steps })
 
     -- roots were taken
     pub halts_catching : (fault : AskFault) (last : Asker H V S) (said' : Said) → IsHead first.client.chain head → exchanged stream (with_token first.token asked) frame sent → SpeaksOf asked frame epoch
-        → HaltsAfter (CatchesSome hash verified exchanged epoch (scene first said sent)) fault last said'
+        → HaltsAfter (CatchesSome hash accepted verified exchanged epoch (scene first said sent)) fault last said'
         → HaltsAfter (AsksSome hash accepted verified exchanged marks.items first.token asked (scene first said stream)) fault last said'
     halts_catching fault last said' is exchange speaks (reached, some, halts) = (reached, asks-on reached is exchange speaks (inl some), halts)
 
@@ -79,8 +94,15 @@ module _ {H V S T : Type 0} (hash : List ℕ → List ℕ) (accepted verified : 
           let there : Scene T = scene heard told_to later in
           let above = subst (λ (m : Vec Mark Global). GoesSomeAbove hash accepted verified exchanged m.items low there reached) same goes in
           let from_head = subst (λ (n : ℕ). GoesSomeAbove hash accepted verified exchanged marks.items n there reached) at above in
-          let heard_one = record { told = told; hears = hears; tells = told_onto caught told_to told tells; hands = hands; stream = refl } in
-          λ unstopped. (reached, asks-on reached is exchange speaks (inr (scene ready caught later, catches, inr (inr (there, heard_one, from_head)))), halts)
+          λ unstopped. (
+            reached,
+            asks-on reached is exchange speaks (inr (
+              scene ready caught later,
+              catches,
+              inr (inr (there, record { told = told; hears = hears; tells = told_onto caught told_to told tells; hands = hands; stream = refl }, from_head)),
+            )),
+            halts,
+          )
 
   module _ (key : List ℕ) (earlier : List SignedPromise) (name : List ℕ) (given : Option (List ℕ)) (asker : Asker H V S) (said : Said) (stream : T) (first : SignedRoot) where
     -- a monitor was added, and took some steps

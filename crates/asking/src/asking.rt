@@ -93,7 +93,7 @@ where
         ensures catches { OnOk result (CatchesUp H.digest_of V.accepted S.verified (Exchanges T.contents T.remaining) epoch (scene self.old said.old stream.old) (scene self.new said.new stream.new)) }
         ensures stays { OnOk result (Stays self.old self.new) }
         ensures stops { result ≡ Err Stopped → StopsBelow H.digest_of V.accepted S.verified (Exchanges T.contents T.remaining) epoch (scene self.old said.old stream.old) (told_by said.new) }
-        ensures halts { IfErr result (λ fault. fault ≢ Stopped → HaltsAfter (CatchesSome H.digest_of S.verified (Exchanges T.contents T.remaining) epoch (scene self.old said.old stream.old)) fault self.new said.new) }
+        ensures halts { IfErr result (λ fault. fault ≢ Stopped → HaltsAfter (CatchesSome H.digest_of V.accepted S.verified (Exchanges T.contents T.remaining) epoch (scene self.old said.old stream.old)) fault self.new said.new) }
     {
         if epoch <= self.head() {
             return Ok(());
