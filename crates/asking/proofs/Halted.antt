@@ -55,7 +55,7 @@ module _ {H V S T : Type 0} (hash : List ℕ → List ℕ) (accepted verified : 
   module _ (marks : Vec Mark Global) (first : Asker H V S) (said : Said) (stream sent : T) (asked : RequestContent) (frame : Frame) (head : SignedRoot) (epoch : ℕ) where
     asks-on : (after : Scene T) → IsHead first.client.chain head → exchanged stream (with_token first.token asked) frame sent → SpeaksOf asked frame epoch
         → CatchesSome hash accepted verified exchanged epoch (scene first said sent) after
-            ⊎ ((ready : Scene T) × CatchesUp hash accepted verified exchanged epoch (scene first said sent) ready × HearsSome hash accepted verified exchanged marks.items head.body.epoch asked frame ready after)
+        ⊎ ((ready : Scene T) × CatchesUp hash accepted verified exchanged epoch (scene first said sent) ready × HearsSome hash accepted verified exchanged marks.items head.body.epoch asked frame ready after)
         → AsksSome hash accepted verified exchanged marks.items first.token asked (scene first said stream) after
     asks-on after is exchange speaks steps = inr (record { head = head; is = is; frame = frame; stream = sent; exchange = exchange; epoch = epoch; speaks = speaks; steps = steps })
 

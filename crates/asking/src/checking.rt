@@ -78,12 +78,7 @@ pub(crate) fn tell_client(
 }
 
 /// Tells a refusal of the client, behind the evidence if there is some.
-fn tell_refusal(
-    alloc: Global,
-    what: &[u8],
-    why: Refusal,
-    said: &mut Said,
-) -> Result<(), AllocError>
+fn tell_refusal(alloc: Global, what: &[u8], why: Refusal, said: &mut Said) -> Result<(), AllocError>
     ensures told { OnOk result (Tells said.old (client_refuses what.now why) said.new) }
     ensures known { OnOk result (why ≢ Memory) }
 {

@@ -34,7 +34,7 @@ returns-in_err-catch_up-clause-stops g c =
 
 pub returns-in_err-reply-clause-halts : goal.returns-in_err-reply-clause-halts
 returns-in_err-reply-clause-halts g c =
-    let passed : c.from_residual-in_err-reply.result ≡ Err c.in_err-reply.field-0.0 = search rules in
+    let passed : c.from_residual.result ≡ Err c.in_err-reply.field-0.0 = search rules in
     rw passed (λ unstopped. halts_here c.args.self.now c.args.said.now c.args.stream.now
     (AsksSome g.H.NodeHash.digest_of g.V.VufCheck.accepted g.S.Verifier.verified (Exchanges g.T.Write.contents g.T.Read.remaining) c.args.self.now.marks.items c.args.self.now.token (ask_seen c.args.ask.now) (scene c.args.self.now c.args.said.now c.args.stream.now))
     c.in_err-reply.field-0.0 (inl refl))
