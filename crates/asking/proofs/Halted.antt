@@ -10,8 +10,7 @@ use Rattle.wire.specs.Requests.{RequestContent}
 use Rattle.asking.specs.declared.asker.Asker.{Asker}
 use Rattle.asking.specs.declared.asker.Mark.{Mark}
 use Rattle.asking.specs.declared.fault.AskFault.{AskFault}
-use Rattle.asking.specs.declared.fault.AskFault.TheVariants.{NoReply, Program, Stopped}
-use Rattle.textio.specs.declared.program_fault.ProgramFault.TheVariants.{OutOfMemory}
+use Rattle.asking.specs.declared.fault.AskFault.TheVariants.{NoReply, OutOfMemory, Stopped}
 use Rattle.asking.specs.declared.said.Said.{Said}
 use Rattle.asking.specs.Answering.{with_token}
 use Rattle.asking.specs.Asking.{AsksSome, CatchesSome, CatchesUp, GoesSomeAbove, Hands, HearsSome, SpeaksOf}
@@ -29,12 +28,12 @@ use Rattle.asking.proofs.Joined.{scene_of}
 pub halts_here : {H V S T : Type 0} (asker : Asker H V S) (said : Said) (stream : T) (IsReached : Scene T → Type 0) (fault : AskFault) → IsReached (scene asker said stream) → HaltsAfter IsReached fault asker said
 halts_here asker said stream IsReached fault is = (scene asker said stream, is, (refl, λ none. (refl, refl)))
 
-no-memory : Program OutOfMemory ≢ NoReply
+no-memory : OutOfMemory ≢ NoReply
 no-memory same = search (rules, same)
 
 -- memory ran out, and nothing was told of what came
 pub halts_untold : {H V S T : Type 0} (asker last : Asker H V S) (said said' : Said) (stream : T) (IsReached : Scene T → Type 0) → IsReached (scene asker said stream) → told_by said' ≡ told_by said
-    → HaltsAfter IsReached (Program OutOfMemory) last said'
+    → HaltsAfter IsReached OutOfMemory last said'
 halts_untold asker last said said' stream IsReached is same = (scene asker said stream, is, (same, λ none. absurd (no-memory none)))
 
 module _ {H V S T : Type 0} (hash : List ℕ → List ℕ) (accepted verified : List ℕ → List ℕ → List ℕ → Type 0) (exchanged : T → RequestContent → Frame → T → Type 0) where

@@ -1,7 +1,9 @@
 -- Where a client stands between two exchanges, and what comes of one.
-use Rattle.std.specs.Prelude.{◌≡◌, ◌⊎◌, ℕ, List, Option, Some, None, Err, Ok, codes}
+use Rattle.std.specs.Prelude.{◌≡◌, ◌≢◌, ◌⊎◌, ℕ, List, Option, Some, None, Err, Ok, codes}
 use Rattle.client.specs.Clients.{Client}
 use Rattle.client.specs.Starting.{Starts}
+use Rattle.client.specs.declared.refusal.Refusal.{Refusal}
+use Rattle.client.specs.declared.refusal.Refusal.TheVariants.{Memory}
 use Rattle.commands.specs.Operations.{Head}
 use Rattle.monitor.specs.Monitors.{Monitor}
 use Rattle.wire.specs.Frames.{Frame}
@@ -15,8 +17,8 @@ use Rattle.asking.specs.declared.fault.AskFault.{AskFault}
 use Rattle.asking.specs.declared.fault.AskFault.TheVariants.{NoReply}
 use Rattle.asking.specs.declared.said.Said.{Said}
 use Rattle.asking.specs.Answering.{Answers}
-use Rattle.asking.specs.Refused.{other_reply, refuses_text}
-use Rattle.asking.specs.Reports.{Report, Tells, refused, told_by}
+use Rattle.asking.specs.Refused.{client_refuses, other_reply, refuses_text}
+use Rattle.asking.specs.Reports.{Report, Tells, onto, refused, told_by}
 
 -- the client and the monitors, what was told so far, and the stream to the directory
 pub record Scene (T : Type 0) : Type 0 where
@@ -63,6 +65,16 @@ Stays before after = (after.key ≡ before.key) × (after.token ≡ before.token
 abbrev pub StartsAtHead : {T : Type 0} → (List ℕ → List ℕ → List ℕ → Type 0) → (T → RequestContent → Frame → T → Type 0) → List ℕ → T → Client → T → Type 0
 StartsAtHead verified exchanged key before client after =
     (frame : Frame) × exchanged before (Query Head) frame after × IsAnswered (Query Head) frame × Starts verified key frame.body (Ok client)
+
+-- what is told of a frame with which no client starts: it is no answer, or its root is refused
+abbrev pub StartsNone : (List ℕ → List ℕ → List ℕ → Type 0) → List ℕ → Frame → Report → Type 0
+StartsNone verified key frame told = IsUnanswered (Query Head) frame told
+    ⊎ (IsAnswered (Query Head) frame × ((why : Refusal) × (why ≢ Memory) × Starts verified key frame.body (Err why) × (told ≡ client_refuses (codes "client refuses root") why)))
+
+-- the latest root is asked for, and such a frame comes back
+abbrev pub StopsAtHead : {T : Type 0} → (List ℕ → List ℕ → List ℕ → Type 0) → (T → RequestContent → Frame → T → Type 0) → List ℕ → T → Report → T → Report → Type 0
+StopsAtHead verified exchanged key before told after told' =
+    (frame : Frame) × exchanged before (Query Head) frame after × ((now : Report) × StartsNone verified key frame now × (told' ≡ onto told now))
 
 -- A fault comes that nothing tells: all that was told so far was told in this scene. If no reply came, the client and the
 -- monitors are also those of the scene; memory may run out between a change of theirs and what is told of it.

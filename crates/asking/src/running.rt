@@ -4,6 +4,7 @@ ghost use Rattle.std.specs.Io.KnownBytes.{Keeps};
 ghost use Rattle.textio.specs.declared.program_fault.ProgramFault.TheVariants.{BadHex};
 ghost use Rattle.asking.specs.AskOptions.{ask_keys_of, values_of};
 
+use crate::fault::RunFault;
 use crate::said::{ALARM, REFUSED};
 use crate::state::State;
 use crate::{AskFault, AskOrder, Asker, Checks, Said};
@@ -152,7 +153,7 @@ where
     E: Write,
 {
     /// Ends a run: what was said is written, and the status returned. That of an alarm stays if a fault follows.
-    fn end(&mut self, outcome: Result<(), AskFault>) -> Result<u8, ProgramFault> {
+    fn end(&mut self, outcome: Result<(), RunFault>) -> Result<u8, ProgramFault> {
         match self.conclude(outcome) {
             Err(fault) if self.said.status != ALARM => Err(fault),
             Err(fault) => {
@@ -164,15 +165,19 @@ where
     }
 
     /// Writes what was said of how the run went. Returns its fault, if there is one.
-    fn conclude(&mut self, outcome: Result<(), AskFault>) -> Result<(), ProgramFault> {
+    fn conclude(&mut self, outcome: Result<(), RunFault>) -> Result<(), ProgramFault> {
         match outcome {
             Ok(()) => {}
-            Err(AskFault::Program(fault)) => {
+            Err(RunFault::Program(fault)) => {
                 self.write()?;
                 return Err(fault);
             }
-            Err(AskFault::Stopped) => self.said.raise(REFUSED),
-            Err(AskFault::NoReply) => {
+            Err(RunFault::Ask(AskFault::OutOfMemory)) => {
+                self.write()?;
+                return Err(ProgramFault::OutOfMemory);
+            }
+            Err(RunFault::Ask(AskFault::Stopped)) => self.said.raise(REFUSED),
+            Err(RunFault::Ask(AskFault::NoReply)) => {
                 self.said.words.extend_from_slice(b"no reply\n")?;
                 self.said.raise(REFUSED);
             }
@@ -187,7 +192,7 @@ where
         key: Hash32,
         token: Hash32,
         reader: &mut R,
-    ) -> Result<(), AskFault> {
+    ) -> Result<(), RunFault> {
         let mut asker = self.begin(key, token)?;
         let followed = self.follow(&mut asker);
         self.settle(&asker)?;
@@ -202,13 +207,14 @@ where
     }
 
     /// Lets the client take the roots that are new, and tests the promises that are due.
-    fn follow(&mut self, asker: &mut KeyedAsker) -> Result<(), AskFault> {
+    fn follow(&mut self, asker: &mut KeyedAsker) -> Result<(), RunFault> {
         asker.follow(self.stream, &mut self.said)?;
-        asker.test_promises(self.stream, &mut self.said)
+        asker.test_promises(self.stream, &mut self.said)?;
+        Ok(())
     }
 
     /// What asks: with the chain of the state, or else from the directory's head on.
-    fn begin(&mut self, key: Hash32, token: Hash32) -> Result<KeyedAsker, AskFault> {
+    fn begin(&mut self, key: Hash32, token: Hash32) -> Result<KeyedAsker, RunFault> {
         let mut checks = checks_of(key);
         if let Some(state) = self.state.as_mut() {
             match state.load(self.alloc, self.files, checks, key, token)? {
@@ -232,7 +238,7 @@ where
         &mut self,
         asker: &mut KeyedAsker,
         reader: &mut R,
-    ) -> Result<(), AskFault> {
+    ) -> Result<(), RunFault> {
         let mut line = Vec::new(self.alloc);
         // Every loop of Rattle has an end: this one's is past any input.
         for number in 1..u64::MAX {
@@ -241,7 +247,7 @@ where
             }
             self.ask_line(asker, &line, number)?;
         }
-        Err(AskFault::Program(ProgramFault::CannotRead))
+        Err(RunFault::Program(ProgramFault::CannotRead))
     }
 
     /// Asks the line of this number.
@@ -250,8 +256,8 @@ where
         asker: &mut KeyedAsker,
         line: &[u8],
         number: u64,
-    ) -> Result<(), AskFault> {
-        let not_a_command = Err(AskFault::Program(ProgramFault::NotACommand(number)));
+    ) -> Result<(), RunFault> {
+        let not_a_command = Err(RunFault::Program(ProgramFault::NotACommand(number)));
         let Some(line) = read_line(self.alloc, line)? else {
             return not_a_command;
         };
@@ -264,7 +270,8 @@ where
             Line::Piece { .. } | Line::End { .. } => return not_a_command,
         };
         self.settle(asker)?;
-        asked
+        asked?;
+        Ok(())
     }
 
     /// Keeps the roots and promises that are new, writes what is said, and then keeps what is left to test and how

@@ -4,8 +4,7 @@ use Rattle.play.specs.Spoken.{ask_seen}
 use Rattle.asking.specs.Asking.{AsksSome}
 use Rattle.asking.specs.Exchanges.{Exchanges}
 use Rattle.asking.specs.Scenes.{scene}
-use Rattle.asking.specs.declared.fault.AskFault.TheVariants.{NoReply, Program, Stopped}
-use Rattle.textio.specs.declared.program_fault.ProgramFault.TheVariants.{OutOfMemory}
+use Rattle.asking.specs.declared.fault.AskFault.TheVariants.{NoReply, OutOfMemory, Stopped}
 use Rattle.asking.proofs.Asked.{asks_all}
 use Rattle.asking.proofs.Halted.{halts_catching, halts_going, halts_hearing, halts_here}
 use Rattle.asking.proofs.asker.Asker.ask.Goals as goal
@@ -56,11 +55,11 @@ returns-in_err-catch_up-clause-halts g c =
 
 pub returns-in_err-answer-clause-halts : goal.returns-in_err-answer-clause-halts
 returns-in_err-answer-clause-halts g c =
-    let passed : c.from_residual-in_err-answer.result ≡ Err (Program OutOfMemory) = search rules in
-    let not : Program OutOfMemory ≢ NoReply = search rules in
+    let passed : c.from_residual-in_err-answer.result ≡ Err OutOfMemory = search rules in
+    let not : OutOfMemory ≢ NoReply = search rules in
     rw passed (λ unstopped. halts_hearing g.H.NodeHash.digest_of g.V.VufCheck.accepted g.S.Verifier.verified (Exchanges g.T.Write.contents g.T.Read.remaining) c.args.self.now.marks c.args.self.now c.args.said.now c.args.stream.now
     c.request.new.stream (ask_seen c.args.ask.now) (frame_seen c.in_ok-frame.frame) c.head-head.ensures.0 c.epoch_of.result
-    c.catch_up.new.self c.catch_up.new.said c.catch_up.new.stream (Program OutOfMemory) c.answer.new.self c.answer.new.said c.head-head.ensures.1
+    c.catch_up.new.self c.catch_up.new.said c.catch_up.new.stream OutOfMemory c.answer.new.self c.answer.new.said c.head-head.ensures.1
     (c.in_ok-reply.ensures.sent (frame_seen c.in_ok-frame.frame) (rw c.deref.ensures.value at c.in_ok-frame.ensures.ok)) c.epoch_of.ensures c.in_ok-catch_up.ensures.catches not c.answer.ensures.told)
 
 pub returns-clause-halts : goal.returns-clause-halts

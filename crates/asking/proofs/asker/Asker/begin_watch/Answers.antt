@@ -3,8 +3,7 @@ use Rattle.monitor.specs.Monitors.{Monitor}
 use Rattle.asking.specs.Exchanges.{Exchanges}
 use Rattle.asking.specs.Joining.{BeginsSomeAt}
 use Rattle.asking.specs.Scenes.{scene}
-use Rattle.asking.specs.declared.fault.AskFault.TheVariants.{Program}
-use Rattle.textio.specs.declared.program_fault.ProgramFault.TheVariants.{OutOfMemory}
+use Rattle.asking.specs.declared.fault.AskFault.TheVariants.{OutOfMemory}
 use Rattle.asking.proofs.Halted.{halts_stepping, halts_untold}
 use Rattle.asking.proofs.Joined.{joins_not}
 use Rattle.asking.proofs.asker.Asker.begin_watch.Goals as goal
@@ -17,14 +16,14 @@ returns-in_ok-tell_client-in-Err-clause-begins g c =
 
 pub returns-in_err-push-in-Ok-clause-halts : goal.returns-in_err-push-in-Ok-clause-halts
 returns-in_err-push-in-Ok-clause-halts g c =
-    let passed : c.from_residual.result ≡ Err (Program OutOfMemory) = search rules in
+    let passed : c.from_residual.result ≡ Err OutOfMemory = search rules in
     rw passed (halts_untold c.args.self.now (record c.monitor_from.new.self { monitors = c.push.new.self }) c.args.said.now c.args.said.now c.args.stream.now
     (BeginsSomeAt g.H.NodeHash.digest_of g.V.VufCheck.accepted g.S.Verifier.verified (Exchanges g.T.Write.contents g.T.Read.remaining) c.args.self.now.marks.items c.args.self.now.key c.args.self.now.earlier.items c.args.name.now
     (option_map (λ key. key.now) c.args.key) c.args.first.now (scene c.args.self.now c.args.said.now c.args.stream.now)) (inl refl) refl)
 
 pub returns-in_err-tell_client-in-Err-clause-halts : goal.returns-in_err-tell_client-in-Err-clause-halts
 returns-in_err-tell_client-in-Err-clause-halts g c =
-    let passed : c.from_residual-in_err-tell_client-in-Err.result ≡ Err (Program OutOfMemory) = search rules in
+    let passed : c.from_residual-in_err-tell_client-in-Err.result ≡ Err OutOfMemory = search rules in
     rw passed (halts_untold c.args.self.now c.monitor_from.new.self c.args.said.now c.tell_client.new.said c.args.stream.now
     (BeginsSomeAt g.H.NodeHash.digest_of g.V.VufCheck.accepted g.S.Verifier.verified (Exchanges g.T.Write.contents g.T.Read.remaining) c.args.self.now.marks.items c.args.self.now.key c.args.self.now.earlier.items c.args.name.now
     (option_map (λ key. key.now) c.args.key) c.args.first.now (scene c.args.self.now c.args.said.now c.args.stream.now)) (inl refl) c.in_err-tell_client-in-Err.ensures.untold)
