@@ -5,6 +5,7 @@ pub mod Joined
 pub mod Listed
 pub mod Moved
 pub mod Placed
+pub mod Ran
 pub mod Stepped
 pub mod Stopped
 pub mod Telling

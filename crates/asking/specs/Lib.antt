@@ -10,5 +10,6 @@ pub mod Scenes
 pub mod Stopping
 pub mod Testing
 pub mod Reports
+pub mod Runs
 pub mod Visiting
 pub mod Watching

@@ -1,3 +1,5 @@
+use encoding::Hash32;
+
 /// What is asked of a directory that listens.
 #[derive(Clone, Copy, Debug)]
 pub struct AskOrder<'a> {
@@ -14,4 +16,13 @@ pub struct AskOrder<'a> {
     /// The words behind it.
     pub first: Option<&'a str>,
     pub second: Option<&'a str>,
+}
+
+/// The keys of a run.
+#[derive(Clone, Copy, Debug, PartialEq, Eq)]
+pub struct AskKeys {
+    /// The provider's public key.
+    pub provider: Hash32,
+    /// The operator's token, or zeros.
+    pub token: Hash32,
 }

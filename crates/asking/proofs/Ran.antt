@@ -1,0 +1,81 @@
+-- The lines of a run, one after another.
+use Rattle.std.proofs.Common.{◌≡◌, ◌∙◌, ℕ, Bool, true, false, List, [], ◌∷◌, Option, None, Some, Result, Ok, Err, Global, Vec, ap, refl, subst, sym}
+use Rattle.std.specs.Prelude.{IfSome, OnOk}
+use Rattle.std.specs.Io.KnownBytes.{Appends}
+use Rattle.std.proofs.KnownBytes.{Appends-nil}
+use Rattle.rootchain.specs.declared.signed_promise.SignedPromise.{SignedPromise}
+use Rattle.textio.specs.Lines.{lines_of}
+use Rattle.wire.specs.Frames.{Frame}
+use Rattle.wire.specs.Requests.{RequestContent}
+use Rattle.play.specs.Reading.{TakesLine}
+use Rattle.asking.specs.declared.asker.Asker.{Asker}
+use Rattle.asking.specs.declared.asker.Mark.{Mark}
+use Rattle.asking.specs.declared.said.Said.{Said}
+use Rattle.asking.specs.Reports.{told_by}
+use Rattle.asking.specs.Runs.{AsksLine, AsksLines, emptied, Known, known_of, Writes}
+use Rattle.asking.specs.Scenes.{Scene, scene, Remains}
+use Rattle.asking.proofs.Joined.{scene_of}
+
+known-by : {H V S : Type 0} (before after : Asker H V S) → after.key ≡ before.key → after.token ≡ before.token → after.marks.items ≡ before.marks.items → after.earlier.items ≡ before.earlier.items → known_of after ≡ known_of before
+known-by before after key token marks earlier =
+    ap (λ (k : List ℕ). let t : Known = record { key = k; token = after.token; marks = after.marks.items; earlier = after.earlier.items } in t) key
+    ∙ ap (λ (k : List ℕ). let t : Known = record { key = before.key; token = k; marks = after.marks.items; earlier = after.earlier.items } in t) token
+    ∙ ap (λ (k : List Mark). let t : Known = record { key = before.key; token = before.token; marks = k; earlier = after.earlier.items } in t) marks
+    ∙ ap (λ (k : List SignedPromise). let t : Known = record { key = before.key; token = before.token; marks = before.marks.items; earlier = k } in t) earlier
+
+-- no answer changes what is known
+pub known_stays : {H V S : Type 0} (before after : Asker H V S) → Remains before after → known_of after ≡ known_of before
+known_stays before after (key, token, marks, earlier) = known-by before after key token (ap (λ (all : Vec Mark Global). all.items) marks) (ap (λ (all : Vec SignedPromise Global). all.items) earlier)
+
+module _ (hash : List ℕ → List ℕ) (accepted verified : List ℕ → List ℕ → List ℕ → Type 0) {T : Type 0} (exchanged : T → RequestContent → Frame → T → Type 0) (known : Known) where
+  -- whatever is asked from here to the end of the input is asked from the beginning
+  abbrev pub LeadsOn : Scene T → Option (List ℕ) → Option (List ℕ) → Scene T → Option (List ℕ) → Option (List ℕ) → Type 0
+  LeadsOn start input old here left now = (all : List ℕ) → input ≡ Some all → (rest : List ℕ) × (left ≡ Some rest)
+      × ((new : Option (List ℕ)) (after : Scene T) → AsksLines hash accepted verified exchanged known (lines_of rest) here now new after → AsksLines hash accepted verified exchanged known (lines_of all) start old new after)
+
+  pub leads_first : (start : Scene T) (input old : Option (List ℕ)) → LeadsOn start input old start input old
+  leads_first start input old = λ all is. (all, is, λ new after asks. asks)
+
+  -- one line more is asked
+  pub leads_next : (start here next : Scene T) (input old left left' now now' : Option (List ℕ)) (line : List ℕ) → LeadsOn start input old here left now → TakesLine left left' true line
+      → Writes (AsksLine hash accepted verified exchanged known line) here now now' next → LeadsOn start input old next left' now'
+  leads_next start here next input old left left' now now' line leads takes writes = λ all is.
+      let (rest, at, lead) = leads all is in
+      by all rest lead left' (subst (λ (l : Option (List ℕ)). TakesLine l left' true line) at takes)
+    where
+      by : (all rest : List ℕ) → ((new : Option (List ℕ)) (after : Scene T) → AsksLines hash accepted verified exchanged known (lines_of rest) here now new after → AsksLines hash accepted verified exchanged known (lines_of all) start old new after)
+          → (left' : Option (List ℕ)) → TakesLine (Some rest) left' true line
+          → (rest' : List ℕ) × (left' ≡ Some rest') × ((new : Option (List ℕ)) (after : Scene T) → AsksLines hash accepted verified exchanged known (lines_of rest') next now' new after → AsksLines hash accepted verified exchanged known (lines_of all) start old new after)
+      by all rest lead None bad = absurd bad
+      by all rest lead (Some rest') is = (rest', refl, λ new after more. lead new after (subst (λ (lines : List (List ℕ)). AsksLines hash accepted verified exchanged known lines here now new after) (sym is) (next, now', writes, more)))
+
+  -- no line is left
+  pub leads_out : (start here : Scene T) (input old left left' now : Option (List ℕ)) (line : List ℕ) → LeadsOn start input old here left now → TakesLine left left' false line
+      → IfSome input (λ all. AsksLines hash accepted verified exchanged known (lines_of all) start old now here)
+  leads_out start here None old left left' now line leads takes = tt
+  leads_out start here (Some all) old left left' now line leads takes =
+      let (rest, at, lead) = leads all refl in
+      let none : rest ≡ [] = subst (λ (l : Option (List ℕ)). TakesLine l left' false line) at takes in
+      lead now here (subst (λ (bytes : List ℕ). AsksLines hash accepted verified exchanged known (lines_of bytes) here now now here) (sym none) (Appends-nil now, refl))
+
+  -- one line is asked, and no other
+  pub leads_once : (before after : Scene T) (old new : Option (List ℕ)) (line : List ℕ) → Writes (AsksLine hash accepted verified exchanged known line) before old new after
+      → AsksLines hash accepted verified exchanged known (line ∷ []) before old new after
+  leads_once before after old new line writes = (after, new, writes, (Appends-nil new, refl))
+
+-- what holds on success leads to something else
+pub ok_then : {A E P Q : Type 0} (result : Result A E) → OnOk result P → (P → Q) → OnOk result Q
+ok_then (Ok done) holds leads = leads holds
+ok_then (Err why) holds leads = tt
+
+-- what a step leads to was told, and is written
+pub written_so : {H V S T E : Type 0} (result : Result (Unit {0}) E) (Leads : Scene T → Scene T → Type 0) (before : Scene T) (asker : Asker H V S) (said said' : Said) (stream : T) (old new : Option (List ℕ))
+    → OnOk result (Leads before (scene asker said stream)) → OnOk result (Appends old new said.text.items × (told_by said' ≡ emptied said.status)) → OnOk result (Writes Leads before old new (scene asker said' stream))
+written_so (Err why) Leads before asker said said' stream old new leads writes = tt
+written_so (Ok done) Leads before asker said said' stream old new leads (appends, told) =
+    (scene asker said stream, leads, appends, scene_of asker.client asker.client asker.monitors.items asker.monitors.items (told_by said') (emptied said.status) stream refl refl told)
+
+-- a step that came to its end, where what came after it did
+pub ok_before : {A E B F P : Type 0} (result : Result A E) (first : Result B F) (done : B) → OnOk result (first ≡ Ok done) → OnOk first P → OnOk result P
+ok_before (Err why) first done same holds = tt
+ok_before {P = P} (Ok it) first done same holds = subst (λ (r : Result _ _). OnOk r P) same holds

@@ -1,0 +1,15 @@
+use Rattle.std.proofs.Common.{◌≡◌, ℕ, List, Option, Some}
+use Rattle.textio.specs.Lines.{lines_of}
+use Rattle.asking.specs.Exchanges.{Exchanges}
+use Rattle.asking.specs.Runs.{AsksLines, known_of}
+use Rattle.asking.specs.Scenes.{scene, Scene}
+use Rattle.asking.proofs.Ran.{LeadsOn}
+use Rattle.asking.proofs.run.Run.ask_lines.Given as goal
+
+abbrev pub invariant-loop-number : goal.invariant-loop-number
+invariant-loop-number g l = record {
+  asks : LeadsOn g.H.NodeHash.digest_of g.V.VufCheck.accepted g.S.Verifier.verified (Exchanges g.T.Write.contents g.T.Read.remaining) (known_of l.fn.asker)
+      (scene l.fn.asker l.fn.self.said l.fn.stream) (g.R.Read.remaining l.fn.reader) (g.W.Write.contents l.fn.writer)
+      (scene l.asker l.self.said l.stream) (g.R.Read.remaining l.reader) (g.W.Write.contents l.writer);
+  same : known_of l.asker ≡ known_of l.fn.asker;
+}

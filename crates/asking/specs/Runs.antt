@@ -1,0 +1,98 @@
+-- What a run writes: all that is told of each line that it asks, one after another.
+use Rattle.std.specs.Prelude.{◌≡◌, ℕ, List, [], ◌∷◌, ◌++◌, Option, Some, None, IfSome, option_map}
+use Rattle.std.specs.Io.KnownBytes.{Appends}
+use Rattle.rootchain.specs.declared.signed_promise.SignedPromise.{SignedPromise}
+use Rattle.textio.specs.Lines.{lines_of}
+use Rattle.wire.specs.Frames.{Frame}
+use Rattle.wire.specs.Requests.{RequestContent}
+use Rattle.play.specs.Scripts.{Line, Pass, Ask, Watch, Piece, End, line_of}
+use Rattle.asking.specs.AskOptions.{AskOptions}
+use Rattle.asking.specs.Asking.{Asks}
+use Rattle.asking.specs.Following.{Follows}
+use Rattle.asking.specs.Joining.{BeginsWatch}
+use Rattle.asking.specs.Reports.{Report}
+use Rattle.asking.specs.Scenes.{Scene, StartsAtHead}
+use Rattle.asking.specs.Visiting.{TestsAll}
+use Rattle.asking.specs.declared.asker.Asker.{Asker}
+use Rattle.asking.specs.declared.asker.Mark.{Mark}
+
+-- what stays throughout a run: the provider's key, the token, and the marks and the promised changes of earlier runs
+pub record Known : Type 0 where
+  pub key : List ℕ
+  pub token : List ℕ
+  pub marks : List Mark
+  pub earlier : List SignedPromise
+
+abbrev pub known_of : {H V S : Type 0} → Asker H V S → Known
+known_of asker = record { key = asker.key; token = asker.token; marks = asker.marks.items; earlier = asker.earlier.items }
+
+-- with no earlier run
+abbrev pub known_new : List ℕ → List ℕ → Known
+known_new key token = record { key = key; token = token; marks = []; earlier = [] }
+
+-- no line, and this status
+abbrev pub emptied : ℕ → Report
+emptied status = record { lines = []; status = status }
+
+-- the scene in which all that was told is written
+abbrev pub written : {T : Type 0} → Scene T → Scene T
+written before = record before { told = emptied before.told.status }
+
+-- what a step leads to is told, and all of it is written
+abbrev pub Writes : {T : Type 0} → (Scene T → Scene T → Type 0) → Scene T → Option (List ℕ) → Option (List ℕ) → Scene T → Type 0
+Writes {T} Does before old new after = (done : Scene T) × Does before done × Appends old new done.told.lines × (after ≡ written done)
+
+-- the words of an order in one line, each behind a space
+abbrev pub with_word : List ℕ → Option (List ℕ) → List ℕ
+with_word line None = line
+with_word [] (Some word) = word
+with_word (byte ∷ line) (Some word) = (byte ∷ line) ++ 32 ∷ word
+
+abbrev pub words_from : List ℕ → List (Option (List ℕ)) → List ℕ
+words_from line [] = line
+words_from line (word ∷ more) = words_from (with_word line word) more
+
+abbrev pub words_line : List (Option (List ℕ)) → List ℕ
+words_line = words_from []
+
+-- the lines that are asked: the words of the order if it has any, or else those of the input, where that is known
+abbrev pub lines_asked : List (Option (List ℕ)) → Option (List ℕ) → Option (List (List ℕ))
+lines_asked (Some command ∷ more) input = Some (words_line (Some command ∷ more) ∷ [])
+lines_asked (None ∷ more) input = option_map lines_of input
+lines_asked [] input = option_map lines_of input
+
+module _ (hash : List ℕ → List ℕ) (accepted verified : List ℕ → List ℕ → List ℕ → Type 0) {T : Type 0} (exchanged : T → RequestContent → Frame → T → Type 0) where
+  module _ (known : Known) where
+    -- the new roots are taken, and each promise is tested that is due
+    abbrev pub Prepares : Scene T → Scene T → Type 0
+    Prepares before after = (count : ℕ) × (middle : Scene T) × Follows hash verified exchanged count before middle × TestsAll hash accepted exchanged known.marks middle after
+
+    -- what a line says is asked; one that says something to a session asks nothing of a directory
+    abbrev pub Does : Line → Scene T → Scene T → Type 0
+    Does Pass before after = after ≡ before
+    Does (Ask asked) before after = Asks hash accepted verified exchanged known.marks known.token asked before after
+    Does (Watch name given) before after = BeginsWatch hash accepted verified exchanged known.marks known.key known.earlier name given before after
+    Does (Piece session piece) before after = ⊥
+    Does (End session) before after = ⊥
+
+    abbrev pub AsksLine : List ℕ → Scene T → Scene T → Type 0
+    AsksLine line before after = (said : Line) × (line_of line ≡ Some said) × Does said before after
+
+    -- each of these lines is asked, and what is told of it is written before the next
+    abbrev pub AsksLines : List (List ℕ) → Scene T → Option (List ℕ) → Option (List ℕ) → Scene T → Type 0
+    AsksLines [] before old new after = Appends old new [] × (after ≡ before)
+    AsksLines (line ∷ more) before old new after = (middle : Scene T) × (now : Option (List ℕ)) × Writes (AsksLine line) before old now middle × AsksLines more middle now new after
+
+  -- A run from its beginning to its end. Without a state, the client starts with the directory's head, and with nothing of
+  -- earlier runs; else as the files of the state have it. Then all that is new is followed, and the lines are asked.
+  pub record RunsWhole (key token : List ℕ) (options : AskOptions) (HasNoState : Type 0) (stream : T) (input : Option (List ℕ)) (status : ℕ) (old new : Option (List ℕ)) : Type 0 where
+    pub known : Known
+    pub start : Scene T
+    pub silent : start.told ≡ emptied 0
+    pub begins : HasNoState → StartsAtHead verified exchanged key stream start.client start.stream × (start.monitors ≡ []) × (known ≡ known_new key token)
+    pub ready : Scene T
+    pub now : Option (List ℕ)
+    pub prepares : Writes (Prepares known) start old now ready
+    pub last : Scene T
+    pub asks : IfSome (lines_asked options.words input) (λ lines. AsksLines known lines ready now new last)
+    pub status_is : status ≡ last.told.status

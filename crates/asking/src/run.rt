@@ -1,0 +1,417 @@
+// A run: each line of the input is asked, what is told of it is written, and the state is kept.
+ghost use Rattle.std.specs.Prelude.{◌≡◌, ◌<◌, [], Err, IfErr, IfOk, IfSome, None, Ok, OnOk, option_map};
+ghost use Rattle.std.specs.Io.KnownBytes.{Appends};
+ghost use Rattle.textio.specs.Lines.{lines_of};
+ghost use Rattle.play.specs.Spoken.{line_seen};
+ghost use Rattle.asking.specs.AskOptions.{values_of};
+ghost use Rattle.asking.specs.Exchanges.{Exchanges};
+ghost use Rattle.asking.specs.Reports.{told_by};
+ghost use Rattle.asking.specs.Runs.{AsksLine, AsksLines, Does, emptied, known_new, known_of, Prepares, RunsWhole, with_word, words_line, Writes};
+ghost use Rattle.asking.specs.Scenes.{scene, StartsAtHead};
+
+use crate::fault::RunFault;
+use crate::said::{ALARM, REFUSED};
+use crate::state::State;
+use crate::{AskFault, AskKeys, AskOrder, Asker, Checks, Said};
+use nodehash::NodeHash;
+use play::{Line, next_line, push_number, read_line};
+use sigiface::Verifier;
+use std::alloc::{AllocError, Global};
+use std::fs::{File, Files};
+use std::io::{BufRead, Read, Write};
+use textio::{ProgramFault, write_text};
+use vrfiface::VufCheck;
+
+/// What a run works with: the files of the state, and what is said.
+#[derive(Drop)]
+pub(crate) struct Run<'a, F> {
+    alloc: Global,
+    files: &'a F,
+    state: Option<State<'a>>,
+    said: Said,
+}
+
+/// The line of the words.
+fn line_of_words(alloc: Global, order: AskOrder<'_>) -> Result<Vec<u8>, AllocError>
+    ensures { IfOk result (λ line. line.items ≡ words_line (values_of order.entry).words) }
+{
+    let mut line = Vec::new(alloc);
+    push_word(&mut line, order.command)?;
+    push_word(&mut line, order.first)?;
+    push_word(&mut line, order.second)?;
+    Ok(line)
+}
+
+/// Appends a word, if there is one, behind a space.
+fn push_word(line: &mut Vec<u8>, word: Option<&str>) -> Result<(), AllocError>
+    ensures { OnOk result (line.new.items ≡ with_word line.old.items (option_map (λ text. text.now) word.entry)) }
+{
+    let Some(word) = word else {
+        return Ok(());
+    };
+    if !line.is_empty() {
+        line.extend_from_slice(b" ")?;
+    }
+    line.extend_from_slice(word.as_bytes())
+}
+
+impl<'a, F> Run<'a, F>
+where
+    F: Files<File = File>,
+{
+    /// A run that keeps its state in the file of this path, or none.
+    pub(crate) fn new(
+        alloc: Global,
+        files: &'a F,
+        path: Option<&'a str>,
+    ) -> Result<Self, ProgramFault>
+        ensures none { IfOk result (λ run. path.entry ≡ None → run.state ≡ None) }
+        ensures said { IfOk result (λ run. told_by run.said ≡ emptied 0) }
+    {
+        let state = match path {
+            Some(path) => Some(State::new(alloc, path)?),
+            None => None,
+        };
+        Ok(Run {
+            alloc,
+            files,
+            state,
+            said: Said::new(alloc),
+        })
+    }
+
+    /// Ends a run with its status. That of an alarm stays if a fault follows.
+    pub(crate) fn end<W: Write, E: Write>(
+        &mut self,
+        outcome: Result<(), RunFault>,
+        writer: &mut W,
+        errors: &mut E,
+    ) -> Result<u8, ProgramFault>
+        ensures ok { OnOk outcome ((result ≡ Ok (self.old).said.status) × (writer.new ≡ writer.old)) }
+        ensures err { IfErr outcome (λ fault. IfOk result (λ status. 0 < status)) }
+    {
+        let fault = match outcome {
+            Ok(()) => return Ok(self.said.status),
+            Err(fault) => fault,
+        };
+        match self.conclude(fault, writer, errors) {
+            Err(fault) if self.said.status != ALARM => Err(fault),
+            Err(fault) => {
+                let _told = fault.tell(errors);
+                Ok(ALARM)
+            }
+            Ok(()) => Ok(self.said.status),
+        }
+    }
+
+    /// Writes what was said before a fault stopped the run. Returns the fault, if it is one of the program.
+    fn conclude<W: Write, E: Write>(
+        &mut self,
+        fault: RunFault,
+        writer: &mut W,
+        errors: &mut E,
+    ) -> Result<(), ProgramFault>
+        ensures { OnOk result (0 < (self.new).said.status) }
+    {
+        match fault {
+            RunFault::Program(fault) => {
+                self.write(writer, errors)?;
+                return Err(fault);
+            }
+            RunFault::Ask(AskFault::OutOfMemory) => {
+                self.write(writer, errors)?;
+                return Err(ProgramFault::OutOfMemory);
+            }
+            RunFault::Ask(AskFault::Stopped) => self.said.raise(REFUSED),
+            RunFault::Ask(AskFault::NoReply) => {
+                self.said.words.extend_from_slice(b"no reply\n")?;
+                self.said.raise(REFUSED);
+            }
+        }
+        self.write(writer, errors)
+    }
+
+    /// Begins with the chain of the state, or with the directory's head, and asks what an order asks.
+    pub(crate) fn ask<T, R, W, E, H, V, S>(
+        &mut self,
+        stream: &mut T,
+        checks: Checks<H, V, S>,
+        keys: AskKeys,
+        order: AskOrder<'_>,
+        reader: &mut R,
+        writer: &mut W,
+        errors: &mut E,
+    ) -> Result<(), RunFault>
+    where
+        T: Read + Write,
+        R: BufRead,
+        W: Write,
+        E: Write,
+        H: NodeHash + Drop,
+        V: VufCheck + Drop,
+        S: Verifier + Drop,
+        ensures { OnOk result (told_by (self.old).said ≡ emptied 0 → RunsWhole H.digest_of V.accepted S.verified (Exchanges T.contents T.remaining) keys.provider keys.token (values_of order.entry)
+            ((self.old).state ≡ None) stream.old (R.remaining reader.old) (self.new).said.status (W.contents writer.old) (W.contents writer.new)) }
+    {
+        let mut asker = self.begin(stream, checks, keys)?;
+        self.prepare(&mut asker, stream, writer, errors)?;
+        match order.command {
+            Some(_) => {
+                let line = line_of_words(self.alloc, order)?;
+                self.ask_line(&mut asker, stream, &line, 1, writer, errors)
+            }
+            None => self.ask_lines(&mut asker, stream, reader, writer, errors),
+        }
+    }
+
+    /// What asks: with the chain of the state, or else from the directory's head on.
+    fn begin<T, H, V, S>(
+        &mut self,
+        stream: &mut T,
+        checks: Checks<H, V, S>,
+        keys: AskKeys,
+    ) -> Result<Asker<H, V, S>, RunFault>
+    where
+        T: Read + Write,
+        H: NodeHash + Drop,
+        V: VufCheck + Drop,
+        S: Verifier + Drop,
+        ensures begins { IfOk result (λ asker. (self.old).state ≡ None → StartsAtHead S.verified (Exchanges T.contents T.remaining) keys.provider stream.old asker.client stream.new) }
+        ensures knows { IfOk result (λ asker. (self.old).state ≡ None → (known_of asker ≡ known_new keys.provider keys.token) × (asker.monitors.items ≡ [])) }
+        ensures said { IfOk result (λ asker. told_by (self.new).said ≡ told_by (self.old).said) }
+    {
+        match self.load(checks, keys)? {
+            Ok(asker) => Ok(asker),
+            Err(unused) => self.begin_at_head(stream, unused, keys),
+        }
+    }
+
+    /// What asks with the chain of the state, or gives back the checks if there is none yet.
+    fn load<H, V, S>(
+        &mut self,
+        checks: Checks<H, V, S>,
+        keys: AskKeys,
+    ) -> Result<Result<Asker<H, V, S>, Checks<H, V, S>>, ProgramFault>
+    where
+        H: NodeHash + Drop,
+        V: VufCheck + Drop,
+        S: Verifier + Drop,
+        ensures none { (self.old).state ≡ None → result ≡ Ok (Err checks) }
+        ensures said { (self.new).said ≡ (self.old).said }
+    {
+        match self.state.as_mut() {
+            Some(state) => state.load(self.alloc, self.files, checks, keys.provider, keys.token),
+            None => Ok(Err(checks)),
+        }
+    }
+
+    /// What asks from the directory's head on. If there is a state, this is said.
+    fn begin_at_head<T, H, V, S>(
+        &mut self,
+        stream: &mut T,
+        checks: Checks<H, V, S>,
+        keys: AskKeys,
+    ) -> Result<Asker<H, V, S>, RunFault>
+    where
+        T: Read + Write,
+        H: NodeHash + Drop,
+        V: VufCheck + Drop,
+        S: Verifier + Drop,
+        ensures begins { IfOk result (λ asker. StartsAtHead S.verified (Exchanges T.contents T.remaining) keys.provider stream.old asker.client stream.new) }
+        ensures knows { IfOk result (λ asker. (known_of asker ≡ known_new keys.provider keys.token) × (asker.monitors.items ≡ [])) }
+        ensures said { IfOk result (λ asker. told_by (self.new).said ≡ told_by (self.old).said) }
+    {
+        let said = &mut self.said;
+        let asker = Asker::start_at_head(self.alloc, stream, checks, keys.provider, keys.token, said)?;
+        if self.state.is_some() {
+            tell_beginning(asker.head(), said)?;
+        }
+        Ok(asker)
+    }
+
+    /// Lets the client take the roots that are new, and tests the promises that are due.
+    fn prepare<T, W, E, H, V, S>(
+        &mut self,
+        asker: &mut Asker<H, V, S>,
+        stream: &mut T,
+        writer: &mut W,
+        errors: &mut E,
+    ) -> Result<(), RunFault>
+    where
+        T: Read + Write,
+        W: Write,
+        E: Write,
+        H: NodeHash + Drop,
+        V: VufCheck + Drop,
+        S: Verifier + Drop,
+        ensures prepares { OnOk result (Writes (Prepares H.digest_of V.accepted S.verified (Exchanges T.contents T.remaining) (known_of asker.old))
+            (scene asker.old (self.old).said stream.old) (W.contents writer.old) (W.contents writer.new) (scene asker.new (self.new).said stream.new)) }
+        ensures stays { known_of asker.new ≡ known_of asker.old }
+    {
+        let followed = follow(asker, stream, &mut self.said);
+        self.settle(asker, followed, writer, errors)
+    }
+
+    /// Asks each line of the input.
+    fn ask_lines<T, R, W, E, H, V, S>(
+        &mut self,
+        asker: &mut Asker<H, V, S>,
+        stream: &mut T,
+        reader: &mut R,
+        writer: &mut W,
+        errors: &mut E,
+    ) -> Result<(), RunFault>
+    where
+        T: Read + Write,
+        R: BufRead,
+        W: Write,
+        E: Write,
+        H: NodeHash + Drop,
+        V: VufCheck + Drop,
+        S: Verifier + Drop,
+        ensures { OnOk result (IfSome (R.remaining reader.old) (λ input. AsksLines H.digest_of V.accepted S.verified (Exchanges T.contents T.remaining) (known_of asker.old) (lines_of input)
+            (scene asker.old (self.old).said stream.old) (W.contents writer.old) (W.contents writer.new) (scene asker.new (self.new).said stream.new))) }
+    {
+        let mut line = Vec::new(self.alloc);
+        // Every loop of Rattle has an end: this one's is past any input.
+        for number in 1..u64::MAX {
+            if !next_line(reader, &mut line)? {
+                return Ok(());
+            }
+            self.ask_line(asker, stream, &line, number, writer, errors)?;
+        }
+        Err(RunFault::Program(ProgramFault::CannotRead))
+    }
+
+    /// Asks the line of this number.
+    fn ask_line<T, W, E, H, V, S>(
+        &mut self,
+        asker: &mut Asker<H, V, S>,
+        stream: &mut T,
+        line: &[u8],
+        number: u64,
+        writer: &mut W,
+        errors: &mut E,
+    ) -> Result<(), RunFault>
+    where
+        T: Read + Write,
+        W: Write,
+        E: Write,
+        H: NodeHash + Drop,
+        V: VufCheck + Drop,
+        S: Verifier + Drop,
+        ensures asks { OnOk result (Writes (AsksLine H.digest_of V.accepted S.verified (Exchanges T.contents T.remaining) (known_of asker.old) line.now)
+            (scene asker.old (self.old).said stream.old) (W.contents writer.old) (W.contents writer.new) (scene asker.new (self.new).said stream.new)) }
+        ensures stays { known_of asker.new ≡ known_of asker.old }
+    {
+        let not_a_command = Err(RunFault::Program(ProgramFault::NotACommand(number)));
+        let Some(line) = read_line(self.alloc, line)? else {
+            return not_a_command;
+        };
+        let Some(asked) = ask_said(asker, stream, &line, &mut self.said) else {
+            return not_a_command;
+        };
+        self.settle(asker, asked, writer, errors)
+    }
+
+    /// Keeps the roots and promises that are new, writes what is said, and then keeps what is left to test and how
+    /// far names were watched: so no promise is told and lost. Where memory ran out an alarm may be untold: then a
+    /// later run watches from the same epochs. Returns what came of the questions.
+    fn settle<W, E, H, V, S>(
+        &mut self,
+        asker: &Asker<H, V, S>,
+        asked: Result<(), AskFault>,
+        writer: &mut W,
+        errors: &mut E,
+    ) -> Result<(), RunFault>
+    where
+        W: Write,
+        E: Write,
+        H: NodeHash + Drop,
+        V: VufCheck + Drop,
+        S: Verifier + Drop,
+        ensures asked { OnOk result (asked ≡ Ok tt) }
+        ensures writes { OnOk result (Appends (W.contents writer.old) (W.contents writer.new) (self.old).said.text.items × (told_by (self.new).said ≡ emptied (self.old).said.status)) }
+    {
+        if let Some(state) = self.state.as_mut() {
+            state.add(self.alloc, self.files, asker)?;
+        }
+        self.write(writer, errors)?;
+        if asked != Err(AskFault::OutOfMemory) {
+            if let Some(state) = self.state.as_mut() {
+                state.save(self.alloc, self.files, asker)?;
+            }
+        }
+        asked?;
+        Ok(())
+    }
+
+    /// Writes what is said: the lines to the output, the words to the errors.
+    fn write<W: Write, E: Write>(
+        &mut self,
+        writer: &mut W,
+        errors: &mut E,
+    ) -> Result<(), ProgramFault>
+        ensures writes { OnOk result (Appends (W.contents writer.old) (W.contents writer.new) (self.old).said.text.items × ((self.new).said.text.items ≡ [])) }
+        ensures status { (self.new).said.status ≡ (self.old).said.status }
+    {
+        let told = write_text(writer, &self.said.text);
+        self.said.text.clear();
+        told?;
+        let told = write_text(errors, &self.said.words);
+        self.said.words.clear();
+        told?;
+        Ok(())
+    }
+}
+
+/// Lets the client take the roots that are new, and tests the promises that are due.
+fn follow<T, H, V, S>(
+    asker: &mut Asker<H, V, S>,
+    stream: &mut T,
+    said: &mut Said,
+) -> Result<(), AskFault>
+where
+    T: Read + Write,
+    H: NodeHash + Drop,
+    V: VufCheck + Drop,
+    S: Verifier + Drop,
+    ensures prepares { OnOk result (Prepares H.digest_of V.accepted S.verified (Exchanges T.contents T.remaining) (known_of asker.old) (scene asker.old said.old stream.old) (scene asker.new said.new stream.new)) }
+    ensures stays { known_of asker.new ≡ known_of asker.old }
+{
+    asker.follow(stream, said)?;
+    asker.test_promises(stream, said)
+}
+
+/// Asks what a line says, or nothing if that asks nothing of a directory.
+fn ask_said<T, H, V, S>(
+    asker: &mut Asker<H, V, S>,
+    stream: &mut T,
+    line: &Line,
+    said: &mut Said,
+) -> Option<Result<(), AskFault>>
+where
+    T: Read + Write,
+    H: NodeHash + Drop,
+    V: VufCheck + Drop,
+    S: Verifier + Drop,
+    ensures does { IfSome result (λ asked. OnOk asked (Does H.digest_of V.accepted S.verified (Exchanges T.contents T.remaining) (known_of asker.old) (line_seen line.now) (scene asker.old said.old stream.old) (scene asker.new said.new stream.new))) }
+    ensures stays { known_of asker.new ≡ known_of asker.old }
+{
+    match line {
+        Line::Pass => Some(Ok(())),
+        Line::Ask(ask) => Some(asker.ask(stream, ask, said)),
+        Line::Watch { name, key } => Some(asker.watch(stream, name, key.as_ref(), said)),
+        Line::Piece { .. } | Line::End { .. } => None,
+    }
+}
+
+/// Says with which epoch a state begins.
+fn tell_beginning(epoch: u64, said: &mut Said) -> Result<(), AllocError>
+    ensures { told_by said.new ≡ told_by said.old }
+{
+    said.words.extend_from_slice(b"state: begins at epoch ")?;
+    push_number(&mut said.words, epoch)?;
+    said.words.push(b'\n')?;
+    Ok(())
+}
