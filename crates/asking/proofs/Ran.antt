@@ -1,6 +1,6 @@
 -- The lines of a run, one after another.
-use Rattle.std.proofs.Common.{◌≡◌, ◌∙◌, ℕ, Bool, true, false, List, [], ◌∷◌, Option, None, Some, Result, Ok, Err, Global, Vec, ap, refl, subst, sym}
-use Rattle.std.specs.Prelude.{IfSome, OnOk}
+use Rattle.std.proofs.Common.{◌≡◌, ◌∙◌, ◌⊎◌, ◌<◌, ℕ, Bool, true, false, List, [], ◌∷◌, Option, None, Some, Result, Ok, Err, Bor, Global, Vec, ap, inl, inr, option_map, refl, subst, sym}
+use Rattle.std.specs.Prelude.{IfErr, IfOk, IfSome, OnOk}
 use Rattle.std.specs.Io.KnownBytes.{Appends}
 use Rattle.std.proofs.KnownBytes.{Appends-nil}
 use Rattle.rootchain.specs.declared.signed_promise.SignedPromise.{SignedPromise}
@@ -10,10 +10,12 @@ use Rattle.wire.specs.Requests.{RequestContent}
 use Rattle.play.specs.Reading.{TakesLine}
 use Rattle.asking.specs.declared.asker.Asker.{Asker}
 use Rattle.asking.specs.declared.asker.Mark.{Mark}
+use Rattle.asking.specs.declared.order.AskOrder.{AskOrder}
 use Rattle.asking.specs.declared.said.Said.{Said}
-use Rattle.asking.specs.Reports.{told_by}
-use Rattle.asking.specs.Runs.{AsksLine, AsksLines, emptied, Known, known_of, Writes}
-use Rattle.asking.specs.Scenes.{Scene, scene, Remains}
+use Rattle.asking.specs.AskOptions.{AskOptions, values_of}
+use Rattle.asking.specs.Reports.{Report, told_by}
+use Rattle.asking.specs.Runs.{AsksLine, AsksLines, emptied, Known, known_new, known_of, lines_asked, Prepares, RunsWhole, words_line, Writes}
+use Rattle.asking.specs.Scenes.{Scene, scene, Remains, StartsAtHead}
 use Rattle.asking.proofs.Joined.{scene_of}
 
 known-by : {H V S : Type 0} (before after : Asker H V S) → after.key ≡ before.key → after.token ≡ before.token → after.marks.items ≡ before.marks.items → after.earlier.items ≡ before.earlier.items → known_of after ≡ known_of before
@@ -75,7 +77,70 @@ written_so (Err why) Leads before asker said said' stream old new leads writes =
 written_so (Ok done) Leads before asker said said' stream old new leads (appends, told) =
     (scene asker said stream, leads, appends, scene_of asker.client asker.client asker.monitors.items asker.monitors.items (told_by said') (emptied said.status) stream refl refl told)
 
--- a step that came to its end, where what came after it did
-pub ok_before : {A E B F P : Type 0} (result : Result A E) (first : Result B F) (done : B) → OnOk result (first ≡ Ok done) → OnOk first P → OnOk result P
-ok_before (Err why) first done same holds = tt
-ok_before {P = P} (Ok it) first done same holds = subst (λ (r : Result _ _). OnOk r P) same holds
+-- what holds of a step holds where what came after it did
+pub ok_before : {A E B F : Type 0} (P : Type 0) (result : Result A E) (first : Result B F) (done : B) → OnOk result (first ≡ Ok done) → OnOk first P → OnOk result P
+ok_before P (Err why) first done same holds = tt
+ok_before {B = B} {F = F} P (Ok it) first done same holds = subst (λ (r : Result B F). OnOk r P) same holds
+
+-- a run is whole, where its lines are asked to the end
+pub whole : {T E : Type 0} (hash : List ℕ → List ℕ) (accepted verified : List ℕ → List ℕ → List ℕ → Type 0) (exchanged : T → RequestContent → Frame → T → Type 0) (key token : List ℕ) (options : AskOptions) (HasNoState : Type 0)
+    (result : Result (Unit {0}) E) (known known' : Known) (stream : T) (start ready last : Scene T) (input old now new : Option (List ℕ)) (first : Report) → start.told ≡ first
+    → (HasNoState → StartsAtHead verified exchanged key stream start.client start.stream) → (HasNoState → (known ≡ known_new key token) × (start.monitors ≡ []))
+    → Writes (Prepares hash accepted verified exchanged known) start old now ready → known' ≡ known
+    → OnOk result (IfSome (lines_asked options.words input) (λ lines. AsksLines hash accepted verified exchanged known' lines ready now new last))
+    → OnOk result (first ≡ emptied 0 → RunsWhole hash accepted verified exchanged key token options HasNoState stream input last.told.status old new)
+whole hash accepted verified exchanged key token options HasNoState (Err why) known known' stream start ready last input old now new first told begins knows prepares same asks = tt
+whole hash accepted verified exchanged key token options HasNoState (Ok done) known known' stream start ready last input old now new first told begins knows prepares same asks = λ none. record {
+  known = known;
+  start = start;
+  silent = told ∙ none;
+  begins = λ without. (begins without, (knows without).1, (knows without).0);
+  ready = ready;
+  now = now;
+  prepares = prepares;
+  last = last;
+  asks = subst (λ (k : Known). IfSome (lines_asked options.words input) (λ lines. AsksLines hash accepted verified exchanged k lines ready now new last)) same asks;
+  status_is = refl;
+}
+
+-- an order without words asks the lines of the input, and one with words asks these
+pub asks_input : {E : Type 0} (Asked : List (List ℕ) → Type 0) (result : Result (Unit {0}) E) (input : Option (List ℕ)) (order : AskOrder) → order.command ≡ None
+    → OnOk result (IfSome input (λ all. Asked (lines_of all))) → OnOk result (IfSome (lines_asked (values_of order).words input) Asked)
+asks_input Asked (Err why) input order none asks = tt
+asks_input Asked (Ok done) input order none asks = subst (λ (command : Option (Bor (List ℕ))). IfSome (lines_asked (option_map (λ text. text.now) command ∷ option_map (λ text. text.now) order.first ∷ option_map (λ text. text.now) order.second ∷ []) input) Asked) (sym none) (by input asks)
+  where
+    by : (input : Option (List ℕ)) → IfSome input (λ all. Asked (lines_of all)) → IfSome (option_map lines_of input) Asked
+    by None asks = tt
+    by (Some all) asks = asks
+
+pub asks_words : {E : Type 0} (Asked : List (List ℕ) → Type 0) (result : Result (Unit {0}) E) (input : Option (List ℕ)) (order : AskOrder) (word : Bor (List ℕ)) → order.command ≡ Some word
+    → OnOk result (Asked (words_line (values_of order).words ∷ [])) → OnOk result (IfSome (lines_asked (values_of order).words input) Asked)
+asks_words Asked (Err why) input order word some asks = tt
+asks_words Asked (Ok done) input order word some asks =
+    subst (λ (command : Option (Bor (List ℕ))). Asked (words_line (option_map (λ text. text.now) command ∷ option_map (λ text. text.now) order.first ∷ option_map (λ text. text.now) order.second ∷ []) ∷ [])
+    → IfSome (lines_asked (option_map (λ text. text.now) command ∷ option_map (λ text. text.now) order.first ∷ option_map (λ text. text.now) order.second ∷ []) input) Asked) (sym some) (λ it. it) asks
+
+-- a run that came to its end has its status, and one that was stopped another than 0
+pub ends_so : {T E F : Type 0} (hash : List ℕ → List ℕ) (accepted verified : List ℕ → List ℕ → List ℕ → Type 0) (exchanged : T → RequestContent → Frame → T → Type 0) (key token : List ℕ) (options : AskOptions) (NoState None' : Type 0)
+    (outcome : Result (Unit {0}) E) (result : Result ℕ F) (stream : T) (input old new new' : Option (List ℕ)) (status : ℕ) (told : Report) → told ≡ emptied 0 → (None' → NoState)
+    → OnOk outcome (told ≡ emptied 0 → RunsWhole hash accepted verified exchanged key token options NoState stream input status old new)
+    → OnOk outcome ((result ≡ Ok status) × (new' ≡ new)) → IfErr outcome (λ fault. IfOk result (λ other. 0 < other))
+    → IfOk result (λ other. (0 < other) ⊎ RunsWhole hash accepted verified exchanged key token options None' stream input other old new')
+ends_so hash accepted verified exchanged key token options NoState None' (Err fault) (Err why) stream input old new new' status told empty without runs ends stops = tt
+ends_so hash accepted verified exchanged key token options NoState None' (Err fault) (Ok other) stream input old new new' status told empty without runs ends stops = inl stops
+ends_so {F = F} hash accepted verified exchanged key token options NoState None' (Ok done) result stream input old new new' status told empty without runs (is, same) stops =
+    let run = runs empty in
+    subst (λ (r : Result ℕ F). IfOk r (λ other. (0 < other) ⊎ RunsWhole hash accepted verified exchanged key token options None' stream input other old new')) (sym is) (inr (
+      subst (λ (text : Option (List ℕ)). RunsWhole hash accepted verified exchanged key token options None' stream input status old text) (sym same) (record {
+        known = run.known;
+        start = run.start;
+        silent = run.silent;
+        begins = λ none. run.begins (without none);
+        ready = run.ready;
+        now = run.now;
+        prepares = run.prepares;
+        last = run.last;
+        asks = run.asks;
+        status_is = run.status_is;
+      })
+    ))

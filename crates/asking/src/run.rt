@@ -136,7 +136,7 @@ where
         &mut self,
         stream: &mut T,
         checks: Checks<H, V, S>,
-        keys: AskKeys,
+        keys: &AskKeys,
         order: AskOrder<'_>,
         reader: &mut R,
         writer: &mut W,
@@ -150,7 +150,7 @@ where
         H: NodeHash + Drop,
         V: VufCheck + Drop,
         S: Verifier + Drop,
-        ensures { OnOk result (told_by (self.old).said ≡ emptied 0 → RunsWhole H.digest_of V.accepted S.verified (Exchanges T.contents T.remaining) keys.provider keys.token (values_of order.entry)
+        ensures { OnOk result (told_by (self.old).said ≡ emptied 0 → RunsWhole H.digest_of V.accepted S.verified (Exchanges T.contents T.remaining) keys.now.provider keys.now.token (values_of order.entry)
             ((self.old).state ≡ None) stream.old (R.remaining reader.old) (self.new).said.status (W.contents writer.old) (W.contents writer.new)) }
     {
         let mut asker = self.begin(stream, checks, keys)?;
@@ -169,15 +169,15 @@ where
         &mut self,
         stream: &mut T,
         checks: Checks<H, V, S>,
-        keys: AskKeys,
+        keys: &AskKeys,
     ) -> Result<Asker<H, V, S>, RunFault>
     where
         T: Read + Write,
         H: NodeHash + Drop,
         V: VufCheck + Drop,
         S: Verifier + Drop,
-        ensures begins { IfOk result (λ asker. (self.old).state ≡ None → StartsAtHead S.verified (Exchanges T.contents T.remaining) keys.provider stream.old asker.client stream.new) }
-        ensures knows { IfOk result (λ asker. (self.old).state ≡ None → (known_of asker ≡ known_new keys.provider keys.token) × (asker.monitors.items ≡ [])) }
+        ensures begins { IfOk result (λ asker. (self.old).state ≡ None → StartsAtHead S.verified (Exchanges T.contents T.remaining) keys.now.provider stream.old asker.client stream.new) }
+        ensures knows { IfOk result (λ asker. (self.old).state ≡ None → (known_of asker ≡ known_new keys.now.provider keys.now.token) × (asker.monitors.items ≡ [])) }
         ensures said { IfOk result (λ asker. told_by (self.new).said ≡ told_by (self.old).said) }
     {
         match self.load(checks, keys)? {
@@ -190,7 +190,7 @@ where
     fn load<H, V, S>(
         &mut self,
         checks: Checks<H, V, S>,
-        keys: AskKeys,
+        keys: &AskKeys,
     ) -> Result<Result<Asker<H, V, S>, Checks<H, V, S>>, ProgramFault>
     where
         H: NodeHash + Drop,
@@ -210,15 +210,15 @@ where
         &mut self,
         stream: &mut T,
         checks: Checks<H, V, S>,
-        keys: AskKeys,
+        keys: &AskKeys,
     ) -> Result<Asker<H, V, S>, RunFault>
     where
         T: Read + Write,
         H: NodeHash + Drop,
         V: VufCheck + Drop,
         S: Verifier + Drop,
-        ensures begins { IfOk result (λ asker. StartsAtHead S.verified (Exchanges T.contents T.remaining) keys.provider stream.old asker.client stream.new) }
-        ensures knows { IfOk result (λ asker. (known_of asker ≡ known_new keys.provider keys.token) × (asker.monitors.items ≡ [])) }
+        ensures begins { IfOk result (λ asker. StartsAtHead S.verified (Exchanges T.contents T.remaining) keys.now.provider stream.old asker.client stream.new) }
+        ensures knows { IfOk result (λ asker. (known_of asker ≡ known_new keys.now.provider keys.now.token) × (asker.monitors.items ≡ [])) }
         ensures said { IfOk result (λ asker. told_by (self.new).said ≡ told_by (self.old).said) }
     {
         let said = &mut self.said;

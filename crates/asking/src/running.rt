@@ -129,6 +129,6 @@ where
         (order.entry.state ≡ None) stream.old (R.remaining reader.old) status (W.contents writer.old) (W.contents writer.new)) }
 {
     let mut run = Run::new(alloc, files, order.state)?;
-    let outcome = run.ask(stream, checks, keys, order, reader, writer, errors);
+    let outcome = run.ask(stream, checks, &keys, order, reader, writer, errors);
     run.end(outcome, writer, errors)
 }

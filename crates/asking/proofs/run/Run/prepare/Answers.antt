@@ -10,4 +10,4 @@ returns-clause-prepares g c =
     written_so c.settle.result (Prepares g.H.NodeHash.digest_of g.V.VufCheck.accepted g.S.Verifier.verified (Exchanges g.T.Write.contents g.T.Read.remaining) (known_of c.args.asker.now))
     (scene c.args.asker.now c.args.self.now.said c.args.stream.now) c.follow-followed.new.asker c.follow-followed.new.said c.settle.new.self.said c.follow-followed.new.stream
     (g.W.Write.contents c.args.writer.now) (g.W.Write.contents c.settle.new.writer)
-    (ok_before c.settle.result c.follow-followed.result tt c.settle.ensures.asked c.follow-followed.ensures.prepares) c.settle.ensures.writes
+    (ok_before _ c.settle.result c.follow-followed.result tt c.settle.ensures.asked c.follow-followed.ensures.prepares) c.settle.ensures.writes
