@@ -24,13 +24,13 @@ one-promise x y o one other = search (rules, sym one ∙ other)
 
 -- a list that is not empty has a last element
 last-of : {X : Type 0} (xs : List X) → 0 < length xs → (x : X) × (slice_get xs (length xs - 1) ≡ Some x)
-last-of xs some = elim (slice_get_cases xs (length xs - 1)).1 [ | inl found ↦ (found.0, found.2) | inr out ↦ absurd (omega (arith, some, out.0)) ]
+last-of xs some = elim (slice_get_cases xs (length xs - 1)).1 [ inl found ↦ (found.0, found.2) | inr out ↦ absurd (omega (arith, some, out.0)) ]
 
 -- a change is asked for
 abbrev pub IsPut : RequestContent → Type 0
 IsPut (Put verb name key) = Unit {0}
 IsPut (Query question) = ⊥
-IsPut (Turn token epoch nonce) = ⊥
+IsPut (Turn _ _ _) = ⊥
 
 -- the last promise was noted, and it is one that was kept
 pub notes_kept : {A E : Type 0} (result : Result A E) (asked : RequestContent) (before kept after noted noted' : List SignedPromise) → IsPut asked → length before < length kept → after ≡ kept
@@ -39,7 +39,7 @@ notes_kept (Ok done) (Put verb name key) before kept after noted noted' put more
     let last = last-of kept (omega (arith, more)) in
     subst (λ (all : List SignedPromise). Notes (Put verb name key) before all noted noted') (sym same) (inr (more, (last.0, last.1, notes last.0 last.1)))
 notes_kept (Ok done) (Query question) before kept after noted noted' put more same notes = absurd put
-notes_kept (Ok done) (Turn token epoch nonce) before kept after noted noted' put more same notes = absurd put
+notes_kept (Ok done) (Turn _ _ _) before kept after noted noted' put more same notes = absurd put
 notes_kept (Err fault) asked before kept after noted noted' put more same notes = tt
 
 -- what was noted, where the lists stay before and after
@@ -71,7 +71,7 @@ module _ (hash : List ℕ → List ℕ) (accepted verified : List ℕ → List �
       let last = last-of kept (omega (arith, more)) in
       subst (λ (all : List SignedPromise). Hands hash accepted verified (Put verb name key) promise before all given back) (sym same) (inr (more, (last.0, last.1, hands last.0 last.1)))
   hands_kept (Ok done) (Query question) promise before kept after given back put more same hands = absurd put
-  hands_kept (Ok done) (Turn token epoch nonce) promise before kept after given back put more same hands = absurd put
+  hands_kept (Ok done) (Turn _ _ _) promise before kept after given back put more same hands = absurd put
   hands_kept (Err fault) asked promise before kept after given back put more same hands = tt
 
   -- the steps of a question, in their order

@@ -94,7 +94,7 @@ module _ {H V S T : Type 0} (hash : List ℕ → List ℕ) (accepted verified : 
           → Notes asked ready.client.promises heard.client.promises first.changes.items last.changes.items → heard.marks ≡ marks
           → IfErr result (λ fault. HaltsAfter (GoesSomeAbove hash accepted verified exchanged heard.marks.items low (scene heard told_to later)) fault last said')
           → IfErr result (λ fault. fault ≢ Stopped
-              → HaltsAfter (AsksSome hash accepted verified exchanged marks.items first.token asked first.changes.items last.changes.items (scene first said stream)) fault last said')
+          → HaltsAfter (AsksSome hash accepted verified exchanged marks.items first.token asked first.changes.items last.changes.items (scene first said stream)) fault last said')
       halts_going (Ok done) heard last told_to said' low told is exchange speaks catches at hears tells hands notes same halts = tt
       halts_going (Err fault) heard last told_to said' low told is exchange speaks catches at hears tells hands notes same (reached, goes, halts) =
           let there : Scene T = scene heard told_to later in
