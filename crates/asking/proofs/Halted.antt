@@ -1,5 +1,5 @@
 -- A fault that comes between the steps of a line.
-use Rattle.std.proofs.Common.{◌≡◌, ◌≢◌, ◌⊎◌, ◌<◌, ℕ, List, ◌++◌, [], ◌∷◌, length, Option, Some, Result, Ok, Err, Global, Vec, refl, rules, subst, inl, inr}
+use Rattle.std.proofs.Common.{◌≡◌, ◌≢◌, ◌∙◌, ◌⊎◌, ◌<◌, ℕ, List, ◌++◌, [], ◌∷◌, length, Option, Some, Result, Ok, Err, Global, Vec, ap, refl, rules, subst, inl, inr}
 use Rattle.std.specs.Prelude.{IfErr}
 use Rattle.rootchain.specs.Chains.{IsHead}
 use Rattle.rootchain.specs.declared.signed_promise.SignedPromise.{SignedPromise}
@@ -13,7 +13,7 @@ use Rattle.asking.specs.declared.fault.AskFault.{AskFault}
 use Rattle.asking.specs.declared.fault.AskFault.TheVariants.{NoReply, OutOfMemory, Stopped}
 use Rattle.asking.specs.declared.said.Said.{Said}
 use Rattle.asking.specs.Answering.{with_token}
-use Rattle.asking.specs.Asking.{AsksSome, CatchesSome, CatchesUp, GoesSomeAbove, Hands, HearsSome, SpeaksOf}
+use Rattle.asking.specs.Asking.{AsksSome, CatchesSome, CatchesUp, GoesSomeAbove, Hands, HearsSome, Notes, SpeaksOf}
 use Rattle.asking.specs.Checking.{HearsFrame}
 use Rattle.asking.specs.Following.{TakesSome}
 use Rattle.asking.specs.Joining.{BeginsAt, BeginsSome, BeginsSomeAt, IsBegun, IsUnwatched}
@@ -52,31 +52,36 @@ module _ {H V S T : Type 0} (hash : List ℕ → List ℕ) (accepted verified : 
   halts_above (Err fault) marks asker last said said' stream head epoch is high (reached, goes, halts) = (reached, (head, is, high, goes), halts)
 
   module _ (marks : Vec Mark Global) (first : Asker H V S) (said : Said) (stream sent : T) (asked : RequestContent) (frame : Frame) (head : SignedRoot) (epoch : ℕ) where
-    asks-on : (after : Scene T) → IsHead first.client.chain head → exchanged stream (with_token first.token asked) frame sent → SpeaksOf asked frame epoch
-        → CatchesSome hash accepted verified exchanged epoch (scene first said sent) after
-        ⊎ ((ready : Scene T) × CatchesUp hash accepted verified exchanged epoch (scene first said sent) ready × HearsSome hash accepted verified exchanged marks.items head.body.epoch asked frame ready after)
-        → AsksSome hash accepted verified exchanged marks.items first.token asked (scene first said stream) after
-    asks-on after is exchange speaks steps = inr (record { head = head; is = is; frame = frame; stream = sent; exchange = exchange; epoch = epoch; speaks = speaks; steps = steps })
+    asks-on : (noted' : List SignedPromise) (after : Scene T) → IsHead first.client.chain head → exchanged stream (with_token first.token asked) frame sent → SpeaksOf asked frame epoch
+        → ((noted' ≡ first.changes.items) × CatchesSome hash accepted verified exchanged epoch (scene first said sent) after)
+        ⊎ ((ready : Scene T) × CatchesUp hash accepted verified exchanged epoch (scene first said sent) ready × HearsSome hash accepted verified exchanged marks.items head.body.epoch asked frame first.changes.items noted' ready after)
+        → AsksSome hash accepted verified exchanged marks.items first.token asked first.changes.items noted' (scene first said stream) after
+    asks-on noted' after is exchange speaks steps = inr (record { head = head; is = is; frame = frame; stream = sent; exchange = exchange; epoch = epoch; speaks = speaks; steps = steps })
 
     -- roots were taken
     pub halts_catching : (fault : AskFault) (last : Asker H V S) (said' : Said) → IsHead first.client.chain head → exchanged stream (with_token first.token asked) frame sent → SpeaksOf asked frame epoch
-        → HaltsAfter (CatchesSome hash accepted verified exchanged epoch (scene first said sent)) fault last said'
-        → HaltsAfter (AsksSome hash accepted verified exchanged marks.items first.token asked (scene first said stream)) fault last said'
-    halts_catching fault last said' is exchange speaks (reached, some, halts) = (reached, asks-on reached is exchange speaks (inl some), halts)
+        → last.changes ≡ first.changes → HaltsAfter (CatchesSome hash accepted verified exchanged epoch (scene first said sent)) fault last said'
+        → HaltsAfter (AsksSome hash accepted verified exchanged marks.items first.token asked first.changes.items last.changes.items (scene first said stream)) fault last said'
+    halts_catching fault last said' is exchange speaks still (reached, some, halts) =
+        (reached, asks-on last.changes.items reached is exchange speaks (inl (ap (λ (all : Vec SignedPromise Global). all.items) still, some)), halts)
 
     module _ (ready : Asker H V S) (caught : Said) (later : T) where
       -- the frame was heard, and perhaps told
       pub halts_hearing : (fault : AskFault) (last : Asker H V S) (said' : Said) → IsHead first.client.chain head → exchanged stream (with_token first.token asked) frame sent → SpeaksOf asked frame epoch
-          → CatchesUp hash accepted verified exchanged epoch (scene first said sent) (scene ready caught later) → fault ≢ NoReply
-          → (told_by said' ≡ told_by caught) ⊎ ((told : Report) × HearsFrame hash accepted verified ready.client asked frame told last.client × Tells caught told said')
-          → HaltsAfter (AsksSome hash accepted verified exchanged marks.items first.token asked (scene first said stream)) fault last said'
-      halts_hearing fault last said' is exchange speaks catches not (inl same) =
+          → CatchesUp hash accepted verified exchanged epoch (scene first said sent) (scene ready caught later) → fault ≢ NoReply → ready.changes ≡ first.changes
+          → (last.changes.items ≡ ready.changes.items) ⊎ Notes asked ready.client.promises last.client.promises ready.changes.items last.changes.items
+          → ((told_by said' ≡ told_by caught) × (last.changes.items ≡ ready.changes.items)) ⊎ ((told : Report) × HearsFrame hash accepted verified ready.client asked frame told last.client × Tells caught told said')
+          → HaltsAfter (AsksSome hash accepted verified exchanged marks.items first.token asked first.changes.items last.changes.items (scene first said stream)) fault last said'
+      halts_hearing fault last said' is exchange speaks catches not still noted (inl (same, none)) =
           let here : Scene T = scene ready caught later in
-          (here, asks-on here is exchange speaks (inr (here, catches, inl refl)), (same, λ none. absurd (not none)))
-      halts_hearing fault last said' is exchange speaks catches not (inr (told, hears, tells)) =
+          let unnoted : last.changes.items ≡ first.changes.items = none ∙ ap (λ (all : Vec SignedPromise Global). all.items) still in
+          (here, asks-on last.changes.items here is exchange speaks (inr (here, catches, inl (unnoted, refl))), (same, λ none. absurd (not none)))
+      halts_hearing fault last said' is exchange speaks catches not still noted (inr (told, hears, tells)) =
+          let notes = subst
+          (λ (all : Vec SignedPromise Global). (last.changes.items ≡ all.items) ⊎ Notes asked ready.client.promises last.client.promises all.items last.changes.items) still noted in
           let reached : Scene T = record { client = last.client; monitors = ready.monitors.items; told = told_by said'; stream = later } in (
             reached,
-            asks-on reached is exchange speaks (inr (scene ready caught later, catches, inr (inl (told, hears, told_onto caught said' told tells, refl, refl)))),
+            asks-on last.changes.items reached is exchange speaks (inr (scene ready caught later, catches, inr (inl (notes, told, hears, told_onto caught said' told tells, refl, refl)))),
             (refl, λ none. absurd (not none)),
           )
 
@@ -85,20 +90,22 @@ module _ {H V S T : Type 0} (hash : List ℕ → List ℕ) (accepted verified : 
           → exchanged stream (with_token first.token asked) frame sent → SpeaksOf asked frame epoch
           → CatchesUp hash accepted verified exchanged epoch (scene first said sent) (scene ready caught later) → low ≡ head.body.epoch
           → HearsFrame hash accepted verified ready.client asked frame told heard.client → Tells caught told told_to
-          → Hands hash accepted verified asked frame.body ready.client.promises heard.client.promises ready.monitors.items heard.monitors.items → heard.marks ≡ marks
+          → Hands hash accepted verified asked frame.body ready.client.promises heard.client.promises ready.monitors.items heard.monitors.items
+          → Notes asked ready.client.promises heard.client.promises first.changes.items last.changes.items → heard.marks ≡ marks
           → IfErr result (λ fault. HaltsAfter (GoesSomeAbove hash accepted verified exchanged heard.marks.items low (scene heard told_to later)) fault last said')
-          → IfErr result (λ fault. fault ≢ Stopped → HaltsAfter (AsksSome hash accepted verified exchanged marks.items first.token asked (scene first said stream)) fault last said')
-      halts_going (Ok done) heard last told_to said' low told is exchange speaks catches at hears tells hands same halts = tt
-      halts_going (Err fault) heard last told_to said' low told is exchange speaks catches at hears tells hands same (reached, goes, halts) =
+          → IfErr result (λ fault. fault ≢ Stopped
+          → HaltsAfter (AsksSome hash accepted verified exchanged marks.items first.token asked first.changes.items last.changes.items (scene first said stream)) fault last said')
+      halts_going (Ok done) heard last told_to said' low told is exchange speaks catches at hears tells hands notes same halts = tt
+      halts_going (Err fault) heard last told_to said' low told is exchange speaks catches at hears tells hands notes same (reached, goes, halts) =
           let there : Scene T = scene heard told_to later in
           let above = subst (λ (m : Vec Mark Global). GoesSomeAbove hash accepted verified exchanged m.items low there reached) same goes in
           let from_head = subst (λ (n : ℕ). GoesSomeAbove hash accepted verified exchanged marks.items n there reached) at above in
           λ unstopped. (
             reached,
-            asks-on reached is exchange speaks (inr (
+            asks-on last.changes.items reached is exchange speaks (inr (
               scene ready caught later,
               catches,
-              inr (inr (there, record { told = told; hears = hears; tells = told_onto caught told_to told tells; hands = hands; stream = refl }, from_head)),
+              inr (inr (there, record { told = told; hears = hears; tells = told_onto caught told_to told tells; hands = hands; stream = refl }, notes, from_head)),
             )),
             halts,
           )

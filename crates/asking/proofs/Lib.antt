@@ -1,6 +1,7 @@
 pub mod Asked
 pub mod Going
 pub mod Halted
+pub mod Heard
 pub mod Joined
 pub mod Listed
 pub mod Moved

@@ -1,5 +1,5 @@
 -- What comes of a line that asks.
-use Rattle.std.specs.Prelude.{◌≡◌, ◌≢◌, ◌⊎◌, ℕ, ◌<◌, ◌≤◌, ◌-◌, List, length, Some, Result, Err, slice_get}
+use Rattle.std.specs.Prelude.{◌≡◌, ◌≢◌, ◌⊎◌, ℕ, ◌<◌, ◌≤◌, ◌-◌, List, [], ◌∷◌, ◌++◌, length, Some, Result, Err, slice_get}
 use Rattle.std.specs.List.{AllZip}
 use Rattle.rootchain.specs.Chains.{IsHead}
 use Rattle.rootchain.specs.declared.signed_promise.SignedPromise.{SignedPromise}
@@ -36,6 +36,17 @@ SpeaksOf asked frame epoch =
     × ((Answers asked responded × (epoch ≡ response_epoch responded)) ⊎ ((¬ Answers asked responded) × (epoch ≡ 0))))
     ⊎ (((why : ReadRefusal) × ReadsResponse frame.kind frame.body (Err why)) × (epoch ≡ 0))
 
+-- the last of these promises is noted behind the others
+abbrev pub NotesLast : List SignedPromise → List SignedPromise → List SignedPromise → Type 0
+NotesLast promises noted noted' = (signed : SignedPromise) × (slice_get promises (length promises - 1) ≡ Some signed) × (noted' ≡ noted ++ signed ∷ [])
+
+-- what the client notes of its own changes: a promise that it kept for one, the last of those it has, and nothing else
+abbrev pub Notes : RequestContent → List SignedPromise → List SignedPromise → List SignedPromise → List SignedPromise → Type 0
+Notes (Put verb name key) before after noted noted' =
+    ((length after ≤ length before) × (noted' ≡ noted)) ⊎ ((length before < length after) × NotesLast after noted noted')
+Notes (Query question) before after noted noted' = noted' ≡ noted
+Notes (Turn _ _ _) before after noted noted' = noted' ≡ noted
+
 module _ (hash : List ℕ → List ℕ) (accepted verified : List ℕ → List ℕ → List ℕ → Type 0) where
   -- a monitor of the promise's name is given it, and the others are left alone
   abbrev pub HandsTo : SignedPromise → List ℕ → Monitor → Monitor → Type 0
@@ -71,8 +82,8 @@ module _ (hash : List ℕ → List ℕ) (accepted verified : List ℕ → List �
         × (((head.body.epoch ≤ epoch) × (after ≡ before)) ⊎ ((epoch < head.body.epoch) × GoesOn hash accepted exchanged marks before after))
 
     -- The line is asked, with this token of the operator, and a frame comes back. Then, in this order: the chain gets as far
-    -- as the reply, what the client makes of it is told, and of new epochs what monitors and promises say.
-    pub record Asks (marks : List Mark) (token : List ℕ) (asked : RequestContent) (before after : Scene T) : Type 0 where
+    -- as the reply, what the client makes of it is told and noted, and of new epochs what monitors and promises say.
+    pub record Asks (marks : List Mark) (token : List ℕ) (asked : RequestContent) (noted noted' : List SignedPromise) (before after : Scene T) : Type 0 where
       pub head : SignedRoot
       pub is : IsHead before.client.chain head
       pub frame : Frame
@@ -84,14 +95,15 @@ module _ (hash : List ℕ → List ℕ) (accepted verified : List ℕ → List �
       pub catches : CatchesUp epoch (record before { stream = stream }) ready
       pub heard : Scene T
       pub hears : HearsOne asked frame ready heard
+      pub notes : Notes asked ready.client.promises heard.client.promises noted noted'
       pub goes : GoesOnAbove marks head.body.epoch heard after
 
     -- the chain has no root of this epoch or a later one, and a frame stops the taking of roots
-    abbrev pub StopsBelow : ℕ → Scene T → Report → Type 0
+    abbrev pub StopsBelow : ℕ → Scene T → Scene T → Type 0
     StopsBelow epoch before after = (head : SignedRoot) × IsHead before.client.chain head × (head.body.epoch < epoch) × ((count : ℕ) × StopsAfter hash verified exchanged count before after)
 
     -- the line is asked, and the chain does not get as far as the reply
-    pub record StopsAsking (token : List ℕ) (asked : RequestContent) (before : Scene T) (after : Report) : Type 0 where
+    pub record StopsAsking (token : List ℕ) (asked : RequestContent) (before after : Scene T) : Type 0 where
       pub frame : Frame
       pub stream : T
       pub exchange : exchanged before.stream (with_token token asked) frame stream
@@ -103,9 +115,9 @@ module _ (hash : List ℕ → List ℕ) (accepted verified : List ℕ → List �
     abbrev pub CatchesSome : ℕ → Scene T → Scene T → Type 0
     CatchesSome epoch before after = (head : SignedRoot) × IsHead before.client.chain head × (head.body.epoch < epoch) × TakesSome hash verified exchanged before after
 
-    -- what the client makes of a frame is told, and the monitors are given nothing of it yet
-    abbrev pub HearsOnly : RequestContent → Frame → Scene T → Scene T → Type 0
-    HearsOnly asked frame before after = (told : Report) × HearsFrame hash accepted verified before.client asked frame told after.client
+    -- what the client makes of a frame is told and perhaps noted, and the monitors are given nothing of it yet
+    abbrev pub HearsOnly : RequestContent → Frame → List SignedPromise → List SignedPromise → Scene T → Scene T → Type 0
+    HearsOnly asked frame noted noted' before after = ((noted' ≡ noted) ⊎ Notes asked before.client.promises after.client.promises noted noted') × (told : Report) × HearsFrame hash accepted verified before.client asked frame told after.client
         × (after.told ≡ onto before.told told) × (after.monitors ≡ before.monitors) × (after.stream ≡ before.stream)
 
     -- the chain has epochs above this one, and monitors and promises are at some point
@@ -113,12 +125,12 @@ module _ (hash : List ℕ → List ℕ) (accepted verified : List ℕ → List �
     GoesSomeAbove marks epoch before after = (head : SignedRoot) × IsHead before.client.chain head × (epoch < head.body.epoch) × GoesSome hash accepted exchanged marks before after
 
     -- a frame is heard, up to some point: it is not told yet; it is told; or monitors and promises go on
-    abbrev pub HearsSome : List Mark → ℕ → RequestContent → Frame → Scene T → Scene T → Type 0
-    HearsSome marks epoch asked frame before after = (after ≡ before) ⊎ (HearsOnly asked frame before after
-        ⊎ ((heard : Scene T) × HearsOne asked frame before heard × GoesSomeAbove marks epoch heard after))
+    abbrev pub HearsSome : List Mark → ℕ → RequestContent → Frame → List SignedPromise → List SignedPromise → Scene T → Scene T → Type 0
+    HearsSome marks epoch asked frame noted noted' before after = ((noted' ≡ noted) × (after ≡ before)) ⊎ (HearsOnly asked frame noted noted' before after
+        ⊎ ((heard : Scene T) × HearsOne asked frame before heard × Notes asked before.client.promises heard.client.promises noted noted' × GoesSomeAbove marks epoch heard after))
 
     -- The line is asked, and a frame comes back. Then the steps of Asks, up to some point.
-    pub record AsksOn (marks : List Mark) (token : List ℕ) (asked : RequestContent) (before after : Scene T) : Type 0 where
+    pub record AsksOn (marks : List Mark) (token : List ℕ) (asked : RequestContent) (noted noted' : List SignedPromise) (before after : Scene T) : Type 0 where
       pub head : SignedRoot
       pub is : IsHead before.client.chain head
       pub frame : Frame
@@ -126,9 +138,9 @@ module _ (hash : List ℕ → List ℕ) (accepted verified : List ℕ → List �
       pub exchange : exchanged before.stream (with_token token asked) frame stream
       pub epoch : ℕ
       pub speaks : SpeaksOf asked frame epoch
-      pub steps : CatchesSome epoch (record before { stream = stream }) after
-          ⊎ ((ready : Scene T) × CatchesUp epoch (record before { stream = stream }) ready × HearsSome marks head.body.epoch asked frame ready after)
+      pub steps : ((noted' ≡ noted) × CatchesSome epoch (record before { stream = stream }) after)
+          ⊎ ((ready : Scene T) × CatchesUp epoch (record before { stream = stream }) ready × HearsSome marks head.body.epoch asked frame noted noted' ready after)
 
     -- no frame comes back, or the steps of a line are at some point
-    abbrev pub AsksSome : List Mark → List ℕ → RequestContent → Scene T → Scene T → Type 0
-    AsksSome marks token asked before after = (after ≡ before) ⊎ AsksOn marks token asked before after
+    abbrev pub AsksSome : List Mark → List ℕ → RequestContent → List SignedPromise → List SignedPromise → Scene T → Scene T → Type 0
+    AsksSome marks token asked noted noted' before after = ((noted' ≡ noted) × (after ≡ before)) ⊎ AsksOn marks token asked noted noted' before after

@@ -1,5 +1,5 @@
 -- How all take the roots that are new.
-use Rattle.std.specs.Prelude.{◌≡◌, ◌≢◌, ◌⊎◌, ℕ, zero, suc, ◌+◌, ◌-◌, ◌<◌, ◌≤◌, ◌^◌, Bool, true, false, List, [], ◌∷◌, Ok, Err, Contains, codes}
+use Rattle.std.specs.Prelude.{◌≡◌, ◌≢◌, ◌⊎◌, ℕ, zero, suc, ◌+◌, ◌-◌, ◌<◌, ◌≤◌, ◌^◌, Bool, true, false, List, [], ◌∷◌, Ok, Err, codes}
 use Rattle.std.specs.List.{AllZip}
 use Rattle.commands.specs.Operations.{History}
 use Rattle.rootchain.specs.Chains.{IsHead}
@@ -45,27 +45,32 @@ module _ (hash : List ℕ → List ℕ) (verified : List ℕ → List ℕ → Li
   abbrev pub AllUpdate : List ℕ → Client → List Monitor → Client → List Monitor → Type 0
   AllUpdate list client monitors client' monitors' = Updates hash verified client list {A = Unit {0}} (Ok tt) client' × AllZip (MonitorUpdates list) monitors monitors'
 
-  -- a client refuses a list of roots, and not for want of memory; one of the monitors does; the client or one of them
+  -- a client refuses a list of roots, and not for want of memory
   abbrev pub Refuses : List ℕ → Client → Refusal → Type 0
   Refuses list client why = Updates hash verified client list {A = Unit {0}} (Err why) client × (why ≢ Memory)
 
-  abbrev pub OneRefuses : List ℕ → List Monitor → Refusal → Type 0
-  OneRefuses list monitors why = (monitor : Monitor) × Contains monitors monitor × Refuses list monitor.client why
+  -- one of the monitors does: those before it take the list, and it and those behind it stay as they were
+  abbrev pub OneRefuses : List ℕ → List Monitor → Refusal → List Monitor → Type 0
+  OneRefuses list [] why monitors' = ⊥
+  OneRefuses list (monitor ∷ more) why [] = ⊥
+  OneRefuses list (monitor ∷ more) why (monitor' ∷ more') = (Refuses list monitor.client why × (monitor' ≡ monitor) × (more' ≡ more))
+      ⊎ (MonitorUpdates list monitor monitor' × OneRefuses list more why more')
 
-  abbrev pub AnyRefuses : List ℕ → Client → List Monitor → Refusal → Type 0
-  AnyRefuses list client monitors why = Refuses list client why ⊎ OneRefuses list monitors why
+  -- the client does, and nothing changes; or it takes the list, and one of the monitors refuses it
+  abbrev pub AnyRefuses : List ℕ → Client → List Monitor → Refusal → Client → List Monitor → Type 0
+  AnyRefuses list client monitors why client' monitors' = (Refuses list client why × (client' ≡ client) × (monitors' ≡ monitors))
+      ⊎ (Updates hash verified client list {A = Unit {0}} (Ok tt) client' × OneRefuses list monitors why monitors')
 
   -- a list that has roots is taken, and the head is not above the one before: no root of it is one that was asked for
-  abbrev pub BringsNone : List ℕ → Client → List Monitor → Type 0
-  BringsNone list client monitors = (list ≢ no_root)
-      × ((client' : Client) × (monitors' : List Monitor) × AllUpdate list client monitors client' monitors' × IsNotAbove client client')
+  abbrev pub BringsNone : List ℕ → Client → List Monitor → Client → List Monitor → Type 0
+  BringsNone list client monitors client' monitors' = (list ≢ no_root) × AllUpdate list client monitors client' monitors' × IsNotAbove client client'
 
-  -- What comes of a frame that stops it: it is no answer, or the client or a monitor refuses its list, or all take it and it
-  -- brings no root that was asked for, which is told as a reply to something else.
-  abbrev pub IsStopped : RequestContent → Client → List Monitor → Frame → Report → Type 0
-  IsStopped asked client monitors frame told = IsUnanswered asked frame told
-      ⊎ (IsAnswered asked frame × (((why : Refusal) × AnyRefuses frame.body client monitors why × (told ≡ client_refuses (codes "client refuses root") why))
-      ⊎ (BringsNone frame.body client monitors × (told ≡ other_reply))))
+  -- What comes of a frame that stops it: it is no answer, and nothing changes; or the client or a monitor refuses its list; or
+  -- all take it and it brings no root that was asked for, which is told as a reply to something else.
+  abbrev pub IsStopped : RequestContent → Client → List Monitor → Frame → Report → Client → List Monitor → Type 0
+  IsStopped asked client monitors frame told client' monitors' = (IsUnanswered asked frame told × (client' ≡ client) × (monitors' ≡ monitors))
+      ⊎ (IsAnswered asked frame × (((why : Refusal) × AnyRefuses frame.body client monitors why client' monitors' × (told ≡ client_refuses (codes "client refuses root") why))
+      ⊎ (BringsNone frame.body client monitors client' monitors' × (told ≡ other_reply))))
 
   module _ {T : Type 0} (exchanged : T → RequestContent → Frame → T → Type 0) where
     -- the roots above the head are asked for, and this frame comes back
@@ -98,11 +103,11 @@ module _ (hash : List ℕ → List ℕ) (verified : List ℕ → List ℕ → Li
     TakesSome before after = (count : ℕ) × TakesLists count before after
 
     -- the roots above the head are asked for, and a frame comes that stops it, which is told behind what was
-    abbrev pub StopsList : Scene T → Report → Type 0
-    StopsList before after = (head : SignedRoot) × IsHead before.client.chain head × (frame : Frame) × (stream : T) × exchanged before.stream (asks_roots head) frame stream
-        × (told : Report) × IsStopped (asks_roots head) before.client before.monitors frame told × (after ≡ onto before.told told)
+    abbrev pub StopsList : Scene T → Scene T → Type 0
+    StopsList before after = (head : SignedRoot) × IsHead before.client.chain head × (frame : Frame) × exchanged before.stream (asks_roots head) frame after.stream
+        × (told : Report) × IsStopped (asks_roots head) before.client before.monitors frame told after.client after.monitors × (after.told ≡ onto before.told told)
 
     -- so many lists are taken, and then a frame stops it
-    abbrev pub StopsAfter : ℕ → Scene T → Report → Type 0
-    StopsAfter zero before told = StopsList before told
-    StopsAfter (suc count) before told = (middle : Scene T) × TakesList before true middle × StopsAfter count middle told
+    abbrev pub StopsAfter : ℕ → Scene T → Scene T → Type 0
+    StopsAfter zero before after = StopsList before after
+    StopsAfter (suc count) before after = (middle : Scene T) × TakesList before true middle × StopsAfter count middle after

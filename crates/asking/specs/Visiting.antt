@@ -64,7 +64,7 @@ module _ (hash : List ℕ → List ℕ) (accepted : List ℕ → List ℕ → Li
     TestsFrom marks zero before place after = Visits marks before place None after
     TestsFrom marks (suc count) before place after = (next : ℕ) × (middle : Scene T) × Visits marks before place (Some next) middle × TestsFrom marks count middle next after
 
-    -- each promise is tested that is due
+    -- at each place of the list, the first promise of its name is tested, if it is due and does not wait
     abbrev pub TestsAll : List Mark → Scene T → Scene T → Type 0
     TestsAll marks before after = (count : ℕ) × TestsFrom marks count before 0 after
 

@@ -5,7 +5,7 @@ ghost use Rattle.wire.specs.FrameViews.{frame_seen};
 ghost use Rattle.wire.specs.Responses.{response_seen};
 ghost use Rattle.play.specs.Spoken.{ask_seen};
 ghost use Rattle.asking.specs.Answering.{with_token};
-ghost use Rattle.asking.specs.Asking.{response_epoch, Asks, AsksSome, CatchesSome, CatchesUp, GoesOnAbove, GoesSomeAbove, Hands, SpeaksOf, StopsAsking, StopsBelow};
+ghost use Rattle.asking.specs.Asking.{response_epoch, Asks, AsksSome, CatchesSome, CatchesUp, GoesOnAbove, GoesSomeAbove, Hands, Notes, SpeaksOf, StopsAsking, StopsBelow};
 ghost use Rattle.asking.specs.Checking.{HearsFrame};
 ghost use Rattle.asking.specs.Exchanges.{Exchanges, HoldsFrame, IsOneFrame};
 ghost use Rattle.asking.specs.Scenes.{scene, HaltsAfter, Remains, Stays};
@@ -70,10 +70,11 @@ where
         ask: &Ask,
         said: &mut Said,
     ) -> Result<(), AskFault>
-        ensures asks { OnOk result (Asks H.digest_of V.accepted S.verified (Exchanges T.contents T.remaining) (self.old).marks.items (self.old).token (ask_seen ask.now) (scene self.old said.old stream.old) (scene self.new said.new stream.new)) }
+        ensures asks { OnOk result (Asks H.digest_of V.accepted S.verified (Exchanges T.contents T.remaining) (self.old).marks.items (self.old).token (ask_seen ask.now) (self.old).changes.items (self.new).changes.items (scene self.old said.old stream.old) (scene self.new said.new stream.new)) }
         ensures stays { Remains self.old self.new }
-        ensures stops { result ≡ Err Stopped → StopsAsking H.digest_of V.accepted S.verified (Exchanges T.contents T.remaining) (self.old).token (ask_seen ask.now) (scene self.old said.old stream.old) (told_by said.new) }
-        ensures halts { IfErr result (λ fault. fault ≢ Stopped → HaltsAfter (AsksSome H.digest_of V.accepted S.verified (Exchanges T.contents T.remaining) (self.old).marks.items (self.old).token (ask_seen ask.now) (scene self.old said.old stream.old)) fault self.new said.new) }
+        ensures unnoted { result ≡ Err Stopped → (self.new).changes ≡ (self.old).changes }
+        ensures stops { result ≡ Err Stopped → StopsAsking H.digest_of V.accepted S.verified (Exchanges T.contents T.remaining) (self.old).token (ask_seen ask.now) (scene self.old said.old stream.old) (scene self.new said.new stream.new) }
+        ensures halts { IfErr result (λ fault. fault ≢ Stopped → HaltsAfter (AsksSome H.digest_of V.accepted S.verified (Exchanges T.contents T.remaining) (self.old).marks.items (self.old).token (ask_seen ask.now) (self.old).changes.items (self.new).changes.items (scene self.old said.old stream.old)) fault self.new said.new) }
     {
         let head = self.head();
         let reply = self.request(stream, ask)?;
@@ -92,7 +93,7 @@ where
     ) -> Result<(), AskFault>
         ensures catches { OnOk result (CatchesUp H.digest_of V.accepted S.verified (Exchanges T.contents T.remaining) epoch (scene self.old said.old stream.old) (scene self.new said.new stream.new)) }
         ensures stays { Stays self.old self.new }
-        ensures stops { result ≡ Err Stopped → StopsBelow H.digest_of V.accepted S.verified (Exchanges T.contents T.remaining) epoch (scene self.old said.old stream.old) (told_by said.new) }
+        ensures stops { result ≡ Err Stopped → StopsBelow H.digest_of V.accepted S.verified (Exchanges T.contents T.remaining) epoch (scene self.old said.old stream.old) (scene self.new said.new stream.new) }
         ensures halts { IfErr result (λ fault. fault ≢ Stopped → HaltsAfter (CatchesSome H.digest_of V.accepted S.verified (Exchanges T.contents T.remaining) epoch (scene self.old said.old stream.old)) fault self.new said.new) }
     {
         if epoch <= self.head() {
@@ -102,7 +103,7 @@ where
     }
 
     /// Tells what the client makes of a frame that came back, or nothing if memory runs out. A promise that it keeps
-    /// is handed to the monitors of the name.
+    /// for a change of its own is noted, and handed to the monitors of the name.
     fn answer(
         &mut self,
         ask: &Ask,
@@ -111,8 +112,10 @@ where
     ) -> Result<(), AllocError>
         ensures hears { OnOk result ((told : Report) × HearsFrame H.digest_of V.accepted S.verified (self.old).client (ask_seen ask.now) (frame_seen frame.now) told (self.new).client × Tells said.old told said.new) }
         ensures hands { OnOk result (Hands H.digest_of V.accepted S.verified (ask_seen ask.now) (frame_seen frame.now).body (self.old).client.promises (self.new).client.promises (self.old).monitors.items (self.new).monitors.items) }
+        ensures notes { OnOk result (Notes (ask_seen ask.now) (self.old).client.promises (self.new).client.promises (self.old).changes.items (self.new).changes.items) }
+        ensures noted { ((self.new).changes.items ≡ (self.old).changes.items) ⊎ Notes (ask_seen ask.now) (self.old).client.promises (self.new).client.promises (self.old).changes.items (self.new).changes.items }
         ensures stays { Remains self.old self.new }
-        ensures told { (told_by said.new ≡ told_by said.old) ⊎ ((told : Report) × HearsFrame H.digest_of V.accepted S.verified (self.old).client (ask_seen ask.now) (frame_seen frame.now) told (self.new).client × Tells said.old told said.new) }
+        ensures told { ((told_by said.new ≡ told_by said.old) × ((self.new).changes.items ≡ (self.old).changes.items)) ⊎ ((told : Report) × HearsFrame H.digest_of V.accepted S.verified (self.old).client (ask_seen ask.now) (frame_seen frame.now) told (self.new).client × Tells said.old told said.new) }
     {
         let kept = self.client.promises().len();
         let checks = &mut self.checks;

@@ -1,5 +1,5 @@
 // What the client makes of the reply to what was asked.
-ghost use Rattle.std.specs.Prelude.{◌≡◌, ◌≢◌, ◌++◌, ◌∷◌, [], OnErr, OnOk, Result};
+ghost use Rattle.std.specs.Prelude.{◌≡◌, ◌≢◌, ◌++◌, ◌∷◌, ◌⊎◌, [], OnErr, OnOk, Result};
 ghost use Rattle.encoding.specs.Limits.{IsName};
 ghost use Rattle.wire.specs.FrameViews.{frame_seen};
 ghost use Rattle.wire.specs.Responses.{response_seen};
@@ -95,7 +95,7 @@ fn tell_refusal(alloc: Global, what: &[u8], why: Refusal, said: &mut Said) -> Re
 ///
 /// # Errors
 ///
-/// `AllocError` if memory runs out. Then nothing is told.
+/// `AllocError` if memory runs out. Then nothing is told, but the client may be as after a reply that was told.
 pub fn hear<H, V, S>(
     alloc: Global,
     client: &mut Client<H, V, S>,
@@ -109,6 +109,7 @@ where
     V: VufCheck + Drop,
     S: Verifier + Drop,
     ensures hears { OnOk result ((told : Report) × HearsFrame H.digest_of V.accepted S.verified client.old (ask_seen ask.now) (frame_seen frame.now) told client.new × Tells said.old told said.new) }
+    ensures client { (client.new ≡ client.old) ⊎ ((told : Report) × HearsFrame H.digest_of V.accepted S.verified client.old (ask_seen ask.now) (frame_seen frame.now) told client.new) }
     ensures untold { OnErr result (told_by said.new ≡ told_by said.old) }
 {
     let mut now = Said::new(alloc);
@@ -130,7 +131,8 @@ where
     H: NodeHash + Drop,
     V: VufCheck + Drop,
     S: Verifier + Drop,
-    ensures { OnOk result ((told : Report) × HearsFrame H.digest_of V.accepted S.verified client.old (ask_seen ask.now) (frame_seen frame.now) told client.new × Tells said.old told said.new) }
+    ensures hears { OnOk result ((told : Report) × HearsFrame H.digest_of V.accepted S.verified client.old (ask_seen ask.now) (frame_seen frame.now) told client.new × Tells said.old told said.new) }
+    ensures client { (client.new ≡ client.old) ⊎ ((told : Report) × HearsFrame H.digest_of V.accepted S.verified client.old (ask_seen ask.now) (frame_seen frame.now) told client.new) }
 {
     match Response::read(frame.kind, frame.body) {
         Ok(response) => hear_response(alloc, client, checks, ask, response, frame.body, said),
@@ -152,7 +154,8 @@ where
     H: NodeHash + Drop,
     V: VufCheck + Drop,
     S: Verifier + Drop,
-    ensures { OnOk result ((told : Report) × Hears H.digest_of V.accepted S.verified client.old body.now (ask_seen ask.now) (response_seen response.entry) told client.new × Tells said.old told said.new) }
+    ensures hears { OnOk result ((told : Report) × Hears H.digest_of V.accepted S.verified client.old body.now (ask_seen ask.now) (response_seen response.entry) told client.new × Tells said.old told said.new) }
+    ensures client { (client.new ≡ client.old) ⊎ ((told : Report) × Hears H.digest_of V.accepted S.verified client.old body.now (ask_seen ask.now) (response_seen response.entry) told client.new) }
 {
     let is_answer = answers(ask, &response);
     match response {
@@ -207,7 +210,8 @@ where
     V: VufCheck + Drop,
     S: Verifier + Drop,
     requires named { IsName name.now }
-    ensures { OnOk result ((answer : Result Statement Refusal) × (Looks H.digest_of V.accepted client.old name.now epoch reply.now answer client.new × IsTellable answer) × Tells said.old (look_told found_at answer) said.new) }
+    ensures tells { OnOk result ((answer : Result Statement Refusal) × (Looks H.digest_of V.accepted client.old name.now epoch reply.now answer client.new × IsTellable answer) × Tells said.old (look_told found_at answer) said.new) }
+    ensures client { (client.new ≡ client.old) ⊎ ((answer : Result Statement Refusal) × Looks H.digest_of V.accepted client.old name.now epoch reply.now answer client.new × IsTellable answer) }
 {
     let Ok(name) = Name::new(name) else {
         unreachable!()
@@ -231,7 +235,8 @@ where
     H: NodeHash + Drop,
     V: VufCheck + Drop,
     S: Verifier + Drop,
-    ensures { OnOk result ((answer : Result (Unit {0}) Refusal) × (Keeps H.digest_of S.verified client.old promise.now answer client.new × IsTellable answer) × Tells said.old (promise_told (responds.Promise signed) answer) said.new) }
+    ensures tells { OnOk result ((answer : Result (Unit {0}) Refusal) × (Keeps H.digest_of S.verified client.old promise.now answer client.new × IsTellable answer) × Tells said.old (promise_told (responds.Promise signed) answer) said.new) }
+    ensures client { (client.new ≡ client.old) ⊎ ((answer : Result (Unit {0}) Refusal) × Keeps H.digest_of S.verified client.old promise.now answer client.new × IsTellable answer) }
 {
     match client.keep_promise(&mut checks.hash, &checks.verifier, promise) {
         Ok(()) => tell_response(&mut said.text, Response::Promise(signed)),

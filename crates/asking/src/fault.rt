@@ -8,7 +8,8 @@ use textio::ProgramFault;
 pub enum AskFault {
     /// The stream ended, failed or was silent before a reply was whole.
     NoReply,
-    /// A root that the client has to take is refused. This is told.
+    /// The roots that the client has to take do not come: the reply is no answer, a root is refused, or no root is
+    /// new. This is told.
     Stopped,
     OutOfMemory,
 }

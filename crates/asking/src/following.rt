@@ -42,7 +42,7 @@ where
     ) -> Result<(), AskFault>
         ensures follows { OnOk result ((count : ℕ) × Follows H.digest_of S.verified (Exchanges T.contents T.remaining) count (scene self.old said.old stream.old) (scene self.new said.new stream.new)) }
         ensures stays { Stays self.old self.new }
-        ensures stops { result ≡ Err Stopped → (count : ℕ) × StopsAfter H.digest_of S.verified (Exchanges T.contents T.remaining) count (scene self.old said.old stream.old) (told_by said.new) }
+        ensures stops { result ≡ Err Stopped → (count : ℕ) × StopsAfter H.digest_of S.verified (Exchanges T.contents T.remaining) count (scene self.old said.old stream.old) (scene self.new said.new stream.new) }
         ensures halts { IfErr result (λ fault. fault ≢ Stopped → HaltsAfter (TakesSome H.digest_of S.verified (Exchanges T.contents T.remaining) (scene self.old said.old stream.old)) fault self.new said.new) }
     {
         // Every loop of Rattle has an end: this one's is past any chain.
@@ -62,7 +62,7 @@ where
     ) -> Result<bool, AskFault>
         ensures takes { IfOk result (λ went. TakesList H.digest_of S.verified (Exchanges T.contents T.remaining) (scene self.old said.old stream.old) went (scene self.new said.new stream.new)) }
         ensures stays { Stays self.old self.new }
-        ensures stops { result ≡ Err Stopped → StopsList H.digest_of S.verified (Exchanges T.contents T.remaining) (scene self.old said.old stream.old) (told_by said.new) }
+        ensures stops { result ≡ Err Stopped → StopsList H.digest_of S.verified (Exchanges T.contents T.remaining) (scene self.old said.old stream.old) (scene self.new said.new stream.new) }
         ensures halts { IfErr result (λ fault. fault ≢ Stopped → HaltsIn fault (scene self.old said.old stream.old) self.new said.new) }
     {
         let Some(from) = self.head().checked_add(1) else {
@@ -90,7 +90,7 @@ where
         ensures updates { OnOk result (AllUpdate H.digest_of S.verified list.now (self.old).client (self.old).monitors.items (self.new).client (self.new).monitors.items) }
         ensures said { OnOk result (said.new ≡ said.old) }
         ensures stays { Stays self.old self.new }
-        ensures refused { result ≡ Err Stopped → TellsRefusal (AnyRefuses H.digest_of S.verified list.now (self.old).client (self.old).monitors.items) said.old said.new }
+        ensures refused { result ≡ Err Stopped → TellsRefusal (λ why. AnyRefuses H.digest_of S.verified list.now (self.old).client (self.old).monitors.items why (self.new).client (self.new).monitors.items) said.old said.new }
         ensures halts { IfErr result (λ fault. fault ≢ Stopped → (told_by said.new ≡ told_by said.old) × (fault ≢ NoReply)) }
     {
         let checks = &mut self.checks;
@@ -118,7 +118,7 @@ where
     S: Verifier + Drop,
     ensures updates { OnOk result (AllZip (MonitorUpdates H.digest_of S.verified list.now) monitors.old monitors.new) }
     ensures said { OnOk result (said.new ≡ said.old) }
-    ensures refused { result ≡ Err Stopped → TellsRefusal (OneRefuses H.digest_of S.verified list.now monitors.old) said.old said.new }
+    ensures refused { result ≡ Err Stopped → TellsRefusal (λ why. OneRefuses H.digest_of S.verified list.now monitors.old why monitors.new) said.old said.new }
     ensures halts { IfErr result (λ fault. fault ≢ Stopped → (told_by said.new ≡ told_by said.old) × (fault ≢ NoReply)) }
 {
     for monitor in monitors.iter_mut() {
@@ -141,7 +141,7 @@ where
     S: Verifier + Drop,
     ensures updates { OnOk result (MonitorUpdates H.digest_of S.verified list.now monitor.old monitor.new) }
     ensures said { OnOk result (said.new ≡ said.old) }
-    ensures refused { result ≡ Err Stopped → TellsRefusal (Refuses H.digest_of S.verified list.now monitor.old.client) said.old said.new }
+    ensures refused { result ≡ Err Stopped → TellsRefusal (λ why. Refuses H.digest_of S.verified list.now monitor.old.client why × (monitor.new ≡ monitor.old)) said.old said.new }
     ensures halts { IfErr result (λ fault. fault ≢ Stopped → (told_by said.new ≡ told_by said.old) × (fault ≢ NoReply)) }
 {
     match monitor.update(&mut checks.hash, &checks.verifier, list) {

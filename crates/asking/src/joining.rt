@@ -4,6 +4,7 @@ ghost use Rattle.client.specs.declared.refusal.Refusal.TheVariants.{Memory};
 ghost use Rattle.asking.specs.Exchanges.{Exchanges};
 ghost use Rattle.asking.specs.Joining.{first_expected, AllHand, BeginsAt, BeginsSome, BeginsSomeAt, BeginsWatch, IsBegun, IsLater, IsLatest, IsUnwatched, RefusesOne, Retraces, RetracesOne, StartsFrom};
 ghost use Rattle.asking.specs.Scenes.{scene, HaltsAfter, Stays};
+ghost use Rattle.asking.specs.declared.fault.AskFault.TheVariants.{Stopped};
 
 use crate::asker::Mark;
 use crate::checking::tell_client;
@@ -26,7 +27,7 @@ where
     S: Verifier + Drop,
 {
     /// Adds a monitor of a name that expects this key, or none, and lets it watch each epoch that is new: those
-    /// behind the mark of the name, or the latest one if there is no mark.
+    /// behind the mark of the name, or the latest one if there is no mark. Where none is new, nothing is added.
     ///
     /// # Errors
     ///
@@ -41,6 +42,7 @@ where
         ensures begins { OnOk result (BeginsWatch H.digest_of V.accepted S.verified (Exchanges T.contents T.remaining) (self.old).marks.items (self.old).key (self.old).earlier.items name.now (option_map (λ key. key.now) key.entry)
             (scene self.old said.old stream.old) (scene self.new said.new stream.new)) }
         ensures stays { Stays self.old self.new }
+        ensures err { IfErr result (λ fault. fault ≢ Stopped) }
         ensures halts { IfErr result (λ fault. HaltsAfter (BeginsSome H.digest_of V.accepted S.verified (Exchanges T.contents T.remaining) (self.old).marks.items (self.old).key (self.old).earlier.items name.now (option_map (λ key. key.now) key.entry)
             (scene self.old said.old stream.old)) fault self.new said.new) }
     {
@@ -63,6 +65,7 @@ where
         ensures begins { OnOk result (BeginsAt H.digest_of V.accepted S.verified (Exchanges T.contents T.remaining) (self.old).marks.items (self.old).key (self.old).earlier.items name.now (option_map (λ key. key.now) key.entry)
             first.now (scene self.old said.old stream.old) (scene self.new said.new stream.new)) }
         ensures stays { Stays self.old self.new }
+        ensures err { IfErr result (λ fault. fault ≢ Stopped) }
         ensures halts { IfErr result (λ fault. HaltsAfter (BeginsSomeAt H.digest_of V.accepted S.verified (Exchanges T.contents T.remaining) (self.old).marks.items (self.old).key (self.old).earlier.items name.now (option_map (λ key. key.now) key.entry)
             first.now (scene self.old said.old stream.old)) fault self.new said.new) }
     {

@@ -2,7 +2,7 @@
 //! checked as a client checks it (after CONIKS, section 4), and told in the line that `play` prints.
 //!
 //! Callers can rely on this: whatever bytes come back, a reply is told only as the client's own calls
-//! decide: a proof that the client refuses, a root that does not stand in its chain, a promise that its
+//! decide: a proof that the client refuses, a latest root that does not stand in its chain, a promise that its
 //! provider did not sign, and a reply to another request are told as refused, by the number of the refusal.
 //! Contracts do not know what a socket or a file has; `scripts/asks.py` shows those.
 //!

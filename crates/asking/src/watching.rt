@@ -1,9 +1,9 @@
 // The monitors of names.
-ghost use Rattle.std.specs.Prelude.{◌≡◌, ◌≢◌, ◌-◌, ℕ, codes, length, slice_get, IfErr, IfOk, OnErr, OnOk, Some};
+ghost use Rattle.std.specs.Prelude.{◌≡◌, ◌≢◌, ◌⊎◌, ◌-◌, ◌++◌, ◌∷◌, [], ℕ, codes, length, slice_get, IfErr, IfOk, OnErr, OnOk, Some};
 ghost use Rattle.std.specs.List.{AllZip};
 ghost use Rattle.client.specs.declared.refusal.Refusal.TheVariants.{Memory};
 ghost use Rattle.rootchain.specs.declared.signed_promise.SignedPromise.{SignedPromise};
-ghost use Rattle.asking.specs.Asking.{HandsTo};
+ghost use Rattle.asking.specs.Asking.{HandsTo, NotesLast};
 ghost use Rattle.asking.specs.Exchanges.{Exchanges};
 ghost use Rattle.asking.specs.Refused.{client_refuses};
 ghost use Rattle.asking.specs.Scenes.{scene, HaltsAfter, HaltsIn, Remains, Stays};
@@ -58,6 +58,8 @@ where
     pub(crate) fn hand_out(&mut self, promise: &[u8]) -> Result<(), AllocError>
         ensures client { (self.new).client ≡ (self.old).client }
         ensures hands { OnOk result ((signed : SignedPromise) → slice_get (self.old).client.promises (length (self.old).client.promises - 1) ≡ Some signed → AllZip (HandsTo H.digest_of V.accepted S.verified signed promise.now) (self.old).monitors.items (self.new).monitors.items) }
+        ensures notes { OnOk result ((signed : SignedPromise) → slice_get (self.old).client.promises (length (self.old).client.promises - 1) ≡ Some signed → (self.new).changes.items ≡ (self.old).changes.items ++ signed ∷ []) }
+        ensures noted { ((self.new).changes.items ≡ (self.old).changes.items) ⊎ NotesLast (self.old).client.promises (self.old).changes.items (self.new).changes.items }
         ensures stays { Remains self.old self.new }
     {
         match self.client.promises().last() {

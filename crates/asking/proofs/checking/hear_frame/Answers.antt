@@ -8,8 +8,8 @@ use Rattle.asking.specs.Reports.{refused}
 use Rattle.asking.proofs.Telling.{tells_so}
 use Rattle.asking.proofs.checking.hear_frame.Goals as goal
 
-pub returns-in-Err : goal.returns-in-Err
-returns-in-Err g c =
+pub returns-in-Err-clause-hears : goal.returns-in-Err-clause-hears
+returns-in-Err-clause-hears g c =
     tells_so c.tell_unread.result
     (λ told. HearsFrame g.H.NodeHash.digest_of g.V.VufCheck.accepted g.S.Verifier.verified c.args.client.now (ask_seen c.args.ask.now) (frame_seen c.args.frame.now) told c.args.client.now)
     (refused (refuses_text (codes "client refuses reply") (read_refusal_number c.in-Err.why))) c.args.said.now c.args.said.now c.tell_unread.new.said refl

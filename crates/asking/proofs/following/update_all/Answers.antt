@@ -30,9 +30,9 @@ returns-in_err-update-clause-refused g c =
     λ stopped.
     let here : c.update.result ≡ Err Stopped = search (rules, sym passed ∙ stopped) in
     let monitor = get_or c.loop-monitor.monitors c.loop-monitor.monitor-index c.monitor-item.result in
-    let is : monitor ≡ get_or c.loop-monitor.monitors c.loop-monitor.monitor-index monitor = get_or_default c.loop-monitor.monitors c.loop-monitor.monitor-index c.monitor-item.result monitor (omega arith) in
-    one_refuses g.H.NodeHash.digest_of g.S.Verifier.verified c.args.list.now (MonitorUpdates g.H.NodeHash.digest_of g.S.Verifier.verified c.args.list.now) c.args.monitors.now c.loop-monitor.monitors
-    c.loop-monitor.monitor-index monitor c.args.said.now c.loop-monitor.said c.update.new.said (omega arith) is c.loop-monitor.invariant.0 c.loop-monitor.invariant.1 (c.update.ensures.refused here)
+    one_refuses g.H.NodeHash.digest_of g.S.Verifier.verified c.args.list.now c.args.monitors.now c.loop-monitor.monitors c.loop-monitor.monitor-index monitor c.update.new.monitor
+    c.args.said.now c.loop-monitor.said c.update.new.said (omega arith) c.loop-monitor.auto.monitors
+    (λ d. get_or_default c.loop-monitor.monitors c.loop-monitor.monitor-index c.monitor-item.result d (omega arith)) c.loop-monitor.invariant.0 c.loop-monitor.invariant.1 (c.update.ensures.refused here)
 
 pub returns-in_err-update-clause-halts : goal.returns-in_err-update-clause-halts
 returns-in_err-update-clause-halts g c =

@@ -2,13 +2,12 @@ use Rattle.std.proofs.Common.{◌≡◌, ◌∙◌, suc, Bool, true, false, Err,
 use Rattle.asking.specs.Exchanges.{Exchanges}
 use Rattle.asking.specs.Following.{TakesList, TakesSome}
 use Rattle.asking.specs.Scenes.{scene}
-use Rattle.asking.specs.Reports.{told_by}
 use Rattle.asking.specs.declared.fault.AskFault.TheVariants.{NoReply, Stopped}
 use Rattle.asking.proofs.Halted.{halts_here}
 use Rattle.asking.proofs.asker.Asker.follow.Goals as goal
 
 pub loop-init : goal.loop-init
-loop-init g c = record { follows = λ count after f. (count, f); stops = λ count told s. (count, s); some = λ count reached f. (count, f); stays = (refl, refl, refl, refl, refl) }
+loop-init g c = record { follows = λ count after f. (count, f); stops = λ count after s. (count, s); some = λ count reached f. (count, f); stays = (refl, refl, refl, refl, refl) }
 
 pub returns-then-not-branch-clause-follows : goal.returns-then-not-branch-clause-follows
 returns-then-not-branch-clause-follows g c =
@@ -26,7 +25,7 @@ loop-preserved g c =
     let stayed = c.loop.invariant.stays in
     record {
       follows = λ count after f. c.loop.invariant.follows (suc count) after (there, takes, f);
-      stops = λ count told s. c.loop.invariant.stops (suc count) told (there, takes, s);
+      stops = λ count after s. c.loop.invariant.stops (suc count) after (there, takes, s);
       some = λ count reached f. c.loop.invariant.some (suc count) reached (there, takes, f);
       stays = (stay.0 ∙ stayed.0, stay.1 ∙ stayed.1, stay.2 ∙ stayed.2, stay.3 ∙ stayed.3, stay.4 ∙ stayed.4);
     }
@@ -36,7 +35,7 @@ returns-in_err-take_list-clause-stops g c =
     let passed : c.from_residual.result ≡ Err c.in_err-take_list.field-0.0 = search rules in
     λ stopped.
     let here : c.take_list.result ≡ Err Stopped = search (rules, sym passed ∙ stopped) in
-    c.loop.invariant.stops 0 (told_by c.take_list.new.said) (c.take_list.ensures.stops here)
+    c.loop.invariant.stops 0 (scene c.take_list.new.self c.take_list.new.said c.take_list.new.stream) (c.take_list.ensures.stops here)
 
 pub returns-in_err-take_list-clause-halts : goal.returns-in_err-take_list-clause-halts
 returns-in_err-take_list-clause-halts g c =

@@ -41,7 +41,7 @@ returns-in_err-take-clause-stops g c =
     λ stopped.
     let here : c.take.result ≡ Err Stopped = search (rules, sym passed ∙ stopped) in
     stops_refused g.H.NodeHash.digest_of g.S.Verifier.verified (Exchanges g.T.Write.contents g.T.Read.remaining) c.args.self.now c.args.said.now c.args.stream.now
-    c.head.ensures.0 c.in-Some.from (frame_seen c.in_ok-frame_in.field-0) c.request.new.stream c.body_of.new.said c.take.new.said c.in-Some-2.list.now c.head.ensures.1 from
+    c.head.ensures.0 c.in-Some.from (frame_seen c.in_ok-frame_in.field-0) c.request.new.stream c.take.new.self c.body_of.new.said c.take.new.said c.in-Some-2.list.now c.head.ensures.1 from
     (c.in_ok-reply.ensures.sent (frame_seen c.in_ok-frame_in.field-0) (rw c.deref.ensures.value at c.in_ok-frame_in.ensures.ok)) gives (c.take.ensures.refused here)
 
 pub returns-then-head-from-clause-stops : goal.returns-then-head-from-clause-stops
