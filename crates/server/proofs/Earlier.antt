@@ -1,5 +1,5 @@
 -- What is so at each time of a history.
-use Rattle.std.proofs.Common.{◌≡◌, ℕ, List, [], ◌∷◌, ◌++◌, refl, sym, ap, subst, ◌∙◌, append_assoc, append-nil}
+use Rattle.std.proofs.Common.{◌≡◌, ℕ, List, [], ◌∷◌, ◌++◌, sym, ap, subst, ◌∙◌, append_assoc, append-nil}
 use Rattle.wire.specs.Frames.{Frame}
 use Rattle.hub.specs.Events.{HubState}
 use Rattle.hub.specs.Runs.{lines, Line}
@@ -24,10 +24,10 @@ always_in_order idle acts sound later earlier place split = in_order idle earlie
 
 module _ {S : Type 0} (answers : S → Frame → List ℕ → S → Type 0) where
   -- the lines of an earlier time are the first ones
-  abbrev AreFirst : HubState S → History → List Line → Type 0
-  AreFirst start earlier all = (now : HubState S) × (first rest : List Line) × (all ≡ first ++ rest) × AreLines answers start earlier now first
+  abbrev LinesSoFar : HubState S → History → List Line → Type 0
+  LinesSoFar start earlier all = (now : HubState S) × (first rest : List Line) × (all ≡ first ++ rest) × AreLines answers start earlier now first
 
-  lines_before : (start : HubState S) (later earlier : History) (after : HubState S) (all : List Line) → AreLines answers start (later ++ earlier) after all → AreFirst start earlier all
+  lines_before : (start : HubState S) (later earlier : History) (after : HubState S) (all : List Line) → AreLines answers start (later ++ earlier) after all → LinesSoFar start earlier all
   lines_before start [] earlier after all are = (after, all, [], sym (append-nil all), are)
   lines_before start (At now ∷ later) earlier after all are = lines_before start later earlier after all are
   lines_before start (Ordered ∷ later) earlier after all are = lines_before start later earlier after all are

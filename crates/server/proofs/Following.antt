@@ -1,5 +1,5 @@
 -- What the session of each connection was answered so far, and what it holds.
-use Rattle.std.proofs.Common.{◌≡◌, ◌≢◌, ℕ, List, [], ◌∷◌, ◌++◌, Bool, true, false, cond, map, Option, Some, None, refl, sym, ap, subst, ◌∙◌, append_assoc, append-nil, inl, inr}
+use Rattle.std.proofs.Common.{◌≡◌, ◌≢◌, ℕ, List, [], ◌∷◌, ◌++◌, Bool, true, false, cond, Option, Some, None, refl, sym, ap, subst, ◌∙◌, append_assoc, append-nil, inl, inr}
 use Rattle.std.proofs.lemmas.Bool.{eqb-true, eqb-false, false≢true}
 use Rattle.std.proofs.lemmas.List.{map-append}
 use Rattle.std.proofs.lemmas.List.Elements.{filter-append}
@@ -10,7 +10,7 @@ use Rattle.wire.specs.Frames.{Frame}
 use Rattle.wire.specs.Streams.{Remainder, Message, Rest, with_more, IsSpent, Tells}
 use Rattle.wire.proofs.Streams.{nothing_yet}
 use Rattle.hub.specs.Events.{BySession, Bytes, End, HubState, at}
-use Rattle.hub.specs.Exchanges.{Exchange, Exchanges, replies}
+use Rattle.hub.specs.Exchanges.{Exchange, replies}
 use Rattle.hub.specs.Happenings.{Answered, Passes}
 use Rattle.hub.specs.Laws.{lines_of}
 use Rattle.hub.specs.Runs.{lines, told, Line}

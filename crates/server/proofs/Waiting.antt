@@ -1,22 +1,14 @@
 -- A part of a connection's stream is answered with at most one reply.
-use Rattle.std.proofs.Common.{◌≡◌, ◌≢◌, ℕ, ◌≤◌, List, [], ◌∷◌, ◌++◌, length, Bool, true, false, Option, Some, None, refl, sym, ap, subst, ◌∙◌, arith, inl, inr}
-use Rattle.std.proofs.lemmas.Bool.{eqb-true, eqb-false, false≢true}
+use Rattle.std.proofs.Common.{◌≡◌, ℕ, ◌≤◌, List, [], ◌∷◌, ◌++◌, length, Option, Some, None, sym, ap, subst, ◌∙◌, arith}
 use Rattle.std.proofs.lemmas.List.{length-append}
-use Rattle.std.specs.Prelude.{◌==◌, ⊤}
-use Rattle.std.specs.Ordering.{nat_cmp}
-use Rattle.std.specs.BTreeMap.{is_at, insert_entry}
 use Rattle.wire.specs.Frames.{Frame}
 use Rattle.wire.specs.Streams.{Remainder, Message, Rest, Failed, Whole, BadFrame, with_more, IsSpent, Takes}
 use Rattle.wire.specs.declared.answer.TheConstants.{MAX_ANSWER_LEN}
-use Rattle.wire.proofs.Streams.{nothing_yet}
-use Rattle.hub.specs.Events.{BySession, Bytes, End, HubState, at}
+use Rattle.hub.specs.Events.{Bytes, HubState}
 use Rattle.hub.specs.Exchanges.{Exchange, Exchanges, replies}
-use Rattle.hub.specs.Happenings.{Answered, Passes}
 use Rattle.hub.specs.Runs.{lines, Line}
-use Rattle.hub.proofs.Others.{insert_other, remove_other, set_found, set_other}
-use Rattle.hub.proofs.Outputting.{apart, insert_found, not_here}
 use Rattle.connections.specs.declared.ending.SessionFault.TheVariants as fault
-use Rattle.connections.specs.Histories.{At, Ordered, GoesOn, Syncs, NoneWaits, On, Deed, Comes, Opens, Refuses, Reads, IsOver, IsSilent, Hears, Misses, Lacks, Takes as TakesBytes, TakesNone, Fails, Ends, Closes, History, Course, clock, course, done_at}
+use Rattle.connections.specs.Histories.{At, Ordered, GoesOn, Syncs, NoneWaits, On, Comes, Opens, Refuses, Reads, IsOver, IsSilent, Hears, Misses, Lacks, Takes as TakesBytes, TakesNone, Fails, Ends, Closes, History, Course, course}
 use Rattle.connections.specs.Laws.{AlwaysWaitWithin, AreAnsweredWithin}
 use Rattle.connections.specs.Soundness.{Here, IsSound, MayHear}
 use Rattle.connections.proofs.Waiting.{always_wait_within}
