@@ -1,12 +1,12 @@
 -- A session that is served, piece by piece.
-use Rattle.std.proofs.Common.{◌≡◌, ℕ, List, [], ◌∷◌, ◌++◌, Option, Some, Result, Ok, Err, refl, sym, ap, subst, ◌∙◌, append_assoc, append-nil}
+use Rattle.std.proofs.Common.{◌≡◌, ◌≤◌, ℕ, List, [], ◌∷◌, ◌++◌, length, Option, Some, Result, Ok, Err, refl, sym, ap, subst, ◌∙◌, append_assoc, append-nil}
 use Rattle.std.specs.Ordering.{nat_cmp}
 use Rattle.std.specs.BTreeMap.{is_at}
 use Rattle.std.specs.Map.{set_value}
 use Rattle.std.specs.Io.KnownBytes.{Appends, Consumes, IsAtEnd, Keeps}
 use Rattle.std.proofs.KnownBytes.{Appends-nil, Appends-trans, Consumes-kept, Consumes-nil, Consumes-trans}
 use Rattle.std.proofs.lemmas.Map.Steps.{set_value_same}
-use Rattle.textio.specs.Output.{WritesBeginning, WritesBut}
+use Rattle.textio.specs.Output.{WritesBut}
 use Rattle.wire.specs.Frames.{Frame, read_frame}
 use Rattle.wire.specs.Streams.{Remainder, Message, Rest, messages_within, with_more, IsSpent}
 use Rattle.hub.specs.Events.{BySession, HubState, at}
@@ -17,6 +17,7 @@ use Rattle.hub.proofs.Steps.{exchanges_tell}
 use Rattle.hub.proofs.Streaming.{told_all, told_of}
 use Rattle.server.specs.declared.fault.ServeFault.{ServeFault}
 use Rattle.server.specs.declared.fault.ServeFault.TheVariants.{CannotRead, CannotWrite, OutOfMemory}
+use Rattle.server.specs.declared.serving.TheConstants.{PIECE_SIZE}
 use Rattle.server.specs.Pieces.{AnswersPiece}
 use Rattle.server.specs.Serving.{messages_of, AllReplied, Answers, AnswersFirst, Serves}
 use Rattle.server.proofs.Opened.{set_twice}
@@ -33,9 +34,6 @@ but_after old mid new text more rest wrote (front, split, appended) = (
   ap (λ (t : List ℕ). text ++ t) split ∙ sym (append_assoc text front rest),
   Appends-trans old mid new text front wrote appended,
 )
-
-beginning_after : (old mid new : Option (List ℕ)) (text more : List ℕ) → Appends old mid text → WritesBeginning mid new more → WritesBeginning old new (text ++ more)
-beginning_after old mid new text more wrote (rest, some, but) = (rest, some, but_after old mid new text more rest wrote but)
 
 module _ {S : Type 0} (answers : S → Frame → List ℕ → S → Type 0) where
   -- ---- messages
@@ -133,20 +131,26 @@ module _ {S : Type 0} (answers : S → Frame → List ℕ → S → Type 0) wher
       )
 
       -- less is written, or fewer messages are answered
-      pub faulted : Midway opened session service input written before left text → (fault : ServeFault) → AnswersPiece answers before session piece text (Err fault) after told
+      pub faulted : Midway opened session service input written before left text → length piece ≤ PIECE_SIZE → (fault : ServeFault) → AnswersPiece answers before session piece text (Err fault) after told
           → Serves (AllReplied answers session) service input written (Err fault) after.service rest told × IsLeft after
-      faulted midway CannotRead wrong = absurd wrong
-      faulted midway CannotWrite (held, ys, last, (there, put, more), spent, wrote) = (
+      faulted midway few CannotRead wrong = absurd wrong
+      faulted midway few CannotWrite (held, ys, last, (there, put, more), spent, wrote) = (
         (
-          midway.0 ++ piece,
-          midway.1 ++ ys,
+          midway.0,
+          piece,
+          midway.1,
+          ys,
+          text,
           Consumes-trans input left rest midway.0 piece midway.7 took,
+          few,
           whole session service (midway.0 ++ piece) (midway.1 ++ ys) after.service last (joined midway held ys last there more) spent,
-          subst (WritesBeginning written told) (sym (replies_append midway.1 ys)) (beginning_after written text told (replies midway.1) (replies ys) midway.8 wrote),
+          (whole session service midway.0 midway.1 before.service midway.2 midway.3 midway.4).0,
+          midway.8,
+          wrote,
         ),
         (last, kept_by midway last put),
       )
-      faulted midway OutOfMemory (held, ys, last, kept, unwritten, there, put, more, wrote) = (
+      faulted midway few OutOfMemory (held, ys, last, kept, unwritten, there, put, more, wrote) = (
         (
           midway.0 ++ piece,
           midway.1 ++ ys,
@@ -165,6 +169,7 @@ pub serves_also : {S : Type 0} (Replied Also : S → List Exchange → S → Typ
     → Serves Replied before input written result after left told → Serves Also before input written result after left told
 serves_also Replied Also before after also input written (Ok done) left told (bytes, xs, took, over, (spelled, replied), wrote) = (bytes, xs, took, over, (spelled, also xs replied), wrote)
 serves_also Replied Also before after also input written (Err CannotRead) left told (bytes, xs, took, (spelled, replied), wrote) = (bytes, xs, took, (spelled, also xs replied), wrote)
-serves_also Replied Also before after also input written (Err CannotWrite) left told (bytes, xs, took, (spelled, replied), wrote) = (bytes, xs, took, (spelled, also xs replied), wrote)
+serves_also Replied Also before after also input written (Err CannotWrite) left told (front, last, xs, ys, between, took, few, (spelled, replied), first, whole, wrote) =
+    (front, last, xs, ys, between, took, few, (spelled, also (xs ++ ys) replied), first, whole, wrote)
 serves_also Replied Also before after also input written (Err OutOfMemory) left told (bytes, xs, unwritten, took, (later, spelled, replied), wrote) =
     (bytes, xs, unwritten, took, (later, spelled, also xs replied), wrote)

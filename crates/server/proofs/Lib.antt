@@ -1,7 +1,9 @@
 pub mod Behind
 pub mod Conversing
 pub mod Crowds
+pub mod Earlier
 pub mod Ending
+pub mod Following
 pub mod Heard
 pub mod Joined
 pub mod Opened

@@ -17,6 +17,7 @@ use Rattle.server.specs.Directories.{salts}
 use Rattle.server.specs.Listening.{AnswersConnections, KeepsLimits, KeepsOrder}
 use Rattle.server.specs.Programs.{ShownBy}
 use Rattle.server.specs.Sessions.{AreLines}
+use Rattle.server.proofs.Earlier.{always_answered, always_in_order}
 
 keeps_order : (taken : ConnectionOptions) (idle count size : ℕ) (acts : History) → idle ≡ idle_limit taken → count ≡ taken.count → size ≡ most_open taken → KeepsLimits idle count size acts → KeepsOrder taken acts
 keeps_order taken idle count size acts same_idle same_count same_size keeps = rw (← same_idle, ← same_count, ← same_size) keeps
@@ -28,13 +29,18 @@ module _ {K : Type 0} (kept failed : K → Record → K → Type 0) where
       → (acts : History) → KeepsLimits idle count size acts → AlwaysWaitWithin MAX_ANSWER_LEN acts
       → ((lines : List Line) × AreLines (DeskAnswers sha256 keyed_value keyed_signature salts kept failed) before acts after lines × ShownBy kept failed before.service lines after.service)
       → TellsLosses acts errors new → AnswersConnections kept failed taken hub.service errors new
-  answers_ordered taken hub idle count size before after errors new none same same_idle same_count same_size acts keeps waits (lines, are, shown) tells = (
-    acts,
-    lines,
-    after,
-    keeps_order taken idle count size acts same_idle same_count same_size keeps,
-    waits,
-    subst (λ (h : HubState (DeskState ChaCha K)). AreLines (DeskAnswers sha256 keyed_value keyed_signature salts kept failed) h acts after lines) (same ∙ ap (λ sessions. record { service = hub.service; sessions = sessions }) none) are,
-    subst (λ (h : HubState (DeskState ChaCha K)). ShownBy kept failed h.service lines after.service) same shown,
-    tells,
-  )
+  answers_ordered taken hub idle count size before after errors new none same same_idle same_count same_size acts keeps waits (lines, are, shown) tells =
+      let answers = DeskAnswers sha256 keyed_value keyed_signature salts kept failed in
+      let start : HubState (DeskState ChaCha K) = record { service = hub.service; sessions = [] } in
+      let lines_are : AreLines answers start acts after lines = subst (λ (h : HubState (DeskState ChaCha K)). AreLines answers h acts after lines) (same ∙ ap (λ sessions. record { service = hub.service; sessions = sessions }) none) are in (
+        acts,
+        lines,
+        after,
+        keeps_order taken idle count size acts same_idle same_count same_size keeps,
+        waits,
+        always_in_order idle acts keeps.sound,
+        lines_are,
+        always_answered answers start idle acts after lines lines_are keeps.sound,
+        subst (λ (h : HubState (DeskState ChaCha K)). ShownBy kept failed h.service lines after.service) same shown,
+        tells,
+      )

@@ -24,7 +24,7 @@ use Rattle.server.specs.ConnectionOptions.{ConnectionOptions, idle_limit, most_o
 use Rattle.server.specs.DirectoryOptions.{DirectoryOptions}
 use Rattle.server.specs.Directories.{keys_of, salts, Begins, DirectoryKeys}
 use Rattle.server.specs.Programs.{AfterJournal, KeepsInFile, KeepsNothing, LosesInFile, NeverFails, ShownBy}
-use Rattle.server.specs.Sessions.{AreLines}
+use Rattle.server.specs.Sessions.{AlwaysAnswered, AlwaysInOrder, AreLines}
 
 -- the line with an address
 abbrev pub address_line : List ℕ → List ℕ
@@ -56,13 +56,15 @@ abbrev pub KeepsOrder : ConnectionOptions → History → Type 0
 KeepsOrder taken = KeepsLimits (idle_limit taken) taken.count (most_open taken)
 
 -- Connections are answered from a desk on, as ordered, by the sessions of its hub, which has none at first: there is a
--- history of them, and what is answered in it shows a run. No more than 64 KiB and the longest reply ever wait for one
--- of them, and of each that was closed for want of memory there is a line on the errors. What ties the history to the
--- sockets is not in a contract.
+-- history of them, and what is answered in it shows a run. At each time, each connection took a beginning of what its
+-- session was answered, as the lines so far have it; no more than 64 KiB and the longest reply ever wait for one; and of
+-- each that was closed for want of memory there is a line on the errors. What ties the history to the sockets is not in
+-- a contract.
 abbrev pub AnswersConnections : {K : Type 0} → (K → Record → K → Type 0) → (K → Record → K → Type 0) → ConnectionOptions → DeskState ChaCha K → Option (List ℕ) → Option (List ℕ) → Type 0
 AnswersConnections {K} kept failed taken desk errors new = (acts : History) × (lines : List Line) × (after : HubState (DeskState ChaCha K))
-    × KeepsOrder taken acts × AlwaysWaitWithin MAX_ANSWER_LEN acts
+    × KeepsOrder taken acts × AlwaysWaitWithin MAX_ANSWER_LEN acts × AlwaysInOrder acts
     × AreLines (DeskAnswers sha256 keyed_value keyed_signature salts kept failed) (record { service = desk; sessions = [] }) acts after lines
+    × AlwaysAnswered (DeskAnswers sha256 keyed_value keyed_signature salts kept failed) (record { service = desk; sessions = [] }) acts lines
     × ShownBy kept failed desk lines after.service × TellsLosses acts errors new
 
 -- connections are answered from the desk of a journal's directory, whose line comes first

@@ -1,5 +1,5 @@
 -- One session, from a reader to a writer.
-use Rattle.std.specs.Prelude.{◌≡◌, ℕ, List, [], ◌∷◌, ◌++◌, flat_map, map, Option, Result, Ok, Err}
+use Rattle.std.specs.Prelude.{◌≡◌, ◌≤◌, ℕ, List, [], ◌∷◌, ◌++◌, length, flat_map, map, Option, Result, Ok, Err}
 use Rattle.std.specs.Io.KnownBytes.{Appends, Consumes, IsAtEnd}
 use Rattle.textio.specs.Output.{WritesBeginning, WritesBut}
 use Rattle.rand_core.specs.Stream.{Stream}
@@ -12,6 +12,7 @@ use Rattle.hub.specs.Exchanges.{Exchange, replies}
 use Rattle.hub.specs.Runs.{lines, AllAnswered, Line}
 use Rattle.server.specs.declared.fault.ServeFault.{ServeFault}
 use Rattle.server.specs.declared.fault.ServeFault.TheVariants.{CannotRead, CannotWrite, OutOfMemory}
+use Rattle.server.specs.declared.serving.TheConstants.{PIECE_SIZE}
 
 -- the messages that these bytes spell
 abbrev pub spelled : List ℕ → List Message
@@ -51,14 +52,16 @@ module _ {S : Type 0} (Replied : S → List Exchange → S → Type 0) where
   AnswersFirst service bytes exchanges after = (later : List Message) × (spelled bytes ≡ messages_of exchanges ++ later) × Replied service exchanges after
 
   -- What comes of the bytes that are read: all their messages are answered, and the replies written, up
-  -- to the end of the input or to a failed read; less is written where a write fails; and where memory
-  -- is wanting, the first messages are answered, and a beginning of their replies is written.
+  -- to the end of the input or to a failed read. Where a write fails, those to the last bytes, at most one
+  -- read, are not written whole, and all before them are. Where memory is wanting, the first messages are
+  -- answered, and a beginning of their replies is written.
   abbrev pub Serves : S → Option (List ℕ) → Option (List ℕ) → Result (Unit {0}) ServeFault → S → Option (List ℕ) → Option (List ℕ) → Type 0
   Serves before input written (Ok done) after left told = (bytes : List ℕ) × (exchanges : List Exchange)
       × Consumes input left bytes × IsAtEnd left × Answers before bytes exchanges after × Appends written told (replies exchanges)
   Serves before input written (Err CannotRead) after left told = (bytes : List ℕ) × (exchanges : List Exchange)
       × Consumes input left bytes × Answers before bytes exchanges after × Appends written told (replies exchanges)
-  Serves before input written (Err CannotWrite) after left told = (bytes : List ℕ) × (exchanges : List Exchange)
-      × Consumes input left bytes × Answers before bytes exchanges after × WritesBeginning written told (replies exchanges)
+  Serves before input written (Err CannotWrite) after left told = (front last : List ℕ) × (earlier later : List Exchange) × (between : Option (List ℕ))
+      × Consumes input left (front ++ last) × (length last ≤ PIECE_SIZE) × Answers before (front ++ last) (earlier ++ later) after × (spelled front ≡ messages_of earlier)
+      × Appends written between (replies earlier) × WritesBeginning between told (replies later)
   Serves before input written (Err OutOfMemory) after left told = (bytes : List ℕ) × (exchanges : List Exchange) × (unwritten : List ℕ)
       × Consumes input left bytes × AnswersFirst before bytes exchanges after × WritesBut written told (replies exchanges) unwritten

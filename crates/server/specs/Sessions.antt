@@ -1,5 +1,5 @@
 -- The sessions of a hub, as the loop over connections uses them.
-use Rattle.std.specs.Prelude.{◌≡◌, ◌≢◌, ◌⊎◌, ◌^◌, ◌≤◌, ◌++◌, ℕ, List, [], ◌∷◌, false, Some, None}
+use Rattle.std.specs.Prelude.{◌≡◌, ◌≢◌, ◌⊎◌, ◌^◌, ◌≤◌, ◌++◌, ℕ, List, [], ◌∷◌, false, Option, Some, None, ⊤}
 use Rattle.wire.specs.Frames.{Frame}
 use Rattle.wire.specs.Streams.{EndsOne, Remainder}
 use Rattle.connections.specs.declared.ending.SessionFault.{SessionFault}
@@ -9,8 +9,11 @@ use Rattle.hub.specs.declared.hub_refusal.HubRefusal.TheVariants.{TooManySession
 use Rattle.hub.specs.Events.{Happening, Open, Bytes, End, HubState, at, due}
 use Rattle.hub.specs.Exchanges.{Exchange, replies}
 use Rattle.hub.specs.Happenings.{Answered, Does, Passes, TakesMemory}
-use Rattle.hub.specs.Runs.{lines, Line}
-use Rattle.connections.specs.Histories.{At, Ordered, GoesOn, Syncs, NoneWaits, On, Comes, Opens, Refuses, Reads, IsOver, IsSilent, Hears, Misses, Lacks, Takes, TakesNone, Fails, Ends, Closes, History, Leads}
+use Rattle.hub.specs.Laws.{lines_of}
+use Rattle.hub.specs.Runs.{lines, told, Line}
+use Rattle.connections.specs.Histories.{At, Ordered, GoesOn, Syncs, NoneWaits, On, Comes, Opens, Refuses, Reads, IsOver, IsSilent, Hears, Misses, Lacks, Takes, TakesNone, Fails, Ends, Closes, History, Course, Leads, course}
+use Rattle.connections.specs.Laws.{AreInOrder}
+use Rattle.server.specs.Serving.{messages_of, spelled}
 
 -- only want of memory is told as such
 abbrev pub session_fault : HubRefusal → SessionFault
@@ -31,6 +34,19 @@ Unopened before session fault.Refused = IsRefused before session (Open session)
 -- a part ends at most one message of its stream
 abbrev pub EndsOneAt : {S : Type 0} → HubState S → ℕ → List ℕ → Type 0
 EndsOneAt before session part = (held : Remainder) → at before.sessions session ≡ Some held → EndsOne held part
+
+-- At each time of a history, each connection took a beginning of what its session was answered, and the session heard a
+-- beginning of what was read.
+abbrev pub AlwaysInOrder : History → Type 0
+AlwaysInOrder acts = (later earlier : History) (place : ℕ) → acts ≡ later ++ earlier → AreInOrder (course earlier place)
+
+-- What the session of a connection was answered is what these lines tell it since it was opened: the replies to the
+-- messages in the bytes that it heard. Where memory was wanting, lines whose replies were lost stand behind those.
+abbrev pub IsAnsweredBy : List Line → ℕ → Option Course → Type 0
+IsAnsweredBy all place None = ⊤
+IsAnsweredBy all place (Some of) = (past own : List Line) × (exchanges lost : List Exchange) × (all ≡ past ++ own)
+    × (lines_of place own ≡ lines place (exchanges ++ lost)) × (spelled of.heard ≡ messages_of exchanges)
+    × (told place own ≡ of.answered ++ replies lost) × (of.is_wanting ≡ false → lost ≡ [])
 
 module _ {S : Type 0} (answers : S → Frame → List ℕ → S → Type 0) where
   -- an event is not refused, and does what it does
@@ -94,3 +110,9 @@ module _ {S : Type 0} (answers : S → Frame → List ℕ → S → Type 0) wher
   AreLines start (On place Fails ∷ before) after all = AreLines start before after all
   AreLines start (On place Ends ∷ before) after all = (middle : HubState S) × AreLines start before middle all × Ended middle place after
   AreLines start (On place (Closes why) ∷ before) after all = AreLines start before after all
+
+  -- At each time of what happened, the lines so far are the first of these, and each session is answered by them.
+  abbrev pub AlwaysAnswered : HubState S → History → List Line → Type 0
+  AlwaysAnswered start acts all = (later earlier : History) → acts ≡ later ++ earlier
+      → (now : HubState S) × (first rest : List Line) × (all ≡ first ++ rest) × AreLines start earlier now first
+      × ((place : ℕ) → IsAnsweredBy first place (course earlier place))

@@ -4,11 +4,11 @@ ghost use Rattle.hub.specs.Desks.{DeskState, DeskAnswers};
 ghost use Rattle.hub.specs.Exchanges.{Exchange};
 ghost use Rattle.hub.specs.Events.{HubState};
 ghost use Rattle.hub.specs.Runs.{Line};
-ghost use Rattle.connections.specs.Histories.{course, History};
-ghost use Rattle.connections.specs.Laws.{AlwaysWaitWithin, AreInOrder};
+ghost use Rattle.connections.specs.Histories.{History};
+ghost use Rattle.connections.specs.Laws.{AlwaysWaitWithin};
 ghost use Rattle.connections.specs.Soundness.{IsSound};
 ghost use Rattle.server.specs.Serving.{all_lines, AllServed};
-ghost use Rattle.server.specs.Sessions.{AreLines, HubLeads};
+ghost use Rattle.server.specs.Sessions.{AlwaysAnswered, AlwaysInOrder, AreLines, HubLeads};
 ghost use Rattle.wire.specs.declared.answer.TheConstants.{MAX_ANSWER_LEN};
 
 use book::Keeper;
@@ -29,17 +29,19 @@ pub fn sessions_show_one_run<H: NodeHash, V: Vuf, S: Signer, G: Rng, K: Keeper>(
 {}
 
 /// What happens where connections are answered by the sessions of a hub, as `answer_all` of `connections`
-/// ensures for any connections, shows one run of its directory, as `Hub::run` does: each connection takes a
-/// beginning of what its session was answered, in order, and that is the replies to the messages in the bytes
-/// that its session heard. The users behind all of them see of the run what those of an honest provider see.
+/// ensures for any connections, shows one run of its directory, as `Hub::run` does: at each time, each connection
+/// took a beginning of what its session was answered, in order, and that is what the run told this session: the
+/// replies to the messages in the bytes that it heard. The users behind all of them see of the run what those of an
+/// honest provider see.
 pub fn crowds_show_one_run<H: NodeHash, V: Vuf, S: Signer, G: Rng, K: Keeper>()
     ensures { (before after : HubState (DeskState G K)) (idle : ℕ) (acts : History)
         → IsWell H.digest_of V.value_of S.signature_of G.stream V.accepted S.verified before.service
         → IsWell H.digest_of V.value_of S.signature_of G.stream V.accepted S.verified after.service
         → HubLeads (DeskAnswers H.digest_of V.value_of S.signature_of G.stream K.kept K.failed) (λ hub. hub) before acts after
         → IsSound idle acts
-        → ((place : ℕ) → AreInOrder (course acts place))
+        → AlwaysInOrder acts
         × ((lines : List Line) × AreLines (DeskAnswers H.digest_of V.value_of S.signature_of G.stream K.kept K.failed) before acts after lines
+        × AlwaysAnswered (DeskAnswers H.digest_of V.value_of S.signature_of G.stream K.kept K.failed) before acts lines
         × ShowHonestRun H.digest_of V.value_of S.signature_of G.stream K.kept K.failed V.accepted S.verified before.service lines after.service) }
 {}
 

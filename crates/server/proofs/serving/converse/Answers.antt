@@ -1,6 +1,7 @@
-use Rattle.std.proofs.Common.{rules, ◌≡◌, [], ℕ, List, take, Err, subst}
+use Rattle.std.proofs.Common.{rules, ◌≡◌, ◌≤◌, [], ℕ, List, length, take, Err, subst}
 use Rattle.std.specs.Io.KnownBytes.{Consumes}
 use Rattle.server.specs.declared.fault.ServeFault.TheVariants.{CannotRead}
+use Rattle.server.specs.declared.serving.TheConstants.{PIECE_SIZE}
 use Rattle.server.proofs.Conversing.{begun, ended, faulted, gone_on, unread}
 use Rattle.server.proofs.serving.converse.Goals as goal
 
@@ -20,12 +21,14 @@ returns-then-count-eq0-clause-serves g c =
 
 pub returns-in_err-answer_piece-clause-keeps : goal.returns-in_err-answer_piece-clause-keeps
 returns-in_err-answer_piece-clause-keeps g c =
-    (faulted g.S.Service.answers c.args.hub.now.sessions c.args.session c.args.hub.now.service _ _ c.loop.hub _ _ _ _ c.in_ok-count.ensures.ok c.answer_piece.new.hub _ c.loop.invariant c.in_err-answer_piece.field-0.0 c.in_err-answer_piece.ensures).1
+    let few : length (take c.in_ok-count.count c.read_some.new.room) ≤ PIECE_SIZE = search rules in
+    (faulted g.S.Service.answers c.args.hub.now.sessions c.args.session c.args.hub.now.service _ _ c.loop.hub _ _ _ _ c.in_ok-count.ensures.ok c.answer_piece.new.hub _ c.loop.invariant few c.in_err-answer_piece.field-0.0 c.in_err-answer_piece.ensures).1
 
 pub returns-in_err-answer_piece-clause-serves : goal.returns-in_err-answer_piece-clause-serves
 returns-in_err-answer_piece-clause-serves g c =
+    let few : length (take c.in_ok-count.count c.read_some.new.room) ≤ PIECE_SIZE = search rules in
     let passed : c.from_residual-in_err-answer_piece.result ≡ Err c.in_err-answer_piece.field-0.0 = search rules in
-    rw passed (faulted g.S.Service.answers c.args.hub.now.sessions c.args.session c.args.hub.now.service _ _ c.loop.hub _ _ _ _ c.in_ok-count.ensures.ok c.answer_piece.new.hub _ c.loop.invariant c.in_err-answer_piece.field-0.0 c.in_err-answer_piece.ensures).0
+    rw passed (faulted g.S.Service.answers c.args.hub.now.sessions c.args.session c.args.hub.now.service _ _ c.loop.hub _ _ _ _ c.in_ok-count.ensures.ok c.answer_piece.new.hub _ c.loop.invariant few c.in_err-answer_piece.field-0.0 c.in_err-answer_piece.ensures).0
 
 pub loop-preserved : goal.loop-preserved
 loop-preserved g c =
