@@ -1,5 +1,5 @@
 -- What a search for the history of a name tells: what pages show of the name, and its address.
-use Rattle.std.proofs.Common.{◌≡◌, ℕ, ◌-◌, List, [], ◌∷◌, length, Bool, true, false, not, Option, Some, None, refl, sym, ap, ◌∙◌, inl, inr}
+use Rattle.std.proofs.Common.{◌≡◌, ℕ, ◌-◌, List, [], ◌∷◌, length, Bool, true, Option, Some, None, refl, sym, ap, ◌∙◌, inl, inr}
 use Rattle.std.specs.Prelude.{is_some, MatchOption}
 use Rattle.std.specs.Option.{option_and_then, option_map, unwrap_or}
 use Rattle.std.specs.Ordering.{match_ordering}
@@ -60,15 +60,9 @@ module _ (provider : Provider) where
 
 -- ---- what pages show
 
-same-some : {X Y : Type 0} (of : X → Y) (found : Option X) (o : Option Y) → option_map of found ≡ o → is_some found ≡ is_some o
+pub same-some : {X Y : Type 0} (of : X → Y) (found : Option X) (o : Option Y) → option_map of found ≡ o → is_some found ≡ is_some o
 same-some of None o is = ap is_some is
 same-some of (Some x) o is = ap is_some is
-
-pub some-there : {X : Type 0} (found : Option X) (none : Bool) → is_some found ≡ not none → none ≡ false → true ≡ is_some found
-some-there found none is false-is = sym (is ∙ ap not false-is)
-
-pub none-there : {X : Type 0} (found : Option X) (none : Bool) → is_some found ≡ not none → none ≡ true → false ≡ is_some found
-none-there found none is true-is = sym (is ∙ ap not true-is)
 
 -- what is chosen of a name
 pub chosen_found : {X : Type 0} (f : List Version → Option X) (names : Map (List Version)) (name : List ℕ) → AreHistories names → (found : Option (List Version)) → found ≡ at names name

@@ -1,14 +1,12 @@
 -- A binding that waits under a salt of its own: the salts to come stay.
-use Rattle.std.proofs.Common.{◌≡◌, ℕ, List, [], ◌∷◌, length, Option, Some, None, true, false, if◌then◌else◌, refl, sym, ap, ◌∙◌}
-use Rattle.std.specs.Prelude.{is_none, is_some}
+use Rattle.std.proofs.Common.{◌≡◌, ℕ, List, [], ◌∷◌, length, None, sym, ap, ◌∙◌}
 use Rattle.rand_core.specs.Stream.{Stream, fill_bytes}
 use Rattle.encoding.specs.Bytes.{Is32Bytes}
 use Rattle.encoding.specs.Limits.{IsKeyData, IsName}
 use Rattle.commit.specs.Commitments.{commitment_bytes}
 use Rattle.prefixtree.specs.Placement.{Items, commitment_of, put}
 use Rattle.book.specs.Answers.{with_pending}
-use Rattle.book.specs.Books.{Binding, Book}
-use Rattle.book.specs.declared.refusal.Refusal.TheVariants.{NoSuchName, PendingExists}
+use Rattle.book.specs.Books.{Book}
 use Rattle.book.specs.Maps.{Map, at, put as put_name}
 use Rattle.book.specs.Replays.{with_bound}
 use Rattle.book.specs.Salted.{salted}
@@ -20,13 +18,6 @@ use Rattle.epochs.specs.Parts.{Keeps, Parts, pending_of}
 use Rattle.epochs.specs.Versions.{AllBefore, versions_of, with_version}
 use Rattle.epochs.proofs.Changing.{book_accepted, index_free, keeps_accepted, later_version}
 use Rattle.epochs.proofs.Parts.{book_of}
-
--- a name that the last page has, and that does not wait
-pub held_opens : (found pending : Option Binding) → true ≡ is_some found → false ≡ is_some pending
-    → ((if is_none found then Some NoSuchName else (if is_some pending then Some PendingExists else None)) ≡ None) × (pending ≡ None)
-held_opens (Some x) None has waits = (refl, refl)
-held_opens (Some x) (Some y) has waits = absurd cc
-held_opens None pending has waits = absurd cc
 
 -- parts keep their book whatever salts are to come
 pub resalted : (provider : Provider) (parts : Parts) (salt : List ℕ) (left : Stream) → Keeps provider parts (book_of parts salt left)

@@ -1,16 +1,18 @@
-ghost use Rattle.std.specs.Prelude.{◌≡◌, ◌+◌, ◌≤◌, [], IsSome, MatchOption, MatchResult, option_and_then};
+ghost use Rattle.std.specs.Prelude.{◌≡◌, ◌+◌, ◌<◌, ◌≤◌, [], IsSome, MatchOption, MatchResult, option_and_then};
 ghost use Rattle.std.specs.Option.{option_map};
+ghost use Rattle.commit.specs.Commitments.{commitment_bytes};
 ghost use Rattle.book.specs.Maps.{at};
 ghost use Rattle.epochs.specs.Addresses.{named, with_name};
 ghost use Rattle.epochs.specs.Histories.{binding_at};
-ghost use Rattle.epochs.specs.Versions.{AllBefore, AreHistories, IsUnkept, versions_of};
+ghost use Rattle.epochs.specs.KeyChanges.{AreChangedNames, FitsNames, IsRefusedSo, refused_before};
+ghost use Rattle.epochs.specs.Versions.{AllBefore, AreHistories, IsUnkept, in_order, versions_of};
 
 use crate::address::Address;
+use crate::held::change_at;
 use crate::history::{History, Version};
 use crate::seeded::Seeded;
 use book::{Keeper, Record, Refusal};
-use commands::Verb;
-use encoding::Name;
+use encoding::{Hash32, Index, KeyData, Name};
 use nodehash::NodeHash;
 use std::alloc::{AllocError, Global};
 use std::collections::HashMap;
@@ -99,51 +101,97 @@ impl Names {
             (λ _. K.kept keeper.old what.now keeper.new × (self.new ≡ with_name self.old name.now address.now version))
             (λ why. (self.new ≡ self.old) × IsUnkept K.failed keeper.old what.now why keeper.new) }
     {
-        match what {
-            Record::Bound {
-                verb: Verb::Change,
-                ..
-            } => add_to_held(
-                self.alloc,
-                &mut self.histories,
-                keeper,
-                what,
-                name,
-                address,
-                version,
-            ),
-            _ => add_to_new(
-                self.alloc,
-                &mut self.histories,
-                keeper,
-                what,
-                name,
-                address,
-                version,
-            ),
-        }
+        add_to_new(
+            self.alloc,
+            &mut self.histories,
+            keeper,
+            what,
+            name,
+            address,
+            version,
+        )
+    }
+
+    /// Adds a version of this page to a name that has others, and its commitment to these, once the record is kept. Gives the
+    /// index of the name, which is searched for once. Takes one digest.
+    ///
+    /// # Errors
+    ///
+    /// `NoSuchName`, `PendingExists`, `Memory`, `KeepFailed`: the first that applies. All then stays as it was.
+    pub(crate) fn change<H: NodeHash, K: Keeper>(
+        &mut self,
+        commitments: &mut HashMap<Index, Hash32, Seeded>,
+        hash: &mut H,
+        keeper: &mut K,
+        what: &Record,
+        name: &Name,
+        key: &KeyData,
+        salt: Hash32,
+        page: usize,
+    ) -> Result<Index, Refusal>
+        requires begun { 0 < page }
+        requires fits { FitsNames self.old (in_order commitments.old.entries) name.now page }
+        ensures made { MatchResult result
+            (λ index. K.kept keeper.old what.now keeper.new
+            × AreChangedNames self.old (in_order commitments.old.entries) name.now (record { number = page; binding = record { key = key.now; salt = salt } })
+            (H.digest_of (commitment_bytes salt name.now key.now)) index self.new (in_order commitments.new.entries))
+            (λ why. (self.new ≡ self.old) × (in_order commitments.new.entries ≡ in_order commitments.old.entries)
+            × IsRefusedSo K.failed keeper.old what.now (refused_before page (versions_of self.old.versions name.now)) why keeper.new) }
+        ensures work { H.digests hash.new ≤ H.digests hash.old + 1 }
+    {
+        change_held(
+            self.alloc,
+            &mut self.histories,
+            commitments,
+            hash,
+            keeper,
+            what,
+            name,
+            key,
+            salt,
+            page,
+        )
     }
 }
 
-// Adds a version of a name that most likely is there: no room is made for it.
-fn add_to_held<K: Keeper>(
+// Adds a version of a name that has others, and its commitment to these.
+fn change_held<H: NodeHash, K: Keeper>(
     alloc: Global,
     histories: &mut HashMap<Vec<u8>, History, Seeded>,
+    commitments: &mut HashMap<Index, Hash32, Seeded>,
+    hash: &mut H,
     keeper: &mut K,
     what: &Record,
     name: &Name,
-    address: &Address,
-    version: Version,
-) -> Result<(), Refusal>
-    requires later { AllBefore version.number (versions_of (named (λ key. key.items) histories.old.entries).versions name.now) }
-    ensures { MatchResult result
-        (λ _. K.kept keeper.old what.now keeper.new × (named (λ key. key.items) histories.new.entries ≡ with_name (named (λ key. key.items) histories.old.entries) name.now address.now version))
-        (λ why. (named (λ key. key.items) histories.new.entries ≡ named (λ key. key.items) histories.old.entries) × IsUnkept K.failed keeper.old what.now why keeper.new) }
+    key: &KeyData,
+    salt: Hash32,
+    page: usize,
+) -> Result<Index, Refusal>
+    requires begun { 0 < page }
+    requires fits { FitsNames (named (λ key. key.items) histories.old.entries) (in_order commitments.old.entries) name.now page }
+    ensures made { MatchResult result
+        (λ index. K.kept keeper.old what.now keeper.new
+        × AreChangedNames (named (λ key. key.items) histories.old.entries) (in_order commitments.old.entries) name.now (record { number = page; binding = record { key = key.now; salt = salt } })
+        (H.digest_of (commitment_bytes salt name.now key.now)) index (named (λ key. key.items) histories.new.entries) (in_order commitments.new.entries))
+        (λ why. (named (λ key. key.items) histories.new.entries ≡ named (λ key. key.items) histories.old.entries) × (in_order commitments.new.entries ≡ in_order commitments.old.entries)
+        × IsRefusedSo K.failed keeper.old what.now (refused_before page (versions_of (named (λ key. key.items) histories.old.entries).versions name.now)) why keeper.new) }
+    ensures work { H.digests hash.new ≤ H.digests hash.old + 1 }
 {
-    if let Some(history) = histories.get_mut(name.bytes()) {
-        return history.add(keeper, what, version);
+    match histories.get_mut(name.bytes()) {
+        Some(history) => change_at(
+            alloc,
+            history,
+            commitments,
+            hash,
+            keeper,
+            what,
+            name,
+            key,
+            salt,
+            page,
+        ),
+        None => Err(Refusal::NoSuchName),
     }
-    add_to_new(alloc, histories, keeper, what, name, address, version)
 }
 
 // Adds a version of a name that most likely is new: it is searched for once.

@@ -1,6 +1,8 @@
-ghost use Rattle.std.specs.Prelude.{◌≡◌, [], None, IfOk, MatchResult, is_some};
+ghost use Rattle.std.specs.Prelude.{◌≡◌, ◌+◌, ◌<◌, ◌≤◌, [], None, IfOk, MatchResult, is_some};
+ghost use Rattle.commit.specs.Commitments.{commitment_bytes};
 ghost use Rattle.prefixtree.specs.Placement.{HasDistinctIndices, commitment_of, put as put_item};
 ghost use Rattle.epochs.specs.Addresses.{with_name};
+ghost use Rattle.epochs.specs.KeyChanges.{AreChangedNames, FitsNames, IsRefusedSo, refused_before};
 ghost use Rattle.epochs.specs.Versions.{AllBefore, IsUnkept, in_order, versions_of};
 
 use crate::address::Address;
@@ -8,7 +10,8 @@ use crate::history::Version;
 use crate::names::Names;
 use crate::seeded::Seeded;
 use book::{Keeper, Record, Refusal};
-use encoding::{Hash32, Index, Name};
+use encoding::{Hash32, Index, KeyData, Name};
+use nodehash::NodeHash;
 use prefixtree::{Item, placed};
 use std::alloc::{AllocError, Global};
 use std::collections::HashMap;
@@ -97,6 +100,41 @@ pub(crate) fn let_wait<K: Keeper>(
         address,
         version,
         commitment,
+    )
+}
+
+/// Adds a version of this page to a name that has others, and its commitment to what waits, once the record is kept. Gives the
+/// index of the name. Takes one digest.
+pub(crate) fn let_change_wait<H: NodeHash, K: Keeper>(
+    names: &mut Names,
+    waiting: &mut Waiting,
+    hash: &mut H,
+    keeper: &mut K,
+    what: &Record,
+    name: &Name,
+    key: &KeyData,
+    salt: Hash32,
+    page: usize,
+) -> Result<Index, Refusal>
+    requires begun { 0 < page }
+    requires fits { FitsNames names.old waiting.old name.now page }
+    ensures made { MatchResult result
+        (λ index. K.kept keeper.old what.now keeper.new
+        × AreChangedNames names.old waiting.old name.now (record { number = page; binding = record { key = key.now; salt = salt } })
+        (H.digest_of (commitment_bytes salt name.now key.now)) index names.new waiting.new)
+        (λ why. (names.new ≡ names.old) × (waiting.new ≡ waiting.old)
+        × IsRefusedSo K.failed keeper.old what.now (refused_before page (versions_of names.old.versions name.now)) why keeper.new) }
+    ensures work { H.digests hash.new ≤ H.digests hash.old + 1 }
+{
+    names.change(
+        &mut waiting.commitments,
+        hash,
+        keeper,
+        what,
+        name,
+        key,
+        salt,
+        page,
     )
 }
 

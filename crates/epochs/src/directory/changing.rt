@@ -20,6 +20,7 @@ ghost use Rattle.book.specs.Sound.{IsHeld};
 ghost use Rattle.book.specs.Turns.{Shows, Turn};
 ghost use Rattle.epochs.specs.Addresses.{address_of};
 ghost use Rattle.epochs.specs.DirectoryStates.{book, provider, HasKeysOf};
+ghost use Rattle.epochs.specs.KeyChanges.{IsRefusedSo};
 ghost use Rattle.epochs.specs.Replayed.{changed_digests, tree_digests};
 ghost use Rattle.epochs.specs.Replied.{last, promised};
 ghost use Rattle.epochs.specs.Versions.{IsUnkept};
@@ -28,7 +29,7 @@ use super::Directory;
 use crate::address::Address;
 use crate::history::Version;
 use crate::signing::{hash_of, next_salt, signed_promise, signed_root};
-use crate::waiting::let_wait;
+use crate::waiting::{let_change_wait, let_wait};
 use book::{Keeper, Record, Refusal};
 use commands::Verb;
 use commit::commit;
@@ -101,17 +102,13 @@ impl<H: NodeHash, V: Vuf, S: Signer, R: Rng> Directory<H, V, S, R> {
         let Ok(key) = KeyData::new(key) else {
             return Err(Refusal::BadKey);
         };
-        let address = match self.held_address(&name) {
-            Ok(address) => address,
-            Err(why) => return Err(why),
-        };
         let what = Record::Bound {
             verb: Verb::Change,
             salt: self.salt,
             name: name.copied(),
             key: key.copied(),
         };
-        self.accept(keeper, &what, &address, name, key)
+        self.accept_held(keeper, &what, name, key)
     }
 
     /// Ends the epoch: what waits goes into the page of a new one, whose root is signed. The page has
@@ -254,22 +251,6 @@ impl<H: NodeHash, V: Vuf, S: Signer, R: Rng> Directory<H, V, S, R> {
         }
     }
 
-    /// The address of a name that the last page has, and whether an operation on it waits.
-    fn shown(&self, name: &Name) -> Option<(Address, bool)>
-        ensures shown { is_some result ≡ is_some (at self.now.last.bindings name.now) }
-        ensures waits { IfSome result (λ found. found.1 ≡ is_some (at self.now.pending name.now)) }
-        ensures address { IfSome result (λ found. found.0 ≡ address_of (provider H.digest_of V.value_of S.signature_of self.now) name.now) }
-    {
-        let Some(history) = self.names.find(name.bytes()) else {
-            return None;
-        };
-        if history.shown(self.roots.len() - 1).is_none() {
-            return None;
-        }
-        let waits = history.waiting(self.roots.len()).is_some();
-        Some((history.address(), waits))
-    }
-
     /// The address of a name that is new. Takes one digest.
     fn address(&mut self, name: &Name) -> Address
         ensures value { result ≡ address_of (provider H.digest_of V.value_of S.signature_of self.old) name.now }
@@ -323,26 +304,6 @@ impl<H: NodeHash, V: Vuf, S: Signer, R: Rng> Directory<H, V, S, R> {
         // A name that is not new has taken its own index, so that a new one is not searched for here.
         if self.is_taken(name, &address.index) {
             return Err(self.why_taken(name));
-        }
-        Ok(address)
-    }
-
-    /// The address of a name that the last page has, and no operation on which waits.
-    pub(super) fn held_address(&self, name: &Name) -> Result<Address, Refusal>
-        ensures opens { let by = index_by (provider H.digest_of V.value_of S.signature_of self.now) in MatchResult result
-            (λ address. (put_refusal by (book R.stream self.now) Change name.now ≡ None)
-            × (address ≡ address_of (provider H.digest_of V.value_of S.signature_of self.now) name.now)
-            × (at self.now.pending name.now ≡ None)
-            × ((other : List ℕ) → IsHeld (book R.stream self.now) other → by other ≡ by name.now → other ≡ name.now))
-            (λ why. put_refusal by (book R.stream self.now) Change name.now ≡ Some why) }
-    {
-        // The proof needs the invariant, which a borrow of a field brings.
-        let _ = &self.alloc;
-        let Some((address, waits)) = self.shown(name) else {
-            return Err(Refusal::NoSuchName);
-        };
-        if waits {
-            return Err(Refusal::PendingExists);
         }
         Ok(address)
     }
@@ -417,6 +378,72 @@ impl<H: NodeHash, V: Vuf, S: Signer, R: Rng> Directory<H, V, S, R> {
         }
         self.salt = next_salt(&mut self.salts);
         Ok(self.promised(address.index, name, key))
+    }
+
+    /// Lets another key of a name wait under this salt for the next page, once its record is kept. Gives the index of the name,
+    /// which is searched for once. Takes one digest.
+    pub(super) fn rebind<K: Keeper>(
+        &mut self,
+        keeper: &mut K,
+        what: &Record,
+        name: &Name,
+        key: &KeyData,
+        salt: Hash32,
+    ) -> Result<Index, Refusal>
+        ensures made { let by = index_by (provider H.digest_of V.value_of S.signature_of self.old) in MatchResult result
+            (λ index. (put_refusal by (book R.stream self.old) Change name.now ≡ None)
+            × (index ≡ by name.now)
+            × K.kept keeper.old what.now keeper.new
+            × (book R.stream self.new ≡ with_bound (book R.stream self.old) name.now (record { key = key.now; salt = salt })))
+            (λ why. (book R.stream self.new ≡ book R.stream self.old)
+            × IsRefusedSo K.failed keeper.old what.now (put_refusal by (book R.stream self.old) Change name.now) why keeper.new) }
+        ensures keys { HasKeysOf self.old self.new }
+        ensures work { self.new.digests ≤ self.old.digests + 1 }
+    {
+        // What these ensure: the name and the key are within their limits, and the salt has 32 bytes.
+        name.bytes();
+        key.bytes();
+        salt.bytes();
+        let page = self.roots.len();
+        let_change_wait(
+            &mut self.names,
+            &mut self.waiting,
+            &mut self.hash,
+            keeper,
+            what,
+            name,
+            key,
+            salt,
+            page,
+        )
+    }
+
+    /// Lets another key of a name wait for the next page, once its record is kept. Takes one digest.
+    fn accept_held<K: Keeper>(
+        &mut self,
+        keeper: &mut K,
+        what: &Record,
+        name: Name,
+        key: KeyData,
+    ) -> Result<SignedPromise, Refusal>
+        requires limits { IsName name × IsKeyData key }
+        ensures made { let by = index_by (provider H.digest_of V.value_of S.signature_of self.old) in MatchResult result
+            (λ promise. (put_refusal by (book R.stream self.old) Change name ≡ None)
+            × K.kept keeper.old what.now keeper.new
+            × (book R.stream self.new ≡ with_pending (book R.stream self.old) name key)
+            × Shows (provider H.digest_of V.value_of S.signature_of self.old) (book R.stream self.new) (Promised name (record { key = key; salt = self.old.salt })) (promised (Ok promise)))
+            (λ why. (book R.stream self.new ≡ book R.stream self.old)
+            × IsRefusedSo K.failed keeper.old what.now (put_refusal by (book R.stream self.old) Change name) why keeper.new) }
+        ensures keys { HasKeysOf self.old self.new }
+        ensures work { self.new.digests ≤ self.old.digests + 1 }
+    {
+        let salt = self.salt;
+        let index = match self.rebind(keeper, what, &name, &key, salt) {
+            Ok(index) => index,
+            Err(why) => return Err(why),
+        };
+        self.salt = next_salt(&mut self.salts);
+        Ok(self.promised(index, name, key))
     }
 
     /// The promise, over the last root, to bind the key to the name.

@@ -1,0 +1,50 @@
+-- A change of a name's key: why it is refused, where a version may come, and what comes of it.
+use Rattle.std.specs.Prelude.{◌≡◌, ◌⊎◌, ℕ, ◌-◌, List, [], ◌∷◌, ◌++◌, Option, Some, None, is_none, is_some, if◌then◌else◌}
+use Rattle.std.specs.Option.{option_map}
+use Rattle.book.specs.declared.record.Record.{Record}
+use Rattle.book.specs.declared.refusal.Refusal.{Refusal}
+use Rattle.book.specs.declared.refusal.Refusal.TheVariants.{NoSuchName, PendingExists}
+use Rattle.book.specs.Books.{Binding}
+use Rattle.book.specs.Maps.{at}
+use Rattle.prefixtree.specs.Placement.{Items, commitment_of, put as put_item}
+use Rattle.epochs.specs.declared.address.Address.{Address}
+use Rattle.epochs.specs.Addresses.{History, Names, with_name}
+use Rattle.epochs.specs.Histories.{Version, binding_at, waiting}
+use Rattle.epochs.specs.Versions.{AllBefore, IsUnkept, versions_of}
+
+-- why a key is not changed, by what the last page shows of its name and what waits for it
+abbrev pub change_refusal : Option Binding → Option Binding → Option Refusal
+change_refusal shown waits = if is_none shown then Some NoSuchName else (if is_some waits then Some PendingExists else None)
+
+-- the same of a name of these versions, before this page
+abbrev pub refused_before : ℕ → List Version → Option Refusal
+refused_before page versions = change_refusal (binding_at (page - 1) versions) (waiting page versions)
+
+-- why a call refuses: as is due; where nothing is, memory is wanting, or the keeper failed
+abbrev pub IsRefusedSo : {K : Type 0} → (K → Record → K → Type 0) → K → Record → Option Refusal → Refusal → K → Type 0
+IsRefusedSo failed keeper lost due why after = ((due ≡ Some why) × (after ≡ keeper)) ⊎ ((due ≡ None) × IsUnkept failed keeper lost why after)
+
+-- if nothing refuses a change, a version of this page comes after those of the history, and nothing waits at its index
+abbrev pub FitsHistory : History → Items → ℕ → Type 0
+FitsHistory history waits page = refused_before page history.versions ≡ None → AllBefore page history.versions × (commitment_of waits history.address.index ≡ None)
+
+-- the same of the history of a name, if it has one
+abbrev pub FitsNames : Names → Items → List ℕ → ℕ → Type 0
+FitsNames names waits name page = refused_before page (versions_of names.versions name) ≡ None
+    → AllBefore page (versions_of names.versions name) × ((address : Address) → at names.addresses name ≡ Some address → commitment_of waits address.index ≡ None)
+
+-- nothing refuses the version; it is the last one of the history, and its commitment waits at the index
+abbrev pub IsChangedHistory : History → Items → Version → List ℕ → List ℕ → History → Items → Type 0
+IsChangedHistory history waits version commitment index history_after waits_after =
+    (refused_before version.number history.versions ≡ None)
+    × (index ≡ history.address.index)
+    × (history_after ≡ record history { versions = history.versions ++ version ∷ [] })
+    × (waits_after ≡ put_item waits index commitment)
+
+-- the same of the history of a name, which has its index already
+abbrev pub AreChangedNames : Names → Items → List ℕ → Version → List ℕ → List ℕ → Names → Items → Type 0
+AreChangedNames names waits name version commitment index names_after waits_after =
+    (refused_before version.number (versions_of names.versions name) ≡ None)
+    × (option_map (λ address. address.index) (at names.addresses name) ≡ Some index)
+    × ((address : Address) → names_after ≡ with_name names name address version)
+    × (waits_after ≡ put_item waits index commitment)
