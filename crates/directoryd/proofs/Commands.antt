@@ -1,10 +1,16 @@
 -- What clap reads of a command with one more argument.
-use Rattle.std.proofs.Common.{◌≡◌, ◌∙◌, ◌||◌, ap, ap₂, false}
+use Rattle.std.proofs.Common.{◌≡◌, ◌∙◌, ◌||◌, ◌+◌, ◌<◌, ℕ, List, ap, ap₂, false, get_or, length, sym, take}
+use Rattle.std.proofs.lemmas.List.{take_more}
+use Rattle.std.proofs.lemmas.List.Sums.{fold_push}
 use Rattle.std.proofs.Math.Bool.{or-false}
-use Rattle.clap.specs.Words.{AddsArg, App, Rule, app_of, rule_of, with_rule}
+use Rattle.clap.specs.Words.{AddsArg, App, Rule, app_of, rule_of, with_rule, with_subcommand}
 use Rattle.clap.specs.declared.builder.arg.Arg.{Arg}
 use Rattle.clap.specs.declared.builder.command.Command.{Command}
 use Rattle.clap.specs.declared.builder.command.Command.TheViews.{out-Command}
+use Rattle.clap.specs.declared.builder.value_parser.ValueParser.{ValueParser}
+use Rattle.directoryd.specs.declared.order.tables.Argument.{Argument}
+use Rattle.directoryd.specs.declared.order.tables.Subcommand.{Subcommand}
+use Rattle.directoryd.specs.Tables.{app_in, apps_in, rule_in, with_rows}
 
 -- its rule, where it is not global
 pub with_one : (old new : Command) (a : Arg) (app : App) (rule : Rule) → AddsArg old a new → a.global ≡ false → app_of old ≡ app → rule_of a ≡ rule
@@ -14,3 +20,16 @@ with_one old new a app rule added local app_is rule_is = added.shape local ∙ a
 -- and no global argument more
 pub stays_local : (old new : Command) (a : Arg) → AddsArg old a new → a.global ≡ false → (out-Command new).has_globals ≡ (out-Command old).has_globals
 stays_local old new a added local = added.globals ∙ ap (λ b. (out-Command old).has_globals || b) local ∙ or-false (out-Command old).has_globals
+
+-- one row more
+pub more_rows : (names : ValueParser) (app : App) (rows : List Argument) (i : ℕ) (d : Argument) → i < length rows
+    → with_rule (with_rows names app (take i rows)) (rule_in names (get_or rows i d)) ≡ with_rows names app (take (i + 1) rows)
+more_rows names app rows i d less =
+    sym (fold_push (λ command row. with_rule command (rule_in names row)) app (take i rows) (get_or rows i d))
+    ∙ ap (with_rows names app) (sym (take_more rows i d less))
+
+pub more_subcommands : (names : ValueParser) (app : App) (rows : List Subcommand) (i : ℕ) (d : Subcommand) → i < length rows
+    → with_subcommand (apps_in names app (take i rows)) (app_in names (get_or rows i d)).top ≡ apps_in names app (take (i + 1) rows)
+more_subcommands names app rows i d less =
+    sym (fold_push (λ command row. with_subcommand command (app_in names row).top) app (take i rows) (get_or rows i d))
+    ∙ ap (apps_in names app) (sym (take_more rows i d less))

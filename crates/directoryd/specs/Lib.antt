@@ -2,3 +2,4 @@ pub mod CommandLine
 pub mod KeyFiles
 pub mod Orders
 pub mod Programs
+pub mod Tables

@@ -1,0 +1,7 @@
+use Rattle.std.proofs.Common.{◌≡◌, take}
+use Rattle.clap.specs.Words.{app_of}
+use Rattle.directoryd.specs.Tables.{apps_in}
+use Rattle.directoryd.proofs.order.command.Given as goal
+
+abbrev pub invariant-loop-row : goal.invariant-loop-row
+invariant-loop-row l = app_of l.directoryd ≡ apps_in l.names (app_of l.initial.directoryd) (take l.row-index l.row-items)
