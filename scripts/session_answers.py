@@ -51,6 +51,14 @@ def fault_words(fault, written):
     return ["fault", str(fault.status), fault.text, written]
 
 
+def altered(data):
+    """Of each byte: the beginning before it; the bytes with this one 1 more; and with each of its bits flipped."""
+    for at, byte in enumerate(data):
+        yield data[:at]
+        for other in [(byte + 1) % 256, *(byte ^ 1 << bit for bit in range(8))]:
+            yield data[:at] + bytes([other]) + data[at + 1 :]
+
+
 def due_words(due):
     if isinstance(due, BrokenPromise):
         parts = (due.promise.write(), due.root.write(), due.proof)
@@ -487,6 +495,22 @@ class SessionAnswers(Lines):
         except ProgramFault as fault:
             return fault_words(fault, "-")
         return ["ok", str(status), told_text(written)]
+
+    def evidence_altered(self, w):
+        """`altered KEYTEXT BYTES`: a word for each byte, of a letter for each file that is altered there: it ends
+        before the byte; the byte is 1 more; and its bits are flipped one by one, from the lowest."""
+        key, file = w.text(), w.bytes()
+        letters = [self.letter(key, data) for data in altered(file)]
+        return ["".join(letters[at : at + 10]) for at in range(0, len(letters), 10)]
+
+    @staticmethod
+    def letter(key, file):
+        """`e` for evidence, `n` for no evidence, `-` for a file of none."""
+        try:
+            status, _ = judge_file(key, file)
+        except ProgramFault:
+            return "-"
+        return "n" if status else "e"
 
     def evidence_audit(self, w):
         """`audit KEYTEXT INPUT`"""

@@ -15,6 +15,7 @@ pub(crate) fn answer(case: &mut Case<'_>) {
         b"json" => json(case),
         b"read" => read(case),
         b"judge" => judge_bytes(case),
+        b"altered" => judge_altered(case),
         b"audit" => audit_bytes(case),
         _ => case.spoil(),
     }
@@ -111,6 +112,47 @@ fn tell_judged(case: &mut Case<'_>, judged: Result<Verdict, ProgramFault>) {
             case.say("ok");
             case.say_shown(verdict.status());
         }
+        Err(fault) => say_fault(case, fault),
+    }
+}
+
+/// `altered KEYTEXT BYTES`: a word for each byte, of a letter for each file that is altered there: it ends before the
+/// byte; the byte is 1 more; and its bits are flipped one by one, from the lowest.
+fn judge_altered(case: &mut Case<'_>) {
+    let key = case.text();
+    let file = case.bytes();
+    for place in 0..file.len() {
+        let byte = file[place];
+        case.say("");
+        tell_letter(case, key, file.split_at(place).0);
+        tell_replaced(case, key, file, place, byte.wrapping_add(1));
+        for mask in [1, 2, 4, 8, 16, 32, 64, 128] {
+            tell_replaced(case, key, file, place, byte ^ mask);
+        }
+    }
+}
+
+/// The letter of the file with this byte at a place.
+fn tell_replaced(case: &mut Case<'_>, key: &str, file: &[u8], place: usize, byte: u8) {
+    let mut altered = Vec::new(case.alloc());
+    let before = file.get(..place).unwrap_or(&[]);
+    let behind = file.get(place.saturating_add(1)..).unwrap_or(&[]);
+    if altered.extend_from_slice(before).is_err()
+        || altered.push(byte).is_err()
+        || altered.extend_from_slice(behind).is_err()
+    {
+        return case.lack_memory();
+    }
+    tell_letter(case, key, &altered);
+}
+
+/// `e` for evidence, `n` for no evidence, `-` for a file of none.
+fn tell_letter(case: &mut Case<'_>, key: &str, file: &[u8]) {
+    let mut written = Vec::new(case.alloc());
+    match judge_file(case.alloc(), key, file, &mut written) {
+        Ok(Verdict::Evidence) => case.join("e"),
+        Ok(Verdict::NoEvidence) => case.join("n"),
+        Err(ProgramFault::NotEvidence) => case.join("-"),
         Err(fault) => say_fault(case, fault),
     }
 }

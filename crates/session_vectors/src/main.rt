@@ -34,7 +34,7 @@
 //! | | `observe` under a verifier that accepts all | `any` |
 //! | | `judge` | `judge` |
 //! | `evidence` | `evidence_json`, `read_evidence` | `json`, `read` |
-//! | | `judge_file`, `audit` | `judge`, `audit` |
+//! | | `judge_file`; `audit` | `judge`, `altered`; `audit` |
 //! | `text` | refusals of memory, of a keeper and of streams | `refusal` |
 //! | `script` | `play`, in which all of them come together | |
 //!
