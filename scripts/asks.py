@@ -145,6 +145,13 @@ class Asked:
         self.words.append(f"state: begins at epoch {self.client.head().epoch}")
 
     def follow(self):
+        try:
+            self.take_new()
+        except Stopped:
+            self.words.append(f"no root is taken after epoch {self.client.head().epoch}")
+            raise
+
+    def take_new(self):
         while (start := self.client.head().epoch + 1) <= MAX_EPOCH:
             got = self.ask("history", start, MAX_ROOTS)
             if got is None:

@@ -224,7 +224,7 @@ where
         let said = &mut self.said;
         let asker = Asker::start_at_head(self.alloc, stream, checks, keys.provider, keys.token, said)?;
         if self.state.is_some() {
-            tell_beginning(asker.head(), said)?;
+            tell_epoch(b"state: begins at epoch ", asker.head(), said)?;
         }
         Ok(asker)
     }
@@ -336,6 +336,9 @@ where
         if let Some(state) = self.state.as_mut() {
             state.add(self.alloc, self.files, asker)?;
         }
+        if asked == Err(AskFault::Stopped) {
+            tell_epoch(b"no root is taken after epoch ", asker.head(), &mut self.said)?;
+        }
         self.write(writer, errors)?;
         if asked != Err(AskFault::OutOfMemory) {
             if let Some(state) = self.state.as_mut() {
@@ -406,11 +409,11 @@ where
     }
 }
 
-/// Says with which epoch a state begins.
-fn tell_beginning(epoch: u64, said: &mut Said) -> Result<(), AllocError>
+/// Says something of an epoch, in a line of the errors.
+fn tell_epoch(what: &[u8], epoch: u64, said: &mut Said) -> Result<(), AllocError>
     ensures { told_by said.new ≡ told_by said.old }
 {
-    said.words.extend_from_slice(b"state: begins at epoch ")?;
+    said.words.extend_from_slice(what)?;
     push_number(&mut said.words, epoch)?;
     said.words.push(b'\n')?;
     Ok(())
