@@ -1,5 +1,5 @@
 -- Lists of roots that are refused.
-use Rattle.std.proofs.Common.{◌≡◌, ◌≢◌, ◌∙◌, ℕ, zero, suc, ◌<◌, ◌≤◌, List, [], ◌∷◌, Result, Err, ap, arith, codes, get_or, inl, inr, length, refl, slice_set, subst, sym}
+use Rattle.std.proofs.Common.{◌≡◌, ◌≢◌, ◌∙◌, ℕ, zero, suc, ◌<◌, ◌≤◌, List, [], ◌∷◌, Result, Err, ap, arith, codes, get_or, inl, inr, length, refl, slice_set, subst}
 use Rattle.std.proofs.lemmas.Option.{slice_get_read}
 use Rattle.client.specs.Clients.{Client}
 use Rattle.client.specs.Updating.{Updates}
