@@ -1,5 +1,5 @@
 -- The lines of a run, one after another.
-use Rattle.std.proofs.Common.{◌≡◌, ◌∙◌, ◌⊎◌, ◌<◌, ℕ, Bool, true, false, List, [], ◌∷◌, Option, None, Some, Result, Ok, Err, Bor, Global, Vec, ap, inl, inr, option_map, refl, subst, sym}
+use Rattle.std.proofs.Common.{◌≡◌, ◌∙◌, ◌⊎◌, ◌<◌, ℕ, true, false, List, [], ◌∷◌, Option, None, Some, Result, Ok, Err, Bor, Global, Vec, ap, inl, inr, option_map, refl, subst, sym}
 use Rattle.std.specs.Prelude.{IfErr, IfOk, IfSome, OnOk}
 use Rattle.std.specs.Io.KnownBytes.{Appends}
 use Rattle.std.proofs.KnownBytes.{Appends-nil}
@@ -131,16 +131,16 @@ ends_so hash accepted verified exchanged key token options NoState None' (Err fa
 ends_so {F = F} hash accepted verified exchanged key token options NoState None' (Ok done) result stream input old new new' status told empty without runs (is, same) stops =
     let run = runs empty in
     subst (λ (r : Result ℕ F). IfOk r (λ other. (0 < other) ⊎ RunsWhole hash accepted verified exchanged key token options None' stream input other old new')) (sym is) (inr (
-      subst (λ (text : Option (List ℕ)). RunsWhole hash accepted verified exchanged key token options None' stream input status old text) (sym same) (record {
-        known = run.known;
-        start = run.start;
-        silent = run.silent;
-        begins = λ none. run.begins (without none);
-        ready = run.ready;
-        now = run.now;
-        prepares = run.prepares;
-        last = run.last;
-        asks = run.asks;
-        status_is = run.status_is;
-      })
+    subst (λ (text : Option (List ℕ)). RunsWhole hash accepted verified exchanged key token options None' stream input status old text) (sym same) (record {
+      known = run.known;
+      start = run.start;
+      silent = run.silent;
+      begins = λ none. run.begins (without none);
+      ready = run.ready;
+      now = run.now;
+      prepares = run.prepares;
+      last = run.last;
+      asks = run.asks;
+      status_is = run.status_is;
+    })
     ))

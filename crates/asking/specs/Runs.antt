@@ -70,7 +70,7 @@ module _ (hash : List ℕ → List ℕ) (accepted verified : List ℕ → List �
     -- what a line says is asked; one that says something to a session asks nothing of a directory
     abbrev pub Does : Line → Scene T → Scene T → Type 0
     Does Pass before after = after ≡ before
-    Does (Ask asked) before after = Asks hash accepted verified exchanged known.marks known.token asked before after
+    Does (Ask asked) before after = (noted : List SignedPromise) × (noted' : List SignedPromise) × Asks hash accepted verified exchanged known.marks known.token asked noted noted' before after
     Does (Watch name given) before after = BeginsWatch hash accepted verified exchanged known.marks known.key known.earlier name given before after
     Does (Piece session piece) before after = ⊥
     Does (End session) before after = ⊥

@@ -222,7 +222,14 @@ where
         ensures said { IfOk result (λ asker. told_by (self.new).said ≡ told_by (self.old).said) }
     {
         let said = &mut self.said;
-        let asker = Asker::start_at_head(self.alloc, stream, checks, keys.provider, keys.token, said)?;
+        let asker = Asker::start_at_head(
+            self.alloc,
+            stream,
+            checks,
+            keys.provider,
+            keys.token,
+            said,
+        )?;
         if self.state.is_some() {
             tell_epoch(b"state: begins at epoch ", asker.head(), said)?;
         }
@@ -337,7 +344,11 @@ where
             state.add(self.alloc, self.files, asker)?;
         }
         if asked == Err(AskFault::Stopped) {
-            tell_epoch(b"no root is taken after epoch ", asker.head(), &mut self.said)?;
+            tell_epoch(
+                b"no root is taken after epoch ",
+                asker.head(),
+                &mut self.said,
+            )?;
         }
         self.write(writer, errors)?;
         if asked != Err(AskFault::OutOfMemory) {

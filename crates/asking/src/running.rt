@@ -96,7 +96,17 @@ where
         vuf: KeyedVuf::new(keys.provider),
         verifier: KeyedSign::new(keys.provider),
     };
-    ask_over(alloc, system, &mut stream, checks, keys, order, reader, writer, errors)
+    ask_over(
+        alloc,
+        system,
+        &mut stream,
+        checks,
+        keys,
+        order,
+        reader,
+        writer,
+        errors,
+    )
 }
 
 /// Asks what the words of an order ask, or the lines of the input, over a stream to a directory, and writes the

@@ -3,6 +3,7 @@ use Rattle.std.specs.Prelude.{OnOk}
 use Rattle.asking.specs.Exchanges.{Exchanges}
 use Rattle.asking.specs.Joining.{BeginsWatch}
 use Rattle.asking.specs.Scenes.{scene}
+use Rattle.asking.proofs.Ran.{ok_then}
 use Rattle.asking.proofs.run.ask_said.Goals as goal
 
 pub returns-in-Watch-clause-does : goal.returns-in-Watch-clause-does
@@ -10,3 +11,7 @@ returns-in-Watch-clause-does g c =
     rw c.in-Watch.is (subst (λ (given : Option (List ℕ)). OnOk c.watch.result (BeginsWatch g.H.NodeHash.digest_of g.V.VufCheck.accepted g.S.Verifier.verified (Exchanges g.T.Write.contents g.T.Read.remaining)
     c.args.asker.now.marks.items c.args.asker.now.key c.args.asker.now.earlier.items c.in-Watch.name given (scene c.args.asker.now c.args.said.now c.args.stream.now) (scene c.watch.new.self c.watch.new.said c.watch.new.stream)))
     c.as_ref.ensures.value c.watch.ensures.begins)
+
+pub returns-in-Ask-clause-does : goal.returns-in-Ask-clause-does
+returns-in-Ask-clause-does g c =
+    rw c.in-Ask.is (ok_then c.ask.result c.ask.ensures.asks (λ asks. (c.args.asker.now.changes.items, c.ask.new.self.changes.items, asks)))

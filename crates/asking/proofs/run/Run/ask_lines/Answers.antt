@@ -1,4 +1,4 @@
-use Rattle.std.proofs.Common.{◌≡◌, ◌∙◌, ℕ, List, Option, subst}
+use Rattle.std.proofs.Common.{◌∙◌, subst}
 use Rattle.asking.specs.Exchanges.{Exchanges}
 use Rattle.asking.specs.Runs.{AsksLine, Known, known_of, Writes}
 use Rattle.asking.specs.Scenes.{scene}

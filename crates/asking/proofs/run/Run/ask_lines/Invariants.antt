@@ -1,8 +1,7 @@
-use Rattle.std.proofs.Common.{◌≡◌, ℕ, List, Option, Some}
-use Rattle.textio.specs.Lines.{lines_of}
+use Rattle.std.proofs.Common.{◌≡◌}
 use Rattle.asking.specs.Exchanges.{Exchanges}
-use Rattle.asking.specs.Runs.{AsksLines, known_of}
-use Rattle.asking.specs.Scenes.{scene, Scene}
+use Rattle.asking.specs.Runs.{known_of}
+use Rattle.asking.specs.Scenes.{scene}
 use Rattle.asking.proofs.Ran.{LeadsOn}
 use Rattle.asking.proofs.run.Run.ask_lines.Given as goal
 

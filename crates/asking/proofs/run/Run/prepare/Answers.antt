@@ -1,4 +1,3 @@
-use Rattle.std.proofs.Common.{refl}
 use Rattle.asking.specs.Exchanges.{Exchanges}
 use Rattle.asking.specs.Runs.{known_of, Prepares}
 use Rattle.asking.specs.Scenes.{scene}
