@@ -1,5 +1,8 @@
 // What a client keeps between runs. In the file of the state stand the signed roots of its chain, one a line
 // in hexadecimal digits; in a second one beside it the promises that it keeps, and how far names were watched.
+ghost use Rattle.std.specs.Prelude.{◌≡◌, [], IfOk};
+ghost use Rattle.asking.specs.Runs.{IsSame};
+
 use crate::asker::Mark;
 use crate::{AskFault, Asker, Checks};
 use encoding::{Hash32, Name};
@@ -82,7 +85,7 @@ impl<'a> State<'a> {
         })
     }
 
-    /// What asks with the chain and the promises of the state, or `None` if its file is not there.
+    /// What asks with the chain and the promises of the state, or the checks back if its file is not there.
     ///
     /// # Errors
     ///
@@ -100,6 +103,7 @@ impl<'a> State<'a> {
         H: NodeHash + Drop,
         V: VufCheck + Drop,
         S: Verifier + Drop,
+        ensures { IfOk result (λ loaded. IfOk loaded (λ asker. (asker.key ≡ key) × (asker.token ≡ token) × (asker.monitors.items ≡ []))) }
     {
         let Some(roots) = file_bytes(alloc, files, self.path)? else {
             return Ok(Err(checks));
@@ -230,7 +234,9 @@ where
     S: Verifier + Drop,
 {
     /// Takes the root of a line.
-    fn take_line(&mut self, line: &[u8], number: u64) -> Result<(), ProgramFault> {
+    fn take_line(&mut self, line: &[u8], number: u64) -> Result<(), ProgramFault>
+        ensures { IsSame self.old self.new }
+    {
         let root = line_bytes(self.alloc, line, number)?;
         let mut list = Vec::new(self.alloc);
         push_list(&mut list, &root)?;
@@ -245,7 +251,9 @@ where
     }
 
     /// Keeps what a line of the second file has: `promise HEX`, `change HEX`, or `watched NAME EPOCH`.
-    fn keep_line(&mut self, line: &[u8], number: u64) -> Result<(), ProgramFault> {
+    fn keep_line(&mut self, line: &[u8], number: u64) -> Result<(), ProgramFault>
+        ensures { IsSame self.old self.new }
+    {
         if let Some(promise) = line.strip_prefix(b"promise ".as_slice()) {
             let _signed = self.keep_earlier(promise, number)?;
             return Ok(());
@@ -262,7 +270,9 @@ where
     }
 
     /// Keeps a promise of an earlier run, which these digits give.
-    fn keep_earlier(&mut self, digits: &[u8], number: u64) -> Result<SignedPromise, ProgramFault> {
+    fn keep_earlier(&mut self, digits: &[u8], number: u64) -> Result<SignedPromise, ProgramFault>
+        ensures { IsSame self.old self.new }
+    {
         let promise = line_bytes(self.alloc, digits, number)?;
         let checks = &mut self.checks;
         let read = self
@@ -280,7 +290,9 @@ where
     }
 
     /// Keeps how far a name was watched: `NAME EPOCH`.
-    fn keep_mark(&mut self, mark: &[u8], number: u64) -> Result<(), ProgramFault> {
+    fn keep_mark(&mut self, mark: &[u8], number: u64) -> Result<(), ProgramFault>
+        ensures { IsSame self.old self.new }
+    {
         let mut words = mark.split(|byte| *byte == b' ');
         let (Some(name), Some(epoch), None) = (words.next(), words.next(), words.next()) else {
             return Err(ProgramFault::BadItem(number));
