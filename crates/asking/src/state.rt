@@ -8,7 +8,7 @@ use crate::{AskFault, Asker, Checks};
 use encoding::{Hash32, Name};
 use hex::FromHexError;
 use nodehash::NodeHash;
-use play::{push_hex, push_number};
+use play::{next_line, push_hex, push_number};
 use rootchain::SignedPromise;
 use sigiface::Verifier;
 use std::alloc::{AllocError, Global};
@@ -109,28 +109,16 @@ impl<'a> State<'a> {
             return Ok(Err(checks));
         };
         self.is_cut = roots.last() != Some(&b'\n');
-        let mut lines = roots.split(|byte| *byte == b'\n');
-        let first = line_bytes(alloc, lines.next().unwrap_or(b""), 1)?;
+        let line = roots.split(|byte| *byte == b'\n').next().unwrap_or(b"");
+        let first = line_bytes(alloc, line, 1)?;
         let mut asker = match Asker::start(alloc, checks, key, token, &first) {
             Ok(asker) => asker,
             Err(why) => return Err(fault_of(&why, 1)),
         };
-        let mut number: u64 = 1;
-        for line in lines {
-            number = number.saturating_add(1);
-            if !line.is_empty() {
-                asker.take_line(line, number)?;
-            }
-        }
+        asker.take_lines(&roots)?;
         self.epoch = asker.head();
         if let Some(kept) = file_bytes(alloc, files, self.beside.as_str())? {
-            let mut number: u64 = 0;
-            for line in kept.split(|byte| *byte == b'\n') {
-                number = number.saturating_add(1);
-                if !line.is_empty() {
-                    asker.keep_line(line, number)?;
-                }
-            }
+            asker.keep_lines(&kept)?;
             self.kept = kept;
         }
         Ok(Ok(asker))
@@ -233,6 +221,42 @@ where
     V: VufCheck + Drop,
     S: Verifier + Drop,
 {
+    /// Takes the roots of a text's lines behind the first.
+    fn take_lines(&mut self, text: &[u8]) -> Result<(), ProgramFault>
+        ensures { IsSame self.old self.new }
+    {
+        let mut left = text;
+        let mut line = Vec::new(self.alloc);
+        // Every loop of Rattle has an end: this one's is past any text.
+        for number in 1..u64::MAX {
+            if !next_line(&mut left, &mut line)? {
+                return Ok(());
+            }
+            if 1 < number && !line.is_empty() {
+                self.take_line(&line, number)?;
+            }
+        }
+        Ok(())
+    }
+
+    /// Keeps what the lines of the second file have.
+    fn keep_lines(&mut self, text: &[u8]) -> Result<(), ProgramFault>
+        ensures { IsSame self.old self.new }
+    {
+        let mut left = text;
+        let mut line = Vec::new(self.alloc);
+        // Every loop of Rattle has an end: this one's is past any text.
+        for number in 1..u64::MAX {
+            if !next_line(&mut left, &mut line)? {
+                return Ok(());
+            }
+            if !line.is_empty() {
+                self.keep_line(&line, number)?;
+            }
+        }
+        Ok(())
+    }
+
     /// Takes the root of a line.
     fn take_line(&mut self, line: &[u8], number: u64) -> Result<(), ProgramFault>
         ensures { IsSame self.old self.new }
