@@ -13,7 +13,7 @@ use Rattle.asking.specs.declared.asker.Asker.{Asker}
 use Rattle.asking.specs.declared.asker.Mark.{Mark}
 use Rattle.asking.specs.declared.said.Said.{Said}
 use Rattle.asking.specs.Answering.{with_token}
-use Rattle.asking.specs.Asking.{Asks, CatchesUp, GoesOnAbove, Hands, HandsTo, Notes, SpeaksOf}
+use Rattle.asking.specs.Asking.{AsksDirectory, CatchesUp, GoesOnAbove, Hands, HandsTo, Notes, SpeaksOf}
 use Rattle.asking.specs.Checking.{HearsFrame}
 use Rattle.asking.specs.Scenes.{scene}
 use Rattle.asking.specs.Reports.{Report, Tells}
@@ -83,7 +83,7 @@ module _ (hash : List ℕ → List ℕ) (accepted verified : List ℕ → List �
       → Hands hash accepted verified asked frame.body ready.client.promises heard.client.promises ready.monitors.items heard.monitors.items
       → Notes asked ready.client.promises heard.client.promises first.changes.items last.changes.items → heard.marks ≡ first.marks
       → OnOk result (GoesOnAbove hash accepted verified exchanged heard.marks.items low (scene heard told_to later) (scene last said' end))
-      → OnOk result (Asks hash accepted verified exchanged first.marks.items first.token asked first.changes.items last.changes.items (scene first said stream) (scene last said' end))
+      → OnOk result (AsksDirectory hash accepted verified exchanged first.marks.items first.token asked first.changes.items last.changes.items (scene first said stream) (scene last said' end))
   asks_all exchanged (Ok done) first ready heard last said caught told_to said' stream sent later end asked frame head low epoch told is at exchange speaks catches hears tells hands notes marks goes =
       let above = subst (λ (m : Vec Mark Global). GoesOnAbove hash accepted verified exchanged m.items low (scene heard told_to later) (scene last said' end)) marks goes in
       record {

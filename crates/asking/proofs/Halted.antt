@@ -16,8 +16,8 @@ use Rattle.asking.specs.Answering.{with_token}
 use Rattle.asking.specs.Asking.{AsksSome, CatchesSome, CatchesUp, GoesSomeAbove, Hands, HearsSome, Notes, SpeaksOf}
 use Rattle.asking.specs.Checking.{HearsFrame}
 use Rattle.asking.specs.Following.{TakesSome}
-use Rattle.asking.specs.Joining.{BeginsAt, BeginsSome, BeginsSomeAt, IsBegun, IsUnwatched}
-use Rattle.asking.specs.Reports.{Report, Tells, told_by}
+use Rattle.asking.specs.Joining.{BeginsAt, BeginsSome, BeginsSomeAt, IsJoined, IsUnwatched}
+use Rattle.asking.specs.Reports.{Report, Tells, report_of}
 use Rattle.asking.specs.Scenes.{HaltsAfter, Scene, scene}
 use Rattle.asking.specs.Visiting.{TestsSome}
 use Rattle.asking.specs.Watching.{GoesSome, StepsSome}
@@ -32,7 +32,7 @@ no-memory : OutOfMemory ≢ NoReply
 no-memory same = search (rules, same)
 
 -- memory ran out, and nothing was told of what came
-pub halts_untold : {H V S T : Type 0} (asker last : Asker H V S) (said said' : Said) (stream : T) (IsReached : Scene T → Type 0) → IsReached (scene asker said stream) → told_by said' ≡ told_by said
+pub halts_untold : {H V S T : Type 0} (asker last : Asker H V S) (said said' : Said) (stream : T) (IsReached : Scene T → Type 0) → IsReached (scene asker said stream) → report_of said' ≡ report_of said
     → HaltsAfter IsReached OutOfMemory last said'
 halts_untold asker last said said' stream IsReached is same = (scene asker said stream, is, (same, λ none. absurd (no-memory none)))
 
@@ -70,7 +70,7 @@ module _ {H V S T : Type 0} (hash : List ℕ → List ℕ) (accepted verified : 
       pub halts_hearing : (fault : AskFault) (last : Asker H V S) (said' : Said) → IsHead first.client.chain head → exchanged stream (with_token first.token asked) frame sent → SpeaksOf asked frame epoch
           → CatchesUp hash accepted verified exchanged epoch (scene first said sent) (scene ready caught later) → fault ≢ NoReply → ready.changes ≡ first.changes
           → (last.changes.items ≡ ready.changes.items) ⊎ Notes asked ready.client.promises last.client.promises ready.changes.items last.changes.items
-          → ((told_by said' ≡ told_by caught) × (last.changes.items ≡ ready.changes.items)) ⊎ ((told : Report) × HearsFrame hash accepted verified ready.client asked frame told last.client × Tells caught told said')
+          → ((report_of said' ≡ report_of caught) × (last.changes.items ≡ ready.changes.items)) ⊎ ((told : Report) × HearsFrame hash accepted verified ready.client asked frame told last.client × Tells caught told said')
           → HaltsAfter (AsksSome hash accepted verified exchanged marks.items first.token asked first.changes.items last.changes.items (scene first said stream)) fault last said'
       halts_hearing fault last said' is exchange speaks catches not still noted (inl (same, none)) =
           let here : Scene T = scene ready caught later in
@@ -79,7 +79,7 @@ module _ {H V S T : Type 0} (hash : List ℕ → List ℕ) (accepted verified : 
       halts_hearing fault last said' is exchange speaks catches not still noted (inr (told, hears, tells)) =
           let notes = subst
           (λ (all : Vec SignedPromise Global). (last.changes.items ≡ all.items) ⊎ Notes asked ready.client.promises last.client.promises all.items last.changes.items) still noted in
-          let reached : Scene T = record { client = last.client; monitors = ready.monitors.items; told = told_by said'; stream = later } in (
+          let reached : Scene T = record { client = last.client; monitors = ready.monitors.items; told = report_of said'; stream = later } in (
             reached,
             asks-on last.changes.items reached is exchange speaks (inr (scene ready caught later, catches, inr (inl (notes, told, hears, told_onto caught said' told tells, refl, refl)))),
             (refl, λ none. absurd (not none)),
@@ -113,12 +113,12 @@ module _ {H V S T : Type 0} (hash : List ℕ → List ℕ) (accepted verified : 
   module _ (key : List ℕ) (earlier : List SignedPromise) (name : List ℕ) (given : Option (List ℕ)) (asker : Asker H V S) (said : Said) (stream : T) (first : SignedRoot) where
     -- a monitor was added, and took some steps
     pub halts_stepping : {A : Type 0} (marks : List Mark) (result : Result A AskFault) (added last : Asker H V S) (said' : Said) (monitor : Monitor) (place : ℕ) → added.client ≡ asker.client
-        → added.monitors.items ≡ asker.monitors.items ++ monitor ∷ [] → place ≡ length asker.monitors.items → IsBegun hash accepted verified key earlier asker.client.chain first name given monitor
+        → added.monitors.items ≡ asker.monitors.items ++ monitor ∷ [] → place ≡ length asker.monitors.items → IsJoined hash accepted verified key earlier asker.client.chain first name given monitor
         → IfErr result (λ fault. HaltsAfter (StepsSome hash accepted exchanged (scene added said stream) place) fault last said')
         → IfErr result (λ fault. HaltsAfter (BeginsSomeAt hash accepted verified exchanged marks key earlier name given first (scene asker said stream)) fault last said')
     halts_stepping marks (Ok done) added last said' monitor place client monitors at begun halts = tt
     halts_stepping marks (Err fault) added last said' monitor place client monitors at begun (reached, steps, halts) =
-        let same = scene_of added.client asker.client added.monitors.items (asker.monitors.items ++ monitor ∷ []) (told_by said) (told_by said) stream client monitors refl in
+        let same = scene_of added.client asker.client added.monitors.items (asker.monitors.items ++ monitor ∷ []) (report_of said) (report_of said) stream client monitors refl in
         let here = subst (λ (n : ℕ). StepsSome hash accepted exchanged (scene added said stream) n reached) at steps in
         (reached, inr (monitor, begun, subst (λ (s : Scene T). StepsSome hash accepted exchanged s (length asker.monitors.items) reached) same here), halts)
 

@@ -8,11 +8,11 @@ use Rattle.wire.specs.Requests.{RequestContent, Query, Put, Turn}
 use Rattle.wire.specs.Responses as response
 use Rattle.client.specs.Clients.{Client}
 use Rattle.client.specs.Looking.{Looks}
-use Rattle.client.specs.Promising.{Keeps}
+use Rattle.client.specs.Promising.{KeepsPromise}
 use Rattle.client.specs.declared.refusal.Refusal.{Refusal}
 use Rattle.client.specs.declared.refusal.Refusal.TheVariants.{Root, Proof, UnknownRoot, RootDiffers, Memory, NoPromise}
-use Rattle.asking.specs.Answering.{Answers}
-use Rattle.asking.specs.Checking.{look_told, promise_told, Hears, IsTellable}
+use Rattle.asking.specs.Answering.{IsAnswerTo}
+use Rattle.asking.specs.Checking.{look_told, promise_told, HearsResponse, IsTellable}
 use Rattle.asking.specs.Reports.{Report}
 
 -- a look that is refused changes nothing
@@ -27,7 +27,7 @@ looks_same hash accepted before after name epoch bytes NoPromise never = absurd 
 
 -- nor does a promise that is refused
 pub keeps_same : (hash : List ℕ → List ℕ) (verified : List ℕ → List ℕ → List ℕ → Type 0) (before after : Client) (bytes : List ℕ) (why : Refusal)
-    → Keeps hash verified before bytes {A = Unit {0}} (Err why) after → after ≡ before
+    → KeepsPromise hash verified before bytes {A = Unit {0}} (Err why) after → after ≡ before
 keeps_same hash verified before after bytes Memory (given, same) = same
 keeps_same hash verified before after bytes (Root why) (reads, same) = same
 keeps_same hash verified before after bytes UnknownRoot (reads, same) = same
@@ -37,9 +37,9 @@ keeps_same hash verified before after bytes NoPromise never = absurd never
 
 module _ (hash : List ℕ → List ℕ) (accepted verified : List ℕ → List ℕ → List ℕ → Type 0) (before after : Client) (body : List ℕ) where
   -- a promise was heard, or nothing changed
-  pub hears_promise : (asked : RequestContent) (signed : SignedPromise) → Answers asked (response.Promise signed)
-      → (after ≡ before) ⊎ ((answer : Result (Unit {0}) Refusal) × Keeps hash verified before body answer after × IsTellable answer)
-      → (after ≡ before) ⊎ ((told : Report) × Hears hash accepted verified before body asked (response.Promise signed) told after)
+  pub hears_promise : (asked : RequestContent) (signed : SignedPromise) → IsAnswerTo asked (response.Promise signed)
+      → (after ≡ before) ⊎ ((answer : Result (Unit {0}) Refusal) × KeepsPromise hash verified before body answer after × IsTellable answer)
+      → (after ≡ before) ⊎ ((told : Report) × HearsResponse hash accepted verified before body asked (response.Promise signed) told after)
   hears_promise (Put verb name key) signed answers (inl same) = inl same
   hears_promise (Put verb name key) signed answers (inr (answer, keeps, tellable)) =
       inr (promise_told (response.Promise signed) answer, inr (answers, (answer, (keeps, tellable), refl)))
@@ -52,9 +52,9 @@ module _ (hash : List ℕ → List ℕ) (accepted verified : List ℕ → List �
   hears_promise (Turn _ _ _) signed answers kept = absurd answers
 
   -- a reply to a look-up was heard, or nothing changed
-  pub hears_look : (name spelled : List ℕ) (epoch : ℕ) (reply : Reply) → Answers (Query (Lookup name epoch)) (response.Proof reply) → spelled ≡ name
+  pub hears_look : (name spelled : List ℕ) (epoch : ℕ) (reply : Reply) → IsAnswerTo (Query (Lookup name epoch)) (response.Proof reply) → spelled ≡ name
       → (after ≡ before) ⊎ ((answer : Result Statement Refusal) × Looks hash accepted before spelled epoch body answer after × IsTellable answer)
-      → (after ≡ before) ⊎ ((told : Report) × Hears hash accepted verified before body (Query (Lookup name epoch)) (response.Proof reply) told after)
+      → (after ≡ before) ⊎ ((told : Report) × HearsResponse hash accepted verified before body (Query (Lookup name epoch)) (response.Proof reply) told after)
   hears_look name spelled epoch reply answers named (inl same) = inl same
   hears_look name spelled epoch reply answers named (inr (answer, looks, tellable)) =
       let found = subst (λ (n : List ℕ). Looks hash accepted before n epoch body answer after) named looks in

@@ -15,10 +15,10 @@ use Rattle.wire.specs.Requests.{RequestContent}
 use Rattle.asking.specs.declared.asker.Asker.{Asker}
 use Rattle.asking.specs.declared.asker.Mark.{Mark}
 use Rattle.asking.specs.declared.said.Said.{Said}
-use Rattle.asking.specs.Joining.{BeginsAt, BeginsWatch, IsBegun, IsFirstAfter, IsUnwatched, StartsFrom}
+use Rattle.asking.specs.Joining.{BeginsAt, BeginsWatch, IsFirstAfter, IsJoined, IsUnwatched, StartsFrom}
 use Rattle.asking.specs.Refused.{client_refuses}
 use Rattle.asking.specs.Scenes.{Scene, scene}
-use Rattle.asking.specs.Reports.{Report, Tells, onto, told_by}
+use Rattle.asking.specs.Reports.{Report, Tells, report_of, told_after}
 use Rattle.asking.specs.Visiting.{TestsAll}
 use Rattle.asking.specs.Watching.{StepsThrough}
 use Rattle.asking.proofs.Going.{told_onto}
@@ -49,11 +49,11 @@ module _ {H V S T : Type 0} (hash : List ℕ → List ℕ) (accepted verified : 
   module _ (key : List ℕ) (earlier : List SignedPromise) (name : List ℕ) (given : Option (List ℕ)) (asker : Asker H V S) (said : Said) (stream : T) (first : SignedRoot) where
     -- a monitor was added, and stepped
     pub joins : {A E : Type 0} (marks : List Mark) (result : Result A E) (added last : Asker H V S) (said' : Said) (stream' : T) (monitor : Monitor) (place : ℕ) → added.client ≡ asker.client
-        → added.monitors.items ≡ asker.monitors.items ++ monitor ∷ [] → place ≡ length asker.monitors.items → IsBegun hash accepted verified key earlier asker.client.chain first name given monitor
+        → added.monitors.items ≡ asker.monitors.items ++ monitor ∷ [] → place ≡ length asker.monitors.items → IsJoined hash accepted verified key earlier asker.client.chain first name given monitor
         → OnOk result ((count : ℕ) × StepsThrough hash accepted exchanged count (scene added said stream) place (scene last said' stream'))
         → OnOk result (BeginsAt hash accepted verified exchanged marks key earlier name given first (scene asker said stream) (scene last said' stream'))
     joins marks (Ok done) added last said' stream' monitor place client monitors at begun (count, steps) =
-        let same = scene_of added.client asker.client added.monitors.items (asker.monitors.items ++ monitor ∷ []) (told_by said) (told_by said) stream client monitors refl in
+        let same = scene_of added.client asker.client added.monitors.items (asker.monitors.items ++ monitor ∷ []) (report_of said) (report_of said) stream client monitors refl in
         let here = subst (λ (n : ℕ). StepsThrough hash accepted exchanged count (scene added said stream) n (scene last said' stream')) at steps in
         inl (monitor, begun, (count, subst (λ (s : Scene T). StepsThrough hash accepted exchanged count s (length asker.monitors.items) (scene last said' stream')) same here))
     joins marks (Err fault) added last said' stream' monitor place client monitors at begun steps = tt
@@ -66,7 +66,7 @@ module _ {H V S T : Type 0} (hash : List ℕ → List ℕ) (accepted verified : 
       why,
       known,
       starts,
-      scene_of last.client asker.client last.monitors.items asker.monitors.items (told_by said') (onto (told_by said) (client_refuses (codes "client refuses root") why)) stream client monitors
+      scene_of last.client asker.client last.monitors.items asker.monitors.items (report_of said') (told_after (report_of said) (client_refuses (codes "client refuses root") why)) stream client monitors
           (told_onto said said' (client_refuses (codes "client refuses root") why) tells),
     )
 

@@ -8,26 +8,26 @@ use Rattle.wire.specs.Frames.{Frame}
 use Rattle.wire.specs.Requests.{RequestContent, Query}
 use Rattle.asking.specs.declared.asker.Asker.{Asker}
 use Rattle.asking.specs.declared.said.Said.{Said}
-use Rattle.asking.specs.Following.{AllUpdate, AnyRefuses, AsksRoots, IsStopped, BringsNone, StopsList, TakesList, TellsRefusal, no_root}
+use Rattle.asking.specs.Following.{AllUpdate, AnyRefuses, AsksRoots, StopsFollowing, BringsNone, StopsList, TakesList, TellsRootRefusal, no_roots}
 use Rattle.asking.specs.Refused.{client_refuses, other_reply}
-use Rattle.asking.specs.Scenes.{GivesBody, IsAnswered, scene}
-use Rattle.asking.specs.Reports.{Report, Tells, told_by}
+use Rattle.asking.specs.Scenes.{FrameAnswers, GivesBody, scene}
+use Rattle.asking.specs.Reports.{Report, Tells, report_of}
 use Rattle.asking.proofs.Going.{told_onto}
 
 module _ {H V S T : Type 0} (hash : List ℕ → List ℕ) (verified : List ℕ → List ℕ → List ℕ → Type 0) (exchanged : T → RequestContent → Frame → T → Type 0) where
   module _ (asker : Asker H V S) (said : Said) (stream : T) (head : SignedRoot) (from : ℕ) (frame : Frame) (later : T) where
     asks-list : IsHead asker.client.chain head → from ≡ head.body.epoch + 1 → exchanged stream (Query (History from MAX_ROOTS)) frame later
-        → IsAnswered (Query (History from MAX_ROOTS)) frame → AsksRoots hash verified exchanged (scene asker said stream) frame later
+        → FrameAnswers (Query (History from MAX_ROOTS)) frame → AsksRoots hash verified exchanged (scene asker said stream) frame later
     asks-list is from_is exchange answered = record {
       head = head;
       is = is;
       exchange = subst (λ (n : ℕ). exchanged stream (Query (History n MAX_ROOTS)) frame later) from_is exchange;
-      answered = subst (λ (n : ℕ). IsAnswered (Query (History n MAX_ROOTS)) frame) from_is answered;
+      answered = subst (λ (n : ℕ). FrameAnswers (Query (History n MAX_ROOTS)) frame) from_is answered;
     }
 
     -- a list of no root came
     pub takes_none : (said' : Said) (body : List ℕ) → IsHead asker.client.chain head → from ≡ head.body.epoch + 1 → exchanged stream (Query (History from MAX_ROOTS)) frame later
-        → GivesBody (Query (History from MAX_ROOTS)) frame said (Some body) said' → body ≡ no_root → TakesList hash verified exchanged (scene asker said stream) false (scene asker said' later)
+        → GivesBody (Query (History from MAX_ROOTS)) frame said (Some body) said' → body ≡ no_roots → TakesList hash verified exchanged (scene asker said stream) false (scene asker said' later)
     takes_none said' body is from_is exchange (answered, same, silent) empty = inr (
       frame,
       later,
@@ -46,12 +46,12 @@ module _ {H V S T : Type 0} (hash : List ℕ → List ℕ) (verified : List ℕ 
       frame,
       asks-list is from_is exchange answered,
       subst (λ (list : List ℕ). AllUpdate hash verified list asker.client asker.monitors.items asker'.client asker'.monitors.items) same updates,
-      ap told_by (still ∙ silent),
+      ap report_of (still ∙ silent),
       (head, latest, is, now, omega (arith, from_is, high)),
     )
 
     stops-list : (last : Asker H V S) (told : Report) (after : Said) → IsHead asker.client.chain head → from ≡ head.body.epoch + 1 → exchanged stream (Query (History from MAX_ROOTS)) frame later
-        → IsStopped hash verified (Query (History from MAX_ROOTS)) asker.client asker.monitors.items frame told last.client last.monitors.items → Tells said told after
+        → StopsFollowing hash verified (Query (History from MAX_ROOTS)) asker.client asker.monitors.items frame told last.client last.monitors.items → Tells said told after
         → StopsList hash verified exchanged (scene asker said stream) (scene last after later)
     stops-list last told after is from_is exchange stopped tells = (
       head,
@@ -59,7 +59,7 @@ module _ {H V S T : Type 0} (hash : List ℕ → List ℕ) (verified : List ℕ 
       frame,
       subst (λ (n : ℕ). exchanged stream (Query (History n MAX_ROOTS)) frame later) from_is exchange,
       told,
-      subst (λ (n : ℕ). IsStopped hash verified (Query (History n MAX_ROOTS)) asker.client asker.monitors.items frame told last.client last.monitors.items) from_is stopped,
+      subst (λ (n : ℕ). StopsFollowing hash verified (Query (History n MAX_ROOTS)) asker.client asker.monitors.items frame told last.client last.monitors.items) from_is stopped,
       told_onto said after told tells,
     )
 
@@ -70,7 +70,7 @@ module _ {H V S T : Type 0} (hash : List ℕ → List ℕ) (verified : List ℕ 
 
     -- a list came that the client or a monitor refuses
     pub stops_refused : (asker' : Asker H V S) (said' said'' : Said) (body : List ℕ) → IsHead asker.client.chain head → from ≡ head.body.epoch + 1 → exchanged stream (Query (History from MAX_ROOTS)) frame later
-        → GivesBody (Query (History from MAX_ROOTS)) frame said (Some body) said' → TellsRefusal (λ why. AnyRefuses hash verified body asker.client asker.monitors.items why asker'.client asker'.monitors.items) said' said''
+        → GivesBody (Query (History from MAX_ROOTS)) frame said (Some body) said' → TellsRootRefusal (λ why. AnyRefuses hash verified body asker.client asker.monitors.items why asker'.client asker'.monitors.items) said' said''
         → StopsList hash verified exchanged (scene asker said stream) (scene asker' said'' later)
     stops_refused asker' said' said'' body is from_is exchange (answered, same, silent) (why, refuses, tells) =
         let told : Report = client_refuses (codes "client refuses root") why in
@@ -80,7 +80,7 @@ module _ {H V S T : Type 0} (hash : List ℕ → List ℕ) (verified : List ℕ 
 
     -- a list came, and it had no root that is new
     pub stops_other : (asker' : Asker H V S) (said' said'' after : Said) (body : List ℕ) → IsHead asker.client.chain head → from ≡ head.body.epoch + 1
-        → exchanged stream (Query (History from MAX_ROOTS)) frame later → GivesBody (Query (History from MAX_ROOTS)) frame said (Some body) said' → body ≢ no_root
+        → exchanged stream (Query (History from MAX_ROOTS)) frame later → GivesBody (Query (History from MAX_ROOTS)) frame said (Some body) said' → body ≢ no_roots
         → AllUpdate hash verified body asker.client asker.monitors.items asker'.client asker'.monitors.items → (latest : SignedRoot) → IsHead asker'.client.chain latest → latest.body.epoch < from
         → said'' ≡ said' → Tells said'' other_reply after → StopsList hash verified exchanged (scene asker said stream) (scene asker' after later)
     stops_other asker' said' said'' after body is from_is exchange (answered, same, silent) some updates latest now low still tells =

@@ -7,13 +7,13 @@ use Rattle.rootchain.specs.declared.signed_promise.SignedPromise.{SignedPromise}
 use Rattle.textio.specs.Lines.{lines_of}
 use Rattle.wire.specs.Frames.{Frame}
 use Rattle.wire.specs.Requests.{RequestContent}
-use Rattle.play.specs.Reading.{TakesLine}
+use Rattle.play.specs.Reading.{TakesWholeLine}
 use Rattle.asking.specs.declared.asker.Asker.{Asker}
 use Rattle.asking.specs.declared.asker.Mark.{Mark}
 use Rattle.asking.specs.declared.order.AskOrder.{AskOrder}
 use Rattle.asking.specs.declared.said.Said.{Said}
-use Rattle.asking.specs.AskOptions.{AskOptions, values_of}
-use Rattle.asking.specs.Reports.{Report, told_by}
+use Rattle.asking.specs.AskOptions.{AskOptions, ask_values}
+use Rattle.asking.specs.Reports.{Report, report_of}
 use Rattle.asking.specs.Runs.{AsksLine, AsksLines, emptied, Known, known_new, known_of, lines_asked, Prepares, RunsWhole, words_line, Writes}
 use Rattle.asking.specs.Scenes.{Scene, scene, Remains, StartsAtHead}
 use Rattle.asking.proofs.Joined.{scene_of}
@@ -39,25 +39,25 @@ module _ (hash : List ℕ → List ℕ) (accepted verified : List ℕ → List �
   leads_first start input old = λ all is. (all, is, λ new after asks. asks)
 
   -- one line more is asked
-  pub leads_next : (start here next : Scene T) (input old left left' now now' : Option (List ℕ)) (line : List ℕ) → LeadsOn start input old here left now → TakesLine left left' true line
+  pub leads_next : (start here next : Scene T) (input old left left' now now' : Option (List ℕ)) (line : List ℕ) → LeadsOn start input old here left now → TakesWholeLine left left' true line
       → Writes (AsksLine hash accepted verified exchanged known line) here now now' next → LeadsOn start input old next left' now'
   leads_next start here next input old left left' now now' line leads takes writes = λ all is.
       let (rest, at, lead) = leads all is in
-      by all rest lead left' (subst (λ (l : Option (List ℕ)). TakesLine l left' true line) at takes)
+      by all rest lead left' (subst (λ (l : Option (List ℕ)). TakesWholeLine l left' true line) at takes)
     where
       by : (all rest : List ℕ) → ((new : Option (List ℕ)) (after : Scene T) → AsksLines hash accepted verified exchanged known (lines_of rest) here now new after → AsksLines hash accepted verified exchanged known (lines_of all) start old new after)
-          → (left' : Option (List ℕ)) → TakesLine (Some rest) left' true line
+          → (left' : Option (List ℕ)) → TakesWholeLine (Some rest) left' true line
           → (rest' : List ℕ) × (left' ≡ Some rest') × ((new : Option (List ℕ)) (after : Scene T) → AsksLines hash accepted verified exchanged known (lines_of rest') next now' new after → AsksLines hash accepted verified exchanged known (lines_of all) start old new after)
       by all rest lead None bad = absurd bad
       by all rest lead (Some rest') is = (rest', refl, λ new after more. lead new after (subst (λ (lines : List (List ℕ)). AsksLines hash accepted verified exchanged known lines here now new after) (sym is) (next, now', writes, more)))
 
   -- no line is left
-  pub leads_out : (start here : Scene T) (input old left left' now : Option (List ℕ)) (line : List ℕ) → LeadsOn start input old here left now → TakesLine left left' false line
+  pub leads_out : (start here : Scene T) (input old left left' now : Option (List ℕ)) (line : List ℕ) → LeadsOn start input old here left now → TakesWholeLine left left' false line
       → IfSome input (λ all. AsksLines hash accepted verified exchanged known (lines_of all) start old now here)
   leads_out start here None old left left' now line leads takes = tt
   leads_out start here (Some all) old left left' now line leads takes =
       let (rest, at, lead) = leads all refl in
-      let none : rest ≡ [] = subst (λ (l : Option (List ℕ)). TakesLine l left' false line) at takes in
+      let none : rest ≡ [] = subst (λ (l : Option (List ℕ)). TakesWholeLine l left' false line) at takes in
       lead now here (subst (λ (bytes : List ℕ). AsksLines hash accepted verified exchanged known (lines_of bytes) here now now here) (sym none) (Appends-nil now, refl))
 
   -- one line is asked, and no other
@@ -72,10 +72,10 @@ ok_then (Err why) holds leads = tt
 
 -- what a step leads to was told, and is written
 pub written_so : {H V S T E : Type 0} (result : Result (Unit {0}) E) (Leads : Scene T → Scene T → Type 0) (before : Scene T) (asker : Asker H V S) (said said' : Said) (stream : T) (old new : Option (List ℕ))
-    → OnOk result (Leads before (scene asker said stream)) → OnOk result (Appends old new said.text.items × (told_by said' ≡ emptied said.status)) → OnOk result (Writes Leads before old new (scene asker said' stream))
+    → OnOk result (Leads before (scene asker said stream)) → OnOk result (Appends old new said.text.items × (report_of said' ≡ emptied said.status)) → OnOk result (Writes Leads before old new (scene asker said' stream))
 written_so (Err why) Leads before asker said said' stream old new leads writes = tt
 written_so (Ok done) Leads before asker said said' stream old new leads (appends, told) =
-    (scene asker said stream, leads, appends, scene_of asker.client asker.client asker.monitors.items asker.monitors.items (told_by said') (emptied said.status) stream refl refl told)
+    (scene asker said stream, leads, appends, scene_of asker.client asker.client asker.monitors.items asker.monitors.items (report_of said') (emptied said.status) stream refl refl told)
 
 -- what holds of a step holds where what came after it did
 pub ok_before : {A E B F : Type 0} (P : Type 0) (result : Result A E) (first : Result B F) (done : B) → OnOk result (first ≡ Ok done) → OnOk first P → OnOk result P
@@ -105,7 +105,7 @@ whole hash accepted verified exchanged key token options HasNoState (Ok done) kn
 
 -- an order without words asks the lines of the input, and one with words asks these
 pub asks_input : {E : Type 0} (Asked : List (List ℕ) → Type 0) (result : Result (Unit {0}) E) (input : Option (List ℕ)) (order : AskOrder) → order.command ≡ None
-    → OnOk result (IfSome input (λ all. Asked (lines_of all))) → OnOk result (IfSome (lines_asked (values_of order).words input) Asked)
+    → OnOk result (IfSome input (λ all. Asked (lines_of all))) → OnOk result (IfSome (lines_asked (ask_values order).words input) Asked)
 asks_input Asked (Err why) input order none asks = tt
 asks_input Asked (Ok done) input order none asks = subst (λ (command : Option (Bor (List ℕ))). IfSome (lines_asked (option_map (λ text. text.now) command ∷ option_map (λ text. text.now) order.first ∷ option_map (λ text. text.now) order.second ∷ []) input) Asked) (sym none) (by input asks)
   where
@@ -114,7 +114,7 @@ asks_input Asked (Ok done) input order none asks = subst (λ (command : Option (
     by (Some all) asks = asks
 
 pub asks_words : {E : Type 0} (Asked : List (List ℕ) → Type 0) (result : Result (Unit {0}) E) (input : Option (List ℕ)) (order : AskOrder) (word : Bor (List ℕ)) → order.command ≡ Some word
-    → OnOk result (Asked (words_line (values_of order).words ∷ [])) → OnOk result (IfSome (lines_asked (values_of order).words input) Asked)
+    → OnOk result (Asked (words_line (ask_values order).words ∷ [])) → OnOk result (IfSome (lines_asked (ask_values order).words input) Asked)
 asks_words Asked (Err why) input order word some asks = tt
 asks_words Asked (Ok done) input order word some asks =
     subst (λ (command : Option (Bor (List ℕ))). Asked (words_line (option_map (λ text. text.now) command ∷ option_map (λ text. text.now) order.first ∷ option_map (λ text. text.now) order.second ∷ []) ∷ [])

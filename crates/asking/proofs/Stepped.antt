@@ -9,11 +9,11 @@ use Rattle.wire.specs.Requests.{RequestContent, Query}
 use Rattle.asking.specs.declared.asker.Asker.{Asker}
 use Rattle.asking.specs.declared.fault.AskFault.{AskFault}
 use Rattle.asking.specs.declared.said.Said.{Said}
-use Rattle.asking.specs.Reports.{Tells, told_by}
+use Rattle.asking.specs.Reports.{Tells, report_of}
 use Rattle.asking.specs.declared.asker.Mark.{Mark}
 use Rattle.asking.specs.Scenes.{GivesBody, HaltsAfter, Scene, scene}
 use Rattle.asking.specs.Visiting.{TestsAll, TestsSome}
-use Rattle.asking.specs.Watching.{AllStep, GoesOn, GoesSome, SomeStep, StepsOnce, StepsSome, StepsThrough, Watches, WatchesAt}
+use Rattle.asking.specs.Watching.{AllStep, GoesOn, GoesSome, SomeStep, StepsOnce, StepsSome, StepsThrough, WatchesAt, WatchesBy}
 use Rattle.asking.proofs.Going.{told_onto}
 
 same-some : {X : Type 0} (x y : X) (o : Option X) → o ≡ Some x → o ≡ Some y → x ≡ y
@@ -55,12 +55,12 @@ module _ {H V S T : Type 0} (hash : List ℕ → List ℕ) (accepted : List ℕ 
     pub steps_some : (said' said'' : Said) (body : List ℕ) (went : Bool) (monitors' : List Monitor) → slice_get asker.monitors.items place ≡ Some monitor
         → IsNextEpoch monitor (Some epoch) → spelled ≡ monitor.name → exchanged stream (Query (Lookup spelled epoch)) frame later
         → GivesBody (Query (Lookup spelled epoch)) frame said (Some body) said' → WatchesAt hash accepted asker.monitors.items place epoch body said' went said'' monitors'
-        → StepsOnce hash accepted exchanged (scene asker said stream) place went (record { client = asker.client; monitors = monitors'; told = told_by said''; stream = later })
+        → StepsOnce hash accepted exchanged (scene asker said stream) place went (record { client = asker.client; monitors = monitors'; told = report_of said''; stream = later })
     steps_some said' said'' body went monitors' at next named exchange gives (inl (none, not, still, same)) = absurd (none-some monitor (slice_get asker.monitors.items place) none at)
     steps_some said' said'' body went monitors' at next named exchange gives (inr (found, watched, there, (told, watches, tells), set)) =
         let given = subst (λ (n : List ℕ). GivesBody (Query (Lookup n epoch)) frame said (Some body) said') named gives in
         let same : found ≡ monitor = same-some found monitor (slice_get asker.monitors.items place) there at in
-        let by_this = subst (λ (one : Monitor). Watches hash accepted one epoch body went told watched) same watches in
+        let by_this = subst (λ (one : Monitor). WatchesBy hash accepted one epoch body went told watched) same watches in
         inr (inr (record {
           monitor = monitor;
           at = at;
@@ -70,7 +70,7 @@ module _ {H V S T : Type 0} (hash : List ℕ → List ℕ) (accepted : List ℕ 
           exchange = subst (λ (n : List ℕ). exchanged stream (Query (Lookup n epoch)) frame later) named exchange;
           told = told;
           watched = watched;
-          shows = inr (given.0, subst (λ (b : List ℕ). Watches hash accepted monitor epoch b went told watched) given.1 by_this);
+          shows = inr (given.0, subst (λ (b : List ℕ). WatchesBy hash accepted monitor epoch b went told watched) given.1 by_this);
           tells = told_onto said said'' told (subst (λ (s : Said). Tells s told said'') given.2 tells);
           monitors = set;
           client = refl;

@@ -7,7 +7,7 @@ use Rattle.client.specs.declared.refusal.Refusal.{Refusal}
 use Rattle.client.specs.declared.refusal.Refusal.TheVariants.{Memory}
 use Rattle.monitor.specs.Monitors.{Monitor}
 use Rattle.asking.specs.declared.said.Said.{Said}
-use Rattle.asking.specs.Following.{MonitorUpdates, OneRefuses, Refuses, TellsRefusal}
+use Rattle.asking.specs.Following.{MonitorUpdates, OneRefuses, RefusesList, TellsRootRefusal}
 use Rattle.asking.specs.Refused.{client_refuses}
 use Rattle.asking.specs.Reports.{Tells}
 use Rattle.asking.proofs.Moved.{AreMoved}
@@ -25,7 +25,7 @@ same-lists {X} (x ∷ xs) (y ∷ ys) long each =
 module _ (hash : List ℕ → List ℕ) (verified : List ℕ → List ℕ → List ℕ → Type 0) (list : List ℕ) where
   -- a client that refuses a list, and not for want of memory, stays as it was
   pub refuses_list : (before after : Client) (result : Result (Unit {0}) Refusal) (why : Refusal) → result ≡ Err why → Updates hash verified before list result after → why ≢ Memory
-      → Refuses hash verified list before why × (after ≡ before)
+      → RefusesList hash verified list before why × (after ≡ before)
   refuses_list before after result why is updates known =
       let told = subst (λ (answer : Result (Unit {0}) Refusal). Updates hash verified before list answer after) is updates in
       ((subst (λ (client : Client). Updates hash verified before list {A = Unit {0}} (Err why) client) told.0 told, known), told.0)
@@ -36,7 +36,7 @@ module _ (hash : List ℕ → List ℕ) (verified : List ℕ → List ℕ → Li
 
   refuses-from : (before after : List Monitor) (place : ℕ) (why : Refusal) → place < length before → length after ≡ length before
       → ((k : ℕ) (d : Monitor) → k < place → MonitorUpdates hash verified list (get_or before k d) (get_or after k d)) → ((k : ℕ) (d : Monitor) → place ≤ k → get_or after k d ≡ get_or before k d)
-      → ((d : Monitor) → Refuses hash verified list (get_or before place d).client why) → OneRefuses hash verified list before why after
+      → ((d : Monitor) → RefusesList hash verified list (get_or before place d).client why) → OneRefuses hash verified list before why after
   refuses-from [] after place why below long moved still refuses = absurd (omega (arith, below))
   refuses-from (x ∷ xs) [] place why below long moved still refuses = absurd (omega (arith, long))
   refuses-from (x ∷ xs) (y ∷ ys) zero why below long moved still refuses =
@@ -49,12 +49,12 @@ module _ (hash : List ℕ → List ℕ) (verified : List ℕ → List ℕ → Li
   -- the monitor at a place refuses it, and those before took it
   pub one_refuses : (before now : List Monitor) (place : ℕ) (monitor monitor' : Monitor) (first here after : Said) → place < length before → length now ≡ length before
       → ((d : Monitor) → monitor ≡ get_or now place d) → AreMoved (MonitorUpdates hash verified list) before place now → here ≡ first
-      → TellsRefusal (λ why. Refuses hash verified list monitor.client why × (monitor' ≡ monitor)) here after
-      → TellsRefusal (λ why. OneRefuses hash verified list before why (slice_set now place monitor')) first after
+      → TellsRootRefusal (λ why. RefusesList hash verified list monitor.client why × (monitor' ≡ monitor)) here after
+      → TellsRootRefusal (λ why. OneRefuses hash verified list before why (slice_set now place monitor')) first after
   one_refuses before now place monitor monitor' first here after below long is moved said (why, (refuses, stays), tells) =
       let set : now ≡ slice_set now place monitor' = set_to_itself now place monitor' (slice_get_read now (length now) place monitor' refl (omega (arith, below, long)) (stays ∙ is monitor')) in
       let one = refuses-from before now place why below long moved.moved moved.still
-      (λ d. subst (λ (x : Monitor). Refuses hash verified list x.client why) (is d ∙ moved.still place d (omega arith)) refuses) in (
+      (λ d. subst (λ (x : Monitor). RefusesList hash verified list x.client why) (is d ∙ moved.still place d (omega arith)) refuses) in (
         why,
         subst (λ (all : List Monitor). OneRefuses hash verified list before why all) set one,
         subst (λ (s : Said). Tells s (client_refuses (codes "client refuses root") why) after) said tells,

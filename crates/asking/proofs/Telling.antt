@@ -1,14 +1,14 @@
 -- What is told after a call that may run out of memory.
 use Rattle.std.proofs.Common.{◌≡◌, ◌∙◌, ◌++◌, ◌∷◌, [], ℕ, zero, suc, List, Result, Ok, Err, ap, refl, rules, subst, append_assoc}
 use Rattle.std.specs.Prelude.{OnOk}
-use Rattle.client.specs.Refusals.{refusal_number}
+use Rattle.client.specs.Refusals.{client_refusal_number}
 use Rattle.client.specs.declared.refusal.Refusal.{Refusal}
 use Rattle.asking.specs.declared.said.Said.{Said}
 use Rattle.asking.specs.Refused.{client_refuses, evidence_before, refuses_text}
-use Rattle.asking.specs.Reports.{Report, Tells, refused, told_by, worse}
+use Rattle.asking.specs.Reports.{Report, Tells, refused, report_of, worse}
 
 -- the number of a refusal behind its evidence
-pub behind_evidence : {A E : Type 0} (what : List ℕ) (why : Refusal) (number : ℕ) (before middle after : Said) (result : Result A E) → number ≡ refusal_number why
+pub behind_evidence : {A E : Type 0} (what : List ℕ) (why : Refusal) (number : ℕ) (before middle after : Said) (result : Result A E) → number ≡ client_refusal_number why
     → middle.text.items ≡ before.text.items ++ evidence_before why → middle.status ≡ before.status
     → OnOk result (Tells middle (refused (refuses_text what number)) after) → OnOk result (Tells before (client_refuses what why) after)
 behind_evidence what why number before middle after (Ok done) numbered text status told = (
@@ -50,7 +50,7 @@ worse-none zero = refl
 worse-none (suc n) = search rules
 
 -- this was said by one that had said nothing, which was then joined
-pub tells_joined : (before empty now after : Said) (told : Report) → empty.text.items ≡ [] → empty.status ≡ 0 → Tells empty told now → Tells before (told_by now) after → Tells before told after
+pub tells_joined : (before empty now after : Said) (told : Report) → empty.text.items ≡ [] → empty.status ≡ 0 → Tells empty told now → Tells before (report_of now) after → Tells before told after
 tells_joined before empty now after told silent fine tells joined = (
   joined.0 ∙ ap (λ (xs : List ℕ). before.text.items ++ xs) (tells.0 ∙ ap (λ (xs : List ℕ). xs ++ told.lines) silent),
   joined.1 ∙ ap (λ (s : ℕ). worse before.status s) (tells.1 ∙ ap (λ (s : ℕ). worse s told.status) fine ∙ worse-none told.status),

@@ -12,8 +12,8 @@ use Rattle.asking.specs.declared.asker.Mark.{Mark}
 use Rattle.asking.specs.declared.said.Said.{Said}
 use Rattle.asking.specs.Scenes.{GivesBody, Scene, scene}
 use Rattle.asking.specs.Testing.{due_told, TellsDue}
-use Rattle.asking.specs.Reports.{Tells, told_by}
-use Rattle.asking.specs.Visiting.{TestsName, Visits, Waits}
+use Rattle.asking.specs.Reports.{Tells, report_of}
+use Rattle.asking.specs.Visiting.{AwaitsMonitor, TestsName, Visits}
 use Rattle.asking.proofs.Going.{told_onto}
 
 module _ {H V S T : Type 0} (hash : List ℕ → List ℕ) (accepted : List ℕ → List ℕ → List ℕ → Type 0) (exchanged : T → RequestContent → Frame → T → Type 0) where
@@ -38,7 +38,7 @@ module _ {H V S T : Type 0} (hash : List ℕ → List ℕ) (accepted : List ℕ 
     pub tests_some : (said' said'' : Said) (body : List ℕ) (kept : Bool) (client' : Client) → IsDueEpoch asker.client name (Some epoch) → spelled ≡ name
         → exchanged stream (Query (Lookup spelled epoch)) frame later → GivesBody (Query (Lookup spelled epoch)) frame said (Some body) said'
         → TellsDue hash accepted asker.client name body said' kept said'' client'
-        → TestsName hash accepted exchanged (scene asker said stream) name kept (record { client = client'; monitors = asker.monitors.items; told = told_by said''; stream = later })
+        → TestsName hash accepted exchanged (scene asker said stream) name kept (record { client = client'; monitors = asker.monitors.items; told = report_of said''; stream = later })
     tests_some said' said'' body kept client' due named exchange gives (found, dues, was, tells) =
         let given = subst (λ (n : List ℕ). GivesBody (Query (Lookup n epoch)) frame said (Some body) said') named gives in
         inr (record {
@@ -55,17 +55,17 @@ module _ {H V S T : Type 0} (hash : List ℕ → List ℕ) (accepted : List ℕ 
 module _ {T : Type 0} (hash : List ℕ → List ℕ) (accepted : List ℕ → List ℕ → List ℕ → Type 0) (exchanged : T → RequestContent → Frame → T → Type 0) where
   module _ (marks : List Mark) (before after : Scene T) (place next : ℕ) (signed : SignedPromise) (name : List ℕ) where
     -- the promise waits for its monitor
-    pub visits_waiting : slice_get before.client.promises place ≡ Some signed → name ≡ signed.promise.name → Waits marks before.monitors name → next ≡ suc place
+    pub visits_waiting : slice_get before.client.promises place ≡ Some signed → name ≡ signed.promise.name → AwaitsMonitor marks before.monitors name → next ≡ suc place
         → Visits hash accepted exchanged marks before place (Some next) before
-    visits_waiting at named waits is = (signed, at, inl (subst (λ (n : List ℕ). Waits marks before.monitors n) named waits, is, refl))
+    visits_waiting at named waits is = (signed, at, inl (subst (λ (n : List ℕ). AwaitsMonitor marks before.monitors n) named waits, is, refl))
 
     -- it was tested
-    pub visits_tested : (kept : Bool) → slice_get before.client.promises place ≡ Some signed → name ≡ signed.promise.name → ¬ Waits marks before.monitors name
+    pub visits_tested : (kept : Bool) → slice_get before.client.promises place ≡ Some signed → name ≡ signed.promise.name → ¬ AwaitsMonitor marks before.monitors name
         → TestsName hash accepted exchanged before name kept after → next ≡ (if kept then place else suc place) → Visits hash accepted exchanged marks before place (Some next) after
     visits_tested kept at named not tests is = (
       signed,
       at,
-      inr (subst (λ (n : List ℕ). ¬ Waits marks before.monitors n) named not, (kept, subst (λ (n : List ℕ). TestsName hash accepted exchanged before n kept after) named tests, is)),
+      inr (subst (λ (n : List ℕ). ¬ AwaitsMonitor marks before.monitors n) named not, (kept, subst (λ (n : List ℕ). TestsName hash accepted exchanged before n kept after) named tests, is)),
     )
 
   -- a visit with the marks and the outcome under other names

@@ -11,7 +11,7 @@ use Rattle.wire.specs.Frames.{Frame, frame_bytes, frame_size, read_frame}
 use Rattle.wire.specs.Requests.{RequestContent, request_frame}
 use Rattle.wire.specs.declared.frame.TheConstants.{MAX_FRAME_LEN}
 use Rattle.wire.proofs.Frames.{frame_field}
-use Rattle.asking.specs.Exchanges.{Exchanges, HoldsFrame, IsOneFrame}
+use Rattle.asking.specs.Exchanges.{ExchangesFrames, HoldsFrame, IsOneFrame}
 
 -- as many bytes behind a length as it says are one frame
 pub one_frame : (head rest : List ℕ) (n : ℕ) → length head ≡ 4 → IsBytes head → IsBytes rest → n ≡ from_be_bytes w32 head → 1 ≤ n → n ≤ MAX_FRAME_LEN → length rest ≡ n
@@ -36,7 +36,7 @@ same-frame bytes left frame other one holds = ap (frame-or frame) (sym one ∙ h
 -- a request that was sent, and one frame that was read
 pub exchanged : {T X E : Type 0} (contents remaining : T → Option (List ℕ)) (items : X → List ℕ) (before sent after : T) (asked : RequestContent) (result : Result X E)
     → Appends (contents before) (contents sent) (frame_bytes (request_frame asked)) → IfOk result (λ x. Consumes (remaining sent) (remaining after) (items x))
-    → IfOk result (λ x. (frame : Frame) × IsOneFrame (items x) frame) → IfOk result (λ x. (frame : Frame) → HoldsFrame (items x) frame → Exchanges contents remaining before asked frame after)
+    → IfOk result (λ x. (frame : Frame) × IsOneFrame (items x) frame) → IfOk result (λ x. (frame : Frame) → HoldsFrame (items x) frame → ExchangesFrames contents remaining before asked frame after)
 exchanged contents remaining items before sent after asked (Ok x) appends consumes (frame, one) =
     λ other holds. (sent, items x, appends, consumes, subst (λ (f : Frame). IsOneFrame (items x) f) (same-frame (items x) holds.0 frame other one holds.1) one)
 exchanged contents remaining items before sent after asked (Err fault) appends consumes one = tt

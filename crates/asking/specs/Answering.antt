@@ -19,11 +19,11 @@ IsOfTurn epoch None root = root.body.epoch ≡ epoch
 IsOfTurn epoch (Some nonce) root = (root.body.epoch ≡ epoch) × (root.body.nonce ≡ nonce)
 
 -- the response is one to the request: of its kind, and about what it names
-abbrev pub Answers : RequestContent → ResponseContent → Type 0
-Answers (Put verb name key) (response.Promise signed) = (signed.promise.name ≡ name) × (signed.promise.key ≡ key)
-Answers (Query (Promise name)) (response.Promise signed) = signed.promise.name ≡ name
-Answers (Query (Lookup name epoch)) (Proof reply) = IsName name × ((epoch ≡ 0) ⊎ (reply.body.epoch ≡ epoch))
-Answers (Query (History from count)) (Roots roots) = length roots ≤ count
-Answers (Query Head) (Root root) = Unit {0}
-Answers (Turn token epoch nonce) (Root root) = IsOfTurn epoch nonce root
-Answers _ _ = ⊥
+abbrev pub IsAnswerTo : RequestContent → ResponseContent → Type 0
+IsAnswerTo (Put verb name key) (response.Promise signed) = (signed.promise.name ≡ name) × (signed.promise.key ≡ key)
+IsAnswerTo (Query (Promise name)) (response.Promise signed) = signed.promise.name ≡ name
+IsAnswerTo (Query (Lookup name epoch)) (Proof reply) = IsName name × ((epoch ≡ 0) ⊎ (reply.body.epoch ≡ epoch))
+IsAnswerTo (Query (History from count)) (Roots roots) = length roots ≤ count
+IsAnswerTo (Query Head) (Root root) = Unit {0}
+IsAnswerTo (Turn token epoch nonce) (Root root) = IsOfTurn epoch nonce root
+IsAnswerTo _ _ = ⊥

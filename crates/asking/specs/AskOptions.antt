@@ -10,8 +10,8 @@ pub record AskOptions : Type 0 where
   pub address : List ℕ
   pub words : List (Option (List ℕ))
 
-abbrev pub values_of : AskOrder → AskOptions
-values_of order = record {
+abbrev pub ask_values : AskOrder → AskOptions
+ask_values order = record {
   provider = order.provider.now;
   token = option_map (λ text. text.now) order.token;
   state = option_map (λ text. text.now) order.state;

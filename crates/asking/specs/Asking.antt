@@ -14,11 +14,11 @@ use Rattle.wire.specs.Requests.{RequestContent, Query, Put, Turn}
 use Rattle.wire.specs.Responses.{ResponseContent, Promise, Proof, Roots, Root, Refused, Responds, ReadsResponse}
 use Rattle.wire.specs.declared.refusals.ReadRefusal.{ReadRefusal}
 use Rattle.asking.specs.declared.asker.Mark.{Mark}
-use Rattle.asking.specs.Answering.{Answers, with_token}
+use Rattle.asking.specs.Answering.{IsAnswerTo, with_token}
 use Rattle.asking.specs.Checking.{HearsFrame}
 use Rattle.asking.specs.Following.{Follows, StopsAfter, TakesSome}
 use Rattle.asking.specs.Scenes.{Scene}
-use Rattle.asking.specs.Reports.{Report, onto}
+use Rattle.asking.specs.Reports.{Report, told_after}
 use Rattle.asking.specs.Watching.{GoesOn, GoesSome}
 
 -- the epoch of a response
@@ -33,7 +33,7 @@ response_epoch (Refused code) = 0
 abbrev pub SpeaksOf : RequestContent → Frame → ℕ → Type 0
 SpeaksOf asked frame epoch =
     ((responded : ResponseContent) × Responds frame.kind frame.body responded
-    × ((Answers asked responded × (epoch ≡ response_epoch responded)) ⊎ ((¬ Answers asked responded) × (epoch ≡ 0))))
+    × ((IsAnswerTo asked responded × (epoch ≡ response_epoch responded)) ⊎ ((¬ IsAnswerTo asked responded) × (epoch ≡ 0))))
     ⊎ (((why : ReadRefusal) × ReadsResponse frame.kind frame.body (Err why)) × (epoch ≡ 0))
 
 -- the last of these promises is noted behind the others
@@ -72,7 +72,7 @@ module _ (hash : List ℕ → List ℕ) (accepted verified : List ℕ → List �
     pub record HearsOne (asked : RequestContent) (frame : Frame) (before after : Scene T) : Type 0 where
       pub told : Report
       pub hears : HearsFrame hash accepted verified before.client asked frame told after.client
-      pub tells : after.told ≡ onto before.told told
+      pub tells : after.told ≡ told_after before.told told
       pub hands : Hands asked frame.body before.client.promises after.client.promises before.monitors after.monitors
       pub stream : after.stream ≡ before.stream
 
@@ -83,7 +83,7 @@ module _ (hash : List ℕ → List ℕ) (accepted verified : List ℕ → List �
 
     -- The line is asked, with this token of the operator, and a frame comes back. Then, in this order: the chain gets as far
     -- as the reply, what the client makes of it is told and noted, and of new epochs what monitors and promises say.
-    pub record Asks (marks : List Mark) (token : List ℕ) (asked : RequestContent) (noted noted' : List SignedPromise) (before after : Scene T) : Type 0 where
+    pub record AsksDirectory (marks : List Mark) (token : List ℕ) (asked : RequestContent) (noted noted' : List SignedPromise) (before after : Scene T) : Type 0 where
       pub head : SignedRoot
       pub is : IsHead before.client.chain head
       pub frame : Frame
@@ -118,7 +118,7 @@ module _ (hash : List ℕ → List ℕ) (accepted verified : List ℕ → List �
     -- what the client makes of a frame is told and perhaps noted, and the monitors are given nothing of it yet
     abbrev pub HearsOnly : RequestContent → Frame → List SignedPromise → List SignedPromise → Scene T → Scene T → Type 0
     HearsOnly asked frame noted noted' before after = ((noted' ≡ noted) ⊎ Notes asked before.client.promises after.client.promises noted noted') × (told : Report) × HearsFrame hash accepted verified before.client asked frame told after.client
-        × (after.told ≡ onto before.told told) × (after.monitors ≡ before.monitors) × (after.stream ≡ before.stream)
+        × (after.told ≡ told_after before.told told) × (after.monitors ≡ before.monitors) × (after.stream ≡ before.stream)
 
     -- the chain has epochs above this one, and monitors and promises are at some point
     abbrev pub GoesSomeAbove : List Mark → ℕ → Scene T → Scene T → Type 0

@@ -18,13 +18,13 @@ use Rattle.wire.specs.Responses as response
 use Rattle.wire.specs.declared.refusals.ReadRefusal.{ReadRefusal}
 use Rattle.client.specs.Clients.{Client}
 use Rattle.client.specs.Looking.{Looks}
-use Rattle.client.specs.Promising.{Keeps}
+use Rattle.client.specs.Promising.{KeepsPromise}
 use Rattle.client.specs.Refusals.{of_root}
 use Rattle.client.specs.declared.refusal.Refusal.{Refusal}
 use Rattle.client.specs.declared.refusal.Refusal.TheVariants.{Memory, RootDiffers}
 use Rattle.play.specs.Hearing.{response_text}
 use Rattle.play.specs.Lines.{statement_text}
-use Rattle.asking.specs.Answering.{Answers}
+use Rattle.asking.specs.Answering.{IsAnswerTo}
 use Rattle.asking.specs.Refused.{client_refuses, other_reply, refuses_text}
 use Rattle.asking.specs.Reports.{Report, fine, refused}
 
@@ -62,9 +62,9 @@ refusal_at (Ok BeforeStart) = None
 refusal_at (Err why) = Some (of_root why)
 
 -- behind a root that is not refused the others follow; one that is refused is told
-abbrev pub GoesOn : Type 0 → Option Refusal → Report → Type 0
-GoesOn later None told = later
-GoesOn later (Some why) told = told ≡ client_refuses (codes "client refuses root") why
+abbrev pub FollowsUnlessRefused : Type 0 → Option Refusal → Report → Type 0
+FollowsUnlessRefused later None told = later
+FollowsUnlessRefused later (Some why) told = told ≡ client_refuses (codes "client refuses root") why
 
 module _ (hash : List ℕ → List ℕ) (verified : List ℕ → List ℕ → List ℕ → Type 0) where
   -- where a root stands to a chain, if it verifies
@@ -78,7 +78,7 @@ module _ (hash : List ℕ → List ℕ) (verified : List ℕ → List ℕ → Li
   AreTold chain from all [] told = told ≡ fine (response_text (Roots all))
   AreTold chain from all (first ∷ more) told =
       ((first.body.epoch < from) × (told ≡ other_reply))
-      ⊎ ((from ≤ first.body.epoch) × (place : Result Place RootRefusal) × Places chain first place × GoesOn (AreTold chain from all more told) (refusal_at place) told)
+      ⊎ ((from ≤ first.body.epoch) × (place : Result Place RootRefusal) × Places chain first place × FollowsUnlessRefused (AreTold chain from all more told) (refusal_at place) told)
 
 module _ (hash : List ℕ → List ℕ) (accepted verified : List ℕ → List ℕ → List ℕ → Type 0) where
   module _ (before : Client) (body : List ℕ) where
@@ -87,21 +87,21 @@ module _ (hash : List ℕ → List ℕ) (accepted verified : List ℕ → List �
     IsCheckedAs (Query (Lookup name epoch)) (Proof reply) told after =
         (answer : Result Statement Refusal) × (Looks hash accepted before name epoch body answer after × IsTellable answer) × (told ≡ look_told reply.body.epoch answer)
     IsCheckedAs asked (response.Promise signed) told after =
-        (answer : Result (Unit {0}) Refusal) × (Keeps hash verified before body answer after × IsTellable answer) × (told ≡ promise_told (response.Promise signed) answer)
+        (answer : Result (Unit {0}) Refusal) × (KeepsPromise hash verified before body answer after × IsTellable answer) × (told ≡ promise_told (response.Promise signed) answer)
     IsCheckedAs asked (Root latest) told after = (after ≡ before)
         × ((place : Result Place RootRefusal) × Places hash verified before.chain latest place × (told ≡ place_told latest place))
     IsCheckedAs (Query (History from count)) (Roots roots) told after = (after ≡ before) × AreTold hash verified before.chain from roots roots told
     IsCheckedAs _ _ told after = ⊥
 
     -- a response to what was asked: a refusal of the directory is told, any other is checked if it answers
-    abbrev pub Hears : RequestContent → ResponseContent → Report → Client → Type 0
-    Hears asked (Refused code) told after = (told ≡ refused (response_text (Refused code))) × (after ≡ before)
-    Hears asked responded told after =
-        ((¬ Answers asked responded) × (told ≡ other_reply) × (after ≡ before))
-        ⊎ (Answers asked responded × IsCheckedAs asked responded told after)
+    abbrev pub HearsResponse : RequestContent → ResponseContent → Report → Client → Type 0
+    HearsResponse asked (Refused code) told after = (told ≡ refused (response_text (Refused code))) × (after ≡ before)
+    HearsResponse asked responded told after =
+        ((¬ IsAnswerTo asked responded) × (told ≡ other_reply) × (after ≡ before))
+        ⊎ (IsAnswerTo asked responded × IsCheckedAs asked responded told after)
 
   -- A frame that comes back, whatever it has: a response, or none.
   abbrev pub HearsFrame : Client → RequestContent → Frame → Report → Client → Type 0
   HearsFrame before asked frame told after =
-      ((responded : ResponseContent) × Responds frame.kind frame.body responded × Hears before frame.body asked responded told after)
+      ((responded : ResponseContent) × Responds frame.kind frame.body responded × HearsResponse before frame.body asked responded told after)
       ⊎ ((why : ReadRefusal) × ReadsResponse frame.kind frame.body (Err why) × (told ≡ refused (refuses_text (codes "client refuses reply") (read_refusal_number why))) × (after ≡ before))

@@ -12,14 +12,14 @@ use Rattle.client.specs.Starting.{Starts}
 use Rattle.client.specs.Updating.{Updates}
 use Rattle.client.specs.declared.refusal.Refusal.{Refusal}
 use Rattle.client.specs.declared.refusal.Refusal.TheVariants.{Memory}
-use Rattle.monitor.specs.Monitors.{Monitor, begun}
+use Rattle.monitor.specs.Monitors.{Monitor, new_monitor}
 use Rattle.wire.specs.Frames.{Frame}
 use Rattle.wire.specs.Requests.{RequestContent}
 use Rattle.asking.specs.declared.asker.Mark.{Mark}
 use Rattle.asking.specs.Asking.{HandsTo}
 use Rattle.asking.specs.Refused.{client_refuses}
 use Rattle.asking.specs.Scenes.{Scene}
-use Rattle.asking.specs.Reports.{onto}
+use Rattle.asking.specs.Reports.{told_after}
 use Rattle.asking.specs.Visiting.{TestsAll, TestsSome}
 use Rattle.asking.specs.Watching.{StepsSome, StepsThrough}
 
@@ -35,15 +35,15 @@ IsUnwatched chain name (mark ∷ more) first =
     ((mark.name ≡ name) × IsFirstAfter chain mark.epoch first) ⊎ ((mark.name ≢ name) × IsUnwatched chain name more first)
 
 -- the promise is one for the name, from before an epoch, and later than the last one that was
-abbrev pub IsLater : List ℕ → ℕ → Option SignedPromise → SignedPromise → Type 0
-IsLater name epoch None signed = (signed.promise.name ≡ name) × (signed.promise.epoch < epoch)
-IsLater name epoch (Some last) signed = (signed.promise.name ≡ name) × (signed.promise.epoch < epoch) × (last.promise.epoch < signed.promise.epoch)
+abbrev pub IsLaterPromise : List ℕ → ℕ → Option SignedPromise → SignedPromise → Type 0
+IsLaterPromise name epoch None signed = (signed.promise.name ≡ name) × (signed.promise.epoch < epoch)
+IsLaterPromise name epoch (Some last) signed = (signed.promise.name ≡ name) × (signed.promise.epoch < epoch) × (last.promise.epoch < signed.promise.epoch)
 
 -- the last of these, or else the one before them
 abbrev pub IsLatest : List ℕ → ℕ → Option SignedPromise → List SignedPromise → Option SignedPromise → Type 0
 IsLatest name epoch last [] found = found ≡ last
 IsLatest name epoch last (signed ∷ more) found =
-    (IsLater name epoch last signed × IsLatest name epoch (Some signed) more found) ⊎ ((¬ IsLater name epoch last signed) × IsLatest name epoch last more found)
+    (IsLaterPromise name epoch last signed × IsLatest name epoch (Some signed) more found) ⊎ ((¬ IsLaterPromise name epoch last signed) × IsLatest name epoch last more found)
 
 -- what is expected at first: the key of that promise, or else the one that was given
 abbrev pub first_expected : Option SignedPromise → Option (List ℕ) → Option (List ℕ)
@@ -81,21 +81,21 @@ module _ (hash : List ℕ → List ℕ) (accepted verified : List ℕ → List �
 
   -- A monitor that watches a name from a root of the chain on. It expects what earlier runs were promised: the last before
   -- that root at first, and those there as changes.
-  pub record IsBegun (key : List ℕ) (earlier : List SignedPromise) (chain : KeyedRoots) (first : SignedRoot) (name : List ℕ) (given : Option (List ℕ)) (monitor : Monitor) : Type 0 where
+  pub record IsJoined (key : List ℕ) (earlier : List SignedPromise) (chain : KeyedRoots) (first : SignedRoot) (name : List ℕ) (given : Option (List ℕ)) (monitor : Monitor) : Type 0 where
     pub own : Client
     pub starts : StartsFrom hash verified chain key first (Ok own)
     pub last : Option SignedPromise
     pub latest : IsLatest name first.body.epoch None earlier last
-    pub hands : AllHand earlier (begun own name (first_expected last given)) monitor
+    pub hands : AllHand earlier (new_monitor own name (first_expected last given)) monitor
 
   module _ {T : Type 0} (exchanged : T → RequestContent → Frame → T → Type 0) (marks : List Mark) (key : List ℕ) (earlier : List SignedPromise) (name : List ℕ) (given : Option (List ℕ)) where
     -- such a monitor is added, behind the others, and watches each epoch of its chain; or a root is told as refused
     abbrev pub BeginsAt : SignedRoot → Scene T → Scene T → Type 0
     BeginsAt first before after =
-        ((monitor : Monitor) × IsBegun key earlier before.client.chain first name given monitor
+        ((monitor : Monitor) × IsJoined key earlier before.client.chain first name given monitor
         × ((count : ℕ) × StepsThrough hash accepted exchanged count (record before { monitors = before.monitors ++ monitor ∷ [] }) (length before.monitors) after))
         ⊎ ((why : Refusal) × (why ≢ Memory) × StartsFrom hash verified before.client.chain key first (Err why)
-        × (after ≡ record before { told = onto before.told (client_refuses (codes "client refuses root") why) }))
+        × (after ≡ record before { told = told_after before.told (client_refuses (codes "client refuses root") why) }))
 
     -- a name is watched from the first root on that is to be watched, and then each promise is tested that is due; nothing
     -- is asked where there is no such root
@@ -108,7 +108,7 @@ module _ (hash : List ℕ → List ℕ) (accepted verified : List ℕ → List �
     -- nothing is told of such a monitor yet; or it is added, and watches some epochs
     abbrev pub BeginsSomeAt : SignedRoot → Scene T → Scene T → Type 0
     BeginsSomeAt first before after = (after ≡ before)
-        ⊎ ((monitor : Monitor) × IsBegun key earlier before.client.chain first name given monitor
+        ⊎ ((monitor : Monitor) × IsJoined key earlier before.client.chain first name given monitor
         × StepsSome hash accepted exchanged (record before { monitors = before.monitors ++ monitor ∷ [] }) (length before.monitors) after)
 
     -- a name is watched from such a root on, up to some point; or it is watched, and then some promises are tested

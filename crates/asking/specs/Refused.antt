@@ -2,7 +2,7 @@
 use Rattle.std.specs.Prelude.{ℕ, List, [], ◌∷◌, ◌++◌, codes, decimal}
 use Rattle.auditor.specs.declared.evidence.Evidence.TheVariants as evidence
 use Rattle.audits.specs.Files.{evidence_text}
-use Rattle.client.specs.Refusals.{refusal_number}
+use Rattle.client.specs.Refusals.{client_refusal_number}
 use Rattle.client.specs.declared.refusal.Refusal.{Refusal}
 use Rattle.client.specs.declared.refusal.Refusal.TheVariants.{Root, Proof, UnknownRoot, RootDiffers, Memory, NoPromise}
 use Rattle.asking.specs.Reports.{Report, refused}
@@ -26,4 +26,4 @@ evidence_before NoPromise = []
 
 -- a refusal of the client, behind its evidence
 abbrev pub client_refuses : List ℕ → Refusal → Report
-client_refuses what why = record { lines = evidence_before why ++ (refuses_text what (refusal_number why) ++ 10 ∷ []); status = 1 }
+client_refuses what why = record { lines = evidence_before why ++ (refuses_text what (client_refusal_number why) ++ 10 ∷ []); status = 1 }

@@ -27,9 +27,9 @@ abbrev pub Tells : Said → Report → Said → Type 0
 Tells before told after = (after.text.items ≡ before.text.items ++ told.lines) × (after.status ≡ worse before.status told.status)
 
 -- all that was said so far
-abbrev pub told_by : Said → Report
-told_by said = record { lines = said.text.items; status = said.status }
+abbrev pub report_of : Said → Report
+report_of said = record { lines = said.text.items; status = said.status }
 
 -- and this after it
-abbrev pub onto : Report → Report → Report
-onto before told = record { lines = before.lines ++ told.lines; status = worse before.status told.status }
+abbrev pub told_after : Report → Report → Report
+told_after before told = record { lines = before.lines ++ told.lines; status = worse before.status told.status }

@@ -5,9 +5,9 @@ use Rattle.rootchain.specs.declared.signed_promise.SignedPromise.{SignedPromise}
 use Rattle.textio.specs.Lines.{lines_of}
 use Rattle.wire.specs.Frames.{Frame}
 use Rattle.wire.specs.Requests.{RequestContent}
-use Rattle.play.specs.Scripts.{Line, Pass, Ask, Watch, Piece, End, line_of}
+use Rattle.play.specs.Scripts.{ScriptLine, Pass, Ask, Watch, Piece, End, line_of}
 use Rattle.asking.specs.AskOptions.{AskOptions}
-use Rattle.asking.specs.Asking.{Asks}
+use Rattle.asking.specs.Asking.{AsksDirectory}
 use Rattle.asking.specs.Following.{Follows}
 use Rattle.asking.specs.Joining.{BeginsWatch}
 use Rattle.asking.specs.Reports.{Report}
@@ -68,15 +68,15 @@ module _ (hash : List ℕ → List ℕ) (accepted verified : List ℕ → List �
     Prepares before after = (count : ℕ) × (middle : Scene T) × Follows hash verified exchanged count before middle × TestsAll hash accepted exchanged known.marks middle after
 
     -- what a line says is asked; one that says something to a session asks nothing of a directory
-    abbrev pub Does : Line → Scene T → Scene T → Type 0
-    Does Pass before after = after ≡ before
-    Does (Ask asked) before after = (noted : List SignedPromise) × (noted' : List SignedPromise) × Asks hash accepted verified exchanged known.marks known.token asked noted noted' before after
-    Does (Watch name given) before after = BeginsWatch hash accepted verified exchanged known.marks known.key known.earlier name given before after
-    Does (Piece session piece) before after = ⊥
-    Does (End session) before after = ⊥
+    abbrev pub DoesLine : ScriptLine → Scene T → Scene T → Type 0
+    DoesLine Pass before after = after ≡ before
+    DoesLine (Ask asked) before after = (noted : List SignedPromise) × (noted' : List SignedPromise) × AsksDirectory hash accepted verified exchanged known.marks known.token asked noted noted' before after
+    DoesLine (Watch name given) before after = BeginsWatch hash accepted verified exchanged known.marks known.key known.earlier name given before after
+    DoesLine (Piece session piece) before after = ⊥
+    DoesLine (End session) before after = ⊥
 
     abbrev pub AsksLine : List ℕ → Scene T → Scene T → Type 0
-    AsksLine line before after = (said : Line) × (line_of line ≡ Some said) × Does said before after
+    AsksLine line before after = (said : ScriptLine) × (line_of line ≡ Some said) × DoesLine said before after
 
     -- each of these lines is asked, and what is told of it is written before the next
     abbrev pub AsksLines : List (List ℕ) → Scene T → Option (List ℕ) → Option (List ℕ) → Scene T → Type 0

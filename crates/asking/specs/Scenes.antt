@@ -16,9 +16,9 @@ use Rattle.asking.specs.declared.asker.Asker.{Asker}
 use Rattle.asking.specs.declared.fault.AskFault.{AskFault}
 use Rattle.asking.specs.declared.fault.AskFault.TheVariants.{NoReply}
 use Rattle.asking.specs.declared.said.Said.{Said}
-use Rattle.asking.specs.Answering.{Answers}
+use Rattle.asking.specs.Answering.{IsAnswerTo}
 use Rattle.asking.specs.Refused.{client_refuses, other_reply, refuses_text}
-use Rattle.asking.specs.Reports.{Report, Tells, onto, refused, told_by}
+use Rattle.asking.specs.Reports.{Report, Tells, refused, report_of, told_after}
 
 -- the client and the monitors, what was told so far, and the stream to the directory
 pub record Scene (T : Type 0) : Type 0 where
@@ -28,11 +28,11 @@ pub record Scene (T : Type 0) : Type 0 where
   pub stream : T
 
 abbrev pub scene : {H V S T : Type 0} → Asker H V S → Said → T → Scene T
-scene asker said stream = record { client = asker.client; monitors = asker.monitors.items; told = told_by said; stream = stream }
+scene asker said stream = record { client = asker.client; monitors = asker.monitors.items; told = report_of said; stream = stream }
 
 -- a frame that is a response, and answers what was asked
-abbrev pub IsAnswered : RequestContent → Frame → Type 0
-IsAnswered asked frame = (responded : ResponseContent) × Responds frame.kind frame.body responded × Answers asked responded
+abbrev pub FrameAnswers : RequestContent → Frame → Type 0
+FrameAnswers asked frame = (responded : ResponseContent) × Responds frame.kind frame.body responded × IsAnswerTo asked responded
 
 -- what is told of a response that is no answer: a refusal of the directory, or one to something else
 abbrev pub miss_told : ResponseContent → Report
@@ -45,41 +45,41 @@ miss_told (Root root) = other_reply
 -- what is told of a frame that is no answer to what was asked
 abbrev pub IsUnanswered : RequestContent → Frame → Report → Type 0
 IsUnanswered asked frame told =
-    ((responded : ResponseContent) × Responds frame.kind frame.body responded × (¬ Answers asked responded) × (told ≡ miss_told responded))
+    ((responded : ResponseContent) × Responds frame.kind frame.body responded × (¬ IsAnswerTo asked responded) × (told ≡ miss_told responded))
     ⊎ ((why : ReadRefusal) × ReadsResponse frame.kind frame.body (Err why) × (told ≡ refused (refuses_text (codes "client refuses reply") (read_refusal_number why))))
 
 -- the body of a frame that answers what was asked, with nothing told; or none, and why
 abbrev pub GivesBody : RequestContent → Frame → Said → Option (List ℕ) → Said → Type 0
-GivesBody asked frame before (Some body) after = IsAnswered asked frame × (body ≡ frame.body) × (after ≡ before)
+GivesBody asked frame before (Some body) after = FrameAnswers asked frame × (body ≡ frame.body) × (after ≡ before)
 GivesBody asked frame before None after = (told : Report) × IsUnanswered asked frame told × Tells before told after
 
 -- what no answer changes, and what changes only by a promise that is kept for a change of the client's own
 abbrev pub Remains : {H V S : Type 0} → Asker H V S → Asker H V S → Type 0
 Remains before after = (after.key ≡ before.key) × (after.token ≡ before.token) × (after.marks ≡ before.marks) × (after.earlier ≡ before.earlier)
 
-abbrev pub Stays : {H V S : Type 0} → Asker H V S → Asker H V S → Type 0
-Stays before after = (after.key ≡ before.key) × (after.token ≡ before.token) × (after.marks ≡ before.marks) × (after.earlier ≡ before.earlier) × (after.changes ≡ before.changes)
+abbrev pub StaysWhole : {H V S : Type 0} → Asker H V S → Asker H V S → Type 0
+StaysWhole before after = (after.key ≡ before.key) × (after.token ≡ before.token) × (after.marks ≡ before.marks) × (after.earlier ≡ before.earlier) × (after.changes ≡ before.changes)
 
 -- The latest root is asked for, and a frame comes back whose body spells a root with a good signature. With this the
 -- client starts.
 abbrev pub StartsAtHead : {T : Type 0} → (List ℕ → List ℕ → List ℕ → Type 0) → (T → RequestContent → Frame → T → Type 0) → List ℕ → T → Client → T → Type 0
 StartsAtHead verified exchanged key before client after =
-    (frame : Frame) × exchanged before (Query Head) frame after × IsAnswered (Query Head) frame × Starts verified key frame.body (Ok client)
+    (frame : Frame) × exchanged before (Query Head) frame after × FrameAnswers (Query Head) frame × Starts verified key frame.body (Ok client)
 
 -- what is told of a frame with which no client starts: it is no answer, or its root is refused
 abbrev pub StartsNone : (List ℕ → List ℕ → List ℕ → Type 0) → List ℕ → Frame → Report → Type 0
 StartsNone verified key frame told = IsUnanswered (Query Head) frame told
-    ⊎ (IsAnswered (Query Head) frame × ((why : Refusal) × (why ≢ Memory) × Starts verified key frame.body (Err why) × (told ≡ client_refuses (codes "client refuses root") why)))
+    ⊎ (FrameAnswers (Query Head) frame × ((why : Refusal) × (why ≢ Memory) × Starts verified key frame.body (Err why) × (told ≡ client_refuses (codes "client refuses root") why)))
 
 -- the latest root is asked for, and such a frame comes back
 abbrev pub StopsAtHead : {T : Type 0} → (List ℕ → List ℕ → List ℕ → Type 0) → (T → RequestContent → Frame → T → Type 0) → List ℕ → T → Report → T → Report → Type 0
 StopsAtHead verified exchanged key before told after told' =
-    (frame : Frame) × exchanged before (Query Head) frame after × ((now : Report) × StartsNone verified key frame now × (told' ≡ onto told now))
+    (frame : Frame) × exchanged before (Query Head) frame after × ((now : Report) × StartsNone verified key frame now × (told' ≡ told_after told now))
 
 -- A fault comes that nothing tells: all that was told so far was told in this scene. If no reply came, the client and the
 -- monitors are also those of the scene; memory may run out between a change of theirs and what is told of it.
 abbrev pub HaltsIn : {H V S T : Type 0} → AskFault → Scene T → Asker H V S → Said → Type 0
-HaltsIn fault reached asker said = (told_by said ≡ reached.told) × (fault ≡ NoReply → (asker.client ≡ reached.client) × (asker.monitors.items ≡ reached.monitors))
+HaltsIn fault reached asker said = (report_of said ≡ reached.told) × (fault ≡ NoReply → (asker.client ≡ reached.client) × (asker.monitors.items ≡ reached.monitors))
 
 -- it comes in a scene to which completed steps lead
 abbrev pub HaltsAfter : {H V S T : Type 0} → (Scene T → Type 0) → AskFault → Asker H V S → Said → Type 0

@@ -22,12 +22,12 @@ stop_told (Refused why) = client_refuses (codes "client refuses root") why
 
 module _ (hash : List ℕ → List ℕ) (verified : List ℕ → List ℕ → List ℕ → Type 0) (chain : KeyedRoots) (from : ℕ) where
   -- whether it stops at a root, and why
-  abbrev pub StopsAt : SignedRoot → Option Stop → Type 0
-  StopsAt root (Some OtherEpoch) = root.body.epoch < from
-  StopsAt root (Some (Refused why)) = (from ≤ root.body.epoch) × (place : Result Place RootRefusal) × Places hash verified chain root place × (refusal_at place ≡ Some why)
-  StopsAt root None = (from ≤ root.body.epoch) × (place : Result Place RootRefusal) × Places hash verified chain root place × (refusal_at place ≡ None)
+  abbrev pub StopsAtRoot : SignedRoot → Option Stop → Type 0
+  StopsAtRoot root (Some OtherEpoch) = root.body.epoch < from
+  StopsAtRoot root (Some (Refused why)) = (from ≤ root.body.epoch) × (place : Result Place RootRefusal) × Places hash verified chain root place × (refusal_at place ≡ Some why)
+  StopsAtRoot root None = (from ≤ root.body.epoch) × (place : Result Place RootRefusal) × Places hash verified chain root place × (refusal_at place ≡ None)
 
   -- whether it stops at one of these, at the first that is not told
-  abbrev pub Stops : List SignedRoot → Option Stop → Type 0
-  Stops [] stop = stop ≡ None
-  Stops (first ∷ more) stop = ((why : Stop) × (stop ≡ Some why) × StopsAt first (Some why)) ⊎ (StopsAt first None × Stops more stop)
+  abbrev pub StopsAmong : List SignedRoot → Option Stop → Type 0
+  StopsAmong [] stop = stop ≡ None
+  StopsAmong (first ∷ more) stop = ((why : Stop) × (stop ≡ Some why) × StopsAtRoot first (Some why)) ⊎ (StopsAtRoot first None × StopsAmong more stop)

@@ -10,26 +10,26 @@ use Rattle.monitor.specs.Monitors.{Monitor}
 use Rattle.wire.specs.Frames.{Frame}
 use Rattle.wire.specs.Requests.{RequestContent, Query}
 use Rattle.asking.specs.declared.asker.Mark.{Mark}
-use Rattle.asking.specs.Scenes.{Scene, IsAnswered, IsUnanswered}
+use Rattle.asking.specs.Scenes.{Scene, FrameAnswers, IsUnanswered}
 use Rattle.asking.specs.Testing.{due_told, was_kept}
-use Rattle.asking.specs.Reports.{Report, onto}
+use Rattle.asking.specs.Reports.{Report, told_after}
 
 -- the name has a mark of an earlier run; a monitor in this one; the first, and not the second
 abbrev pub IsMarked : List Mark → List ℕ → Type 0
 IsMarked marks name = (mark : Mark) × Contains marks mark × (mark.name ≡ name)
 
-abbrev pub IsWatched : List Monitor → List ℕ → Type 0
-IsWatched monitors name = (monitor : Monitor) × Contains monitors monitor × (monitor.name ≡ name)
+abbrev pub HasMonitor : List Monitor → List ℕ → Type 0
+HasMonitor monitors name = (monitor : Monitor) × Contains monitors monitor × (monitor.name ≡ name)
 
-abbrev pub Waits : List Mark → List Monitor → List ℕ → Type 0
-Waits marks monitors name = IsMarked marks name × ¬ IsWatched monitors name
+abbrev pub AwaitsMonitor : List Mark → List Monitor → List ℕ → Type 0
+AwaitsMonitor marks monitors name = IsMarked marks name × ¬ HasMonitor monitors name
 
 module _ (hash : List ℕ → List ℕ) (accepted : List ℕ → List ℕ → List ℕ → Type 0) where
   -- what a frame that came for a look-up shows of the promise for the name: no answer, or what comes of the test
   abbrev pub ShowsDue : Client → List ℕ → RequestContent → Frame → Bool → Report → Client → Type 0
   ShowsDue before name asked frame kept told after =
       (IsUnanswered asked frame told × (kept ≡ false) × (after ≡ before))
-      ⊎ (IsAnswered asked frame × ((due : Result Due Refusal) × Dues hash accepted before name frame.body due after × (kept ≡ was_kept due) × (told ≡ due_told due)))
+      ⊎ (FrameAnswers asked frame × ((due : Result Due Refusal) × Dues hash accepted before name frame.body due after × (kept ≡ was_kept due) × (told ≡ due_told due)))
 
   module _ {T : Type 0} (exchanged : T → RequestContent → Frame → T → Type 0) where
     -- the name is looked up in the epoch in which its promise is due, and this is told of what comes back
@@ -40,7 +40,7 @@ module _ (hash : List ℕ → List ℕ) (accepted : List ℕ → List ℕ → Li
       pub exchange : exchanged before.stream (Query (Lookup name epoch)) frame after.stream
       pub told : Report
       pub shows : ShowsDue before.client name (Query (Lookup name epoch)) frame kept told after.client
-      pub tells : after.told ≡ onto before.told told
+      pub tells : after.told ≡ told_after before.told told
       pub monitors : after.monitors ≡ before.monitors
 
     -- whether the promise for a name is found kept: nothing is asked where none is due
@@ -51,8 +51,8 @@ module _ (hash : List ℕ → List ℕ) (accepted : List ℕ → List ℕ → Li
     -- what comes of the promise at a place, and the place that is next: one that is found kept is no longer there
     abbrev pub VisitsPromise : List Mark → Scene T → List ℕ → ℕ → ℕ → Scene T → Type 0
     VisitsPromise marks before name place next after =
-        (Waits marks before.monitors name × (next ≡ suc place) × (after ≡ before))
-        ⊎ ((¬ Waits marks before.monitors name) × ((kept : Bool) × TestsName before name kept after × (next ≡ (if kept then place else suc place))))
+        (AwaitsMonitor marks before.monitors name × (next ≡ suc place) × (after ≡ before))
+        ⊎ ((¬ AwaitsMonitor marks before.monitors name) × ((kept : Bool) × TestsName before name kept after × (next ≡ (if kept then place else suc place))))
 
     abbrev pub Visits : List Mark → Scene T → ℕ → Option ℕ → Scene T → Type 0
     Visits marks before place None after = (slice_get before.client.promises place ≡ None) × (after ≡ before)

@@ -14,8 +14,8 @@ use Rattle.wire.specs.Requests.{RequestContent, Query}
 use Rattle.asking.specs.declared.asker.Mark.{Mark}
 use Rattle.asking.specs.declared.said.Said.{Said}
 use Rattle.asking.specs.Refused.{client_refuses}
-use Rattle.asking.specs.Scenes.{Scene, IsAnswered, IsUnanswered}
-use Rattle.asking.specs.Reports.{Report, Tells, onto}
+use Rattle.asking.specs.Scenes.{Scene, FrameAnswers, IsUnanswered}
+use Rattle.asking.specs.Reports.{Report, Tells, told_after}
 use Rattle.asking.specs.Visiting.{TestsAll, TestsSome}
 
 -- an alarm is status 3
@@ -25,13 +25,13 @@ step_told name epoch (Alarm at found) = record { lines = step_text name epoch (A
 
 module _ (hash : List ℕ → List ℕ) (accepted : List ℕ → List ℕ → List ℕ → Type 0) where
   -- a monitor watched an epoch by a reply, or its client refused the proof, and not for want of memory
-  abbrev pub Watches : Monitor → ℕ → List ℕ → Bool → Report → Monitor → Type 0
-  Watches before epoch reply true told after = (step : Step) × Steps hash accepted before reply (Ok step) after × (told ≡ step_told before.name epoch step)
-  Watches before epoch reply false told after =
+  abbrev pub WatchesBy : Monitor → ℕ → List ℕ → Bool → Report → Monitor → Type 0
+  WatchesBy before epoch reply true told after = (step : Step) × Steps hash accepted before reply (Ok step) after × (told ≡ step_told before.name epoch step)
+  WatchesBy before epoch reply false told after =
       (why : Refusal) × (why ≢ Memory) × Steps hash accepted before reply (Err (Client why)) after × (told ≡ client_refuses (codes "client refuses proof") why)
 
   abbrev pub WatchesEpoch : Monitor → ℕ → List ℕ → Said → Bool → Said → Monitor → Type 0
-  WatchesEpoch before epoch reply said went now after = (told : Report) × Watches before epoch reply went told after × Tells said told now
+  WatchesEpoch before epoch reply said went now after = (told : Report) × WatchesBy before epoch reply went told after × Tells said told now
 
   -- the monitor at a place watches an epoch by a reply, if there is one
   abbrev pub WatchesAt : List Monitor → ℕ → ℕ → List ℕ → Said → Bool → Said → List Monitor → Type 0
@@ -42,7 +42,7 @@ module _ (hash : List ℕ → List ℕ) (accepted : List ℕ → List ℕ → Li
   -- what a frame that came for a look-up shows a monitor
   abbrev pub ShowsEpoch : Monitor → ℕ → RequestContent → Frame → Bool → Report → Monitor → Type 0
   ShowsEpoch before epoch asked frame went told after =
-      (IsUnanswered asked frame told × (went ≡ false) × (after ≡ before)) ⊎ (IsAnswered asked frame × Watches before epoch frame.body went told after)
+      (IsUnanswered asked frame told × (went ≡ false) × (after ≡ before)) ⊎ (FrameAnswers asked frame × WatchesBy before epoch frame.body went told after)
 
   module _ {T : Type 0} (exchanged : T → RequestContent → Frame → T → Type 0) where
     -- the monitor at a place looks its name up in its next epoch, and this is told of what comes back
@@ -56,7 +56,7 @@ module _ (hash : List ℕ → List ℕ) (accepted : List ℕ → List ℕ → Li
       pub told : Report
       pub watched : Monitor
       pub shows : ShowsEpoch monitor epoch (Query (Lookup monitor.name epoch)) frame went told watched
-      pub tells : after.told ≡ onto before.told told
+      pub tells : after.told ≡ told_after before.told told
       pub monitors : after.monitors ≡ slice_set before.monitors place watched
       pub client : after.client ≡ before.client
 

@@ -6,10 +6,10 @@ ghost use Rattle.wire.specs.Requests.{request_seen};
 ghost use Rattle.wire.specs.Responses.{response_seen, Refused};
 ghost use Rattle.play.specs.Hearing.{response_text};
 ghost use Rattle.play.specs.Spoken.{ask_seen};
-ghost use Rattle.asking.specs.Answering.{with_token, Answers};
+ghost use Rattle.asking.specs.Answering.{with_token, IsAnswerTo};
 ghost use Rattle.asking.specs.Refused.{other_reply, refuses_text};
 ghost use Rattle.asking.specs.Scenes.{miss_told, GivesBody};
-ghost use Rattle.asking.specs.Reports.{refused, told_by, Tells};
+ghost use Rattle.asking.specs.Reports.{refused, report_of, Tells};
 
 use crate::said::{Said, directory_words};
 use commands::{Put, Query};
@@ -53,7 +53,7 @@ pub(crate) fn request_of<'a>(ask: &'a Ask, token: Hash32) -> Request<'a>
 
 /// Whether a response is one to what was asked: of its kind, and about what it names.
 pub(crate) fn answers(ask: &Ask, response: &Response<'_>) -> bool
-    ensures { IsTrue result ↔ Answers (ask_seen ask.now) (response_seen response.now) }
+    ensures { IsTrue result ↔ IsAnswerTo (ask_seen ask.now) (response_seen response.now) }
 {
     match (ask, response) {
         (Ask::Put { name, key, .. }, Response::Promise(signed)) => {
@@ -94,7 +94,7 @@ pub(crate) fn body_of<'a>(
     said: &mut Said,
 ) -> Result<Option<&'a [u8]>, AllocError>
     ensures gives { IfOk result (λ body. GivesBody (ask_seen ask.now) (frame_seen frame.now) said.old (option_map (λ bytes. bytes.now) body) said.new) }
-    ensures untold { OnErr result (told_by said.new ≡ told_by said.old) }
+    ensures untold { OnErr result (report_of said.new ≡ report_of said.old) }
 {
     match Response::read(frame.kind, frame.body) {
         Ok(response) => {
@@ -118,7 +118,7 @@ pub(crate) fn body_of<'a>(
 /// Tells that a reply does not answer what was asked, whole or not at all.
 pub(crate) fn tell_other(alloc: Global, said: &mut Said) -> Result<(), AllocError>
     ensures tells { OnOk result (Tells said.old other_reply said.new) }
-    ensures untold { OnErr result (told_by said.new ≡ told_by said.old) }
+    ensures untold { OnErr result (report_of said.new ≡ report_of said.old) }
 {
     let mut now = Said::new(alloc);
     now.refuse_other()?;

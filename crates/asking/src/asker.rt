@@ -2,8 +2,8 @@ ghost use Rattle.std.specs.Prelude.{◌≡◌, ◌≢◌, [], Err, IfErr, IfOk, 
 ghost use Rattle.rootchain.specs.Chains.{IsHead};
 ghost use Rattle.rootchain.specs.declared.signed_root.SignedRoot.{SignedRoot};
 ghost use Rattle.client.specs.Starting.{Starts};
-ghost use Rattle.asking.specs.Exchanges.{Exchanges};
-ghost use Rattle.asking.specs.Reports.{told_by};
+ghost use Rattle.asking.specs.Exchanges.{ExchangesFrames};
+ghost use Rattle.asking.specs.Reports.{report_of};
 ghost use Rattle.asking.specs.Scenes.{StartsAtHead, StopsAtHead};
 ghost use Rattle.asking.specs.declared.fault.AskFault.TheVariants.{Stopped};
 
@@ -112,12 +112,12 @@ where
         token: Hash32,
         said: &mut Said,
     ) -> Result<Self, AskFault>
-        ensures starts { IfOk result (λ asker. StartsAtHead S.verified (Exchanges T.contents T.remaining) key stream.old asker.client stream.new) }
+        ensures starts { IfOk result (λ asker. StartsAtHead S.verified (ExchangesFrames T.contents T.remaining) key stream.old asker.client stream.new) }
         ensures keys { IfOk result (λ asker. (asker.key ≡ key) × (asker.token ≡ token)) }
         ensures none { IfOk result (λ asker. (asker.monitors.items ≡ []) × (asker.marks.items ≡ []) × (asker.earlier.items ≡ []) × (asker.changes.items ≡ [])) }
         ensures said { IfOk result (λ asker. said.new ≡ said.old) }
-        ensures stops { IfErr result (λ fault. fault ≡ Stopped → StopsAtHead S.verified (Exchanges T.contents T.remaining) key stream.old (told_by said.old) stream.new (told_by said.new)) }
-        ensures halts { IfErr result (λ fault. fault ≢ Stopped → told_by said.new ≡ told_by said.old) }
+        ensures stops { IfErr result (λ fault. fault ≡ Stopped → StopsAtHead S.verified (ExchangesFrames T.contents T.remaining) key stream.old (report_of said.old) stream.new (report_of said.new)) }
+        ensures halts { IfErr result (λ fault. fault ≢ Stopped → report_of said.new ≡ report_of said.old) }
     {
         let reply = exchange(alloc, stream, &request_of(&Ask::Head, token))?;
         let frame = frame_in(&reply)?;

@@ -5,11 +5,11 @@ ghost use Rattle.wire.specs.FrameViews.{frame_seen};
 ghost use Rattle.wire.specs.Responses.{response_seen};
 ghost use Rattle.play.specs.Spoken.{ask_seen};
 ghost use Rattle.asking.specs.Answering.{with_token};
-ghost use Rattle.asking.specs.Asking.{response_epoch, Asks, AsksSome, CatchesSome, CatchesUp, GoesOnAbove, GoesSomeAbove, Hands, Notes, SpeaksOf, StopsAsking, StopsBelow};
+ghost use Rattle.asking.specs.Asking.{response_epoch, AsksDirectory, AsksSome, CatchesSome, CatchesUp, GoesOnAbove, GoesSomeAbove, Hands, Notes, SpeaksOf, StopsAsking, StopsBelow};
 ghost use Rattle.asking.specs.Checking.{HearsFrame};
-ghost use Rattle.asking.specs.Exchanges.{Exchanges, HoldsFrame, IsOneFrame};
-ghost use Rattle.asking.specs.Scenes.{scene, HaltsAfter, Remains, Stays};
-ghost use Rattle.asking.specs.Reports.{told_by, Report, Tells};
+ghost use Rattle.asking.specs.Exchanges.{ExchangesFrames, HoldsFrame, IsOneFrame};
+ghost use Rattle.asking.specs.Scenes.{scene, HaltsAfter, Remains, StaysWhole};
+ghost use Rattle.asking.specs.Reports.{report_of, Report, Tells};
 ghost use Rattle.asking.specs.declared.fault.AskFault.TheVariants.{Stopped};
 
 use crate::answering::{answers, request_of};
@@ -70,11 +70,11 @@ where
         ask: &Ask,
         said: &mut Said,
     ) -> Result<(), AskFault>
-        ensures asks { OnOk result (Asks H.digest_of V.accepted S.verified (Exchanges T.contents T.remaining) (self.old).marks.items (self.old).token (ask_seen ask.now) (self.old).changes.items (self.new).changes.items (scene self.old said.old stream.old) (scene self.new said.new stream.new)) }
+        ensures asks { OnOk result (AsksDirectory H.digest_of V.accepted S.verified (ExchangesFrames T.contents T.remaining) (self.old).marks.items (self.old).token (ask_seen ask.now) (self.old).changes.items (self.new).changes.items (scene self.old said.old stream.old) (scene self.new said.new stream.new)) }
         ensures stays { Remains self.old self.new }
         ensures unnoted { result ≡ Err Stopped → (self.new).changes ≡ (self.old).changes }
-        ensures stops { result ≡ Err Stopped → StopsAsking H.digest_of V.accepted S.verified (Exchanges T.contents T.remaining) (self.old).token (ask_seen ask.now) (scene self.old said.old stream.old) (scene self.new said.new stream.new) }
-        ensures halts { IfErr result (λ fault. fault ≢ Stopped → HaltsAfter (AsksSome H.digest_of V.accepted S.verified (Exchanges T.contents T.remaining) (self.old).marks.items (self.old).token (ask_seen ask.now) (self.old).changes.items (self.new).changes.items (scene self.old said.old stream.old)) fault self.new said.new) }
+        ensures stops { result ≡ Err Stopped → StopsAsking H.digest_of V.accepted S.verified (ExchangesFrames T.contents T.remaining) (self.old).token (ask_seen ask.now) (scene self.old said.old stream.old) (scene self.new said.new stream.new) }
+        ensures halts { IfErr result (λ fault. fault ≢ Stopped → HaltsAfter (AsksSome H.digest_of V.accepted S.verified (ExchangesFrames T.contents T.remaining) (self.old).marks.items (self.old).token (ask_seen ask.now) (self.old).changes.items (self.new).changes.items (scene self.old said.old stream.old)) fault self.new said.new) }
     {
         let head = self.head();
         let reply = self.request(stream, ask)?;
@@ -91,10 +91,10 @@ where
         epoch: u64,
         said: &mut Said,
     ) -> Result<(), AskFault>
-        ensures catches { OnOk result (CatchesUp H.digest_of V.accepted S.verified (Exchanges T.contents T.remaining) epoch (scene self.old said.old stream.old) (scene self.new said.new stream.new)) }
-        ensures stays { Stays self.old self.new }
-        ensures stops { result ≡ Err Stopped → StopsBelow H.digest_of V.accepted S.verified (Exchanges T.contents T.remaining) epoch (scene self.old said.old stream.old) (scene self.new said.new stream.new) }
-        ensures halts { IfErr result (λ fault. fault ≢ Stopped → HaltsAfter (CatchesSome H.digest_of V.accepted S.verified (Exchanges T.contents T.remaining) epoch (scene self.old said.old stream.old)) fault self.new said.new) }
+        ensures catches { OnOk result (CatchesUp H.digest_of V.accepted S.verified (ExchangesFrames T.contents T.remaining) epoch (scene self.old said.old stream.old) (scene self.new said.new stream.new)) }
+        ensures stays { StaysWhole self.old self.new }
+        ensures stops { result ≡ Err Stopped → StopsBelow H.digest_of V.accepted S.verified (ExchangesFrames T.contents T.remaining) epoch (scene self.old said.old stream.old) (scene self.new said.new stream.new) }
+        ensures halts { IfErr result (λ fault. fault ≢ Stopped → HaltsAfter (CatchesSome H.digest_of V.accepted S.verified (ExchangesFrames T.contents T.remaining) epoch (scene self.old said.old stream.old)) fault self.new said.new) }
     {
         if epoch <= self.head() {
             return Ok(());
@@ -115,7 +115,7 @@ where
         ensures notes { OnOk result (Notes (ask_seen ask.now) (self.old).client.promises (self.new).client.promises (self.old).changes.items (self.new).changes.items) }
         ensures noted { ((self.new).changes.items ≡ (self.old).changes.items) ⊎ Notes (ask_seen ask.now) (self.old).client.promises (self.new).client.promises (self.old).changes.items (self.new).changes.items }
         ensures stays { Remains self.old self.new }
-        ensures told { ((told_by said.new ≡ told_by said.old) × ((self.new).changes.items ≡ (self.old).changes.items)) ⊎ ((told : Report) × HearsFrame H.digest_of V.accepted S.verified (self.old).client (ask_seen ask.now) (frame_seen frame.now) told (self.new).client × Tells said.old told said.new) }
+        ensures told { ((report_of said.new ≡ report_of said.old) × ((self.new).changes.items ≡ (self.old).changes.items)) ⊎ ((told : Report) × HearsFrame H.digest_of V.accepted S.verified (self.old).client (ask_seen ask.now) (frame_seen frame.now) told (self.new).client × Tells said.old told said.new) }
     {
         let kept = self.client.promises().len();
         let checks = &mut self.checks;
@@ -134,10 +134,10 @@ where
         head: u64,
         said: &mut Said,
     ) -> Result<(), AskFault>
-        ensures goes { OnOk result (GoesOnAbove H.digest_of V.accepted S.verified (Exchanges T.contents T.remaining) (self.old).marks.items head (scene self.old said.old stream.old) (scene self.new said.new stream.new)) }
-        ensures stays { Stays self.old self.new }
+        ensures goes { OnOk result (GoesOnAbove H.digest_of V.accepted S.verified (ExchangesFrames T.contents T.remaining) (self.old).marks.items head (scene self.old said.old stream.old) (scene self.new said.new stream.new)) }
+        ensures stays { StaysWhole self.old self.new }
         ensures err { IfErr result (λ fault. fault ≢ Stopped) }
-        ensures halts { IfErr result (λ fault. HaltsAfter (GoesSomeAbove H.digest_of V.accepted S.verified (Exchanges T.contents T.remaining) (self.old).marks.items head (scene self.old said.old stream.old)) fault self.new said.new) }
+        ensures halts { IfErr result (λ fault. HaltsAfter (GoesSomeAbove H.digest_of V.accepted S.verified (ExchangesFrames T.contents T.remaining) (self.old).marks.items head (scene self.old said.old stream.old)) fault self.new said.new) }
     {
         if self.head() <= head {
             return Ok(());
@@ -152,7 +152,7 @@ where
         ask: &Ask,
     ) -> Result<Vec<u8>, AskFault>
         ensures whole { IfOk result (λ bytes. (frame : Frame) × IsOneFrame bytes.items frame) }
-        ensures sent { IfOk result (λ bytes. (frame : Frame) → HoldsFrame bytes.items frame → Exchanges T.contents T.remaining stream.old (with_token (self.now).token (ask_seen ask.now)) frame stream.new) }
+        ensures sent { IfOk result (λ bytes. (frame : Frame) → HoldsFrame bytes.items frame → ExchangesFrames T.contents T.remaining stream.old (with_token (self.now).token (ask_seen ask.now)) frame stream.new) }
         ensures err { IfErr result (λ fault. fault ≢ Stopped) }
     {
         exchange(self.alloc, stream, &request_of(ask, self.token))

@@ -5,15 +5,15 @@ ghost use Rattle.wire.specs.FrameViews.{frame_seen};
 ghost use Rattle.wire.specs.Responses.{response_seen};
 ghost use Rattle.wire.specs.Responses as responds;
 ghost use Rattle.client.specs.Looking.{Looks};
-ghost use Rattle.client.specs.Promising.{Keeps};
+ghost use Rattle.client.specs.Promising.{KeepsPromise};
 ghost use Rattle.client.specs.declared.refusal.Refusal.{Refusal};
 ghost use Rattle.client.specs.declared.refusal.Refusal.TheVariants.{Memory};
 ghost use Rattle.proofs.specs.declared.statement.Statement.{Statement};
 ghost use Rattle.audits.specs.Files.{evidence_text};
 ghost use Rattle.play.specs.Spoken.{ask_seen};
-ghost use Rattle.asking.specs.Checking.{look_told, promise_told, Hears, HearsFrame, IsTellable};
+ghost use Rattle.asking.specs.Checking.{look_told, promise_told, HearsFrame, HearsResponse, IsTellable};
 ghost use Rattle.asking.specs.Refused.{client_refuses, evidence_before};
-ghost use Rattle.asking.specs.Reports.{told_by, Report, Tells};
+ghost use Rattle.asking.specs.Reports.{report_of, Report, Tells};
 
 use crate::answering::{answers, tell_refused, tell_unread};
 use crate::placing::{place_all, place_latest};
@@ -69,7 +69,7 @@ pub(crate) fn tell_client(
 ) -> Result<(), AllocError>
     ensures told { OnOk result (Tells said.old (client_refuses what.now why) said.new) }
     ensures known { OnOk result (why ≢ Memory) }
-    ensures untold { OnErr result (told_by said.new ≡ told_by said.old) }
+    ensures untold { OnErr result (report_of said.new ≡ report_of said.old) }
 {
     let mut now = Said::new(alloc);
     tell_refusal(alloc, what, why, &mut now)?;
@@ -110,7 +110,7 @@ where
     S: Verifier + Drop,
     ensures hears { OnOk result ((told : Report) × HearsFrame H.digest_of V.accepted S.verified client.old (ask_seen ask.now) (frame_seen frame.now) told client.new × Tells said.old told said.new) }
     ensures client { (client.new ≡ client.old) ⊎ ((told : Report) × HearsFrame H.digest_of V.accepted S.verified client.old (ask_seen ask.now) (frame_seen frame.now) told client.new) }
-    ensures untold { OnErr result (told_by said.new ≡ told_by said.old) }
+    ensures untold { OnErr result (report_of said.new ≡ report_of said.old) }
 {
     let mut now = Said::new(alloc);
     hear_frame(alloc, client, checks, ask, frame, &mut now)?;
@@ -154,8 +154,8 @@ where
     H: NodeHash + Drop,
     V: VufCheck + Drop,
     S: Verifier + Drop,
-    ensures hears { OnOk result ((told : Report) × Hears H.digest_of V.accepted S.verified client.old body.now (ask_seen ask.now) (response_seen response.entry) told client.new × Tells said.old told said.new) }
-    ensures client { (client.new ≡ client.old) ⊎ ((told : Report) × Hears H.digest_of V.accepted S.verified client.old body.now (ask_seen ask.now) (response_seen response.entry) told client.new) }
+    ensures hears { OnOk result ((told : Report) × HearsResponse H.digest_of V.accepted S.verified client.old body.now (ask_seen ask.now) (response_seen response.entry) told client.new × Tells said.old told said.new) }
+    ensures client { (client.new ≡ client.old) ⊎ ((told : Report) × HearsResponse H.digest_of V.accepted S.verified client.old body.now (ask_seen ask.now) (response_seen response.entry) told client.new) }
 {
     let is_answer = answers(ask, &response);
     match response {
@@ -235,8 +235,8 @@ where
     H: NodeHash + Drop,
     V: VufCheck + Drop,
     S: Verifier + Drop,
-    ensures tells { OnOk result ((answer : Result (Unit {0}) Refusal) × (Keeps H.digest_of S.verified client.old promise.now answer client.new × IsTellable answer) × Tells said.old (promise_told (responds.Promise signed) answer) said.new) }
-    ensures client { (client.new ≡ client.old) ⊎ ((answer : Result (Unit {0}) Refusal) × Keeps H.digest_of S.verified client.old promise.now answer client.new × IsTellable answer) }
+    ensures tells { OnOk result ((answer : Result (Unit {0}) Refusal) × (KeepsPromise H.digest_of S.verified client.old promise.now answer client.new × IsTellable answer) × Tells said.old (promise_told (responds.Promise signed) answer) said.new) }
+    ensures client { (client.new ≡ client.old) ⊎ ((answer : Result (Unit {0}) Refusal) × KeepsPromise H.digest_of S.verified client.old promise.now answer client.new × IsTellable answer) }
 {
     match client.keep_promise(&mut checks.hash, &checks.verifier, promise) {
         Ok(()) => tell_response(&mut said.text, Response::Promise(signed)),

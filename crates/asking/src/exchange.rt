@@ -6,7 +6,7 @@ ghost use Rattle.encoding.specs.Bytes.{IsBytes};
 ghost use Rattle.wire.specs.Frames.{frame_bytes, Frame};
 ghost use Rattle.wire.specs.FrameViews.{frame_seen};
 ghost use Rattle.wire.specs.Requests.{request_frame, request_seen};
-ghost use Rattle.asking.specs.Exchanges.{Exchanges, HoldsFrame, IsOneFrame};
+ghost use Rattle.asking.specs.Exchanges.{ExchangesFrames, HoldsFrame, IsOneFrame};
 ghost use Rattle.asking.specs.declared.fault.AskFault.TheVariants.{Stopped};
 
 use crate::AskFault;
@@ -118,7 +118,7 @@ pub(crate) fn exchange<T: Read + Write>(
     request: &Request<'_>,
 ) -> Result<Vec<u8>, AskFault>
     ensures whole { IfOk result (λ bytes. (frame : Frame) × IsOneFrame bytes.items frame) }
-    ensures sent { IfOk result (λ bytes. (frame : Frame) → HoldsFrame bytes.items frame → Exchanges T.contents T.remaining stream.old (request_seen request.now) frame stream.new) }
+    ensures sent { IfOk result (λ bytes. (frame : Frame) → HoldsFrame bytes.items frame → ExchangesFrames T.contents T.remaining stream.old (request_seen request.now) frame stream.new) }
     ensures err { IfErr result (λ fault. fault ≢ Stopped) }
 {
     send(alloc, stream, request)?;

@@ -1,10 +1,10 @@
 // The client and its monitors take the roots that are new.
 ghost use Rattle.std.specs.Prelude.{◌≡◌, ◌≢◌, ℕ, Err, IfErr, IfOk, OnOk};
 ghost use Rattle.std.specs.List.{AllZip};
-ghost use Rattle.asking.specs.Exchanges.{Exchanges};
-ghost use Rattle.asking.specs.Following.{AllUpdate, AnyRefuses, Follows, MonitorUpdates, OneRefuses, Refuses, StopsAfter, StopsList, TakesList, TakesSome, TellsRefusal};
-ghost use Rattle.asking.specs.Scenes.{scene, HaltsAfter, HaltsIn, Stays};
-ghost use Rattle.asking.specs.Reports.{told_by};
+ghost use Rattle.asking.specs.Exchanges.{ExchangesFrames};
+ghost use Rattle.asking.specs.Following.{AllUpdate, AnyRefuses, Follows, MonitorUpdates, OneRefuses, RefusesList, StopsAfter, StopsList, TakesList, TakesSome, TellsRootRefusal};
+ghost use Rattle.asking.specs.Scenes.{scene, HaltsAfter, HaltsIn, StaysWhole};
+ghost use Rattle.asking.specs.Reports.{report_of};
 ghost use Rattle.asking.specs.declared.fault.AskFault.TheVariants.{NoReply, Stopped};
 
 use crate::answering::{body_of, tell_other};
@@ -40,10 +40,10 @@ where
         stream: &mut T,
         said: &mut Said,
     ) -> Result<(), AskFault>
-        ensures follows { OnOk result ((count : ℕ) × Follows H.digest_of S.verified (Exchanges T.contents T.remaining) count (scene self.old said.old stream.old) (scene self.new said.new stream.new)) }
-        ensures stays { Stays self.old self.new }
-        ensures stops { result ≡ Err Stopped → (count : ℕ) × StopsAfter H.digest_of S.verified (Exchanges T.contents T.remaining) count (scene self.old said.old stream.old) (scene self.new said.new stream.new) }
-        ensures halts { IfErr result (λ fault. fault ≢ Stopped → HaltsAfter (TakesSome H.digest_of S.verified (Exchanges T.contents T.remaining) (scene self.old said.old stream.old)) fault self.new said.new) }
+        ensures follows { OnOk result ((count : ℕ) × Follows H.digest_of S.verified (ExchangesFrames T.contents T.remaining) count (scene self.old said.old stream.old) (scene self.new said.new stream.new)) }
+        ensures stays { StaysWhole self.old self.new }
+        ensures stops { result ≡ Err Stopped → (count : ℕ) × StopsAfter H.digest_of S.verified (ExchangesFrames T.contents T.remaining) count (scene self.old said.old stream.old) (scene self.new said.new stream.new) }
+        ensures halts { IfErr result (λ fault. fault ≢ Stopped → HaltsAfter (TakesSome H.digest_of S.verified (ExchangesFrames T.contents T.remaining) (scene self.old said.old stream.old)) fault self.new said.new) }
     {
         // Every loop of Rattle has an end: this one's is past any chain.
         for _ in 0..u64::MAX {
@@ -60,9 +60,9 @@ where
         stream: &mut T,
         said: &mut Said,
     ) -> Result<bool, AskFault>
-        ensures takes { IfOk result (λ went. TakesList H.digest_of S.verified (Exchanges T.contents T.remaining) (scene self.old said.old stream.old) went (scene self.new said.new stream.new)) }
-        ensures stays { Stays self.old self.new }
-        ensures stops { result ≡ Err Stopped → StopsList H.digest_of S.verified (Exchanges T.contents T.remaining) (scene self.old said.old stream.old) (scene self.new said.new stream.new) }
+        ensures takes { IfOk result (λ went. TakesList H.digest_of S.verified (ExchangesFrames T.contents T.remaining) (scene self.old said.old stream.old) went (scene self.new said.new stream.new)) }
+        ensures stays { StaysWhole self.old self.new }
+        ensures stops { result ≡ Err Stopped → StopsList H.digest_of S.verified (ExchangesFrames T.contents T.remaining) (scene self.old said.old stream.old) (scene self.new said.new stream.new) }
         ensures halts { IfErr result (λ fault. fault ≢ Stopped → HaltsIn fault (scene self.old said.old stream.old) self.new said.new) }
     {
         let Some(from) = self.head().checked_add(1) else {
@@ -89,9 +89,9 @@ where
     fn take(&mut self, list: &[u8], said: &mut Said) -> Result<(), AskFault>
         ensures updates { OnOk result (AllUpdate H.digest_of S.verified list.now (self.old).client (self.old).monitors.items (self.new).client (self.new).monitors.items) }
         ensures said { OnOk result (said.new ≡ said.old) }
-        ensures stays { Stays self.old self.new }
-        ensures refused { result ≡ Err Stopped → TellsRefusal (λ why. AnyRefuses H.digest_of S.verified list.now (self.old).client (self.old).monitors.items why (self.new).client (self.new).monitors.items) said.old said.new }
-        ensures halts { IfErr result (λ fault. fault ≢ Stopped → (told_by said.new ≡ told_by said.old) × (fault ≢ NoReply)) }
+        ensures stays { StaysWhole self.old self.new }
+        ensures refused { result ≡ Err Stopped → TellsRootRefusal (λ why. AnyRefuses H.digest_of S.verified list.now (self.old).client (self.old).monitors.items why (self.new).client (self.new).monitors.items) said.old said.new }
+        ensures halts { IfErr result (λ fault. fault ≢ Stopped → (report_of said.new ≡ report_of said.old) × (fault ≢ NoReply)) }
     {
         let checks = &mut self.checks;
         match self.client.update(&mut checks.hash, &checks.verifier, list) {
@@ -118,8 +118,8 @@ where
     S: Verifier + Drop,
     ensures updates { OnOk result (AllZip (MonitorUpdates H.digest_of S.verified list.now) monitors.old monitors.new) }
     ensures said { OnOk result (said.new ≡ said.old) }
-    ensures refused { result ≡ Err Stopped → TellsRefusal (λ why. OneRefuses H.digest_of S.verified list.now monitors.old why monitors.new) said.old said.new }
-    ensures halts { IfErr result (λ fault. fault ≢ Stopped → (told_by said.new ≡ told_by said.old) × (fault ≢ NoReply)) }
+    ensures refused { result ≡ Err Stopped → TellsRootRefusal (λ why. OneRefuses H.digest_of S.verified list.now monitors.old why monitors.new) said.old said.new }
+    ensures halts { IfErr result (λ fault. fault ≢ Stopped → (report_of said.new ≡ report_of said.old) × (fault ≢ NoReply)) }
 {
     for monitor in monitors.iter_mut() {
         update(alloc, monitor, checks, list, said)?;
@@ -141,8 +141,8 @@ where
     S: Verifier + Drop,
     ensures updates { OnOk result (MonitorUpdates H.digest_of S.verified list.now monitor.old monitor.new) }
     ensures said { OnOk result (said.new ≡ said.old) }
-    ensures refused { result ≡ Err Stopped → TellsRefusal (λ why. Refuses H.digest_of S.verified list.now monitor.old.client why × (monitor.new ≡ monitor.old)) said.old said.new }
-    ensures halts { IfErr result (λ fault. fault ≢ Stopped → (told_by said.new ≡ told_by said.old) × (fault ≢ NoReply)) }
+    ensures refused { result ≡ Err Stopped → TellsRootRefusal (λ why. RefusesList H.digest_of S.verified list.now monitor.old.client why × (monitor.new ≡ monitor.old)) said.old said.new }
+    ensures halts { IfErr result (λ fault. fault ≢ Stopped → (report_of said.new ≡ report_of said.old) × (fault ≢ NoReply)) }
 {
     match monitor.update(&mut checks.hash, &checks.verifier, list) {
         Ok(()) => Ok(()),

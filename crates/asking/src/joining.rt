@@ -1,9 +1,9 @@
 // A monitor of a name joins the others, and begins to watch.
 ghost use Rattle.std.specs.Prelude.{◌≡◌, ◌≢◌, ◌↔◌, ℕ, IfErr, IfOk, IsTrue, None, OnOk, Err, Ok, option_map};
 ghost use Rattle.client.specs.declared.refusal.Refusal.TheVariants.{Memory};
-ghost use Rattle.asking.specs.Exchanges.{Exchanges};
-ghost use Rattle.asking.specs.Joining.{first_expected, AllHand, BeginsAt, BeginsSome, BeginsSomeAt, BeginsWatch, IsBegun, IsLater, IsLatest, IsUnwatched, RefusesOne, Retraces, RetracesOne, StartsFrom};
-ghost use Rattle.asking.specs.Scenes.{scene, HaltsAfter, Stays};
+ghost use Rattle.asking.specs.Exchanges.{ExchangesFrames};
+ghost use Rattle.asking.specs.Joining.{first_expected, AllHand, BeginsAt, BeginsSome, BeginsSomeAt, BeginsWatch, IsJoined, IsLaterPromise, IsLatest, IsUnwatched, RefusesOne, Retraces, RetracesOne, StartsFrom};
+ghost use Rattle.asking.specs.Scenes.{scene, HaltsAfter, StaysWhole};
 ghost use Rattle.asking.specs.declared.fault.AskFault.TheVariants.{Stopped};
 
 use crate::asker::Mark;
@@ -39,11 +39,11 @@ where
         key: Option<&KeyData>,
         said: &mut Said,
     ) -> Result<(), AskFault>
-        ensures begins { OnOk result (BeginsWatch H.digest_of V.accepted S.verified (Exchanges T.contents T.remaining) (self.old).marks.items (self.old).key (self.old).earlier.items name.now (option_map (λ key. key.now) key.entry)
+        ensures begins { OnOk result (BeginsWatch H.digest_of V.accepted S.verified (ExchangesFrames T.contents T.remaining) (self.old).marks.items (self.old).key (self.old).earlier.items name.now (option_map (λ key. key.now) key.entry)
             (scene self.old said.old stream.old) (scene self.new said.new stream.new)) }
-        ensures stays { Stays self.old self.new }
+        ensures stays { StaysWhole self.old self.new }
         ensures err { IfErr result (λ fault. fault ≢ Stopped) }
-        ensures halts { IfErr result (λ fault. HaltsAfter (BeginsSome H.digest_of V.accepted S.verified (Exchanges T.contents T.remaining) (self.old).marks.items (self.old).key (self.old).earlier.items name.now (option_map (λ key. key.now) key.entry)
+        ensures halts { IfErr result (λ fault. HaltsAfter (BeginsSome H.digest_of V.accepted S.verified (ExchangesFrames T.contents T.remaining) (self.old).marks.items (self.old).key (self.old).earlier.items name.now (option_map (λ key. key.now) key.entry)
             (scene self.old said.old stream.old)) fault self.new said.new) }
     {
         let Some(first) = first_unwatched(&self.client, &self.marks, name) else {
@@ -62,11 +62,11 @@ where
         key: Option<&KeyData>,
         said: &mut Said,
     ) -> Result<(), AskFault>
-        ensures begins { OnOk result (BeginsAt H.digest_of V.accepted S.verified (Exchanges T.contents T.remaining) (self.old).marks.items (self.old).key (self.old).earlier.items name.now (option_map (λ key. key.now) key.entry)
+        ensures begins { OnOk result (BeginsAt H.digest_of V.accepted S.verified (ExchangesFrames T.contents T.remaining) (self.old).marks.items (self.old).key (self.old).earlier.items name.now (option_map (λ key. key.now) key.entry)
             first.now (scene self.old said.old stream.old) (scene self.new said.new stream.new)) }
-        ensures stays { Stays self.old self.new }
+        ensures stays { StaysWhole self.old self.new }
         ensures err { IfErr result (λ fault. fault ≢ Stopped) }
-        ensures halts { IfErr result (λ fault. HaltsAfter (BeginsSomeAt H.digest_of V.accepted S.verified (Exchanges T.contents T.remaining) (self.old).marks.items (self.old).key (self.old).earlier.items name.now (option_map (λ key. key.now) key.entry)
+        ensures halts { IfErr result (λ fault. HaltsAfter (BeginsSomeAt H.digest_of V.accepted S.verified (ExchangesFrames T.contents T.remaining) (self.old).marks.items (self.old).key (self.old).earlier.items name.now (option_map (λ key. key.now) key.entry)
             first.now (scene self.old said.old stream.old)) fault self.new said.new) }
     {
         let place = self.monitors.len();
@@ -90,9 +90,9 @@ where
         name: &Name,
         key: Option<&KeyData>,
     ) -> Result<Monitor<H, V, S>, Refusal>
-        ensures begun { IfOk result (λ monitor. IsBegun H.digest_of V.accepted S.verified (self.old).key (self.old).earlier.items (self.old).client.chain first.now name.now (option_map (λ key. key.now) key.entry) monitor) }
+        ensures begun { IfOk result (λ monitor. IsJoined H.digest_of V.accepted S.verified (self.old).key (self.old).earlier.items (self.old).client.chain first.now name.now (option_map (λ key. key.now) key.entry) monitor) }
         ensures refused { IfErr result (λ why. why ≢ Memory → StartsFrom H.digest_of S.verified (self.old).client.chain (self.old).key first.now (Err why)) }
-        ensures same { ((self.new).client ≡ (self.old).client) × ((self.new).monitors ≡ (self.old).monitors) × Stays self.old self.new }
+        ensures same { ((self.new).client ≡ (self.old).client) × ((self.new).monitors ≡ (self.old).monitors) × StaysWhole self.old self.new }
     {
         let own = client_from(self.alloc, &mut self.checks, &self.client, self.key, first)?;
         let last = last_before(&self.earlier, name, first.body.epoch);
@@ -223,7 +223,7 @@ fn last_before<'a>(
 
 /// Whether a promise is one for a name from before this epoch, and later than the last one that was.
 fn is_later(last: Option<&SignedPromise>, signed: &SignedPromise, name: &Name, epoch: u64) -> bool
-    ensures { IsTrue result ↔ IsLater name.now epoch (option_map (λ signed. signed.now) last.entry) signed.now }
+    ensures { IsTrue result ↔ IsLaterPromise name.now epoch (option_map (λ signed. signed.now) last.entry) signed.now }
 {
     if signed.promise.name != *name || epoch <= signed.promise.epoch {
         return false;

@@ -6,7 +6,7 @@ ghost use Rattle.rootchain.specs.declared.refusal.Refusal.{Refusal as ChainRefus
 ghost use Rattle.client.specs.Refusals.{of_root};
 ghost use Rattle.asking.specs.Checking.{place_told, refusal_at, AreTold, Places};
 ghost use Rattle.asking.specs.Refused.{client_refuses};
-ghost use Rattle.asking.specs.Stopping.{epochs_text, Stops, StopsAt};
+ghost use Rattle.asking.specs.Stopping.{epochs_text, StopsAmong, StopsAtRoot};
 ghost use Rattle.asking.specs.Reports.{Report, Tells};
 
 use crate::checking::tell_client;
@@ -109,7 +109,7 @@ where
     H: NodeHash + Drop,
     V: VufCheck + Drop,
     S: Verifier + Drop,
-    ensures { StopsAt H.digest_of S.verified client.now.chain from root.now result }
+    ensures { StopsAtRoot H.digest_of S.verified client.now.chain from root.now result }
 {
     if root.body.epoch < from {
         return Some(Stop::OtherEpoch);
@@ -132,7 +132,7 @@ where
     H: NodeHash + Drop,
     V: VufCheck + Drop,
     S: Verifier + Drop,
-    ensures stops { IfOk result (λ stop. Stops H.digest_of S.verified client.now.chain from roots.entry stop) }
+    ensures stops { IfOk result (λ stop. StopsAmong H.digest_of S.verified client.now.chain from roots.entry stop) }
     ensures text { IfOk result (λ stop. stop ≡ None → line.new.items ≡ line.old.items ++ epochs_text roots.entry) }
 {
     let mut rest = roots;

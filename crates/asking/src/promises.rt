@@ -2,12 +2,12 @@
 ghost use Rattle.std.specs.Prelude.{◌≡◌, ◌≢◌, ◌++◌, ◌∷◌, ◌↔◌, [], codes, IfErr, IfOk, IsTrue, OnErr, OnOk};
 ghost use Rattle.auditor.specs.declared.evidence.Evidence.TheVariants as evidence;
 ghost use Rattle.audits.specs.Files.{evidence_text};
-ghost use Rattle.asking.specs.Exchanges.{Exchanges};
+ghost use Rattle.asking.specs.Exchanges.{ExchangesFrames};
 ghost use Rattle.asking.specs.Refused.{refuses_text};
-ghost use Rattle.asking.specs.Scenes.{scene, HaltsAfter, HaltsIn, Stays};
+ghost use Rattle.asking.specs.Scenes.{scene, HaltsAfter, HaltsIn, StaysWhole};
 ghost use Rattle.asking.specs.Testing.{TellsDue};
-ghost use Rattle.asking.specs.Reports.{refused, told_by, Tells};
-ghost use Rattle.asking.specs.Visiting.{IsMarked, IsWatched, TestsAll, TestsName, TestsSome, Visits, Waits};
+ghost use Rattle.asking.specs.Reports.{refused, report_of, Tells};
+ghost use Rattle.asking.specs.Visiting.{AwaitsMonitor, HasMonitor, IsMarked, TestsAll, TestsName, TestsSome, Visits};
 ghost use Rattle.asking.specs.declared.fault.AskFault.TheVariants.{Stopped};
 
 use crate::answering::body_of;
@@ -44,10 +44,10 @@ where
         stream: &mut T,
         said: &mut Said,
     ) -> Result<(), AskFault>
-        ensures tests { OnOk result (TestsAll H.digest_of V.accepted (Exchanges T.contents T.remaining) (self.old).marks.items (scene self.old said.old stream.old) (scene self.new said.new stream.new)) }
-        ensures stays { Stays self.old self.new }
+        ensures tests { OnOk result (TestsAll H.digest_of V.accepted (ExchangesFrames T.contents T.remaining) (self.old).marks.items (scene self.old said.old stream.old) (scene self.new said.new stream.new)) }
+        ensures stays { StaysWhole self.old self.new }
         ensures err { IfErr result (λ fault. fault ≢ Stopped) }
-        ensures halts { IfErr result (λ fault. HaltsAfter (TestsSome H.digest_of V.accepted (Exchanges T.contents T.remaining) (self.old).marks.items (scene self.old said.old stream.old)) fault self.new said.new) }
+        ensures halts { IfErr result (λ fault. HaltsAfter (TestsSome H.digest_of V.accepted (ExchangesFrames T.contents T.remaining) (self.old).marks.items (scene self.old said.old stream.old)) fault self.new said.new) }
     {
         let mut place = 0;
         // Every loop of Rattle has an end: this one's is past any list.
@@ -67,8 +67,8 @@ where
         place: usize,
         said: &mut Said,
     ) -> Result<Option<usize>, AskFault>
-        ensures visits { IfOk result (λ next. Visits H.digest_of V.accepted (Exchanges T.contents T.remaining) (self.old).marks.items (scene self.old said.old stream.old) place next (scene self.new said.new stream.new)) }
-        ensures stays { Stays self.old self.new }
+        ensures visits { IfOk result (λ next. Visits H.digest_of V.accepted (ExchangesFrames T.contents T.remaining) (self.old).marks.items (scene self.old said.old stream.old) place next (scene self.new said.new stream.new)) }
+        ensures stays { StaysWhole self.old self.new }
         ensures err { IfErr result (λ fault. fault ≢ Stopped) }
         ensures halts { IfErr result (λ fault. HaltsIn fault (scene self.old said.old stream.old) self.new said.new) }
     {
@@ -87,7 +87,7 @@ where
 
     /// Whether a name was watched in an earlier run, and not in this one.
     fn waits_for_monitor(&self, name: &Name) -> bool
-        ensures { IsTrue result ↔ Waits (self.now).marks.items (self.now).monitors.items name.now }
+        ensures { IsTrue result ↔ AwaitsMonitor (self.now).marks.items (self.now).monitors.items name.now }
     {
         is_marked(&self.marks, name) && !is_watched(&self.monitors, name)
     }
@@ -99,8 +99,8 @@ where
         name: &Name,
         said: &mut Said,
     ) -> Result<bool, AskFault>
-        ensures tests { IfOk result (λ kept. TestsName H.digest_of V.accepted (Exchanges T.contents T.remaining) (scene self.old said.old stream.old) name.now kept (scene self.new said.new stream.new)) }
-        ensures stays { Stays self.old self.new }
+        ensures tests { IfOk result (λ kept. TestsName H.digest_of V.accepted (ExchangesFrames T.contents T.remaining) (scene self.old said.old stream.old) name.now kept (scene self.new said.new stream.new)) }
+        ensures stays { StaysWhole self.old self.new }
         ensures err { IfErr result (λ fault. fault ≢ Stopped) }
         ensures halts { IfErr result (λ fault. HaltsIn fault (scene self.old said.old stream.old) self.new said.new) }
     {
@@ -133,7 +133,7 @@ where
     H: NodeHash + Drop,
     V: VufCheck + Drop,
     S: Verifier + Drop,
-    ensures { IsTrue result ↔ IsWatched monitors.now name.now }
+    ensures { IsTrue result ↔ HasMonitor monitors.now name.now }
 {
     monitors.iter().any(|monitor| monitor.name() == name)
 }
@@ -185,7 +185,7 @@ where
     V: VufCheck + Drop,
     S: Verifier + Drop,
     ensures tells { IfOk result (λ kept. TellsDue H.digest_of V.accepted client.old name.now reply.now said.old kept said.new client.new) }
-    ensures untold { OnErr result (told_by said.new ≡ told_by said.old) }
+    ensures untold { OnErr result (report_of said.new ≡ report_of said.old) }
 {
     let mut now = Said::new(alloc);
     let kept = test_by(alloc, client, checks, name, reply, &mut now)?;

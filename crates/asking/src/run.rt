@@ -3,10 +3,10 @@ ghost use Rattle.std.specs.Prelude.{◌≡◌, ◌<◌, [], Err, IfErr, IfOk, If
 ghost use Rattle.std.specs.Io.KnownBytes.{Appends};
 ghost use Rattle.textio.specs.Lines.{lines_of};
 ghost use Rattle.play.specs.Spoken.{line_seen};
-ghost use Rattle.asking.specs.AskOptions.{values_of};
-ghost use Rattle.asking.specs.Exchanges.{Exchanges};
-ghost use Rattle.asking.specs.Reports.{told_by};
-ghost use Rattle.asking.specs.Runs.{AsksLine, AsksLines, Does, emptied, known_new, known_of, Prepares, RunsWhole, with_word, words_line, Writes};
+ghost use Rattle.asking.specs.AskOptions.{ask_values};
+ghost use Rattle.asking.specs.Exchanges.{ExchangesFrames};
+ghost use Rattle.asking.specs.Reports.{report_of};
+ghost use Rattle.asking.specs.Runs.{AsksLine, AsksLines, DoesLine, emptied, known_new, known_of, Prepares, RunsWhole, with_word, words_line, Writes};
 ghost use Rattle.asking.specs.Scenes.{scene, StartsAtHead};
 
 use crate::fault::RunFault;
@@ -33,7 +33,7 @@ pub(crate) struct Run<'a, F> {
 
 /// The line of the words.
 fn line_of_words(alloc: Global, order: AskOrder<'_>) -> Result<Vec<u8>, AllocError>
-    ensures { IfOk result (λ line. line.items ≡ words_line (values_of order.entry).words) }
+    ensures { IfOk result (λ line. line.items ≡ words_line (ask_values order.entry).words) }
 {
     let mut line = Vec::new(alloc);
     push_word(&mut line, order.command)?;
@@ -66,7 +66,7 @@ where
         path: Option<&'a str>,
     ) -> Result<Self, ProgramFault>
         ensures none { IfOk result (λ run. path.entry ≡ None → run.state ≡ None) }
-        ensures said { IfOk result (λ run. told_by run.said ≡ emptied 0) }
+        ensures said { IfOk result (λ run. report_of run.said ≡ emptied 0) }
     {
         let state = match path {
             Some(path) => Some(State::new(alloc, path)?),
@@ -150,7 +150,7 @@ where
         H: NodeHash + Drop,
         V: VufCheck + Drop,
         S: Verifier + Drop,
-        ensures { OnOk result (told_by (self.old).said ≡ emptied 0 → RunsWhole H.digest_of V.accepted S.verified (Exchanges T.contents T.remaining) keys.now.provider keys.now.token (values_of order.entry)
+        ensures { OnOk result (report_of (self.old).said ≡ emptied 0 → RunsWhole H.digest_of V.accepted S.verified (ExchangesFrames T.contents T.remaining) keys.now.provider keys.now.token (ask_values order.entry)
             ((self.old).state ≡ None) stream.old (R.remaining reader.old) (self.new).said.status (W.contents writer.old) (W.contents writer.new)) }
     {
         let mut asker = self.begin(stream, checks, keys)?;
@@ -176,9 +176,9 @@ where
         H: NodeHash + Drop,
         V: VufCheck + Drop,
         S: Verifier + Drop,
-        ensures begins { IfOk result (λ asker. (self.old).state ≡ None → StartsAtHead S.verified (Exchanges T.contents T.remaining) keys.now.provider stream.old asker.client stream.new) }
+        ensures begins { IfOk result (λ asker. (self.old).state ≡ None → StartsAtHead S.verified (ExchangesFrames T.contents T.remaining) keys.now.provider stream.old asker.client stream.new) }
         ensures knows { IfOk result (λ asker. (self.old).state ≡ None → (known_of asker ≡ known_new keys.now.provider keys.now.token) × (asker.monitors.items ≡ [])) }
-        ensures said { IfOk result (λ asker. told_by (self.new).said ≡ told_by (self.old).said) }
+        ensures said { IfOk result (λ asker. report_of (self.new).said ≡ report_of (self.old).said) }
     {
         match self.load(checks, keys)? {
             Ok(asker) => Ok(asker),
@@ -217,9 +217,9 @@ where
         H: NodeHash + Drop,
         V: VufCheck + Drop,
         S: Verifier + Drop,
-        ensures begins { IfOk result (λ asker. StartsAtHead S.verified (Exchanges T.contents T.remaining) keys.now.provider stream.old asker.client stream.new) }
+        ensures begins { IfOk result (λ asker. StartsAtHead S.verified (ExchangesFrames T.contents T.remaining) keys.now.provider stream.old asker.client stream.new) }
         ensures knows { IfOk result (λ asker. (known_of asker ≡ known_new keys.now.provider keys.now.token) × (asker.monitors.items ≡ [])) }
-        ensures said { IfOk result (λ asker. told_by (self.new).said ≡ told_by (self.old).said) }
+        ensures said { IfOk result (λ asker. report_of (self.new).said ≡ report_of (self.old).said) }
     {
         let said = &mut self.said;
         let asker = Asker::start_at_head(
@@ -251,7 +251,7 @@ where
         H: NodeHash + Drop,
         V: VufCheck + Drop,
         S: Verifier + Drop,
-        ensures prepares { OnOk result (Writes (Prepares H.digest_of V.accepted S.verified (Exchanges T.contents T.remaining) (known_of asker.old))
+        ensures prepares { OnOk result (Writes (Prepares H.digest_of V.accepted S.verified (ExchangesFrames T.contents T.remaining) (known_of asker.old))
             (scene asker.old (self.old).said stream.old) (W.contents writer.old) (W.contents writer.new) (scene asker.new (self.new).said stream.new)) }
         ensures stays { known_of asker.new ≡ known_of asker.old }
     {
@@ -276,7 +276,7 @@ where
         H: NodeHash + Drop,
         V: VufCheck + Drop,
         S: Verifier + Drop,
-        ensures { OnOk result (IfSome (R.remaining reader.old) (λ input. AsksLines H.digest_of V.accepted S.verified (Exchanges T.contents T.remaining) (known_of asker.old) (lines_of input)
+        ensures { OnOk result (IfSome (R.remaining reader.old) (λ input. AsksLines H.digest_of V.accepted S.verified (ExchangesFrames T.contents T.remaining) (known_of asker.old) (lines_of input)
             (scene asker.old (self.old).said stream.old) (W.contents writer.old) (W.contents writer.new) (scene asker.new (self.new).said stream.new))) }
     {
         let mut line = Vec::new(self.alloc);
@@ -307,7 +307,7 @@ where
         H: NodeHash + Drop,
         V: VufCheck + Drop,
         S: Verifier + Drop,
-        ensures asks { OnOk result (Writes (AsksLine H.digest_of V.accepted S.verified (Exchanges T.contents T.remaining) (known_of asker.old) line.now)
+        ensures asks { OnOk result (Writes (AsksLine H.digest_of V.accepted S.verified (ExchangesFrames T.contents T.remaining) (known_of asker.old) line.now)
             (scene asker.old (self.old).said stream.old) (W.contents writer.old) (W.contents writer.new) (scene asker.new (self.new).said stream.new)) }
         ensures stays { known_of asker.new ≡ known_of asker.old }
     {
@@ -338,7 +338,7 @@ where
         V: VufCheck + Drop,
         S: Verifier + Drop,
         ensures asked { OnOk result (asked ≡ Ok tt) }
-        ensures writes { OnOk result (Appends (W.contents writer.old) (W.contents writer.new) (self.old).said.text.items × (told_by (self.new).said ≡ emptied (self.old).said.status)) }
+        ensures writes { OnOk result (Appends (W.contents writer.old) (W.contents writer.new) (self.old).said.text.items × (report_of (self.new).said ≡ emptied (self.old).said.status)) }
     {
         if let Some(state) = self.state.as_mut() {
             state.add(self.alloc, self.files, asker)?;
@@ -390,7 +390,7 @@ where
     H: NodeHash + Drop,
     V: VufCheck + Drop,
     S: Verifier + Drop,
-    ensures prepares { OnOk result (Prepares H.digest_of V.accepted S.verified (Exchanges T.contents T.remaining) (known_of asker.old) (scene asker.old said.old stream.old) (scene asker.new said.new stream.new)) }
+    ensures prepares { OnOk result (Prepares H.digest_of V.accepted S.verified (ExchangesFrames T.contents T.remaining) (known_of asker.old) (scene asker.old said.old stream.old) (scene asker.new said.new stream.new)) }
     ensures stays { known_of asker.new ≡ known_of asker.old }
 {
     asker.follow(stream, said)?;
@@ -409,7 +409,7 @@ where
     H: NodeHash + Drop,
     V: VufCheck + Drop,
     S: Verifier + Drop,
-    ensures does { IfSome result (λ asked. OnOk asked (Does H.digest_of V.accepted S.verified (Exchanges T.contents T.remaining) (known_of asker.old) (line_seen line.now) (scene asker.old said.old stream.old) (scene asker.new said.new stream.new))) }
+    ensures does { IfSome result (λ asked. OnOk asked (DoesLine H.digest_of V.accepted S.verified (ExchangesFrames T.contents T.remaining) (known_of asker.old) (line_seen line.now) (scene asker.old said.old stream.old) (scene asker.new said.new stream.new))) }
     ensures stays { known_of asker.new ≡ known_of asker.old }
 {
     match line {
@@ -422,7 +422,7 @@ where
 
 /// Says something of an epoch, in a line of the errors.
 fn tell_epoch(what: &[u8], epoch: u64, said: &mut Said) -> Result<(), AllocError>
-    ensures { told_by said.new ≡ told_by said.old }
+    ensures { report_of said.new ≡ report_of said.old }
 {
     said.words.extend_from_slice(what)?;
     push_number(&mut said.words, epoch)?;

@@ -2,8 +2,8 @@
 ghost use Rattle.std.specs.Prelude.{◌≡◌, ◌⊎◌, ◌<◌, Err, IfOk, None, Some, MatchResult};
 ghost use Rattle.std.specs.Io.KnownBytes.{Keeps};
 ghost use Rattle.textio.specs.declared.program_fault.ProgramFault.TheVariants.{BadHex};
-ghost use Rattle.asking.specs.AskOptions.{ask_keys_of, values_of};
-ghost use Rattle.asking.specs.Exchanges.{Exchanges};
+ghost use Rattle.asking.specs.AskOptions.{ask_keys_of, ask_values};
+ghost use Rattle.asking.specs.Exchanges.{ExchangesFrames};
 ghost use Rattle.asking.specs.Runs.{RunsWhole};
 
 use crate::run::Run;
@@ -45,7 +45,7 @@ where
     R: BufRead,
     W: Write,
     E: Write,
-    ensures bad_hex { ask_keys_of (values_of order.entry) ≡ None
+    ensures bad_hex { ask_keys_of (ask_values order.entry) ≡ None
         → (result ≡ Err BadHex) × Keeps (W.contents writer.old) (W.contents writer.new) × Keeps (E.contents errors.old) (E.contents errors.new) }
 {
     match keys_of(&order) {
@@ -56,8 +56,8 @@ where
 
 /// The provider's public key and the operator's token.
 fn keys_of(order: &AskOrder<'_>) -> Result<AskKeys, ProgramFault>
-    ensures { MatchResult result (λ keys. ask_keys_of (values_of order.now) ≡ Some (keys.provider, keys.token))
-        (λ fault. (fault ≡ BadHex) × (ask_keys_of (values_of order.now) ≡ None)) }
+    ensures { MatchResult result (λ keys. ask_keys_of (ask_values order.now) ≡ Some (keys.provider, keys.token))
+        (λ fault. (fault ≡ BadHex) × (ask_keys_of (ask_values order.now) ≡ None)) }
 {
     let provider = option_hex32(order.provider)?;
     let token = option_nonce(order.token)?;
@@ -135,7 +135,7 @@ where
     H: NodeHash + Drop,
     V: VufCheck + Drop,
     S: Verifier + Drop,
-    ensures runs { IfOk result (λ status. (0 < status) ⊎ RunsWhole H.digest_of V.accepted S.verified (Exchanges T.contents T.remaining) keys.provider keys.token (values_of order.entry)
+    ensures runs { IfOk result (λ status. (0 < status) ⊎ RunsWhole H.digest_of V.accepted S.verified (ExchangesFrames T.contents T.remaining) keys.provider keys.token (ask_values order.entry)
         (order.entry.state ≡ None) stream.old (R.remaining reader.old) status (W.contents writer.old) (W.contents writer.new)) }
 {
     let mut run = Run::new(alloc, files, order.state)?;

@@ -1,6 +1,6 @@
 ghost use Rattle.std.specs.Prelude.{◌≡◌, ◌++◌, [], OnErr, OnOk};
 ghost use Rattle.asking.specs.Refused.{other_reply, refuses_text};
-ghost use Rattle.asking.specs.Reports.{refused, told_by, worse, Tells};
+ghost use Rattle.asking.specs.Reports.{refused, report_of, worse, Tells};
 
 use encoding::Name;
 use play::{push_hex, push_number};
@@ -55,8 +55,8 @@ impl Said {
 
     /// Says behind it what another one says: all of its lines, or none.
     pub(crate) fn join(&mut self, other: Said) -> Result<(), AllocError>
-        ensures tells { OnOk result (Tells self.old (told_by other) self.new) }
-        ensures untold { OnErr result (told_by self.new ≡ told_by self.old) }
+        ensures tells { OnOk result (Tells self.old (report_of other) self.new) }
+        ensures untold { OnErr result (report_of self.new ≡ report_of self.old) }
     {
         self.words.extend_from_slice(&other.words)?;
         self.text.extend_from_slice(&other.text)?;

@@ -4,10 +4,10 @@ ghost use Rattle.std.specs.List.{AllZip};
 ghost use Rattle.client.specs.declared.refusal.Refusal.TheVariants.{Memory};
 ghost use Rattle.rootchain.specs.declared.signed_promise.SignedPromise.{SignedPromise};
 ghost use Rattle.asking.specs.Asking.{HandsTo, NotesLast};
-ghost use Rattle.asking.specs.Exchanges.{Exchanges};
+ghost use Rattle.asking.specs.Exchanges.{ExchangesFrames};
 ghost use Rattle.asking.specs.Refused.{client_refuses};
-ghost use Rattle.asking.specs.Scenes.{scene, HaltsAfter, HaltsIn, Remains, Stays};
-ghost use Rattle.asking.specs.Reports.{told_by, Tells};
+ghost use Rattle.asking.specs.Scenes.{scene, HaltsAfter, HaltsIn, Remains, StaysWhole};
+ghost use Rattle.asking.specs.Reports.{report_of, Tells};
 ghost use Rattle.asking.specs.Watching.{step_told, GoesOn, GoesSome, StepsOnce, StepsSome, StepsThrough, WatchesAt, WatchesEpoch};
 ghost use Rattle.asking.specs.declared.fault.AskFault.TheVariants.{Stopped};
 
@@ -42,10 +42,10 @@ where
         stream: &mut T,
         said: &mut Said,
     ) -> Result<(), AskFault>
-        ensures goes { OnOk result (GoesOn H.digest_of V.accepted (Exchanges T.contents T.remaining) (self.old).marks.items (scene self.old said.old stream.old) (scene self.new said.new stream.new)) }
-        ensures stays { Stays self.old self.new }
+        ensures goes { OnOk result (GoesOn H.digest_of V.accepted (ExchangesFrames T.contents T.remaining) (self.old).marks.items (scene self.old said.old stream.old) (scene self.new said.new stream.new)) }
+        ensures stays { StaysWhole self.old self.new }
         ensures err { IfErr result (λ fault. fault ≢ Stopped) }
-        ensures halts { IfErr result (λ fault. HaltsAfter (GoesSome H.digest_of V.accepted (Exchanges T.contents T.remaining) (self.old).marks.items (scene self.old said.old stream.old)) fault self.new said.new) }
+        ensures halts { IfErr result (λ fault. HaltsAfter (GoesSome H.digest_of V.accepted (ExchangesFrames T.contents T.remaining) (self.old).marks.items (scene self.old said.old stream.old)) fault self.new said.new) }
     {
         for place in 0..self.monitors.len() {
             self.step_through(stream, place, said)?;
@@ -78,10 +78,10 @@ where
         place: usize,
         said: &mut Said,
     ) -> Result<(), AskFault>
-        ensures steps { OnOk result ((count : ℕ) × StepsThrough H.digest_of V.accepted (Exchanges T.contents T.remaining) count (scene self.old said.old stream.old) place (scene self.new said.new stream.new)) }
-        ensures stays { Stays self.old self.new }
+        ensures steps { OnOk result ((count : ℕ) × StepsThrough H.digest_of V.accepted (ExchangesFrames T.contents T.remaining) count (scene self.old said.old stream.old) place (scene self.new said.new stream.new)) }
+        ensures stays { StaysWhole self.old self.new }
         ensures err { IfErr result (λ fault. fault ≢ Stopped) }
-        ensures halts { IfErr result (λ fault. HaltsAfter (StepsSome H.digest_of V.accepted (Exchanges T.contents T.remaining) (scene self.old said.old stream.old) place) fault self.new said.new) }
+        ensures halts { IfErr result (λ fault. HaltsAfter (StepsSome H.digest_of V.accepted (ExchangesFrames T.contents T.remaining) (scene self.old said.old stream.old) place) fault self.new said.new) }
     {
         // Every loop of Rattle has an end: this one's is past any chain.
         for _ in 0..u64::MAX {
@@ -99,8 +99,8 @@ where
         place: usize,
         said: &mut Said,
     ) -> Result<bool, AskFault>
-        ensures steps { IfOk result (λ went. StepsOnce H.digest_of V.accepted (Exchanges T.contents T.remaining) (scene self.old said.old stream.old) place went (scene self.new said.new stream.new)) }
-        ensures stays { Stays self.old self.new }
+        ensures steps { IfOk result (λ went. StepsOnce H.digest_of V.accepted (ExchangesFrames T.contents T.remaining) (scene self.old said.old stream.old) place went (scene self.new said.new stream.new)) }
+        ensures stays { StaysWhole self.old self.new }
         ensures err { IfErr result (λ fault. fault ≢ Stopped) }
         ensures halts { IfErr result (λ fault. HaltsIn fault (scene self.old said.old stream.old) self.new said.new) }
     {
@@ -179,7 +179,7 @@ where
     V: VufCheck + Drop,
     S: Verifier + Drop,
     ensures watches { IfOk result (λ went. WatchesAt H.digest_of V.accepted monitors.old place epoch reply.now said.old went said.new monitors.new) }
-    ensures untold { OnErr result (told_by said.new ≡ told_by said.old) }
+    ensures untold { OnErr result (report_of said.new ≡ report_of said.old) }
 {
     if monitors.len() <= place {
         return Ok(false);
@@ -239,7 +239,7 @@ where
     V: VufCheck + Drop,
     S: Verifier + Drop,
     ensures watches { IfOk result (λ went. WatchesEpoch H.digest_of V.accepted monitor.old epoch reply.now said.old went said.new monitor.new) }
-    ensures untold { OnErr result (told_by said.new ≡ told_by said.old) }
+    ensures untold { OnErr result (report_of said.new ≡ report_of said.old) }
 {
     let mut now = Said::new(alloc);
     let went = step_by(alloc, monitor, checks, epoch, reply, &mut now)?;

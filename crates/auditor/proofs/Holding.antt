@@ -21,8 +21,8 @@ use Rattle.rootchain.specs.SignedRoots.{IsSignedRoot}
 use Rattle.rootchain.specs.Taking.{with_taken, IsTakeRefusal}
 use Rattle.rootchain.proofs.Spelled.{place-given}
 use Rattle.auditor.specs.Chains.{AreHeld, Chains, IsHeld, NowHas, chain_of}
-use Rattle.auditor.specs.Observing.{HoldsAfter, IsRefused, ObservedHolds, ObservesRoot, PlaceHolds, compared_as, observed_as}
-use Rattle.auditor.specs.Taking.{Takes, TakesAt}
+use Rattle.auditor.specs.Observing.{HoldsAfter, IsObserveRefusal, ObservedHolds, ObservesRoot, PlaceHolds, compared_as, observed_as}
+use Rattle.auditor.specs.Taking.{TakesAt, TakesRoot}
 use Rattle.encoding.specs.Bytes.{bytes_cmp}
 
 -- what is found is held
@@ -107,7 +107,7 @@ taken-held key chain left root held form (Err why) taken stays = subst (IsHeld k
 
 module _ (hash : List ℕ → List ℕ) (verified : List ℕ → List ℕ → List ℕ → Type 0) (chain left : KeyedRoots) (root : SignedRoot) where
   pub takes : (result : Result Place Refusal) → IfOk result (λ _. Verifies verified chain.key root) → IfOk result (IsPlace hash chain root)
-      → IfOk result (λ place. left ≡ with_taken chain root place) → IfErr result (IsTakeRefusal hash verified chain root) → OnErr result (left ≡ chain) → Takes hash verified chain root result left
+      → IfOk result (λ place. left ≡ with_taken chain root place) → IfErr result (IsTakeRefusal hash verified chain root) → OnErr result (left ≡ chain) → TakesRoot hash verified chain root result left
   takes (Ok place) verifies is taken refused stays = (verifies, is, taken)
   takes (Err why) verifies is taken refused stays = (refused, stays)
 
@@ -162,7 +162,7 @@ module _ (hash : List ℕ → List ℕ) (verified : List ℕ → List ℕ → Li
     taken-after chain left place found set took.2,
   )
 
-  refuses : (chain : KeyedRoots) → chain_of before key ≡ Some chain → (why : Refusal) → IsTakeRefusal hash verified chain root why → IsRefused hash verified (chain_of before key) key root why
+  refuses : (chain : KeyedRoots) → chain_of before key ≡ Some chain → (why : Refusal) → IsTakeRefusal hash verified chain root why → IsObserveRefusal hash verified (chain_of before key) key root why
   refuses chain found Malformed refused = absurd refused
   refuses chain found BadSignature refused = λ signed. refused (subst (λ (k : List ℕ). Verifies verified k root) (sym (own-key chain found).0) signed)
   refuses chain found NotLater refused = absurd refused

@@ -38,9 +38,9 @@ module _ (hash : List ℕ → List ℕ) where
   IsObserved (Some chain) root told = (stands : Place) × IsPlace hash chain root stands × (told ≡ observed_as stands)
 
   -- the answer on a root that is only compared with the chain of its provider, if there is one
-  abbrev pub IsCompared : Option KeyedRoots → SignedRoot → Place → Type 0
-  IsCompared None root told = told ≡ place.Ahead
-  IsCompared (Some chain) root told = (stands : Place) × IsPlace hash chain root stands × (told ≡ compared_as stands)
+  abbrev pub IsComparedWith : Option KeyedRoots → SignedRoot → Place → Type 0
+  IsComparedWith None root told = told ≡ place.Ahead
+  IsComparedWith (Some chain) root told = (stands : Place) × IsPlace hash chain root stands × (told ≡ compared_as stands)
 
 -- the chains after this answer on a root: only after the first two does the provider have another chain
 abbrev pub HoldsAfter : Chains → List ℕ → SignedRoot → Observed → Chains → Type 0
@@ -53,17 +53,17 @@ HoldsAfter before key root (Evidence evidence) after = after ≡ before
 
 module _ (hash : List ℕ → List ℕ) (verified : List ℕ → List ℕ → List ℕ → Type 0) where
   -- when a root that was read is refused in this way: only starting or extending a chain needs memory
-  abbrev pub IsRefused : Option KeyedRoots → List ℕ → SignedRoot → Refusal → Type 0
-  IsRefused held key root Malformed = ⊥
-  IsRefused held key root BadSignature = ¬ Verifies verified key root
-  IsRefused held key root NotLater = ⊥
-  IsRefused held key root BadLink = ⊥
-  IsRefused held key root Memory = Verifies verified key root × (IsObserved hash held root Started ⊎ IsObserved hash held root Extended)
+  abbrev pub IsObserveRefusal : Option KeyedRoots → List ℕ → SignedRoot → Refusal → Type 0
+  IsObserveRefusal held key root Malformed = ⊥
+  IsObserveRefusal held key root BadSignature = ¬ Verifies verified key root
+  IsObserveRefusal held key root NotLater = ⊥
+  IsObserveRefusal held key root BadLink = ⊥
+  IsObserveRefusal held key root Memory = Verifies verified key root × (IsObserved hash held root Started ⊎ IsObserved hash held root Extended)
 
   -- what comes of a root of a provider that is observed
   abbrev pub ObservesRoot : Chains → List ℕ → SignedRoot → Result Observed Refusal → Chains → Type 0
   ObservesRoot before key root (Ok told) after = Verifies verified key root × IsObserved hash (chain_of before key) root told × HoldsAfter before key root told after
-  ObservesRoot before key root (Err why) after = IsRefused (chain_of before key) key root why × (after ≡ before)
+  ObservesRoot before key root (Err why) after = IsObserveRefusal (chain_of before key) key root why × (after ≡ before)
 
   -- what comes of bytes that are observed: they spell a root, or else they are refused
   abbrev pub Observes : Chains → List ℕ → List ℕ → Result Observed Refusal → Chains → Type 0
@@ -73,7 +73,7 @@ module _ (hash : List ℕ → List ℕ) (verified : List ℕ → List ℕ → Li
 
   -- what comes of a root of a provider that is compared
   abbrev pub ComparesRoot : Chains → List ℕ → SignedRoot → Result Place Refusal → Type 0
-  ComparesRoot chains key root (Ok told) = Verifies verified key root × IsCompared hash (chain_of chains key) root told
+  ComparesRoot chains key root (Ok told) = Verifies verified key root × IsComparedWith hash (chain_of chains key) root told
   ComparesRoot chains key root (Err Malformed) = ⊥
   ComparesRoot chains key root (Err BadSignature) = ¬ Verifies verified key root
   ComparesRoot chains key root (Err NotLater) = ⊥
@@ -81,8 +81,8 @@ module _ (hash : List ℕ → List ℕ) (verified : List ℕ → List ℕ → Li
   ComparesRoot chains key root (Err Memory) = ⊥
 
   -- what comes of bytes that are compared: they spell a root, or else they are refused
-  abbrev pub Compares : Chains → List ℕ → List ℕ → Result Place Refusal → Type 0
-  Compares chains key bytes result =
+  abbrev pub ComparesBytes : Chains → List ℕ → List ℕ → Result Place Refusal → Type 0
+  ComparesBytes chains key bytes result =
       ((root : SignedRoot) × SpellsRoot bytes root × ComparesRoot chains key root result)
       ⊎ (((root : SignedRoot) → ¬ SpellsRoot bytes root) × (result ≡ Err Malformed))
 

@@ -13,11 +13,11 @@ use Rattle.encoding.specs.Bytes.{bytes_cmp}
 
 module _ (hash : List ℕ → List ℕ) (verified : List ℕ → List ℕ → List ℕ → Type 0) where
   -- what comes of a root that a chain takes
-  abbrev pub Takes : KeyedRoots → SignedRoot → Result Place Refusal → KeyedRoots → Type 0
-  Takes chain root (Ok place) left = Verifies verified chain.key root × IsPlace hash chain root place × (left ≡ with_taken chain root place)
-  Takes chain root (Err why) left = IsTakeRefusal hash verified chain root why × (left ≡ chain)
+  abbrev pub TakesRoot : KeyedRoots → SignedRoot → Result Place Refusal → KeyedRoots → Type 0
+  TakesRoot chain root (Ok place) left = Verifies verified chain.key root × IsPlace hash chain root place × (left ≡ with_taken chain root place)
+  TakesRoot chain root (Err why) left = IsTakeRefusal hash verified chain root why × (left ≡ chain)
 
   -- the chain at a key takes it
   abbrev pub TakesAt : Chains → List ℕ → SignedRoot → Result Place Refusal → Chains → Type 0
   TakesAt before key root result after = (chain : KeyedRoots) × (left : KeyedRoots) × (chain_of before key ≡ Some chain)
-      × (after ≡ set_value (is_at (bytes_cmp key)) before left) × Takes chain root result left
+      × (after ≡ set_value (is_at (bytes_cmp key)) before left) × TakesRoot chain root result left

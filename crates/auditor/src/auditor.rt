@@ -4,7 +4,7 @@
 ghost use Rattle.std.specs.Prelude.{◌≡◌, ◌+◌, ◌≤◌, [], IfOk, IfSome, IsSome, None, option_map};
 ghost use Rattle.auditor.specs.Chains.{chain_of, IsHeld};
 ghost use Rattle.auditor.specs.declared.auditor.Observed.TheVariants.{Started};
-ghost use Rattle.auditor.specs.Observing.{compared_as, observed_as, Compares, ComparesRoot, ObservedHolds, Observes, ObservesRoot, PlaceHolds};
+ghost use Rattle.auditor.specs.Observing.{compared_as, observed_as, ComparesBytes, ComparesRoot, ObservedHolds, Observes, ObservesRoot, PlaceHolds};
 ghost use Rattle.auditor.specs.Taking.{TakesAt};
 ghost use Rattle.rootchain.specs.SignedRoots.{IsSignedRoot};
 
@@ -108,7 +108,7 @@ impl<H: NodeHash + Drop, S: Verifier + Drop> Auditor<H, S> {
         provider_key: &Hash32,
         bytes: &[u8],
     ) -> Result<Place, Refusal>
-        ensures compares { Compares H.digest_of S.verified self.now provider_key.now bytes.now result }
+        ensures compares { ComparesBytes H.digest_of S.verified self.now provider_key.now bytes.now result }
         ensures evidence { IfOk result (PlaceHolds H.digest_of S.verified provider_key.now) }
         ensures counted { H.digests hash.new ≤ H.digests hash.old + 1 }
     {

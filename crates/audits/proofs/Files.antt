@@ -23,7 +23,7 @@ use Rattle.serde_json.proofs.Texts.{print-outline}
 use Rattle.audits.specs.declared.fault.ReadFault.{ReadFault}
 use Rattle.audits.specs.declared.fault.ReadFault.TheVariants.{NotEvidence, OutOfMemory}
 use Rattle.audits.specs.Files.{evidence_text, parts_text, value_of, Finds, IsEvidenceOf, IsFileOf, IsOfParts, ReadsAgain}
-use Rattle.audits.specs.Parts.{parts_of, IsFormed, Parts}
+use Rattle.audits.specs.Parts.{evidence_parts, EvidenceParts, IsFormed}
 use Rattle.audits.proofs.Parts.{are_ascii-kind, escape-kind, same_evidence, IsBytes-first, IsBytes-second}
 
 same_data : (one other : Data) → Some one ≡ Some other → one ≡ other
@@ -54,15 +54,15 @@ escape-hex (byte ∷ bytes) small =
 
 -- ---- the text is read as an object of the parts
 
-pub text_is_compact : (parts : Parts) → IsBytes parts.first → IsBytes parts.second → escape parts.kind ≡ parts.kind → compact_text (value_of parts) ≡ parts_text parts
+pub text_is_compact : (parts : EvidenceParts) → IsBytes parts.first → IsBytes parts.second → escape parts.kind ≡ parts.kind → compact_text (value_of parts) ≡ parts_text parts
 unfolding parts_text escape_byte
 text_is_compact parts first second kind = simp (escape-hex parts.first first, escape-hex parts.second second, kind, append_assoc)
 
 -- the text of well-formed evidence is serde_json's of an object of its parts
-pub evidence_is_compact : (evidence : Evidence) → IsFormed evidence → evidence_text evidence ≡ compact_text (value_of (parts_of evidence))
-evidence_is_compact evidence formed = sym (text_is_compact (parts_of evidence) (IsBytes-first evidence formed) (IsBytes-second evidence formed) (escape-kind evidence))
+pub evidence_is_compact : (evidence : Evidence) → IsFormed evidence → evidence_text evidence ≡ compact_text (value_of (evidence_parts evidence))
+evidence_is_compact evidence formed = sym (text_is_compact (evidence_parts evidence) (IsBytes-first evidence formed) (IsBytes-second evidence formed) (escape-kind evidence))
 
-read_compact : (parts : Parts) → read (compact_text (value_of parts)) ≡ Some (value_of parts)
+read_compact : (parts : EvidenceParts) → read (compact_text (value_of parts)) ≡ Some (value_of parts)
 read_compact parts =
     let value = value_of parts in
     let printed = tokens-print (json_tokens (outline value)) (ArePrintable-json_tokens (outline value) (tt, (tt, (tt, tt)))) in
@@ -70,7 +70,7 @@ read_compact parts =
     ap (λ (r : Option (json.Json × List Token)). option_and_then of_json (option_and_then (λ p. json.if_last p.0 p.1) r))
     (ap (json.value max_depth) told ∙ value-json_tokens (outline value) max_depth [] (lit≤ tt))
 
-text_is_read : (parts : Parts) → IsBytes parts.first → IsBytes parts.second → escape parts.kind ≡ parts.kind → read (parts_text parts) ≡ Some (value_of parts)
+text_is_read : (parts : EvidenceParts) → IsBytes parts.first → IsBytes parts.second → escape parts.kind ≡ parts.kind → read (parts_text parts) ≡ Some (value_of parts)
 text_is_read parts first second kind = subst (λ (text : List ℕ). read text ≡ Some (value_of parts)) (text_is_compact parts first second kind) (read_compact parts)
 
 IsAscii-are_ascii : (text : List ℕ) → are_ascii text ≡ true → IsAscii text
@@ -80,20 +80,20 @@ IsAscii-are_ascii (c ∷ text) e = let both = and_parts _ _ e in IsAscii-cons c 
 IsUtf8-hex : (bytes : List ℕ) → IsUtf8 (encode_lower bytes)
 IsUtf8-hex bytes = IsUtf8-from_ascii _ (IsAscii-encode_with lower_digits bytes (IsAscii-are_ascii lower_digits refl))
 
-IsUtf8-parts_text : (parts : Parts) → are_ascii parts.kind ≡ true → IsUtf8 (parts_text parts)
+IsUtf8-parts_text : (parts : EvidenceParts) → are_ascii parts.kind ≡ true → IsUtf8 (parts_text parts)
 unfolding parts_text
 IsUtf8-parts_text parts kind =
     IsUtf8-append _ _ (IsUtf8-are_ascii (codes "{\"first\":\"") refl) (IsUtf8-append _ _ (IsUtf8-hex parts.first)
     (IsUtf8-append _ _ (IsUtf8-are_ascii (codes "\",\"kind\":\"") refl) (IsUtf8-append _ _ (IsUtf8-are_ascii parts.kind kind)
     (IsUtf8-append _ _ (IsUtf8-are_ascii (codes "\",\"second\":\"") refl) (IsUtf8-append _ _ (IsUtf8-hex parts.second) (IsUtf8-are_ascii (codes "\"}") refl))))))
 
-is_of_parts : (parts : Parts) → IsBytes parts.first → IsBytes parts.second → IsOfParts (value_of parts) parts
+is_of_parts : (parts : EvidenceParts) → IsBytes parts.first → IsBytes parts.second → IsOfParts (value_of parts) parts
 is_of_parts parts first second = (refl, ap Some (decode_of-encode_lower parts.first first), refl, ap Some (decode_of-encode_lower parts.second second))
 
 -- the text of well-formed evidence is a file of it
 pub text_is_file : (evidence : Evidence) → IsFormed evidence → IsFileOf (evidence_text evidence) evidence
 text_is_file evidence formed =
-    let parts = parts_of evidence in
+    let parts = evidence_parts evidence in
     let first = IsBytes-first evidence formed in
     let second = IsBytes-second evidence formed in
     (value_of parts, (IsUtf8-parts_text parts (are_ascii-kind evidence), text_is_read parts first second (escape-kind evidence)), (parts, is_of_parts parts first second, (refl, formed)))
@@ -114,11 +114,11 @@ same_bytes one other o e f = ap bytes_told (sym e ∙ f)
 same_text : (one other : List ℕ) (o : Option (List ℕ)) → o ≡ Some one → o ≡ Some other → one ≡ other
 same_text one other o e f = let both : Some one ≡ Some other = sym e ∙ f in cc
 
-same_parts : (value : Data) (one other : Parts) → IsOfParts value one → IsOfParts value other → one ≡ other
+same_parts : (value : Data) (one other : EvidenceParts) → IsOfParts value one → IsOfParts value other → one ≡ other
 same_parts value one other p q =
-    let P : List ℕ → Parts = λ x. record { first = x; kind = one.kind; second = one.second } in
-    let Q : List ℕ → Parts = λ x. record { first = other.first; kind = x; second = one.second } in
-    let R : List ℕ → Parts = λ x. record { first = other.first; kind = other.kind; second = x } in
+    let P : List ℕ → EvidenceParts = λ x. record { first = x; kind = one.kind; second = one.second } in
+    let Q : List ℕ → EvidenceParts = λ x. record { first = other.first; kind = x; second = one.second } in
+    let R : List ℕ → EvidenceParts = λ x. record { first = other.first; kind = other.kind; second = x } in
     ap P (same_bytes one.first other.first _ p.1 q.1) ∙ ap Q (same_text one.kind other.kind _ p.2 q.2) ∙ ap R (same_bytes one.second other.second _ p.3 q.3)
 
 of_one_value : (value : Data) (one other : Evidence) → IsEvidenceOf value one → IsEvidenceOf value other → one ≡ other

@@ -4,7 +4,7 @@ use Rattle.proofs.proofs.Passing.{nothing_left}
 use Rattle.proofs.specs.declared.refusal.Refusal.{Refusal}
 use Rattle.proofs.specs.declared.refusal.Refusal.TheVariants.{Malformed, Trailing, OtherRoot, BadVuf, SameIndex, OtherPrefix, PathMismatch}
 use Rattle.proofs.specs.Refusals.{ReadsReply}
-use Rattle.proofs.specs.Replies.{Reply, Spells}
+use Rattle.proofs.specs.Replies.{Reply, SpellsReply}
 use Rattle.audits.specs.declared.fault.ReadFault.{ReadFault}
 use Rattle.audits.specs.declared.fault.ReadFault.TheVariants.{NotEvidence, OutOfMemory}
 use Rattle.serde_json.specs.Data.{Data, Members}
@@ -26,12 +26,12 @@ found seen Is IsToo to back (Err NotEvidence) h = λ y is. h y (back y is)
 found seen Is IsToo to back (Err OutOfMemory) h = tt
 
 -- bytes that are refused spell no reply
-pub no_reply : (bytes : List ℕ) (r : Result Reply Refusal) → ReadsReply bytes r → is_err r ≡ true → (reply : Reply) → ¬ Spells bytes reply
+pub no_reply : (bytes : List ℕ) (r : Result Reply Refusal) → ReadsReply bytes r → is_err r ≡ true → (reply : Reply) → ¬ SpellsReply bytes reply
 no_reply bytes (Ok reply) h e = absurd (true≢false (sym e))
 no_reply bytes (Err Malformed) h e = h.0
 no_reply bytes (Err Trailing) h e = λ reply is.
     let (first, front, rest, whole, some, begins) = h in
-    some (nothing_left front rest first reply begins (subst (λ (text : List ℕ). Spells text reply) whole is))
+    some (nothing_left front rest first reply begins (subst (λ (text : List ℕ). SpellsReply text reply) whole is))
 no_reply bytes (Err OtherRoot) h e = absurd h
 no_reply bytes (Err BadVuf) h e = absurd h
 no_reply bytes (Err SameIndex) h e = absurd h
@@ -39,7 +39,7 @@ no_reply bytes (Err OtherPrefix) h e = absurd h
 no_reply bytes (Err PathMismatch) h e = absurd h
 
 -- bytes that are not refused spell a reply
-pub some_reply : (bytes : List ℕ) (r : Result Reply Refusal) → ReadsReply bytes r → is_err r ≡ false → (reply : Reply) × Spells bytes reply
+pub some_reply : (bytes : List ℕ) (r : Result Reply Refusal) → ReadsReply bytes r → is_err r ≡ false → (reply : Reply) × SpellsReply bytes reply
 some_reply bytes (Ok reply) h e = (reply, h)
 some_reply bytes (Err refusal) h e = absurd (true≢false e)
 

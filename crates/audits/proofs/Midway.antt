@@ -17,7 +17,7 @@ use Rattle.textio.specs.declared.program_fault.ProgramFault.TheVariants.{CannotR
 use Rattle.auditor.specs.declared.auditor.Observed.{Observed}
 use Rattle.auditor.specs.Chains.{Chains}
 use Rattle.rootchain.specs.SignedRoots.{SpellsRoot}
-use Rattle.audits.specs.Auditing.{answer_line, answer_lines, AreRead, AreTaken, Audits, AuditsInput, IsAnswer, ObservesDecoded, ObservesLine}
+use Rattle.audits.specs.Auditing.{answer_line, answer_lines, AreRead, AreTaken, Audits, AuditsInput, IsAuditAnswer, ObservesDecoded, ObservesLine}
 use Rattle.rootchain.specs.SignedRoots.{signed_root_bytes}
 use Rattle.rootchain.proofs.Sizes.{root_few}
 
@@ -86,7 +86,7 @@ module _ (hash : List ℕ → List ℕ) (verified : List ℕ → List ℕ → Li
   )
 
   audits_more : (before : Chains) (lines : List (List ℕ)) (answers : List Answer) (middle : Chains) (line : List ℕ) (answer : Answer) (after : Chains)
-      → Audits hash verified key before lines answers middle → ObservesLine hash verified key middle line answer after → IsAnswer hash verified key answer
+      → Audits hash verified key before lines answers middle → ObservesLine hash verified key middle line answer after → IsAuditAnswer hash verified key answer
       → Audits hash verified key before (lines ++ line ∷ []) (answers ++ answer ∷ []) after
   audits_more before [] [] middle line answer after (none, same) observes is =
       (after, subst (λ (chains : Chains). ObservesLine hash verified key chains line answer after) same observes, is, (refl, refl))
@@ -114,7 +114,7 @@ module _ (hash : List ℕ → List ℕ) (verified : List ℕ → List ℕ → Li
     -- a line is answered, and its answer is written, or less of it
     module _ (rest : Option (List ℕ)) (kept : List ℕ) (took : TakesLine 809 left rest (Some kept)) (after : Chains) (said : List ℕ) where
       abbrev IsSaid : Type 0
-      IsSaid = (answer : Answer) × ObservesLine hash verified key now kept answer after × IsAnswer hash verified key answer × (said ≡ answer_line answer)
+      IsSaid = (answer : Answer) × ObservesLine hash verified key now kept answer after × IsAuditAnswer hash verified key answer × (said ≡ answer_line answer)
 
       pub no_memory : Midway input old now left new → AuditsInput hash verified key input rest old (Err OutOfMemory) new
       no_memory (lines, answers, takes, audits, wrote) = let line = takes_more input left rest lines kept takes took in (lines, line.0, answers, now, line.2, audits, wrote)

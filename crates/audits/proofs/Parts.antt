@@ -3,7 +3,7 @@ use Rattle.std.proofs.Common.{◌≡◌, ◌≢◌, ℕ, List, [], ◌++◌, ◌
 use Rattle.encoding.proofs.Fields.{one_spelling}
 use Rattle.auditor.specs.declared.evidence.Evidence.{Evidence}
 use Rattle.auditor.specs.declared.evidence.Evidence.TheVariants.{Root, Broken}
-use Rattle.proofs.specs.Replies.{Spells}
+use Rattle.proofs.specs.Replies.{SpellsReply}
 use Rattle.rootchain.specs.declared.evidence.RootEvidence.TheVariants.{Fork, Link, Skip}
 use Rattle.rootchain.specs.declared.signed_root.SignedRoot.{SignedRoot}
 use Rattle.rootchain.specs.Readable.{signed_promise_field, signed_root_field}
@@ -17,26 +17,26 @@ use Rattle.json.proofs.Printed.Utf8.{are_ascii}
 use Rattle.proofs.proofs.Sizes.{reply_few}
 use Rattle.rootchain.proofs.Sizes.{root_few, signed_promise_few}
 use Rattle.rootchain.specs.SignedRoots.{read_signed_root, signed_root_bytes, IsSignedRoot}
-use Rattle.audits.specs.Parts.{parts_of, HasParts, IsFormed, Parts}
+use Rattle.audits.specs.Parts.{evidence_parts, EvidenceParts, HasParts, IsFormed}
 use Rattle.audits.specs.Steps.{AreRoots, IsProof, IsRootWithProof}
 
 -- evidence of another kind than a broken promise is two roots
 pub roots_of : (first kind second : List ℕ) (evidence : Evidence) → kind ≢ codes "broken-promise" → HasParts (record { first = first; kind = kind; second = second }) evidence
     → (roots : SignedRoot × SignedRoot) × AreRoots first second roots
 roots_of first kind second (Root (Fork one other)) no_promise h =
-    ((one, other), ((sym (ap (λ (p : Parts). p.first) h.0), h.1.0), (sym (ap (λ (p : Parts). p.second) h.0), h.1.1)))
+    ((one, other), ((sym (ap (λ (p : EvidenceParts). p.first) h.0), h.1.0), (sym (ap (λ (p : EvidenceParts). p.second) h.0), h.1.1)))
 roots_of first kind second (Root (Link one other)) no_promise h =
-    ((one, other), ((sym (ap (λ (p : Parts). p.first) h.0), h.1.0), (sym (ap (λ (p : Parts). p.second) h.0), h.1.1)))
+    ((one, other), ((sym (ap (λ (p : EvidenceParts). p.first) h.0), h.1.0), (sym (ap (λ (p : EvidenceParts). p.second) h.0), h.1.1)))
 roots_of first kind second (Root (Skip one other)) no_promise h =
-    ((one, other), ((sym (ap (λ (p : Parts). p.first) h.0), h.1.0), (sym (ap (λ (p : Parts). p.second) h.0), h.1.1)))
-roots_of first kind second (Broken broken) no_promise h = absurd (no_promise (sym (ap (λ (p : Parts). p.kind) h.0)))
+    ((one, other), ((sym (ap (λ (p : EvidenceParts). p.first) h.0), h.1.0), (sym (ap (λ (p : EvidenceParts). p.second) h.0), h.1.1)))
+roots_of first kind second (Broken broken) no_promise h = absurd (no_promise (sym (ap (λ (p : EvidenceParts). p.kind) h.0)))
 
 -- what follows a root is one proof
 pub proof_after : (bytes : List ℕ) (root : SignedRoot) (rest : List ℕ) → bytes ≡ signed_root_bytes root ++ rest → IsSignedRoot root
     → (pair : SignedRoot × List ℕ) → IsRootWithProof bytes pair → (proof : List ℕ) × IsProof rest proof
 proof_after bytes root rest e formed pair is =
     let same = one_spelling read_signed_root signed_root_bytes IsSignedRoot signed_root_field pair.0 root pair.1 rest is.1 formed (sym is.0 ∙ e) in
-    (pair.1, (same.1, (is.2.0, subst (λ (text : List ℕ). Spells text is.2.0) same.1 is.2.1)))
+    (pair.1, (same.1, (is.2.0, subst (λ (text : List ℕ). SpellsReply text is.2.0) same.1 is.2.1)))
 
 -- two roots that are spelled alike
 same_root : (one other : SignedRoot) → IsSignedRoot one → IsSignedRoot other → signed_root_bytes one ≡ signed_root_bytes other → one ≡ other
@@ -47,44 +47,44 @@ same_promise : (one other : SignedPromise) → IsSignedPromise one → IsSignedP
 same_promise one other p q e =
     (one_spelling read_signed_promise signed_promise_bytes IsSignedPromise signed_promise_field one other [] [] p q (ap (λ (t : List ℕ). t ++ []) e)).0
 
-same_broken : (one other : BrokenPromise) → IsFormed (Broken one) → IsFormed (Broken other) → parts_of (Broken one) ≡ parts_of (Broken other) → one ≡ other
+same_broken : (one other : BrokenPromise) → IsFormed (Broken one) → IsFormed (Broken other) → evidence_parts (Broken one) ≡ evidence_parts (Broken other) → one ≡ other
 same_broken one other p q e =
-    let second = one_spelling read_signed_root signed_root_bytes IsSignedRoot signed_root_field one.root other.root one.proof other.proof p.1 q.1 (ap (λ (parts : Parts). parts.second) e) in
-    let promise = same_promise one.promise other.promise p.0 q.0 (ap (λ (parts : Parts). parts.first) e) in
+    let second = one_spelling read_signed_root signed_root_bytes IsSignedRoot signed_root_field one.root other.root one.proof other.proof p.1 q.1 (ap (λ (parts : EvidenceParts). parts.second) e) in
+    let promise = same_promise one.promise other.promise p.0 q.0 (ap (λ (parts : EvidenceParts). parts.first) e) in
     let P : SignedPromise → BrokenPromise = λ x. record { promise = x; root = one.root; proof = one.proof } in
     let Q : SignedRoot → BrokenPromise = λ x. record { promise = other.promise; root = x; proof = one.proof } in
     let R : List ℕ → BrokenPromise = λ x. record { promise = other.promise; root = other.root; proof = x } in
     ap P promise ∙ ap Q second.0 ∙ ap R second.1
 
 -- kinds differ in their first letters
-abbrev first_letter : Parts → ℕ
+abbrev first_letter : EvidenceParts → ℕ
 first_letter parts = slice_index parts.kind 0
 
 apart : (m n : ℕ) → (m == n) ≡ false → m ≡ n → ⊥
 apart m n other same = true≢false (sym (eq-eqb m n same) ∙ other)
 
 -- well-formed evidence of the same parts is the same
-pub same_evidence : (one other : Evidence) → IsFormed one → IsFormed other → parts_of one ≡ parts_of other → one ≡ other
+pub same_evidence : (one other : Evidence) → IsFormed one → IsFormed other → evidence_parts one ≡ evidence_parts other → one ≡ other
 same_evidence (Root (Fork a b)) (Root (Fork c d)) p q e =
-    ap₂ (λ x y. Root (Fork x y)) (same_root a c p.0 q.0 (ap (λ (parts : Parts). parts.first) e)) (same_root b d p.1 q.1 (ap (λ (parts : Parts). parts.second) e))
+    ap₂ (λ x y. Root (Fork x y)) (same_root a c p.0 q.0 (ap (λ (parts : EvidenceParts). parts.first) e)) (same_root b d p.1 q.1 (ap (λ (parts : EvidenceParts). parts.second) e))
 same_evidence (Root (Link a b)) (Root (Link c d)) p q e =
-    ap₂ (λ x y. Root (Link x y)) (same_root a c p.0 q.0 (ap (λ (parts : Parts). parts.first) e)) (same_root b d p.1 q.1 (ap (λ (parts : Parts). parts.second) e))
+    ap₂ (λ x y. Root (Link x y)) (same_root a c p.0 q.0 (ap (λ (parts : EvidenceParts). parts.first) e)) (same_root b d p.1 q.1 (ap (λ (parts : EvidenceParts). parts.second) e))
 same_evidence (Root (Skip a b)) (Root (Skip c d)) p q e =
-    ap₂ (λ x y. Root (Skip x y)) (same_root a c p.0 q.0 (ap (λ (parts : Parts). parts.first) e)) (same_root b d p.1 q.1 (ap (λ (parts : Parts). parts.second) e))
+    ap₂ (λ x y. Root (Skip x y)) (same_root a c p.0 q.0 (ap (λ (parts : EvidenceParts). parts.first) e)) (same_root b d p.1 q.1 (ap (λ (parts : EvidenceParts). parts.second) e))
 same_evidence (Broken a) (Broken b) p q e = ap Broken (same_broken a b p q e)
 same_evidence (Broken a) (Root (Fork c d)) p q e = absurd (apart 98 102 refl (ap first_letter e))
 same_evidence (Broken a) (Root (Link c d)) p q e = absurd (apart 98 108 refl (ap first_letter e))
 same_evidence (Broken a) (Root (Skip c d)) p q e = absurd (apart 98 115 refl (ap first_letter e))
-same_evidence one other p q e = absurd (apart (first_letter (parts_of one)) (first_letter (parts_of other)) refl (ap first_letter e))
+same_evidence one other p q e = absurd (apart (first_letter (evidence_parts one)) (first_letter (evidence_parts other)) refl (ap first_letter e))
 
 -- the parts of well-formed evidence are bytes
-pub IsBytes-first : (evidence : Evidence) → IsFormed evidence → IsBytes (parts_of evidence).first
+pub IsBytes-first : (evidence : Evidence) → IsFormed evidence → IsBytes (evidence_parts evidence).first
 IsBytes-first (Root (Fork one other)) h = (root_few one h.0).small
 IsBytes-first (Root (Link one other)) h = (root_few one h.0).small
 IsBytes-first (Root (Skip one other)) h = (root_few one h.0).small
 IsBytes-first (Broken broken) h = (signed_promise_few broken.promise h.0).small
 
-pub IsBytes-second : (evidence : Evidence) → IsFormed evidence → IsBytes (parts_of evidence).second
+pub IsBytes-second : (evidence : Evidence) → IsFormed evidence → IsBytes (evidence_parts evidence).second
 IsBytes-second (Root (Fork one other)) h = (root_few other h.1).small
 IsBytes-second (Root (Link one other)) h = (root_few other h.1).small
 IsBytes-second (Root (Skip one other)) h = (root_few other h.1).small
@@ -93,14 +93,14 @@ IsBytes-second (Broken broken) h =
     (subst IsBytes (sym h.2.1.0) (reply_few h.2.0 h.2.1.1).small)
 
 -- kinds have no character that JSON escapes
-pub escape-kind : (evidence : Evidence) → escape (parts_of evidence).kind ≡ (parts_of evidence).kind
+pub escape-kind : (evidence : Evidence) → escape (evidence_parts evidence).kind ≡ (evidence_parts evidence).kind
 unfolding escape_byte
 escape-kind (Root (Fork one other)) = refl
 escape-kind (Root (Link one other)) = refl
 escape-kind (Root (Skip one other)) = refl
 escape-kind (Broken broken) = refl
 
-pub are_ascii-kind : (evidence : Evidence) → are_ascii (parts_of evidence).kind ≡ true
+pub are_ascii-kind : (evidence : Evidence) → are_ascii (evidence_parts evidence).kind ≡ true
 are_ascii-kind (Root (Fork one other)) = refl
 are_ascii-kind (Root (Link one other)) = refl
 are_ascii-kind (Root (Skip one other)) = refl

@@ -6,7 +6,7 @@ use Rattle.hex.specs.declared.error.FromHexError.{FromHexError}
 use Rattle.nodehash.specs.Sha256.{sha256}
 use Rattle.rootchain.specs.declared.refusal.Refusal.{Refusal}
 use Rattle.rootchain.specs.declared.refusal.Refusal.TheVariants.{Malformed, Memory}
-use Rattle.rootchain.specs.Refusals.{refusal_number}
+use Rattle.rootchain.specs.Refusals.{chain_refusal_number}
 use Rattle.textio.specs.Digits.{hex32}
 use Rattle.textio.specs.Lines.{lines_of}
 use Rattle.textio.specs.Output.{WritesBeginning}
@@ -29,7 +29,7 @@ answer_line (Ok Known) = codes "known\n"
 answer_line (Ok Ahead) = codes "ahead\n"
 answer_line (Ok BeforeStart) = codes "before start\n"
 answer_line (Ok (Evidence roots)) = evidence_text (Root roots) ++ 10 ∷ []
-answer_line (Err why) = codes "refused " ++ decimal (refusal_number why) ++ 10 ∷ []
+answer_line (Err why) = codes "refused " ++ decimal (chain_refusal_number why) ++ 10 ∷ []
 
 abbrev pub answer_lines : List (Result Observed Refusal) → List ℕ
 answer_lines [] = []
@@ -55,17 +55,17 @@ module _ (hash : List ℕ → List ℕ) (verified : List ℕ → List ℕ → Li
   ObservesLine before line = ObservesDecoded before (decode_of line)
 
   -- Evidence that is answered holds. That memory ran out is not an answer.
-  abbrev pub IsAnswer : Result Observed Refusal → Type 0
-  IsAnswer (Ok told) = ObservedHolds hash verified key told
-  IsAnswer (Err Memory) = ⊥
-  IsAnswer (Err _) = ⊤
+  abbrev pub IsAuditAnswer : Result Observed Refusal → Type 0
+  IsAuditAnswer (Ok told) = ObservedHolds hash verified key told
+  IsAuditAnswer (Err Memory) = ⊥
+  IsAuditAnswer (Err _) = ⊤
 
   -- each line is observed beside the chains that the lines before it left, and answered
   abbrev pub Audits : Chains → List (List ℕ) → List (Result Observed Refusal) → Chains → Type 0
   Audits before [] answers after = (answers ≡ []) × (after ≡ before)
   Audits before (line ∷ lines) [] after = ⊥
   Audits before (line ∷ lines) (answer ∷ answers) after =
-      (middle : Chains) × ObservesLine before line answer middle × IsAnswer answer × Audits middle lines answers after
+      (middle : Chains) × ObservesLine before line answer middle × IsAuditAnswer answer × Audits middle lines answers after
 
   -- these are the answers to all lines of the input, by an auditor that begins without a chain
   abbrev pub AnswersAll : Option (List ℕ) → List (Result Observed Refusal) → Type 0

@@ -8,10 +8,10 @@ use Rattle.serde_json.specs.Find.{as_object, as_str, get}
 use Rattle.serde_json.specs.Read.{read}
 use Rattle.audits.specs.declared.fault.ReadFault.{ReadFault}
 use Rattle.audits.specs.declared.fault.ReadFault.TheVariants.{NotEvidence, OutOfMemory}
-use Rattle.audits.specs.Parts.{parts_of, HasParts, IsFormed, Parts}
+use Rattle.audits.specs.Parts.{evidence_parts, EvidenceParts, HasParts, IsFormed}
 
 -- one object with no space: its keys are first, kind and second, and the parts are in hex
-unfoldable pub parts_text : Parts → List ℕ
+unfoldable pub parts_text : EvidenceParts → List ℕ
 parts_text parts =
     codes "{\"first\":\"" ++ (encode_lower parts.first ++ (codes "\",\"kind\":\"" ++ (parts.kind
     ++ (codes "\",\"second\":\"" ++ (encode_lower parts.second ++ codes "\"}")))))
@@ -22,12 +22,12 @@ object_of first kind second =
     object (member (codes "first") (string first) (member (codes "kind") (string kind) (member (codes "second") (string second) no_members)))
 
 -- the object of the parts
-abbrev pub value_of : Parts → Data
+abbrev pub value_of : EvidenceParts → Data
 value_of parts = object_of (encode_lower parts.first) parts.kind (encode_lower parts.second)
 
 -- the text of evidence
 abbrev pub evidence_text : Evidence → List ℕ
-evidence_text evidence = parts_text (parts_of evidence)
+evidence_text evidence = parts_text (evidence_parts evidence)
 
 -- ---- reading
 
@@ -44,13 +44,13 @@ abbrev pub HasThree : Data → Type 0
 HasThree value = option_map members_len (as_object value) ≡ Some 3
 
 -- an object of three members: a part in hex at first, the kind at kind, and a part in hex at second
-abbrev pub IsOfParts : Data → Parts → Type 0
+abbrev pub IsOfParts : Data → EvidenceParts → Type 0
 IsOfParts value parts =
     HasThree value × HasHex (codes "first") value parts.first × (text_at (codes "kind") value ≡ Some parts.kind) × HasHex (codes "second") value parts.second
 
 -- a value of JSON is this evidence
 abbrev pub IsEvidenceOf : Data → Evidence → Type 0
-IsEvidenceOf value evidence = (parts : Parts) × IsOfParts value parts × HasParts parts evidence
+IsEvidenceOf value evidence = (parts : EvidenceParts) × IsOfParts value parts × HasParts parts evidence
 
 -- a file is UTF-8, and `serde_json` reads it as this value
 abbrev pub IsJson : List ℕ → Data → Type 0

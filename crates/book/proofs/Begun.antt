@@ -8,10 +8,10 @@ use Rattle.std.proofs.lemmas.List.Elements.{All-contains_itself, All-weaker, rec
 use Rattle.encoding.specs.Bytes.{Is32Bytes}
 use Rattle.commands.specs.Operations.{Operation}
 use Rattle.book.specs.Books.{Binding, Book, Page, pages}
-use Rattle.book.specs.Honest.{IsUsed}
+use Rattle.book.specs.Honest.{IsMentioned}
 use Rattle.book.specs.Maps.{Map, at}
 use Rattle.book.specs.Shows.{Provider, index_of}
-use Rattle.book.specs.Sound.{AreBindings, HasNamesOf, IsHeld, IsSound}
+use Rattle.book.specs.Sound.{AreBindings, HasNamesOf, HoldsName, IsSound}
 use Rattle.book.proofs.Distinct.{AreApart, HasName, IsApart, entry-named}
 use Rattle.book.proofs.Found.{IsPage}
 use Rattle.book.proofs.Found as limited
@@ -64,7 +64,7 @@ module _ (index_of : List ℕ → List ℕ) (book : Book) (sound : IsSound index
   last-has : AllByRecursion (λ page. HasNamesOf page book.last) (pages book)
   last-has = to-last book.earlier book.last sound.stay
 
-  held-of : (name : List ℕ) → HasName book.last.bindings name ⊎ HasName book.pending name → IsHeld book name
+  held-of : (name : List ℕ) → HasName book.last.bindings name ⊎ HasName book.pending name → HoldsName book name
   held-of name (inl has) = inl (has-some book.last.bindings name has)
   held-of name (inr has) = inr (has-some book.pending name has)
 
@@ -86,10 +86,10 @@ module _ (provider : Provider) (book : Book) (sound : IsSound (index_of provider
   named-of P map each = recursion_from_All _ map (All-weaker (Contains map) (λ (entry : List ℕ × Binding). P entry.0 × ⊤) (λ entry there. (each entry.0 (entry-named map entry there), tt)) map (All-contains_itself map))
 
   -- each name of it is held
-  pub begins-named : (commands : List Operation) → IsNamed (IsUsed book commands) book
+  pub begins-named : (commands : List Operation) → IsNamed (IsMentioned book commands) book
   begins-named commands = record {
-    pages = all-pages (λ page. AreNamed (IsUsed book commands) page.bindings) book.last (pages book)
-        (λ page stays. named-of (IsUsed book commands) page.bindings (λ name has. inl (inl (stays name (has-some page.bindings name has)))))
+    pages = all-pages (λ page. AreNamed (IsMentioned book commands) page.bindings) book.last (pages book)
+        (λ page stays. named-of (IsMentioned book commands) page.bindings (λ name has. inl (inl (stays name (has-some page.bindings name has)))))
         (last-has (index_of provider) book sound);
-    pending = named-of (IsUsed book commands) book.pending (λ name has. inl (inr (has-some book.pending name has)));
+    pending = named-of (IsMentioned book commands) book.pending (λ name has. inl (inr (has-some book.pending name has)));
   }

@@ -10,7 +10,7 @@ use Rattle.commands.specs.Operations.{Operation}
 use Rattle.book.specs.Books.{Book}
 use Rattle.book.specs.Shows.{Provider, index_of}
 use Rattle.book.specs.Steps.{Outcome, Answers, Refuses, step}
-use Rattle.book.specs.Turns.{Declines, Keeps, Shows, Turn, kept_of}
+use Rattle.book.specs.Turns.{Declines, KeepsOne, Shows, Turn, kept_of}
 use Rattle.book.proofs.Stepping.{Does, does_steps, due_steps}
 
 module _ (provider : Provider) {K : Type 0} (kept failed : K → Record → K → Type 0) where
@@ -41,7 +41,7 @@ module _ (provider : Provider) {K : Type 0} (kept failed : K → Record → K �
     fails keeper keeper_after lost is failing = declines lost keeper keeper_after KeepFailed is (inr (refl, failing))
 
     -- the answer is shown
-    pub answers : (keeper keeper_after : K) (said : Reply) → Keeps provider kept failed keeper (kept_of book asked) keeper_after → Shows provider after answer said
+    pub answers : (keeper keeper_after : K) (said : Reply) → KeepsOne provider kept failed keeper (kept_of book asked) keeper_after → Shows provider after answer said
         → Turn provider kept failed book keeper asked said after keeper_after
     answers keeper keeper_after (reply.Promised promised) keeps shows = (answer, does_steps (index_of provider) book asked answer after none does, keeps, shows)
     answers keeper keeper_after (reply.Found text) keeps shows = (answer, does_steps (index_of provider) book asked answer after none does, keeps, shows)

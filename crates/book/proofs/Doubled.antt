@@ -7,8 +7,8 @@ use Rattle.prefixtree.specs.Placement.{Items, commitment_of, put, put_all}
 use Rattle.prefixtree.specs.declared.path.End.TheVariants as path
 use Rattle.rootchain.specs.Bodies.{IsBody}
 use Rattle.rootchain.specs.declared.body.Body.{Body}
-use Rattle.proofs.specs.Refusals.{IsFirst, Passes, refusal_number}
-use Rattle.proofs.specs.Replies.{End, Other, Reply, IsReply, Spells, reply_bytes}
+use Rattle.proofs.specs.Refusals.{IsFirstToFail, Passes, reply_refusal_number}
+use Rattle.proofs.specs.Replies.{End, Other, Reply, IsReply, SpellsReply, reply_bytes}
 use Rattle.proofs.specs.declared.refusal.Refusal.{Refusal}
 use Rattle.proofs.specs.declared.refusal.Refusal.TheVariants.{Malformed, Trailing, OtherRoot, BadVuf, SameIndex, OtherPrefix, PathMismatch}
 use Rattle.book.specs.Books.{Binding, Page}
@@ -50,8 +50,8 @@ module _ (provider : Provider) where
     -- the reply that a text spells, of which the first refusal is that of an absence by the very index
     pub record IsDoubled (body : Body) (text : List ℕ) : Type 0 where
       pub reply : Reply
-      pub spells : Spells text reply
-      pub refused : IsFirst (Passes provider.hash accepted body name reply) SameIndex
+      pub spells : SpellsReply text reply
+      pub refused : IsFirstToFail (Passes provider.hash accepted body name reply) SameIndex
 
     pub doubled : (page : Page) (body : Body) (text : List ℕ) (entry : List ℕ × Binding) → IsPage page → IsBody body → body.vuf_key ≡ provider.vuf_key → IsName name → IsReplyOf provider page body name (at page.bindings name) text
         → Contains page.bindings entry → index_of provider entry.0 ≡ index_of provider name → at page.bindings name ≡ None → IsDoubled body text
@@ -92,7 +92,7 @@ module _ (provider : Provider) where
               ),
             )
 
-            before : (other : Refusal) → refusal_number other < refusal_number SameIndex → Passes provider.hash accepted body name reply other
+            before : (other : Refusal) → reply_refusal_number other < reply_refusal_number SameIndex → Passes provider.hash accepted body name reply other
             before Malformed less = tt
             before Trailing less = tt
             before OtherRoot less = refl
@@ -101,5 +101,5 @@ module _ (provider : Provider) where
             before OtherPrefix less = absurd (omega arith)
             before PathMismatch less = absurd (omega arith)
 
-            first : IsFirst (Passes provider.hash accepted body name reply) SameIndex
+            first : IsFirstToFail (Passes provider.hash accepted body name reply) SameIndex
             first = record { fails = λ passes. passes refl; before = before }

@@ -8,7 +8,7 @@ use Rattle.book.specs.declared.reply.Reply.TheVariants as reply
 use Rattle.book.specs.Answers.{Answer}
 use Rattle.commands.specs.Operations.{Operation}
 use Rattle.book.specs.Books.{Book}
-use Rattle.book.specs.Folds.{Fate, Done, Wanting, Lost, Tells, under_fate, step_under_fate, folded}
+use Rattle.book.specs.Folds.{Fate, Done, Wanting, Lost, TellsOutcome, under_fate, step_under_fate, steps_under_fates}
 use Rattle.book.specs.Shows.{Provider, index_of}
 use Rattle.book.specs.Steps.{Outcome, Answers, Refuses, step}
 use Rattle.book.specs.Turns.{Declines, Run, Shows, Turn, kept_of}
@@ -18,7 +18,7 @@ use Rattle.book.proofs.Stepping.{due_steps, refused_due}
 record IsFated (book : Book) (what : Option Record) (stepped : Outcome × Book) (said : Reply) (after : Book) : Type 0 where
   pub fate : Fate
   pub leaves : (under_fate fate book what stepped).1 ≡ after
-  pub tells : Tells (under_fate fate book what stepped).0 said
+  pub tells : TellsOutcome (under_fate fate book what stepped).0 said
 
 -- what a step that answers gives is done, whether or not there is a record to keep
 is-done : (book after : Book) (answer : Answer) (what : Option Record) → under_fate Done book what (Answers answer, after) ≡ (Answers answer, after)
@@ -26,11 +26,11 @@ is-done book after answer None = refl
 is-done book after answer (Some kept) = refl
 
 module _ (provider : Provider) where
-  tells-shown : (after : Book) (answer : Answer) (said : Reply) → Shows provider after answer said → Tells (Answers answer) said
-  tells-shown after answer (reply.Promised promised) shows = subst (λ (a : Answer). Tells (Answers a) (reply.Promised promised)) (sym shows.3) tt
-  tells-shown after answer (reply.Found text) shows = subst (λ (a : Answer). Tells (Answers a) (reply.Found text)) (sym shows.4) tt
-  tells-shown after answer (reply.Told told) shows = subst (λ (a : Answer). Tells (Answers a) (reply.Told told)) (sym shows.1) tt
-  tells-shown after answer (reply.Last root) shows = subst (λ (a : Answer). Tells (Answers a) (reply.Last root)) (sym shows.1) tt
+  tells-shown : (after : Book) (answer : Answer) (said : Reply) → Shows provider after answer said → TellsOutcome (Answers answer) said
+  tells-shown after answer (reply.Promised promised) shows = subst (λ (a : Answer). TellsOutcome (Answers a) (reply.Promised promised)) (sym shows.3) tt
+  tells-shown after answer (reply.Found text) shows = subst (λ (a : Answer). TellsOutcome (Answers a) (reply.Found text)) (sym shows.4) tt
+  tells-shown after answer (reply.Told told) shows = subst (λ (a : Answer). TellsOutcome (Answers a) (reply.Told told)) (sym shows.1) tt
+  tells-shown after answer (reply.Last root) shows = subst (λ (a : Answer). TellsOutcome (Answers a) (reply.Last root)) (sym shows.1) tt
   tells-shown after answer (reply.Refused why) shows = absurd shows
 
   answered-fated : (book after : Book) (asked : Operation) (said : Reply) (answer : Answer) → step (index_of provider) book asked ≡ (Answers answer, after) → Shows provider after answer said
@@ -40,7 +40,7 @@ module _ (provider : Provider) where
       record {
         fate = Done;
         leaves = ap (λ (x : Outcome × Book). x.1) e;
-        tells = subst (λ (outcome : Outcome). Tells outcome said) (sym (ap (λ (x : Outcome × Book). x.0) e)) (tells-shown after answer said shows);
+        tells = subst (λ (outcome : Outcome). TellsOutcome outcome said) (sym (ap (λ (x : Outcome × Book). x.0) e)) (tells-shown after answer said shows);
       }
 
   refused-book : (book : Book) (asked : Operation) (why : Refusal) → (step (index_of provider) book asked).0 ≡ Refuses why → (step (index_of provider) book asked).1 ≡ book
@@ -69,8 +69,8 @@ module _ (provider : Provider) where
     pub record AreFates (book : Book) (commands : List Operation) (replies : List Reply) (after : Book) : Type 0 where
       pub fates : List Fate
       pub long : length fates ≡ length commands
-      pub ends : (folded (index_of provider) book commands fates).1 ≡ after
-      pub told : AllZip Tells (folded (index_of provider) book commands fates).0 replies
+      pub ends : (steps_under_fates (index_of provider) book commands fates).1 ≡ after
+      pub told : AllZip TellsOutcome (steps_under_fates (index_of provider) book commands fates).0 replies
 
     pub run-folded : (commands : List Operation) (replies : List Reply) (book after : Book) (before later : K) → Run provider kept failed book before commands replies after later → AreFates book commands replies after
     run-folded [] [] book after before later run = record { fates = []; long = refl; ends = sym run.0; told = tt }

@@ -14,7 +14,7 @@ use Rattle.rootchain.specs.declared.body.Body.{Body}
 use Rattle.proofs.specs.Accepts.{stated, Accepts}
 use Rattle.proofs.specs.Honest.{IsHonest}
 use Rattle.proofs.specs.PathEnds.{end_of_path}
-use Rattle.proofs.specs.Replies.{Reply, IsEnd, IsReply, Spells, reply_bytes}
+use Rattle.proofs.specs.Replies.{Reply, IsEnd, IsReply, SpellsReply, reply_bytes}
 use Rattle.proofs.proofs.Honest.{honest-accepted}
 use Rattle.book.specs.Books.{Binding, Page}
 use Rattle.book.specs.Fresh.{KeepsLaws}
@@ -86,7 +86,7 @@ module _ (provider : Provider) (accepted verified : List ℕ → List ℕ → Li
   -- the reply that a text spells, where it is accepted with what the page has
   pub record IsRight (page : Page) (body : Body) (text : List ℕ) : Type 0 where
     pub reply : Reply
-    pub spells : Spells text reply
+    pub spells : SpellsReply text reply
     pub of_body : reply.body ≡ body
     pub value : reply.value ≡ provider.value name
     pub states : stated reply.end ≡ key_at page name

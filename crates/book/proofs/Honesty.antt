@@ -27,7 +27,7 @@ use Rattle.commands.specs.Operations.{Operation, IsCommand, Query, Lookup}
 use Rattle.book.specs.Books.{Binding, Book, Page, pages}
 use Rattle.proofs.specs.BrokenPromises.{IsBrokenPromise}
 use Rattle.book.specs.Fresh.{KeepsLaws}
-use Rattle.book.specs.Honest.{key_at, IsAbout, IsAnswer, IsDouble, IsHonest, IsKept, IsSaid, IsSaidAt, ListsInOrder, Tells, UsersDiffer}
+use Rattle.book.specs.Honest.{key_at, IsAbout, IsAnswer, IsDouble, IsHonestRun, IsKept, IsSaid, IsSaidAt, ListsInOrder, TellsRoot, UsersDiffer}
 use Rattle.book.specs.Maps.{Map, at}
 use Rattle.book.specs.Shows.{Provider, SignedPage, index_of, promise, roots, sealed_behind, sealed_pages, IsRootOf}
 use Rattle.book.specs.Turns.{Run}
@@ -153,7 +153,7 @@ module _ (provider : Provider) where
     in-chain : (page : Page) (root : SignedRoot) → IsRootOf provider after page root → Contains (roots provider after) root
     in-chain page root is = mapped-there (λ (each : SignedPage). each.root) (sealed_pages provider after) (record { page = page; root = root }) is
 
-    told : (latest : ℕ) (command : Operation) (said : Reply) (root : SignedRoot) → Seen provider latest after command said → Tells said root → Contains (roots provider after) root
+    told : (latest : ℕ) (command : Operation) (said : Reply) (root : SignedRoot) → Seen provider latest after command said → TellsRoot said root → Contains (roots provider after) root
     told latest command (reply.Promised promised) root s tells = absurd tells
     told latest command (reply.Found text) root s tells = absurd tells
     told latest command (reply.Told told_roots) root s tells = consecutive-there (roots provider after) told_roots.items s root tells
@@ -276,7 +276,7 @@ module _ (provider : Provider) where
     pub honest-sound : (before : Book) (commands : List Operation) (replies : List Reply) → ((latest : ℕ) (asked : Operation) (said : Reply) → IsSaidAt before.last.epoch commands replies latest asked said → Seen provider latest after asked said)
         → IsApart provider after
         → (UsersDiffer provider before commands → (asked : Operation) → Contains commands asked → (name : List ℕ) → IsAbout asked name → (page : Page) (root : SignedRoot) → IsRootOf provider after page root → Alone provider name page.bindings)
-        → IsHonest provider accepted verified key before after commands replies
+        → IsHonestRun provider accepted verified key before after commands replies
     honest-sound before commands replies shown apart users = record {
       chain = whole;
       forms = All-from_recursion IsSignedRoot (roots provider after) (signed-form (sealed_pages provider after) are-sealed);
@@ -336,7 +336,7 @@ module _ (provider : Provider) where
   pub honest : {K : Type 0} (accepted verified : List ℕ → List ℕ → List ℕ → Type 0) (key : List ℕ) → KeepsLaws accepted verified key provider → (kept failed : K → Record → K → Type 0)
       (book after : Book) (before later : K) (commands : List Operation) (replies : List Reply)
       → IsSoundBook (index_of provider) book → IsSoundBook (index_of provider) after → All IsCommand commands → Run provider kept failed book before commands replies after later
-      → IsHonest provider accepted verified key book after commands replies
+      → IsHonestRun provider accepted verified key book after commands replies
   honest accepted verified key laws kept failed book after before later commands replies sound sound_after are run =
       let r = ran provider kept failed commands replies book after before later (climbs (index_of provider) book sound) (recursion_from_All IsCommand commands are) run in
       let apart = carried provider kept failed (IsApart provider) commands replies book after before later

@@ -9,10 +9,10 @@ use Rattle.book.specs.Books.{Book}
 use Rattle.book.specs.Keeps.{fails_next, keeps_next}
 use Rattle.book.specs.Shows.{Provider, index_of}
 use Rattle.book.specs.Steps.{Outcome, Answers, Refuses, step}
-use Rattle.book.specs.Turns.{Declines, Keeps, Run, Turn, kept_of}
+use Rattle.book.specs.Turns.{Declines, KeepsOne, Run, Turn, kept_of}
 
 module _ (provider : Provider) {K : Type 0} (kept failed : K → Record → K → Type 0) where
-  keeps-listed : (what : Option Record) (before after : K) (rest : List Bool) → Keeps provider kept failed before what after → (keeps : List Bool) × Keeps provider keeps_next fails_next keeps what rest
+  keeps-listed : (what : Option Record) (before after : K) (rest : List Bool) → KeepsOne provider kept failed before what after → (keeps : List Bool) × KeepsOne provider keeps_next fails_next keeps what rest
   keeps-listed None before after rest is = (rest, refl)
   keeps-listed (Some what) before after rest is = (true ∷ rest, refl)
 

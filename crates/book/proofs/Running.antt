@@ -13,7 +13,7 @@ use Rattle.book.specs.declared.reply.Reply.{Reply}
 use Rattle.book.specs.declared.reply.Reply.TheVariants as reply
 use Rattle.book.specs.declared.refusal.Refusal.{Refusal}
 use Rattle.book.specs.declared.refusal.Refusal.TheVariants.{BadName, NoSuchEpoch, EpochNotLater}
-use Rattle.book.specs.Answers.{Answer, is_within, Promised, Found, Told, refusal, page_range, with_pending}
+use Rattle.book.specs.Answers.{Answer, has_length_within, Promised, Found, Told, refusal, page_range, with_pending}
 use Rattle.commands.specs.Operations.{Operation, IsCommand, Question, Query, Edit, Put, Promise, Lookup, History, Head, MayRead, IsAny}
 use Rattle.commands.specs.Operations as ask
 use Rattle.book.specs.Books.{Binding, Book, Page, page_at, pages}
@@ -121,7 +121,7 @@ module _ (provider : Provider) where
         let at_epoch : epoch ≡ also = cc in
         let b : at (finds.0).bindings name ≡ binding = cc in (
           sym m ∙ n,
-          subst IsName n (is-name name (two-passed (not (is_within 1 255 name)) (is_none (page_at book epoch)) BadName NoSuchEpoch [] none).0 are.1),
+          subst IsName n (is-name name (two-passed (not (has_length_within 1 255 name)) (is_none (page_at book epoch)) BadName NoSuchEpoch [] none).0 are.1),
           subst (λ (x : Page). IsAskedBy book.last.epoch also x) p (subst (λ (k : ℕ). IsAskedBy book.last.epoch k finds.0) at_epoch (asked-page book epoch finds.0 finds.1)),
           sym b ∙ ap (λ (x : Page). at x.bindings name) p ∙ ap (at page.bindings) n,
         );

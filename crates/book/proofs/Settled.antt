@@ -15,7 +15,7 @@ use Rattle.book.specs.Answers.{Answer, Promised, Found, Told, Last}
 use Rattle.commands.specs.Operations.{Operation}
 use Rattle.book.specs.Books.{Binding, Book, Page, pages}
 use Rattle.book.specs.Replies as seen
-use Rattle.book.specs.Replies.{ReplyContent, FailAlike, seen as seen_of}
+use Rattle.book.specs.Replies.{ReplyContent, FailAlike, reply_content}
 use Rattle.book.specs.Shows.{Provider, index_of, placement, promise, reply_end, signed_promise, IsReplyOf, IsRootOf}
 use Rattle.book.specs.Steps.{Outcome, Answers, Refuses, step}
 use Rattle.book.specs.Turns.{Declines, Run, Shows, Turn, kept_of}
@@ -40,7 +40,7 @@ module _ (provider : Provider) where
   ShowsSo book (Told told) said = (roots : List SignedRoot) × AllZip (IsRootOf provider book) told roots × (said ≡ seen.Told roots)
   ShowsSo book (Last page) said = (root : SignedRoot) × IsRootOf provider book page root × (said ≡ seen.Last root)
 
-  shows-so : (book : Book) (answer : Answer) (said : Reply) → Shows provider book answer said → ShowsSo book answer (seen_of said)
+  shows-so : (book : Book) (answer : Answer) (said : Reply) → Shows provider book answer said → ShowsSo book answer (reply_content said)
   shows-so book answer (reply.Promised signed) (name, binding, root, is, rooted, so) =
       subst (λ (a : Answer). ShowsSo book a (seen.Promised signed)) (sym is) (root, rooted, ap (λ (s : _). seen.Promised s) so)
   shows-so book answer (reply.Found text) (page, name, found, root, is, rooted, so) = subst (λ (a : Answer). ShowsSo book a (seen.Found text)) (sym is) (root, text, rooted, so, refl)
@@ -81,7 +81,7 @@ module _ (provider : Provider) where
       | inr keep ↦ inr (answer, refl, keep.0)
     ]
 
-    turn-steps : (book after : Book) (keeper later : K) (asked : Operation) (said : Reply) → seen_of said ≢ seen.Refused Memory → Turn provider kept failed book keeper asked said after later → IsStep book asked (seen_of said) after
+    turn-steps : (book after : Book) (keeper later : K) (asked : Operation) (said : Reply) → reply_content said ≢ seen.Refused Memory → Turn provider kept failed book keeper asked said after later → IsStep book asked (reply_content said) after
     turn-steps book after keeper later asked (reply.Refused why) fine (same, declines) =
         elim (due-or-failed (step (index_of provider) book asked).0 (kept_of book asked) keeper later why fine declines) [
           | inl due ↦ refuses why due refl same
@@ -129,7 +129,7 @@ module _ (provider : Provider) where
     pub run-settled : (commands : List Operation) (replies others : List Reply) (book after left : Book) (keeper later : K) (beside behind : L) → AllPairs IsBefore (pages book)
         → AllZip FailAlike replies others
         → Run provider kept failed book keeper commands replies after later → Run provider keeps lacks book beside commands others left behind
-        → (after ≡ left) × (map seen_of replies ≡ map seen_of others)
+        → (after ≡ left) × (map reply_content replies ≡ map reply_content others)
     run-settled [] [] [] book after left keeper later beside behind ascend alike run also = (run.0 ∙ sym also.0, refl)
     run-settled [] [] (other ∷ others) book after left keeper later beside behind ascend alike run also = absurd also
     run-settled [] (said ∷ replies) others book after left keeper later beside behind ascend alike run also = absurd run
@@ -138,7 +138,7 @@ module _ (provider : Provider) where
     run-settled (asked ∷ commands) (said ∷ replies) (other ∷ others) book after left keeper later beside behind ascend alike (middle, between, turn, run) (place, among, other_turn, also) =
         let grown : AllPairs IsBefore (pages middle) =
         (run-grows provider kept failed (asked ∷ []) (said ∷ []) book middle keeper between ascend (middle, between, turn, (refl, refl))).ascend in
-        let one = one-step book middle place asked (seen_of said) (seen_of other) grown alike.0.2 (turn-steps kept failed book middle keeper between asked said alike.0.0 turn)
+        let one = one-step book middle place asked (reply_content said) (reply_content other) grown alike.0.2 (turn-steps kept failed book middle keeper between asked said alike.0.0 turn)
         (turn-steps keeps lacks book place beside among asked other alike.0.1 other_turn) in
         let more = run-settled commands replies others middle after left between later among behind grown alike.1 run
         (subst (λ (b : Book). Run provider keeps lacks b among commands others left behind) (sym one.0) also) in

@@ -12,8 +12,8 @@ use Rattle.encoding.specs.Limits.{IsKeyData, IsName}
 use Rattle.book.specs.Answers.{next_page, with_page, with_pending}
 use Rattle.book.specs.Books.{Binding, Book, Page, pages}
 use Rattle.book.specs.Fresh.{fresh, IsEpoch}
-use Rattle.book.specs.Maps.{Map, at, overwritten, put}
-use Rattle.book.specs.Sound.{AreBindings, HasNamesOf, IsEntry, IsHeld, IsPage, IsSound}
+use Rattle.book.specs.Maps.{Map, at, overwritten, put_name}
+use Rattle.book.specs.Sound.{AreBindings, HasNamesOf, HoldsName, IsEntry, IsPage, IsSound}
 use Rattle.book.proofs.Entries.{all_overwritten, all_put, ascends_none, ascends_overwritten, ascends_put, at_put_other, at_put_same, is_name, is_no_name, stays}
 use Rattle.book.proofs.Turning.{next-sized, the-last}
 
@@ -88,10 +88,10 @@ are-entries : (map : Map Binding) → AreLimited map → All IsEntry map
 are-entries map all = All-weaker (λ entry. IsName entry.0 × IsLimited entry.1) IsEntry (λ entry is. record { name = is.0; key = is.1.0; salt = is.1.1 }) map
     (All-from_recursion (λ entry. IsName entry.0 × IsLimited entry.1) map all)
 
-bindings-put : (map : Map Binding) (name : List ℕ) (binding : Binding) → AreBindings map → IsName name → IsLimited binding → AreBindings (put map name binding)
+bindings-put : (map : Map Binding) (name : List ℕ) (binding : Binding) → AreBindings map → IsName name → IsLimited binding → AreBindings (put_name map name binding)
 bindings-put map name binding are named within = record {
   ascend = ascends_put map name binding are.ascend;
-  entries = are-entries (put map name binding) (all_put name binding IsName IsLimited map named within (limited map are.entries));
+  entries = are-entries (put_name map name binding) (all_put name binding IsName IsLimited map named within (limited map are.entries));
 }
 
 bindings-overwritten : (map entries : Map Binding) → AreBindings map → AreBindings entries → AreBindings (overwritten map entries)
@@ -105,14 +105,14 @@ no-bindings = record { ascend = ascends_none Binding; entries = are-entries [] t
 
 -- ---- names
 
-has-put : (map : Map Binding) (name : List ℕ) (binding : Binding) (other : List ℕ) → IsSome (at map other) → IsSome (at (put map name binding) other)
+has-put : (map : Map Binding) (name : List ℕ) (binding : Binding) (other : List ℕ) → IsSome (at map other) → IsSome (at (put_name map name binding) other)
 has-put map name binding other has = by (is_at (bytes_cmp name) other) refl
   where
-    by : (t : Bool) → is_at (bytes_cmp name) other ≡ t → IsSome (at (put map name binding) other)
-    by true is = ap is_some (ap (at (put map name binding)) (is_name name other is) ∙ at_put_same name binding map)
+    by : (t : Bool) → is_at (bytes_cmp name) other ≡ t → IsSome (at (put_name map name binding) other)
+    by true is = ap is_some (ap (at (put_name map name binding)) (is_name name other is) ∙ at_put_same name binding map)
     by false is = ap is_some (at_put_other name binding map other (is_no_name name other is)) ∙ has
 
-put-has : (map : Map Binding) (name : List ℕ) (binding : Binding) (other : List ℕ) → IsSome (at (put map name binding) other) → IsSome (at map other) ⊎ (other ≡ name)
+put-has : (map : Map Binding) (name : List ℕ) (binding : Binding) (other : List ℕ) → IsSome (at (put_name map name binding) other) → IsSome (at map other) ⊎ (other ≡ name)
 put-has map name binding other has = by (is_at (bytes_cmp name) other) refl
   where
     by : (t : Bool) → is_at (bytes_cmp name) other ≡ t → IsSome (at map other) ⊎ (other ≡ name)
@@ -121,7 +121,7 @@ put-has map name binding other has = by (is_at (bytes_cmp name) other) refl
 
 has-overwritten : (entries map : Map Binding) (name : List ℕ) → IsSome (at map name) → IsSome (at (overwritten map entries) name)
 has-overwritten [] map name has = has
-has-overwritten (entry ∷ entries) map name has = has-overwritten entries (put map entry.0 entry.1) name (has-put map entry.0 entry.1 name has)
+has-overwritten (entry ∷ entries) map name has = has-overwritten entries (put_name map entry.0 entry.1) name (has-put map entry.0 entry.1 name has)
 
 overwritten-has : (entries map : Map Binding) (name : List ℕ) → IsSome (at (overwritten map entries) name) → IsSome (at map name) ⊎ IsSome (at entries name)
 overwritten-has entries map name has = by (at entries name) refl
@@ -150,13 +150,13 @@ module _ (index_of : List ℕ → List ℕ) where
       first : Page
       first = (fresh epoch nonce salts).last
 
-      none : (name : List ℕ) → IsHeld (fresh epoch nonce salts) name → ⊥
+      none : (name : List ℕ) → HoldsName (fresh epoch nonce salts) name → ⊥
       none name (inl has) = nobody has
       none name (inr has) = nobody has
 
   -- a binding waits, where no other name that is held has the index of this one
   pub sound_pending : (book : Book) (name key : List ℕ) → IsSound index_of book → IsName name → IsKeyData key → Is32Bytes (fill_bytes 32 book.left).0
-      → ((other : List ℕ) → IsHeld book other → index_of other ≡ index_of name → other ≡ name) → IsSound index_of (with_pending book name key)
+      → ((other : List ℕ) → HoldsName book other → index_of other ≡ index_of name → other ≡ name) → IsSound index_of (with_pending book name key)
   sound_pending book name key sound named keyed salted free = record {
     pages = sound.pages;
     ascend = sound.ascend;
@@ -166,11 +166,11 @@ module _ (index_of : List ℕ → List ℕ) where
     apart = λ one other a b same. by one other (held one a) (held other b) same;
   }
     where
-      held : (other : List ℕ) → IsHeld (with_pending book name key) other → IsHeld book other ⊎ (other ≡ name)
+      held : (other : List ℕ) → HoldsName (with_pending book name key) other → HoldsName book other ⊎ (other ≡ name)
       held other (inl last) = inl (inl last)
       held other (inr waits) = elim (put-has book.pending name (record { key = key; salt = book.salt }) other waits) [ inl before ↦ inl (inr before) | inr same ↦ inr same ]
 
-      by : (one other : List ℕ) → IsHeld book one ⊎ (one ≡ name) → IsHeld book other ⊎ (other ≡ name) → index_of one ≡ index_of other → one ≡ other
+      by : (one other : List ℕ) → HoldsName book one ⊎ (one ≡ name) → HoldsName book other ⊎ (other ≡ name) → index_of one ≡ index_of other → one ≡ other
       by one other (inl a) (inl b) same = sound.apart one other a b same
       by one other (inl a) (inr b) same = free one a (same ∙ ap index_of b) ∙ sym b
       by one other (inr a) (inl b) same = a ∙ sym (free other b (sym same ∙ ap index_of a))
@@ -193,6 +193,6 @@ module _ (index_of : List ℕ → List ℕ) where
       page : IsPage (next_page book epoch nonce)
       page = record { from_one = omega (arith, above); in_eight_bytes = fits; nonce = next-sized nonce _ last.nonce sized; bindings = bindings-overwritten book.last.bindings book.pending last.bindings sound.pending }
 
-      held : (name : List ℕ) → IsHeld (with_page book (next_page book epoch nonce)) name → IsHeld book name
+      held : (name : List ℕ) → HoldsName (with_page book (next_page book epoch nonce)) name → HoldsName book name
       held name (inl last) = overwritten-has book.pending book.last.bindings name last
       held name (inr waits) = absurd (nobody waits)

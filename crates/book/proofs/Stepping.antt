@@ -3,12 +3,12 @@ use Rattle.std.proofs.Common.{◌≡◌, List, ℕ, [], ◌∷◌, false, Option
 use Rattle.std.specs.Prelude.{is_none, is_some}
 use Rattle.book.specs.declared.refusal.Refusal.{Refusal}
 use Rattle.book.specs.declared.refusal.Refusal.TheVariants.{BadName, BadKey, PendingExists, NoSuchEpoch, NoPromise}
-use Rattle.book.specs.Answers.{Answer, Promised, Found, Told, Last, bad_index, bad_verb, is_within, next_page, refusal, page_range, with_page, with_pending}
+use Rattle.book.specs.Answers.{Answer, Promised, Found, Told, Last, bad_index, bad_verb, has_length_within, next_page, refusal, page_range, with_page, with_pending}
 use Rattle.commands.specs.declared.edit.Verb.{Verb}
 use Rattle.commands.specs.Operations.{Operation, Question, Query, Edit, Put, Turn, Promise, Lookup, History, Head}
 use Rattle.book.specs.Books.{Binding, Book, Page, page_at}
 use Rattle.book.specs.Maps.{at}
-use Rattle.book.specs.Steps.{Outcome, Answers, Refuses, done, found_in, promise_of, read, step, unless_refused}
+use Rattle.book.specs.Steps.{Outcome, Answers, Refuses, done, found_in, promise_outcome, read, step, unless_refused}
 use Rattle.book.proofs.Turning.{passed, two-passed}
 
 -- what a book that does not refuse answers, and the book after it
@@ -60,7 +60,7 @@ answers_same a b e = cc
 pub finds : (book : Book) (question : Question) (answer : Answer) → read book question ≡ Answers answer → Finds book question answer
 finds book (Promise name) answer e = by (at book.pending name) refl e
   where
-    by : (found : Option Binding) → at book.pending name ≡ found → promise_of name found ≡ Answers answer → Finds book (Promise name) answer
+    by : (found : Option Binding) → at book.pending name ≡ found → promise_outcome name found ≡ Answers answer → Finds book (Promise name) answer
     by None is f = absurd cc
     by (Some binding) is f = (binding, is, answers_same answer (Promised name binding) f)
 finds book (Lookup name epoch) answer e = by (page_at book epoch) refl e
@@ -101,8 +101,8 @@ module _ (index_of : List ℕ → List ℕ) where
 
   -- what a put that is not refused has passed
   pub record HasPassed (book : Book) (verb : Verb) (name key : List ℕ) : Type 0 where
-    pub named : not (is_within 1 255 name) ≡ false
-    pub keyed : not (is_within 1 2048 key) ≡ false
+    pub named : not (has_length_within 1 255 name) ≡ false
+    pub keyed : not (has_length_within 1 2048 key) ≡ false
     pub page : (bad_verb verb (at book.last.bindings name)).0 ≡ false
     pub pending : is_some (at book.pending name) ≡ false
     pub index : (bad_index index_of verb book name).0 ≡ false
@@ -110,7 +110,7 @@ module _ (index_of : List ℕ → List ℕ) where
   pub put_passed : (book : Book) (verb : Verb) (name key : List ℕ) → refusal index_of book (Edit (Put verb name key)) ≡ None → HasPassed book verb name key
   put_passed book verb name key none =
       let late = (is_some (at book.pending name), PendingExists) ∷ bad_index index_of verb book name ∷ [] in
-      let one = two-passed (not (is_within 1 255 name)) (not (is_within 1 2048 key)) BadName BadKey (bad_verb verb (at book.last.bindings name) ∷ late) none in
+      let one = two-passed (not (has_length_within 1 255 name)) (not (has_length_within 1 2048 key)) BadName BadKey (bad_verb verb (at book.last.bindings name) ∷ late) none in
       let two = passed (bad_verb verb (at book.last.bindings name)) late one.2 in
       let three = passed (is_some (at book.pending name), PendingExists) (bad_index index_of verb book name ∷ []) two.1 in
       record { named = one.0; keyed = one.1; page = two.0; pending = three.0; index = (passed (bad_index index_of verb book name) [] three.1).0 }
@@ -118,10 +118,10 @@ module _ (index_of : List ℕ → List ℕ) where
   -- what is not refused is answered
   pub answer_of : (book : Book) (asked : Operation) → refusal index_of book asked ≡ None → (answer : Answer) × ((done book asked).0 ≡ Answers answer)
   answer_of book (Query (Promise name)) none =
-      let t = there (at book.pending name) (two-passed (not (is_within 1 255 name)) (is_none (at book.pending name)) BadName NoPromise [] none).1 in
-      (Promised name t.0, ap (promise_of name) t.1)
+      let t = there (at book.pending name) (two-passed (not (has_length_within 1 255 name)) (is_none (at book.pending name)) BadName NoPromise [] none).1 in
+      (Promised name t.0, ap (promise_outcome name) t.1)
   answer_of book (Query (Lookup name epoch)) none =
-      let t = there (page_at book epoch) (two-passed (not (is_within 1 255 name)) (is_none (page_at book epoch)) BadName NoSuchEpoch [] none).1 in
+      let t = there (page_at book epoch) (two-passed (not (has_length_within 1 255 name)) (is_none (page_at book epoch)) BadName NoSuchEpoch [] none).1 in
       (Found t.0 name (at (t.0).bindings name), ap (found_in name) t.1)
   answer_of book (Query (History from count)) none = (Told (page_range book from count), refl)
   answer_of book (Query Head) none = (Last book.last, refl)

@@ -10,7 +10,7 @@ use Rattle.encoding.specs.Bytes.{bytes_cmp, Is32Bytes, IsBytes}
 use Rattle.encoding.specs.Limits.{IsWithin, IsName, IsKeyData}
 use Rattle.rootchain.specs.declared.signed_root.SignedRoot.{SignedRoot}
 use Rattle.book.specs.declared.refusal.Refusal.{Refusal}
-use Rattle.book.specs.Answers.{first, is_within, with_pending, next_page, with_page}
+use Rattle.book.specs.Answers.{first, has_length_within, with_pending, next_page, with_page}
 use Rattle.book.specs.Books.{Binding, Book, Page, page_at, pages}
 use Rattle.book.specs.Honest.{key_at, IsAskedBy}
 use Rattle.book.specs.Maps.{at}
@@ -45,15 +45,15 @@ both true false e = absurd cc
 both false true e = absurd cc
 both false false e = absurd cc
 
-within : (least most : ℕ) (bytes : List ℕ) → not (is_within least most bytes) ≡ false → IsBytes bytes → IsWithin least most bytes
+within : (least most : ℕ) (bytes : List ℕ) → not (has_length_within least most bytes) ≡ false → IsBytes bytes → IsWithin least most bytes
 within least most bytes test are =
     let b = both (leb least (length bytes)) (leb (length bytes) most) (not-false _ test) in
     (leb-true _ _ b.0, leb-true _ _ b.1, are)
 
-pub is-name : (name : List ℕ) → not (is_within 1 255 name) ≡ false → IsBytes name → IsName name
+pub is-name : (name : List ℕ) → not (has_length_within 1 255 name) ≡ false → IsBytes name → IsName name
 is-name name test are = within 1 255 name test are
 
-pub is-key : (key : List ℕ) → not (is_within 1 2048 key) ≡ false → IsBytes key → IsKeyData key
+pub is-key : (key : List ℕ) → not (has_length_within 1 2048 key) ≡ false → IsBytes key → IsKeyData key
 is-key key test are = within 1 2048 key test are
 
 pub above-last : (epoch last : ℕ) → leb epoch last ≡ false → last < epoch

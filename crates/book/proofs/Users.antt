@@ -9,7 +9,7 @@ use Rattle.book.specs.declared.reply.Reply.{Reply}
 use Rattle.book.specs.Answers.{Answer, with_pending, next_page, with_page}
 use Rattle.commands.specs.Operations.{Operation, Query, Edit, Put, Turn}
 use Rattle.book.specs.Books.{Binding, Book, Page, pages}
-use Rattle.book.specs.Honest.{IsAbout, IsSaid, IsUsed, UsersDiffer}
+use Rattle.book.specs.Honest.{IsAbout, IsMentioned, IsSaid, UsersDiffer}
 use Rattle.book.specs.Maps.{Map}
 use Rattle.book.specs.Shows.{index_of, Provider, IsRootOf}
 use Rattle.book.specs.Turns.{Run}
@@ -52,13 +52,13 @@ said-asked (command ∷ commands) (answer ∷ replies) asked said (inr later) = 
 
 module _ (provider : Provider) where
   pub users-apart : {K : Type 0} (kept failed : K → Record → K → Type 0) (book after : Book) (before later : K) (commands : List Operation) (replies : List Reply)
-      → IsNamed (IsUsed book commands) book → Run provider kept failed book before commands replies after later → UsersDiffer provider book commands
+      → IsNamed (IsMentioned book commands) book → Run provider kept failed book before commands replies after later → UsersDiffer provider book commands
       → (asked : Operation) → Contains commands asked → (name : List ℕ) → IsAbout asked name → (page : Page) (root : SignedRoot) → IsRootOf provider after page root
       → (entry : List ℕ × Binding) → Contains page.bindings entry → index_of provider entry.0 ≡ index_of provider name → entry.0 ≡ name
   users-apart kept failed book after before later commands replies begins run differ asked there name about page root rooted entry held same =
-      let named = carried provider kept failed (IsNamed (IsUsed book commands)) commands replies book after before later
-      (λ command there one next given holds none does. named-after (IsUsed book commands) one next command given holds (λ user about. inr (command, there, about)) does) begins run in
-      let bound : AreNamed (IsUsed book commands) page.bindings = All-contains (λ (each : Page). AreNamed (IsUsed book commands) each.bindings) (pages after) page
-      (All-from_recursion (λ (each : Page). AreNamed (IsUsed book commands) each.bindings) (pages after) named.pages) (sealed-page provider 0 _ (pages after) (record { page = page; root = root }) rooted) in
-      let user : IsUsed book commands entry.0 = (All-contains (λ (each : List ℕ × Binding). IsUsed book commands each.0 × ⊤) page.bindings entry (All-from_recursion (λ (each : List ℕ × Binding). IsUsed book commands each.0 × ⊤) page.bindings bound) held).0 in
+      let named = carried provider kept failed (IsNamed (IsMentioned book commands)) commands replies book after before later
+      (λ command there one next given holds none does. named-after (IsMentioned book commands) one next command given holds (λ user about. inr (command, there, about)) does) begins run in
+      let bound : AreNamed (IsMentioned book commands) page.bindings = All-contains (λ (each : Page). AreNamed (IsMentioned book commands) each.bindings) (pages after) page
+      (All-from_recursion (λ (each : Page). AreNamed (IsMentioned book commands) each.bindings) (pages after) named.pages) (sealed-page provider 0 _ (pages after) (record { page = page; root = root }) rooted) in
+      let user : IsMentioned book commands entry.0 = (All-contains (λ (each : List ℕ × Binding). IsMentioned book commands each.0 × ⊤) page.bindings entry (All-from_recursion (λ (each : List ℕ × Binding). IsMentioned book commands each.0 × ⊤) page.bindings bound) held).0 in
       differ entry.0 name user (inr (asked, there, about)) same

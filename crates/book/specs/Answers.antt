@@ -2,6 +2,7 @@
 use Rattle.std.specs.Prelude.{ℕ, ◌&&◌, ◌||◌, not, nat_le, Bool, false, if◌then◌else◌, List, [], ◌∷◌, length, filter, take, find, Option, Some, None, is_some, is_none, unwrap_or}
 use Rattle.std.specs.Str.{bytes_eq}
 use Rattle.rand_core.specs.Stream.{fill_bytes}
+use Rattle.encoding.specs.Reading.{is_within}
 use Rattle.encoding.specs.declared.bounded.TheConstants.{MIN_LEN}
 use Rattle.encoding.specs.declared.key_data.TheConstants.{MAX_KEY_DATA_LEN}
 use Rattle.encoding.specs.declared.name.TheConstants.{MAX_NAME_LEN}
@@ -11,21 +12,21 @@ use Rattle.commands.specs.declared.edit.Verb.{Verb}
 use Rattle.commands.specs.declared.edit.Verb.TheVariants.{Register, Change}
 use Rattle.commands.specs.Operations.{Operation, Question, Revision, Query, Edit, Put, Turn, Promise, Lookup, History, Head}
 use Rattle.book.specs.Books.{Binding, Book, Page, page_at, pages}
-use Rattle.book.specs.Maps.{Map, at, overwritten, put}
+use Rattle.book.specs.Maps.{Map, at, overwritten, put_name}
 
 -- the first of some tests that holds
 abbrev pub first : List (Bool × Refusal) → Option Refusal
 first [] = None
 first (test ∷ tests) = if test.0 then Some test.1 else first tests
 
-abbrev pub is_within : ℕ → ℕ → List ℕ → Bool
-is_within least most bytes = nat_le least (length bytes) && nat_le (length bytes) most
+abbrev pub has_length_within : ℕ → ℕ → List ℕ → Bool
+has_length_within least most bytes = is_within least most (length bytes)
 
 abbrev pub bad_name : List ℕ → Bool × Refusal
-bad_name name = (not (is_within MIN_LEN MAX_NAME_LEN name), BadName)
+bad_name name = (not (has_length_within MIN_LEN MAX_NAME_LEN name), BadName)
 
 abbrev pub bad_key : List ℕ → Bool × Refusal
-bad_key key = (not (is_within MIN_LEN MAX_KEY_DATA_LEN key), BadKey)
+bad_key key = (not (has_length_within MIN_LEN MAX_KEY_DATA_LEN key), BadKey)
 
 -- what a book answers, where nothing refuses
 pub data Answer : Type 0 where
@@ -41,7 +42,7 @@ pub data Answer : Type 0 where
 -- the name's binding waits with the next salt, and the salt after it is drawn
 abbrev pub with_pending : Book → List ℕ → List ℕ → Book
 with_pending book name key = record book {
-  pending = put book.pending name (record { key = key; salt = book.salt });
+  pending = put_name book.pending name (record { key = key; salt = book.salt });
   salt = (fill_bytes 32 book.left).0;
   left = (fill_bytes 32 book.left).1;
 }

@@ -35,16 +35,16 @@ module _ (index_of : List ℕ → List ℕ) where
   step_under_fate fate book asked = under_fate fate book (kept_of book asked) (step index_of book asked)
 
   -- steps one after another, each from the book that the one before left
-  abbrev pub folded : Book → List Operation → List Fate → List Outcome × Book
-  folded book [] fates = ([], book)
-  folded book (asked ∷ more) [] = ([], book)
-  folded book (asked ∷ more) (fate ∷ fates) = before (step_under_fate fate book asked).0 (folded (step_under_fate fate book asked).1 more fates)
+  abbrev pub steps_under_fates : Book → List Operation → List Fate → List Outcome × Book
+  steps_under_fates book [] fates = ([], book)
+  steps_under_fates book (asked ∷ more) [] = ([], book)
+  steps_under_fates book (asked ∷ more) (fate ∷ fates) = before (step_under_fate fate book asked).0 (steps_under_fates (step_under_fate fate book asked).1 more fates)
 
 -- the reply is a refusal of the same name, or one of the answer's kind
-abbrev pub Tells : Outcome → Reply → Type 0
-Tells (Refuses why) (reply.Refused told) = told ≡ why
-Tells (Answers (Promised name binding)) (reply.Promised signed) = ⊤
-Tells (Answers (Found page name found)) (reply.Found text) = ⊤
-Tells (Answers (Told pages)) (reply.Told told) = ⊤
-Tells (Answers (Last page)) (reply.Last root) = ⊤
-Tells outcome said = ⊥
+abbrev pub TellsOutcome : Outcome → Reply → Type 0
+TellsOutcome (Refuses why) (reply.Refused told) = told ≡ why
+TellsOutcome (Answers (Promised name binding)) (reply.Promised signed) = ⊤
+TellsOutcome (Answers (Found page name found)) (reply.Found text) = ⊤
+TellsOutcome (Answers (Told pages)) (reply.Told told) = ⊤
+TellsOutcome (Answers (Last page)) (reply.Last root) = ⊤
+TellsOutcome outcome said = ⊥

@@ -31,5 +31,5 @@ pub record KeepsLaws (accepted verified : List ℕ → List ℕ → List ℕ →
   pub vuf_key_size : Is32Bytes provider.vuf_key
 
 -- the provider of these functions, under its two public keys
-abbrev pub provider_of : (List ℕ → List ℕ) → (List ℕ → List ℕ → List ℕ) → List ℕ → (List ℕ → List ℕ → List ℕ) → List ℕ → Provider
-provider_of digest_of value_of vuf_key signature_of key = record { hash = digest_of; value = value_of vuf_key; vuf_key = vuf_key; sign = signature_of key }
+abbrev pub keyed_provider : (List ℕ → List ℕ) → (List ℕ → List ℕ → List ℕ) → List ℕ → (List ℕ → List ℕ → List ℕ) → List ℕ → Provider
+keyed_provider digest_of value_of vuf_key signature_of key = record { hash = digest_of; value = value_of vuf_key; vuf_key = vuf_key; sign = signature_of key }

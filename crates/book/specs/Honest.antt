@@ -8,8 +8,8 @@ use Rattle.rootchain.specs.SignedRoots.{IsSignedRoot}
 use Rattle.rootchain.specs.declared.signed_promise.SignedPromise.{SignedPromise}
 use Rattle.rootchain.specs.declared.signed_root.SignedRoot.{SignedRoot}
 use Rattle.proofs.specs.Accepts.{Accepts, HasIndex}
-use Rattle.proofs.specs.Refusals.{IsFirst, Passes}
-use Rattle.proofs.specs.Replies.{Reply as ReplyRead, Spells}
+use Rattle.proofs.specs.Refusals.{IsFirstToFail, Passes}
+use Rattle.proofs.specs.Replies.{Reply as ReplyRead, SpellsReply}
 use Rattle.proofs.specs.declared.refusal.Refusal.TheVariants.{SameIndex}
 use Rattle.book.specs.declared.reply.Reply.{Reply}
 use Rattle.book.specs.declared.reply.Reply.TheVariants as reply
@@ -19,7 +19,7 @@ use Rattle.rootchain.specs.Evidence.{AreEvidence}
 use Rattle.proofs.specs.BrokenPromises.{IsBrokenPromise}
 use Rattle.book.specs.Maps.{at}
 use Rattle.book.specs.Shows.{Provider, index_of, roots, IsRootOf}
-use Rattle.book.specs.Sound.{IsHeld}
+use Rattle.book.specs.Sound.{HoldsName}
 use Rattle.proofs.specs.Watches.{Watch, expected}
 
 -- this reply came to this command
@@ -55,12 +55,12 @@ abbrev pub key_at : Page → List ℕ → Option (List ℕ)
 key_at page name = option_map (λ (binding : Binding). binding.key) (at page.bindings name)
 
 -- the reply tells this signed root
-abbrev pub Tells : Reply → SignedRoot → Type 0
-Tells (reply.Promised signed) root = ⊥
-Tells (reply.Found text) root = ⊥
-Tells (reply.Told told) root = Contains told.items root
-Tells (reply.Last last) root = last ≡ root
-Tells (reply.Refused why) root = ⊥
+abbrev pub TellsRoot : Reply → SignedRoot → Type 0
+TellsRoot (reply.Promised signed) root = ⊥
+TellsRoot (reply.Found text) root = ⊥
+TellsRoot (reply.Told told) root = Contains told.items root
+TellsRoot (reply.Last last) root = last ≡ root
+TellsRoot (reply.Refused why) root = ⊥
 
 -- the page is the one that is asked for by this epoch, where 0 asks for the last
 abbrev pub IsAskedBy : ℕ → ℕ → Page → Type 0
@@ -98,13 +98,13 @@ IsPromisedBy (Edit (Put verb name key)) for bound = (for ≡ name) × (bound ≡
 IsPromisedBy (Edit (Turn epoch _)) for bound = ⊥
 
 -- the book holds the name, or a command is about it
-abbrev pub IsUsed : Book → List Operation → List ℕ → Type 0
-IsUsed book commands name = IsHeld book name ⊎ ((command : Operation) × Contains commands command × IsAbout command name)
+abbrev pub IsMentioned : Book → List Operation → List ℕ → Type 0
+IsMentioned book commands name = HoldsName book name ⊎ ((command : Operation) × Contains commands command × IsAbout command name)
 
 module _ (provider : Provider) where
   -- two names that are held or asked about, and have one index, are one name
   abbrev pub UsersDiffer : Book → List Operation → Type 0
-  UsersDiffer book commands = (name other : List ℕ) → IsUsed book commands name → IsUsed book commands other
+  UsersDiffer book commands = (name other : List ℕ) → IsMentioned book commands name → IsMentioned book commands other
       → index_of provider name ≡ index_of provider other → name ≡ other
 
   module _ (accepted verified : List ℕ → List ℕ → List ℕ → Type 0) (key : List ℕ) (after : Book) where
@@ -132,8 +132,8 @@ module _ (provider : Provider) where
       pub held : Contains page.bindings other
       pub same_index : index_of provider other.0 ≡ index_of provider name
       pub reply : ReplyRead
-      pub spelled : Spells text reply
-      pub refused : IsFirst (Passes provider.hash accepted root.body name reply) SameIndex
+      pub spelled : SpellsReply text reply
+      pub refused : IsFirstToFail (Passes provider.hash accepted root.body name reply) SameIndex
 
     -- the promise is what the command asks for, signed over the root of a page, and the next page has its key
     pub record IsKept (command : Operation) (promised : SignedPromise) : Type 0 where
@@ -151,13 +151,13 @@ module _ (provider : Provider) where
 
   module _ (accepted verified : List ℕ → List ℕ → List ℕ → Type 0) (key : List ℕ) where
     -- what the users see of the commands and replies of a run from one book to another
-    pub record IsHonest (before after : Book) (commands : List Operation) (replies : List Reply) : Type 0 where
+    pub record IsHonestRun (before after : Book) (commands : List Operation) (replies : List Reply) : Type 0 where
       -- the signed roots of all pages are a chain
       pub chain : IsChain provider.hash verified (record { key = key; roots = roots provider after })
       -- each has a spelling
       pub forms : All IsSignedRoot (roots provider after)
       -- each root that is told is one of it
-      pub told : (command : Operation) (said : Reply) (root : SignedRoot) → IsSaid commands replies command said → Tells said root → Contains (roots provider after) root
+      pub told : (command : Operation) (said : Reply) (root : SignedRoot) → IsSaid commands replies command said → TellsRoot said root → Contains (roots provider after) root
       -- the roots of a list that is told are consecutive
       pub listed : (command : Operation) (said : Reply) → IsSaid commands replies command said → ListsInOrder (roots provider after) said
       -- who took some that are consecutive, from whichever on, has a chain, and takes the next one, if there is

@@ -9,7 +9,7 @@ use Rattle.commands.specs.declared.edit.Verb.{Verb}
 use Rattle.commands.specs.Operations.{Revision, Edit, Put, Turn}
 use Rattle.book.specs.Answers.{first, put_tests, refusal}
 use Rattle.book.specs.Books.{Binding, Book}
-use Rattle.book.specs.Maps.{put}
+use Rattle.book.specs.Maps.{put_name}
 use Rattle.book.specs.Steps.{Outcome, Answers, Refuses, step}
 
 -- what a record was kept of; a start is kept of no command
@@ -30,7 +30,7 @@ with_salts_of other book = record book { salt = other.salt; left = other.left }
 
 -- the book in which this waits at a name too, while the salts to come stay
 abbrev pub with_bound : Book → List ℕ → Binding → Book
-with_bound book name binding = record book { pending = put book.pending name binding }
+with_bound book name binding = record book { pending = put_name book.pending name binding }
 
 -- the book after a step, if it was not refused
 abbrev pub after_answer : Outcome × Book → Option Book

@@ -14,13 +14,13 @@ pub data ReplyContent : Type 0 where
   Last : SignedRoot → ReplyContent
   Refused : Refusal → ReplyContent
 
-abbrev pub seen : Reply → ReplyContent
-seen (reply.Promised promise) = Promised promise
-seen (reply.Found text) = Found text
-seen (reply.Told told) = Told told.items
-seen (reply.Last root) = Last root
-seen (reply.Refused why) = Refused why
+abbrev pub reply_content : Reply → ReplyContent
+reply_content (reply.Promised promise) = Promised promise
+reply_content (reply.Found text) = Found text
+reply_content (reply.Told told) = Told told.items
+reply_content (reply.Last root) = Last root
+reply_content (reply.Refused why) = Refused why
 
 -- neither call ran out of memory, and the keeper failed in both or in neither
 abbrev pub FailAlike : Reply → Reply → Type 0
-FailAlike said other = (seen said ≢ Refused Memory) × (seen other ≢ Refused Memory) × ((seen said ≡ Refused KeepFailed) ↔ (seen other ≡ Refused KeepFailed))
+FailAlike said other = (reply_content said ≢ Refused Memory) × (reply_content other ≢ Refused Memory) × ((reply_content said ≡ Refused KeepFailed) ↔ (reply_content other ≡ Refused KeepFailed))

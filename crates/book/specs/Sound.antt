@@ -30,8 +30,8 @@ abbrev pub HasNamesOf : Page → Page → Type 0
 HasNamesOf page later = (name : List ℕ) → IsSome (at page.bindings name) → IsSome (at later.bindings name)
 
 -- the last page has the name, or it waits for the next
-abbrev pub IsHeld : Book → List ℕ → Type 0
-IsHeld book name = IsSome (at book.last.bindings name) ⊎ IsSome (at book.pending name)
+abbrev pub HoldsName : Book → List ℕ → Type 0
+HoldsName book name = IsSome (at book.last.bindings name) ⊎ IsSome (at book.pending name)
 
 pub record IsSound (index_of : List ℕ → List ℕ) (book : Book) : Type 0 where
   -- epochs ascend, and names stay
@@ -40,5 +40,5 @@ pub record IsSound (index_of : List ℕ → List ℕ) (book : Book) : Type 0 whe
   pub pending : AreBindings book.pending
   pub salt : Is32Bytes book.salt
   -- names that are held have indices of their own
-  pub apart : (one other : List ℕ) → IsHeld book one → IsHeld book other → index_of one ≡ index_of other → one ≡ other
+  pub apart : (one other : List ℕ) → HoldsName book one → HoldsName book other → index_of one ≡ index_of other → one ≡ other
   pub pages : All IsPage (pages book)

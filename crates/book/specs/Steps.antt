@@ -13,9 +13,9 @@ pub data Outcome : Type 0 where
   Refuses : Refusal → Outcome
 
 -- the promise of what waits for a name, if something does
-abbrev pub promise_of : List ℕ → Option Binding → Outcome
-promise_of name None = Refuses NoPromise
-promise_of name (Some binding) = Answers (Promised name binding)
+abbrev pub promise_outcome : List ℕ → Option Binding → Outcome
+promise_outcome name None = Refuses NoPromise
+promise_outcome name (Some binding) = Answers (Promised name binding)
 
 -- what a page has at a name, if there is such a page
 abbrev pub found_in : List ℕ → Option Page → Outcome
@@ -24,7 +24,7 @@ found_in name (Some page) = Answers (Found page name (at page.bindings name))
 
 -- what comes of a query that is not refused
 abbrev pub read : Book → Question → Outcome
-read book (Promise name) = promise_of name (at book.pending name)
+read book (Promise name) = promise_outcome name (at book.pending name)
 read book (Lookup name epoch) = found_in name (page_at book epoch)
 read book (History from count) = Answers (Told (page_range book from count))
 read book Head = Answers (Last book.last)

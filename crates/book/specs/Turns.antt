@@ -35,9 +35,9 @@ module _ (provider : Provider) where
 
   module _ {K : Type 0} (kept failed : K → Record → K → Type 0) where
     -- the keeper kept the record, where there is one
-    abbrev pub Keeps : K → Option Record → K → Type 0
-    Keeps keeper None after = after ≡ keeper
-    Keeps keeper (Some record_kept) after = kept keeper record_kept after
+    abbrev pub KeepsOne : K → Option Record → K → Type 0
+    KeepsOne keeper None after = after ≡ keeper
+    KeepsOne keeper (Some record_kept) after = kept keeper record_kept after
 
     -- why a call may refuse: as the step does; where the step does not, for want of memory or since the
     -- keeper failed, but only a command that has a record to keep
@@ -52,7 +52,7 @@ module _ (provider : Provider) where
     Turn book keeper asked (reply.Refused why) book_after keeper_after =
         (book_after ≡ book) × Declines (step (index_of provider) book asked).0 (kept_of book asked) keeper why keeper_after
     Turn book keeper asked answered book_after keeper_after = (answer : Answer)
-        × (step (index_of provider) book asked ≡ (Answers answer, book_after)) × Keeps keeper (kept_of book asked) keeper_after × Shows book_after answer answered
+        × (step (index_of provider) book asked ≡ (Answers answer, book_after)) × KeepsOne keeper (kept_of book asked) keeper_after × Shows book_after answer answered
 
     -- calls one after another
     abbrev pub Run : Book → K → List Operation → List Reply → Book → K → Type 0
@@ -63,14 +63,14 @@ module _ (provider : Provider) where
     Run book keeper (asked ∷ more) [] book_after keeper_after = ⊥
 
   -- the command is answered so, and is one that leaves the book as it is
-  abbrev pub IsRead : Book → Operation → Answer → Type 0
-  IsRead book asked answer = step (index_of provider) book asked ≡ (Answers answer, book)
+  abbrev pub IsReadAnswer : Book → Operation → Answer → Type 0
+  IsReadAnswer book asked answer = step (index_of provider) book asked ≡ (Answers answer, book)
 
   -- the command is refused so
   abbrev pub IsRefused : Book → Operation → Refusal → Type 0
   IsRefused book asked why = step (index_of provider) book asked ≡ (Refuses why, book)
 
   -- a call that keeps no record and leaves the book as it is: the reply shows the answer, or is the refusal
-  abbrev pub Reads : Book → Operation → Reply → Type 0
-  Reads book asked (reply.Refused why) = IsRefused book asked why
-  Reads book asked answered = (answer : Answer) × IsRead book asked answer × Shows book answer answered
+  abbrev pub ReadsOnly : Book → Operation → Reply → Type 0
+  ReadsOnly book asked (reply.Refused why) = IsRefused book asked why
+  ReadsOnly book asked answered = (answer : Answer) × IsReadAnswer book asked answer × Shows book answer answered

@@ -6,13 +6,13 @@ ghost use Rattle.book.specs.Answers.{Answer};
 ghost use Rattle.commands.specs.Operations.{Operation, Edit, IsCommand, Turn};
 ghost use Rattle.rootchain.specs.declared.body.Body.{Body};
 ghost use Rattle.book.specs.Books.{Book, Page, pages};
-ghost use Rattle.book.specs.Folds.{Fate, Tells, folded};
+ghost use Rattle.book.specs.Folds.{Fate, TellsOutcome, steps_under_fates};
 ghost use Rattle.book.specs.Fresh.{KeepsLaws};
-ghost use Rattle.book.specs.Honest.{IsHonest};
+ghost use Rattle.book.specs.Honest.{IsHonestRun};
 ghost use Rattle.book.specs.Keeps.{fails_next, keeps_next};
 ghost use Rattle.book.specs.Maps.{at, overwritten};
 ghost use Rattle.book.specs.Salted.{salted};
-ghost use Rattle.book.specs.Replies.{seen, FailAlike};
+ghost use Rattle.book.specs.Replies.{reply_content, FailAlike};
 ghost use Rattle.book.specs.Shows.{index_of, IsReplyOf, Provider};
 ghost use Rattle.book.specs.Sound.{IsSound};
 ghost use Rattle.book.specs.Steps.{Answers, step};
@@ -33,7 +33,7 @@ pub fn honest<V: VufCheck, S: Verifier, K: Keeper>()
         → IsSound (index_of provider) book → IsSound (index_of provider) after
         → All IsCommand commands
         → Run provider K.kept K.failed book keeper commands replies after keeper_after
-        → IsHonest provider V.accepted S.verified key book after commands replies }
+        → IsHonestRun provider V.accepted S.verified key book after commands replies }
 {}
 
 /// A run with any keeper is one with a list that says of each record whether it was kept.
@@ -59,7 +59,7 @@ pub fn runs_are_settled<K: Keeper, L: Keeper>()
         → AllZip FailAlike replies others
         → Run provider K.kept K.failed book keeper commands replies after later
         → Run provider L.kept L.failed book beside commands others left behind
-        → (after ≡ left) × (map seen replies ≡ map seen others) }
+        → (after ≡ left) × (map reply_content replies ≡ map reply_content others) }
 {}
 
 /// A run, with whatever keeper, is the fold of the steps of its commands under some fate of each:
@@ -70,8 +70,8 @@ pub fn runs_are_folds<K: Keeper>()
         → (commands : List Operation) (replies : List Reply)
         → Run provider K.kept K.failed book keeper commands replies after keeper_after
         → (fates : List Fate) × (length fates ≡ length commands)
-        × ((folded (index_of provider) book commands fates).1 ≡ after)
-        × AllZip Tells (folded (index_of provider) book commands fates).0 replies }
+        × ((steps_under_fates (index_of provider) book commands fates).1 ≡ after)
+        × AllZip TellsOutcome (steps_under_fates (index_of provider) book commands fates).0 replies }
 {}
 
 /// A close that is not refused makes a page of its epoch and nonce, of the last page's map overwritten

@@ -45,11 +45,11 @@ pub enum Refusal {
 }
 
 impl Refusal {
-    ghost use Rattle.book.specs.Refusals.{refusal_number};
+    ghost use Rattle.book.specs.Refusals.{book_refusal_number};
 
     /// The number of this refusal.
     pub fn number(self) -> u8
-        ensures { result ≡ refusal_number self }
+        ensures { result ≡ book_refusal_number self }
     {
         match self {
             Refusal::BadName => 4,

@@ -12,7 +12,7 @@ use Rattle.rootchain.specs.SignedRoots.{IsSignedRoot}
 use Rattle.rootchain.proofs.Chains.{ascend-linked, one-root}
 use Rattle.rootchain.proofs.Places.{rising}
 use Rattle.proofs.specs.Accepts.{stated, States}
-use Rattle.client.specs.Clients.{Client, HasRootOf, IsPromised, IsSound}
+use Rattle.client.specs.Clients.{Client, HasRootOf, IsPromised, IsSoundClient}
 use Rattle.client.specs.Dues.{DueHolds, Dues, IsTested, Tests}
 use Rattle.client.specs.declared.due.Due.{Due}
 use Rattle.client.specs.declared.due.Due.TheVariants.{Kept, Broken, OtherIndex}
@@ -47,7 +47,7 @@ next-names hash roots key own root linked has next = elim (cases_lt has.0 next.0
 ]
 
 module _ (hash : List ℕ → List ℕ) (accepted verified : List ℕ → List ℕ → List ℕ → Type 0) (before : Client) (name bytes : List ℕ) where
-  pub due-holds : IsChain hash verified before.chain → IsSound hash accepted verified before → (place : ℕ) (signed : SignedPromise) → IsTested before.promises name place signed
+  pub due-holds : IsChain hash verified before.chain → IsSoundClient hash accepted verified before → (place : ℕ) (signed : SignedPromise) → IsTested before.promises name place signed
       → (due : Due) → Tests hash accepted before.chain name bytes signed (Ok due) → DueHolds hash accepted verified before.chain.key due
   unfolding HasRootOf Names
   due-holds chain sound place signed is Kept tests = tt

@@ -7,7 +7,7 @@ use Rattle.rootchain.specs.declared.piece_refusal.PieceRefusal.{PieceRefusal}
 use Rattle.rootchain.specs.declared.piece_refusal.PieceRefusal.TheVariants as piece
 use Rattle.rootchain.proofs.TakingPieces.{cuts}
 use Rattle.client.specs.Clients.{Client}
-use Rattle.client.specs.UpdatingFrom.{piece_told_as, with_chain, UpdatesInPieces, CuttingDoesNotMatter}
+use Rattle.client.specs.UpdatingFrom.{piece_told_as, with_chain, UpdatesInPieces, UpdatesMayBeCut}
 use Rattle.client.specs.declared.refusal.Refusal.{Refusal}
 use Rattle.client.specs.declared.refusal.Refusal.TheVariants.{Memory}
 
@@ -47,7 +47,7 @@ module _ (hash : List ℕ → List ℕ) (verified : List ℕ → List ℕ → Li
         more.1 ∙ ap (λ (c : Client). with_chain c after.chain) one.3,
       )
 
-  pub cuts-of : CuttingDoesNotMatter hash verified
+  pub cuts-of : UpdatesMayBeCut hash verified
   cuts-of before roots pieces after held' spelled calls =
       let t = chain-takes pieces before _ after held' calls in
       (cuts hash verified before.chain roots pieces after.chain held' spelled t.0, t.1)

@@ -7,8 +7,8 @@ use Rattle.rootchain.specs.declared.signed_root.SignedRoot.{SignedRoot}
 use Rattle.rootchain.proofs.Places.{ends, one-first}
 use Rattle.proofs.specs.Comparisons.{IsAcceptedReply}
 use Rattle.proofs.specs.Replies.{Reply}
-use Rattle.client.specs.Clients.{Client, IsSound, with_look}
-use Rattle.client.specs.Looking.{IsAnswered, IsAsked}
+use Rattle.client.specs.Clients.{Client, IsSoundClient, with_look}
+use Rattle.client.specs.Looking.{IsAnswered, IsLookRoot}
 
 pub one-more : {A : Type 0} (P : A → Type 0) (xs : List A) (x : A) → AllByRecursion P xs → P x → AllByRecursion P (xs ++ x ∷ [])
 one-more P [] x all is = (is, tt)
@@ -25,17 +25,17 @@ head-at chain root head = by chain.roots refl head
         let same : e.head ≡ root = one-first e.head root _ e.at-head at in
         rw is (rw same at e.has-head, refl)
 
-asked-epoch : (chain : KeyedRoots) (epoch : ℕ) (root : SignedRoot) → IsAsked chain epoch root → IsAt chain root.body.epoch root
+asked-epoch : (chain : KeyedRoots) (epoch : ℕ) (root : SignedRoot) → IsLookRoot chain epoch root → IsAt chain root.body.epoch root
 asked-epoch chain zero root asked = head-at chain root asked
 asked-epoch chain (suc n) root asked = (asked.0, refl)
 
 module _ (hash : List ℕ → List ℕ) (accepted verified : List ℕ → List ℕ → List ℕ → Type 0) (before : Client) where
-  module _ (name : List ℕ) (epoch : ℕ) (bytes : List ℕ) (root : SignedRoot) (reply : Reply) (asked : IsAsked before.chain epoch root) (is : IsAcceptedReply hash accepted root.body name bytes reply) where
+  module _ (name : List ℕ) (epoch : ℕ) (bytes : List ℕ) (root : SignedRoot) (reply : Reply) (asked : IsLookRoot before.chain epoch root) (is : IsAcceptedReply hash accepted root.body name bytes reply) where
     pub answered : IsAnswered hash accepted before name epoch bytes root reply
     unfolding IsAnswered
     answered = (asked, is)
 
-    pub look-kept : IsName name → IsSound hash accepted verified before → IsSound hash accepted verified (with_look before (record { name = name; epoch = root.body.epoch; reply = bytes }))
+    pub look-kept : IsName name → IsSoundClient hash accepted verified before → IsSoundClient hash accepted verified (with_look before (record { name = name; epoch = root.body.epoch; reply = bytes }))
     look-kept named sound = record {
       roots = sound.roots;
       looks = one-more _ before.looks _ sound.looks (record { named = named; root = root; at = asked-epoch before.chain epoch root asked; reply = reply; is = is });

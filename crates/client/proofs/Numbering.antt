@@ -7,7 +7,7 @@ use Rattle.std.specs.declared.cmp.Ordering.{Ordering}
 use Rattle.std.specs.declared.cmp.Ordering.TheVariants.{Less, Equal, Greater}
 use Rattle.std.proofs.lemmas.Bool.{cases_lt}
 use Rattle.std.proofs.lemmas.Cmp.{ranked}
-use Rattle.client.specs.Numbered.{AreNumbered, first_numbered, in_order, is_numbered}
+use Rattle.client.specs.Numbered.{AreNumbered, all_numbered, first_numbered, is_numbered}
 
 -- where a comparison that ends with that of two numbers finds no difference
 pub one-number : (before : Ordering) (m n : ℕ) → ordering_then before (nat_cmp m n) ≡ Equal → m ≡ n
@@ -98,6 +98,6 @@ module _ {K X : Type 0} (number : K → ℕ) (cmp : K → K → Ordering) (key :
       first-same (suc n) few =
           rw (first-same n (omega (arith, few)), others-stay n entries (ne_eqb (number key) n (λ same. omega (arith, same, few, last))) after-all) refl
 
-      pub comes-last : in_order number look (more entries) ≡ in_order number look entries ++ look (key, value) ∷ []
+      pub comes-last : all_numbered number look (more entries) ≡ all_numbered number look entries ++ look (key, value) ∷ []
       comes-last =
           rw (length-more entries after-all, first-same (length entries) (omega arith), own-alone (length entries) entries last after-all) refl

@@ -6,10 +6,10 @@ use Rattle.std.specs.Map.{keys_of}
 use Rattle.std.proofs.lemmas.Bool.{cases_lt}
 use Rattle.std.proofs.lemmas.List.{append-nil}
 use Rattle.proofs.specs.Accepts.{stated}
-use Rattle.proofs.specs.Replies.{Reply, Spells}
+use Rattle.proofs.specs.Replies.{Reply, SpellsReply}
 use Rattle.client.specs.Agreements.{AllState, AllStateBelow, AreBeside, IsFirstOther, LookStates, SpellsOne}
 use Rattle.client.specs.Clients.{Look}
-use Rattle.client.specs.Numbered.{AreNumbered, in_order}
+use Rattle.client.specs.Numbered.{AreNumbered, all_numbered}
 use Rattle.client.specs.declared.looks.LookPlace.{LookPlace}
 use Rattle.client.proofs.Groups.{below-number, below_of, beside-below, beside-from, cmp_place, filter-sorted, from-filter, from_of, in-filter, in-parts, in-second, later-number, none-above, none-below, of-each, sorted, sorted-end, sorted-front, AreGone, AreSorted, Entries, IsIn}
 use Rattle.client.proofs.Seen.{seen, stored}
@@ -32,7 +32,7 @@ module _ {X : Type 0} (bytes : X → List ℕ) where
     pub seen : (e : LookPlace × X) → IsIn entries e → slice_get looks e.0.number ≡ Some (look_of e)
     pub whole : (n : ℕ) (look : Look) → slice_get looks n ≡ Some look → (e : LookPlace × X) × IsIn entries e × (e.0.number ≡ n) × (look_of e ≡ look)
 
-  pub all-are : (entries : Entries X) → AreNumbered (λ p. p.number) entries → IsStrictlySortedBy cmp_place (keys_of entries) → AreAll (in_order (λ p. p.number) look_of entries) entries
+  pub all-are : (entries : Entries X) → AreNumbered (λ p. p.number) entries → IsStrictlySortedBy cmp_place (keys_of entries) → AreAll (all_numbered (λ p. p.number) look_of entries) entries
   all-are entries numbered ordered = record {
     sorted = sorted entries ordered;
     seen = λ e is. seen (λ p. p.number) look_of entries numbered e is;
@@ -40,7 +40,7 @@ module _ {X : Type 0} (bytes : X → List ℕ) where
   }
 
   abbrev pub States : Option (List ℕ) → LookPlace × X → Type 0
-  States told e = (read : Reply) → Spells (bytes e.1) read → stated read.end ≡ told
+  States told e = (read : Reply) → SpellsReply (bytes e.1) read → stated read.end ≡ told
 
   module _ (looks : List Look) (place : LookPlace) (told : Option (List ℕ)) (spelled : AllByRecursion (λ look. SpellsOne look.reply) looks) (entries : Entries X) (all : AreAll looks entries) where
     pub spells : (e : LookPlace × X) → IsIn entries e → SpellsOne (bytes e.1)
@@ -97,7 +97,7 @@ module _ {X : Type 0} (bytes : X → List ℕ) where
       before = λ n earlier low at named of_epoch. before n earlier low (entry-of n earlier at named of_epoch);
     }
 
-    pub does-not : (e : LookPlace × X) → IsIn entries e → AreBeside place e.0 → (answer : Bool) → answer ≡ false → ((read : Reply) → Spells (bytes e.1) read → IsTrue answer ↔ (stated read.end ≡ told)) → IsOther e (bytes e.1)
+    pub does-not : (e : LookPlace × X) → IsIn entries e → AreBeside place e.0 → (answer : Bool) → answer ≡ false → ((read : Reply) → SpellsReply (bytes e.1) read → IsTrue answer ↔ (stated read.end ≡ told)) → IsOther e (bytes e.1)
     does-not e there beside answer fails test = record {
       beside = beside;
       there = there;

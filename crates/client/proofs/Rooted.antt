@@ -5,13 +5,13 @@ use Rattle.rootchain.specs.Chains.{IsAt, KeyedRoots}
 use Rattle.rootchain.specs.declared.promise.Promise.{Promise}
 use Rattle.rootchain.specs.declared.signed_root.SignedRoot.{SignedRoot}
 use Rattle.client.specs.Clients.{HasRootOf}
-use Rattle.client.specs.Looking.{IsAsked}
+use Rattle.client.specs.Looking.{IsLookRoot}
 
 some-root : (one other : SignedRoot) → Some one ≡ Some other → one ≡ other
 some-root one other same = cc
 
 -- the root of a later epoch than 0
-pub asked-at : (chain : KeyedRoots) (n : ℕ) (found : Option SignedRoot) → n ≢ 0 → ((root : SignedRoot) → (found ≡ Some root) ↔ IsAt chain n root) → (root : SignedRoot) → (found ≡ Some root) ↔ IsAsked chain n root
+pub asked-at : (chain : KeyedRoots) (n : ℕ) (found : Option SignedRoot) → n ≢ 0 → ((root : SignedRoot) → (found ≡ Some root) ↔ IsAt chain n root) → (root : SignedRoot) → (found ≡ Some root) ↔ IsLookRoot chain n root
 asked-at chain zero found some is = absurd (some refl)
 asked-at chain (suc n) found some is = is
 

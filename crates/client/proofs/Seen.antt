@@ -2,7 +2,7 @@
 use Rattle.std.proofs.Common.{◌≡◌, ℕ, zero, suc, ◌<◌, ◌≤◌, inl, inr, List, [], ◌∷◌, ◌++◌, length, map, filter, slice_get, Some, true, false, nat_eq, eq-eqb, ne_eqb, length-append, refl, sym, ap, subst, ◌∙◌, arith}
 use Rattle.std.proofs.lemmas.Bool.{cases_eq, cases_lt}
 use Rattle.std.proofs.lemmas.Option.{slice_get_within}
-use Rattle.client.specs.Numbered.{AreNumbered, first_numbered, in_order, is_numbered}
+use Rattle.client.specs.Numbered.{AreNumbered, all_numbered, first_numbered, is_numbered}
 use Rattle.client.proofs.Groups.{IsIn, from-filter, in-filter, of-each}
 
 get-front : {X : Type 0} (xs ys : List X) (n : ℕ) → n < length xs → slice_get (xs ++ ys) n ≡ slice_get xs n
@@ -53,7 +53,7 @@ module _ {K X L : Type 0} (number : K → ℕ) (look : K × X → L) (entries : 
         rw alone last
   ]
 
-  pub seen : (e : K × X) → IsIn entries e → slice_get (in_order number look entries) (number e.0) ≡ Some (look e)
+  pub seen : (e : K × X) → IsIn entries e → slice_get (all_numbered number look entries) (number e.0) ≡ Some (look e)
   seen e is =
       let low : number e.0 < length entries = of-each _ entries e numbered.below is in
       let one = the-sole (number e.0) low in
@@ -68,13 +68,13 @@ module _ {K X L : Type 0} (number : K → ℕ) (look : K × X → L) (entries : 
     pub numbered_so : number entry.0 ≡ n
     pub same : look entry ≡ l
 
-  pub stored : (n : ℕ) (l : L) → slice_get (in_order number look entries) n ≡ Some l → IsStored n l
+  pub stored : (n : ℕ) (l : L) → slice_get (all_numbered number look entries) n ≡ Some l → IsStored n l
   stored n l at =
-      let within : n < length (in_order number look entries) = slice_get_within _ n l at in
+      let within : n < length (all_numbered number look entries) = slice_get_within _ n l at in
       let low : n < length entries = subst (λ (k : ℕ). n < k) (length-first (length entries) (omega arith)) within in
       let one = the-sole n low in
       let own : IsIn (filter (is_numbered number n) entries) one.x = subst (λ (es : List (K × X)). IsIn es one.x) (sym one.is) (inl refl) in
       let from = from-filter (is_numbered number n) entries one.x own in
-      let here : slice_get (in_order number look entries) n ≡ Some (look one.x) = at-first (length entries) n (omega arith) low one.x one.is in
+      let here : slice_get (all_numbered number look entries) n ≡ Some (look one.x) = at-first (length entries) n (omega arith) low one.x one.is in
       let both : Some (look one.x) ≡ Some l = sym here ∙ at in
       record { entry = one.x; in_entries = from.0; numbered_so = own-number number n one.x from.1; same = cc }

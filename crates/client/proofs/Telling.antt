@@ -8,7 +8,7 @@ use Rattle.rootchain.specs.declared.signed_root.SignedRoot.{SignedRoot}
 use Rattle.rootchain.proofs.Agreement.{spans-at, unique}
 use Rattle.proofs.specs.Accepts.{stated, NamedReply}
 use Rattle.proofs.specs.Comparisons.{Answers, AreComparable, IsOnceAccepted, StateTheSame}
-use Rattle.proofs.specs.Replies.{Reply, Spells}
+use Rattle.proofs.specs.Replies.{Reply, SpellsReply}
 use Rattle.proofs.specs.declared.comparing.SameOr.{SameOr}
 use Rattle.proofs.specs.declared.comparing.SameOr.TheVariants as replies
 use Rattle.proofs.proofs.Passing.{one_reply}
@@ -55,12 +55,12 @@ module _ (hash : List ℕ → List ℕ) (accepted : List ℕ → List ℕ → Li
     second-once name bytes named spelled = once other also is-also name bytes (named ∙ is.unlike.0.0) spelled
 
     module _ (name bytes bytes' : List ℕ) (named : name ≡ look.name) (bytes-is : bytes ≡ look.reply) (bytes'-is : bytes' ≡ also.reply)
-        (first second : NamedReply) (first-name : first.name ≡ name) (second-name : second.name ≡ name) (first-spelled : Spells bytes first.reply) (second-spelled : Spells bytes' second.reply) where
-      look-spelled : Spells look.reply first.reply
-      look-spelled = subst (λ (b : List ℕ). Spells b first.reply) bytes-is first-spelled
+        (first second : NamedReply) (first-name : first.name ≡ name) (second-name : second.name ≡ name) (first-spelled : SpellsReply bytes first.reply) (second-spelled : SpellsReply bytes' second.reply) where
+      look-spelled : SpellsReply look.reply first.reply
+      look-spelled = subst (λ (b : List ℕ). SpellsReply b first.reply) bytes-is first-spelled
 
-      also-spelled : Spells also.reply second.reply
-      also-spelled = subst (λ (b : List ℕ). Spells b second.reply) bytes'-is second-spelled
+      also-spelled : SpellsReply also.reply second.reply
+      also-spelled = subst (λ (b : List ℕ). SpellsReply b second.reply) bytes'-is second-spelled
 
       unlike-states : ¬ StateTheSame first second
       unlike-states same = is.unlike.1 (stated second.reply.end, (first.reply, look-spelled, same), (second.reply, also-spelled, refl))

@@ -5,7 +5,7 @@ use Rattle.std.proofs.lemmas.Bool.{cases_lt}
 use Rattle.std.proofs.lemmas.List.{append-nil}
 use Rattle.std.proofs.lemmas.Option.{get_or_from_slice_get, slice_get_read, slice_get_within}
 use Rattle.proofs.specs.Accepts.{stated}
-use Rattle.proofs.specs.Replies.{Reply, Spells}
+use Rattle.proofs.specs.Replies.{Reply, SpellsReply}
 use Rattle.proofs.proofs.Passing.{one_reply}
 use Rattle.client.specs.Agreements.{AllState, AreFirstUnlike, AreOfOne, HaveOneStatement, IsFirstOther, LooksAgree, SpellsOne}
 use Rattle.client.specs.Clients.{Look}
@@ -48,13 +48,13 @@ module _ {X : Type 0} (bytes : X → List ℕ) where
   module _ (others : List Look) where
     -- each partner states the same
     abbrev pub HasNone : LookPlace × X → Type 0
-    HasNone e = (read : Reply) → Spells (bytes e.1) read → AllState others e.0.asked.name.items e.0.asked.epoch (stated read.end)
+    HasNone e = (read : Reply) → SpellsReply (bytes e.1) read → AllState others e.0.asked.name.items e.0.asked.epoch (stated read.end)
 
     pub record IsOf (e : LookPlace × X) (found : Found) : Type 0 where
       pub number : found.number ≡ e.0.number
       pub name : found.name ≡ e.0.asked.name.items
       pub one : found.one ≡ bytes e.1
-      pub other : (read : Reply) → Spells (bytes e.1) read → IsFirstOther others e.0.asked.name.items e.0.asked.epoch (stated read.end) found.other
+      pub other : (read : Reply) → SpellsReply (bytes e.1) read → IsFirstOther others e.0.asked.name.items e.0.asked.epoch (stated read.end) found.other
 
     -- what was found among these is the least
     abbrev pub IsLeast : Entries X → Option Found → Type 0
@@ -122,7 +122,7 @@ module _ {X : Type 0} (bytes : X → List ℕ) where
       agrees i j look also at-one at-other of_one e same none =
           let spells = spelled-at looks spelled i look at-one in
           let bytes-same : look.reply ≡ bytes e.1 = ap (λ (l : Look). l.reply) (sym same) in
-          let own : Spells (bytes e.1) spells.0 = subst (λ (b : List ℕ). Spells b spells.0) bytes-same spells.1 in
+          let own : SpellsReply (bytes e.1) spells.0 = subst (λ (b : List ℕ). SpellsReply b spells.0) bytes-same spells.1 in
           let name : also.name ≡ e.0.asked.name.items = sym of_one.0 ∙ ap (λ (l : Look). l.name) (sym same) in
           let epoch : also.epoch ≡ e.0.asked.epoch = sym of_one.1 ∙ ap (λ (l : Look). l.epoch) (sym same) in
           (stated spells.0.end, (spells.0, spells.1, refl), none spells.0 own j also at-other name epoch)

@@ -8,7 +8,7 @@ use Rattle.rootchain.specs.SignedRoots.{IsSignedRoot}
 use Rattle.rootchain.specs.declared.compare.Compare.TheVariants as chains
 use Rattle.proofs.specs.Accepts.{stated}
 use Rattle.proofs.specs.Comparisons.{Answers}
-use Rattle.proofs.specs.Replies.{Reply, Spells}
+use Rattle.proofs.specs.Replies.{Reply, SpellsReply}
 use Rattle.proofs.specs.declared.comparing.SameOr.{SameOr}
 use Rattle.proofs.specs.declared.comparing.SameOr.TheVariants as replies
 use Rattle.client.specs.Clients.{Client, Look}
@@ -20,7 +20,7 @@ use Rattle.client.specs.declared.outcome.Outcome.TheVariants.{Agree, Evidence, C
 
 -- what the reply of a look states of the name: a key, or none
 abbrev pub LookStates : Look → Option (List ℕ) → Type 0
-LookStates look statement = (reply : Reply) × Spells look.reply reply × (stated reply.end ≡ statement)
+LookStates look statement = (reply : Reply) × SpellsReply look.reply reply × (stated reply.end ≡ statement)
 
 -- two looks for one name and epoch
 abbrev pub AreOfOne : Look → Look → Type 0
@@ -60,7 +60,7 @@ pub record ClientsAgree (hash : List ℕ → List ℕ) (one other : Client) : Ty
 module _ (hash : List ℕ → List ℕ) (accepted : List ℕ → List ℕ → List ℕ → Type 0) where
   -- what the comparison of the replies of two looks answers
   abbrev pub RepliesAnswer : Look → Look → SameOr → Type 0
-  RepliesAnswer look also answer = (reply other : Reply) × Spells look.reply reply × Spells also.reply other
+  RepliesAnswer look also answer = (reply other : Reply) × SpellsReply look.reply reply × SpellsReply also.reply other
       × Answers hash accepted (record { name = look.name; reply = reply }) (record { name = also.name; reply = other }) answer
 
   -- what the chains of two clients compare to, if they do not agree
@@ -113,7 +113,7 @@ OutcomeIsSpelled TwoValues = Unit
 
 -- the bytes spell a reply
 abbrev pub SpellsOne : List ℕ → Type 0
-SpellsOne bytes = (reply : Reply) × Spells bytes reply
+SpellsOne bytes = (reply : Reply) × SpellsReply bytes reply
 
 -- two places are for one name and epoch
 abbrev pub AreBeside : LookPlace → LookPlace → Type 0

@@ -56,7 +56,7 @@ module _ (hash : List ℕ → List ℕ) where
 
 -- what is true of each client: its roots have spellings, its looks were accepted, and its promises are of
 -- its provider
-pub record IsSound (hash : List ℕ → List ℕ) (accepted verified : List ℕ → List ℕ → List ℕ → Type 0) (client : Client) : Type 0 where
+pub record IsSoundClient (hash : List ℕ → List ℕ) (accepted verified : List ℕ → List ℕ → List ℕ → Type 0) (client : Client) : Type 0 where
   pub roots : AllByRecursion IsSignedRoot client.chain.roots
   pub looks : AllByRecursion (IsAcceptedLook hash accepted client.chain) client.looks
   pub promises : AllByRecursion (IsPromised hash verified client.chain) client.promises

@@ -32,10 +32,10 @@ pub record IsTested (promises : List SignedPromise) (name : List ℕ) (place : �
 module _ (hash : List ℕ → List ℕ) (accepted : List ℕ → List ℕ → List ℕ → Type 0) where
   module _ (signed : SignedPromise) (root : SignedRoot) (bytes : List ℕ) (reply : Reply) where
     -- what an accepted reply under the next root shows of a promise
-    abbrev pub IsTold : Due → Type 0
-    IsTold OtherIndex = hash reply.value ≢ signed.promise.index
-    IsTold Kept = (hash reply.value ≡ signed.promise.index) × (stated reply.end ≡ Some signed.promise.key)
-    IsTold (Broken broken) = (hash reply.value ≡ signed.promise.index) × (stated reply.end ≢ Some signed.promise.key)
+    abbrev pub IsTestedAs : Due → Type 0
+    IsTestedAs OtherIndex = hash reply.value ≢ signed.promise.index
+    IsTestedAs Kept = (hash reply.value ≡ signed.promise.index) × (stated reply.end ≡ Some signed.promise.key)
+    IsTestedAs (Broken broken) = (hash reply.value ≡ signed.promise.index) × (stated reply.end ≢ Some signed.promise.key)
         × (broken ≡ record { promise = signed; root = root; proof = bytes })
 
   -- What comes of testing a promise by a reply: the root that the reply has to be accepted under is the
@@ -43,7 +43,7 @@ module _ (hash : List ℕ → List ℕ) (accepted : List ℕ → List ℕ → Li
   module _ (chain : KeyedRoots) (name bytes : List ℕ) (signed : SignedPromise) where
     abbrev pub Tests : Result Due Refusal → Type 0
     Tests (Ok due) = (root : SignedRoot) × (reply : Reply) × IsNextAfter chain signed.promise.epoch root
-        × IsAcceptedReply hash accepted root.body name bytes reply × IsTold signed root bytes reply due
+        × IsAcceptedReply hash accepted root.body name bytes reply × IsTestedAs signed root bytes reply due
     Tests (Err UnknownRoot) = (root : SignedRoot) → ¬ IsNextAfter chain signed.promise.epoch root
     Tests (Err (Proof why)) = (root : SignedRoot) × IsNextAfter chain signed.promise.epoch root × Refuses hash accepted root.body name bytes why
     Tests (Err (Root why)) = ⊥

@@ -12,21 +12,21 @@ use Rattle.client.specs.declared.refusal.Refusal.{Refusal}
 use Rattle.client.specs.declared.refusal.Refusal.TheVariants.{Root, Proof, UnknownRoot, RootDiffers, Memory, NoPromise}
 
 -- the root that a look at an epoch is checked under: for 0 the head, else the one of the epoch
-abbrev pub IsAsked : KeyedRoots → ℕ → SignedRoot → Type 0
-IsAsked chain zero root = IsHead chain root
-IsAsked chain (suc n) root = IsAt chain (suc n) root
+abbrev pub IsLookRoot : KeyedRoots → ℕ → SignedRoot → Type 0
+IsLookRoot chain zero root = IsHead chain root
+IsLookRoot chain (suc n) root = IsAt chain (suc n) root
 
 module _ (hash : List ℕ → List ℕ) (accepted : List ℕ → List ℕ → List ℕ → Type 0) (before : Client) (name : List ℕ) (epoch : ℕ) (bytes : List ℕ) where
   -- the bytes are a reply for the name that is accepted under that root
   unfoldable pub IsAnswered : SignedRoot → Reply → Type 0
-  IsAnswered root reply = IsAsked before.chain epoch root × IsAcceptedReply hash accepted root.body name bytes reply
+  IsAnswered root reply = IsLookRoot before.chain epoch root × IsAcceptedReply hash accepted root.body name bytes reply
 
   -- The answer to a look and the client after it. Only a look that is accepted and kept changes the client.
   abbrev pub Looks : Result Statement Refusal → Client → Type 0
   Looks (Ok statement) after = (root : SignedRoot) × (reply : Reply) × IsAnswered root reply × (key_stated statement ≡ stated reply.end)
       × (after ≡ with_look before (record { name = name; epoch = root.body.epoch; reply = bytes }))
-  Looks (Err UnknownRoot) after = ((root : SignedRoot) → ¬ IsAsked before.chain epoch root) × (after ≡ before)
-  Looks (Err (Proof why)) after = (root : SignedRoot) × IsAsked before.chain epoch root × Refuses hash accepted root.body name bytes why × (after ≡ before)
+  Looks (Err UnknownRoot) after = ((root : SignedRoot) → ¬ IsLookRoot before.chain epoch root) × (after ≡ before)
+  Looks (Err (Proof why)) after = (root : SignedRoot) × IsLookRoot before.chain epoch root × Refuses hash accepted root.body name bytes why × (after ≡ before)
   Looks (Err Memory) after = (root : SignedRoot) × (reply : Reply) × IsAnswered root reply × (after ≡ before)
   Looks (Err (Root why)) after = ⊥
   Looks (Err (RootDiffers evidence)) after = ⊥

@@ -19,5 +19,5 @@ module _ {K X : Type 0} (number : K → ℕ) where
     first_numbered (suc n) = first_numbered n ++ map look (filter (is_numbered n) entries)
 
     -- and under all of them
-    abbrev pub in_order : List L
-    in_order = first_numbered (length entries)
+    abbrev pub all_numbered : List L
+    all_numbered = first_numbered (length entries)

@@ -30,11 +30,11 @@ module _ (hash : List ℕ → List ℕ) (verified : List ℕ → List ℕ → Li
   ReadsPromise (Err NoPromise) = ⊥
 
   -- what comes of a promise that is to be kept, and the client after it
-  abbrev pub Keeps : {A : Type 0} → Result A Refusal → Client → Type 0
-  Keeps (Ok _) after = (signed : SignedPromise) × IsGiven signed × (after ≡ with_promise before signed)
-  Keeps (Err Memory) after = ((signed : SignedPromise) × IsGiven signed) × (after ≡ before)
-  Keeps (Err (Root why)) after = ReadsPromise (Err (Root why)) × (after ≡ before)
-  Keeps (Err UnknownRoot) after = ReadsPromise (Err UnknownRoot) × (after ≡ before)
-  Keeps (Err (Proof why)) after = ⊥
-  Keeps (Err (RootDiffers evidence)) after = ⊥
-  Keeps (Err NoPromise) after = ⊥
+  abbrev pub KeepsPromise : {A : Type 0} → Result A Refusal → Client → Type 0
+  KeepsPromise (Ok _) after = (signed : SignedPromise) × IsGiven signed × (after ≡ with_promise before signed)
+  KeepsPromise (Err Memory) after = ((signed : SignedPromise) × IsGiven signed) × (after ≡ before)
+  KeepsPromise (Err (Root why)) after = ReadsPromise (Err (Root why)) × (after ≡ before)
+  KeepsPromise (Err UnknownRoot) after = ReadsPromise (Err UnknownRoot) × (after ≡ before)
+  KeepsPromise (Err (Proof why)) after = ⊥
+  KeepsPromise (Err (RootDiffers evidence)) after = ⊥
+  KeepsPromise (Err NoPromise) after = ⊥

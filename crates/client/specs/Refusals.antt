@@ -2,7 +2,7 @@
 use Rattle.std.specs.Prelude.{ℕ}
 use Rattle.rootchain.specs.declared.refusal.Refusal as chains
 use Rattle.rootchain.specs.declared.refusal.Refusal.TheVariants as chain
-use Rattle.proofs.specs.Refusals as replies
+use Rattle.proofs.specs.Refusals.{reply_refusal_number}
 use Rattle.client.specs.declared.refusal.Refusal.{Refusal}
 use Rattle.client.specs.declared.refusal.Refusal.TheVariants.{Root, Proof, UnknownRoot, RootDiffers, Memory, NoPromise}
 use Rattle.client.specs.declared.refusal.RootRefusal.{RootRefusal}
@@ -16,13 +16,13 @@ root_number NotLater = 3
 root_number BadLink = 4
 
 -- a refusal of a root or of a reply keeps its own number
-abbrev pub refusal_number : Refusal → ℕ
-refusal_number (Root why) = root_number why
-refusal_number (Proof why) = replies.refusal_number why
-refusal_number UnknownRoot = 20
-refusal_number (RootDiffers evidence) = 21
-refusal_number Memory = 22
-refusal_number NoPromise = 23
+abbrev pub client_refusal_number : Refusal → ℕ
+client_refusal_number (Root why) = root_number why
+client_refusal_number (Proof why) = reply_refusal_number why
+client_refusal_number UnknownRoot = 20
+client_refusal_number (RootDiffers evidence) = 21
+client_refusal_number Memory = 22
+client_refusal_number NoPromise = 23
 
 -- a refusal of a chain as one of the client
 abbrev pub of_root : chains.Refusal → Refusal

@@ -36,7 +36,7 @@ module _ (hash : List ℕ → List ℕ) (verified : List ℕ → List ℕ → Li
       × UpdatesFrom before held piece answer middle between × (answer ≢ Err Memory) × UpdatesInPieces middle between pieces after held'
 
   -- Where the bytes of a list are cut does not matter: the chain takes each root up to the first that is refused.
-  abbrev pub CuttingDoesNotMatter : Type 0
-  CuttingDoesNotMatter = (before : Client) (roots : List SignedRoot) (pieces : List (List ℕ)) (after : Client) (held' : FeedState)
+  abbrev pub UpdatesMayBeCut : Type 0
+  UpdatesMayBeCut = (before : Client) (roots : List SignedRoot) (pieces : List (List ℕ)) (after : Client) (held' : FeedState)
       → SpellsRoots (joined pieces) roots → UpdatesInPieces before (Counts []) pieces after held'
       → TakesUpTo hash verified before.chain roots after.chain held' × (after ≡ with_chain before after.chain)

@@ -1,7 +1,7 @@
 ghost use Rattle.std.specs.Prelude.{◌≡◌, IsOkUnless, OnErr, OnOk};
-ghost use Rattle.client.specs.Clients.{with_promise, IsPromised, IsSound};
+ghost use Rattle.client.specs.Clients.{with_promise, IsPromised, IsSoundClient};
 ghost use Rattle.client.specs.Looking.{Looks as LooksUp};
-ghost use Rattle.client.specs.Promising.{Keeps, ReadsPromise};
+ghost use Rattle.client.specs.Promising.{KeepsPromise, ReadsPromise};
 ghost use Rattle.client.specs.Starting.{Starts};
 ghost use Rattle.client.specs.declared.refusal.Refusal.TheVariants.{Memory};
 
@@ -38,7 +38,7 @@ impl<H: NodeHash, V: VufCheck, S: Verifier> Model for Client<H, V, S> {
 
     ghost view = { λ client. record { chain = client.chain; looks = client.looks; promises = client.promises.items } };
 
-    ghost invariant = { λ client. clients.IsSound H.digest_of V.accepted S.verified
+    ghost invariant = { λ client. clients.IsSoundClient H.digest_of V.accepted S.verified
         (record { chain = client.chain; looks = client.looks; promises = client.promises.items }) };
 }
 
@@ -67,7 +67,7 @@ impl<H: NodeHash, V: VufCheck, S: Verifier> Client<H, V, S> {
     /// The chain of the provider's roots.
     pub fn chain(&self) -> &Chain<H, S>
         ensures value { result.now ≡ self.now.chain }
-        ensures sound { IsSound H.digest_of V.accepted S.verified self.now }
+        ensures sound { IsSoundClient H.digest_of V.accepted S.verified self.now }
     {
         &self.chain
     }
@@ -75,7 +75,7 @@ impl<H: NodeHash, V: VufCheck, S: Verifier> Client<H, V, S> {
     /// The looks that were accepted.
     pub(crate) fn looks(&self) -> &Looks
         ensures value { result.now ≡ self.now.looks }
-        ensures sound { IsSound H.digest_of V.accepted S.verified self.now }
+        ensures sound { IsSoundClient H.digest_of V.accepted S.verified self.now }
     {
         &self.looks
     }
@@ -90,7 +90,7 @@ impl<H: NodeHash, V: VufCheck, S: Verifier> Client<H, V, S> {
     /// The promises that are kept, in the order in which they came.
     pub fn promises(&self) -> &[SignedPromise]
         ensures value { result.now ≡ self.now.promises }
-        ensures sound { IsSound H.digest_of V.accepted S.verified self.now }
+        ensures sound { IsSoundClient H.digest_of V.accepted S.verified self.now }
     {
         &self.promises
     }
@@ -134,7 +134,7 @@ impl<H: NodeHash, V: VufCheck, S: Verifier> Client<H, V, S> {
     /// `Root` with `Malformed` or `BadSignature`, `UnknownRoot` where no root of the chain has the epoch and
     /// the hash of the promise, `Memory`: the first that applies. The client then stays as it was.
     pub fn keep_promise(&mut self, hash: &mut H, verifier: &S, bytes: &[u8]) -> Result<(), Refusal>
-        ensures { Keeps H.digest_of S.verified self.old bytes.now result self.new }
+        ensures { KeepsPromise H.digest_of S.verified self.old bytes.now result self.new }
     {
         let signed = self.read_promise(hash, verifier, bytes)?;
         self.keep_read(signed)

@@ -1,6 +1,6 @@
 ghost use Rattle.client.specs.Agreements.{IsReconciled};
 ghost use Rattle.client.specs.Clients.{Client};
-ghost use Rattle.client.specs.UpdatingFrom.{CuttingDoesNotMatter};
+ghost use Rattle.client.specs.UpdatingFrom.{UpdatesMayBeCut};
 ghost use Rattle.client.specs.declared.outcome.Outcome.TheVariants.{TwoValues};
 
 use nodehash::NodeHash;
@@ -15,5 +15,5 @@ pub fn two_values_are_never_told<H: NodeHash, V: UniqueVuf>()
 /// Where the bytes of a list of roots are cut into pieces for `Client::update_from` does not matter, unless
 /// memory runs out: the roots up to the first that `Client::update` would refuse are taken.
 pub fn cuts_of_a_list_do_not_matter<H: NodeHash, S: Verifier>()
-    ensures { CuttingDoesNotMatter H.digest_of S.verified }
+    ensures { UpdatesMayBeCut H.digest_of S.verified }
 {}

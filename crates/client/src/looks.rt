@@ -38,11 +38,11 @@ pub(crate) struct Looks {
 impl Model for Looks {
     ghost use Rattle.std.specs.Prelude.{List};
     ghost use Rattle.client.specs.Clients.{Look};
-    ghost use Rattle.client.specs.Numbered.{in_order, AreNumbered};
+    ghost use Rattle.client.specs.Numbered.{all_numbered, AreNumbered};
 
     ghost Value = { List Look };
 
-    ghost view = { λ looks. in_order (λ place. place.number)
+    ghost view = { λ looks. all_numbered (λ place. place.number)
         (λ entry. record { name = entry.0.asked.name.items; epoch = entry.0.asked.epoch; reply = entry.1.items }) looks.replies.entries };
 
     ghost invariant = { λ looks. AreNumbered (λ place. place.number) looks.replies.entries };

@@ -1,8 +1,8 @@
 ghost use Rattle.std.specs.Prelude.{◌≡◌, ◌++◌, ◌∷◌, [], List, length};
-ghost use Rattle.proofs.specs.Replies.{Spells};
+ghost use Rattle.proofs.specs.Replies.{SpellsReply};
 ghost use Rattle.rootchain.specs.Chains.{IsChain};
 ghost use Rattle.rootchain.specs.declared.signed_promise.SignedPromise.{SignedPromise};
-ghost use Rattle.client.specs.Dues.{IsTold, Tests};
+ghost use Rattle.client.specs.Dues.{IsTestedAs, Tests};
 ghost use Rattle.client.specs.Testing.{IsTestedAmong};
 
 use crate::{Due, Refusal};
@@ -78,8 +78,8 @@ fn tell<H: NodeHash, V: VufCheck>(
     root: &SignedRoot,
     bytes: &[u8],
 ) -> Due
-    requires spelled { Spells bytes.now accepted.now.reply }
-    ensures { IsTold H.digest_of V.accepted signed.now root.now bytes.now accepted.now.reply result }
+    requires spelled { SpellsReply bytes.now accepted.now.reply }
+    ensures { IsTestedAs H.digest_of V.accepted signed.now root.now bytes.now accepted.now.reply result }
 {
     if accepted.index() != signed.promise.index {
         return Due::OtherIndex;

@@ -54,11 +54,11 @@ impl RootRefusal {
 }
 
 impl Refusal {
-    ghost use Rattle.client.specs.Refusals.{refusal_number};
+    ghost use Rattle.client.specs.Refusals.{client_refusal_number};
 
     /// The number of this refusal; that of a root's or a reply's refusal is its own.
     pub fn number(&self) -> u8
-        ensures { result ≡ refusal_number self.now }
+        ensures { result ≡ client_refusal_number self.now }
     {
         match self {
             Refusal::Root(why) => why.number(),

@@ -1,7 +1,7 @@
 ghost use Rattle.std.specs.Prelude.{◌≡◌, ◌↔◌, IsTrue, Some, option_copied};
 ghost use Rattle.rootchain.specs.declared.signed_root.SignedRoot.{SignedRoot};
 ghost use Rattle.client.specs.Clients.{HasRootOf};
-ghost use Rattle.client.specs.Looking.{IsAsked};
+ghost use Rattle.client.specs.Looking.{IsLookRoot};
 
 use nodehash::NodeHash;
 use rootchain::{Chain, Promise, SignedRoot};
@@ -12,7 +12,7 @@ pub(crate) fn asked<H: NodeHash, S: Verifier>(
     chain: &Chain<H, S>,
     epoch: u64,
 ) -> Option<&SignedRoot>
-    ensures { (root : SignedRoot) → (option_copied result ≡ Some root) ↔ IsAsked chain.now epoch root }
+    ensures { (root : SignedRoot) → (option_copied result ≡ Some root) ↔ IsLookRoot chain.now epoch root }
 {
     if epoch == 0 {
         return Some(chain.head());

@@ -8,7 +8,7 @@ use Rattle.std.proofs.lemmas.Bool.{false≢true}
 use Rattle.connections.specs.declared.limits.TheConstants.{LAST_MILLISECONDS}
 use Rattle.connections.specs.declared.talk.Talk.{Talk}
 use Rattle.connections.specs.Fairness.{IsNotDue, IsUsed}
-use Rattle.connections.specs.Fitting.{Fits, Has, IsDone, IsIdleDue, IsJudged, IsStopDue, ending_of, Judged, Keeps, KeepsTalk, Stays}
+use Rattle.connections.specs.Fitting.{Fits, Has, IsDone, IsIdleDue, IsJudged, IsStopDue, ending_of, Judged, KeepsCourse, KeepsTalk, Stays}
 use Rattle.connections.specs.Histories.{On, Comes, Opens, Refuses, Ends, Closes, History, Course, Hearing, Telling, clock, course, done_at, of_connections, stage, stopped, taken_at, went_on}
 use Rattle.connections.specs.Rounds.{IsUnread}
 use Rattle.connections.specs.Soundness.{Here, IsDue, IsFaultless, IsNew, IsReason, IsWell}
@@ -158,7 +158,7 @@ module _ {S : Type 0} (opens : S → ℕ → S → Type 0) (refuses : S → ℕ 
     there = here_one place Comes acts ∙ ap (done_at Comes (clock acts)) free
 
     pub opened : (now wanting : ℕ) → clock acts ≡ now → (new : S) → opens old place new
-        → (after : History) × Stays place 1 wanting wanting acts after × Has opens refuses hears misses ends has idle start connections_taken new after × Here (course after place) (Keeps [] [] now false) × IsUsed after place × IsUnread place after
+        → (after : History) × Stays place 1 wanting wanting acts after × Has opens refuses hears misses ends has idle start connections_taken new after × Here (course after place) (KeepsCourse [] [] now false) × IsUsed after place × IsUnread place after
     opened now wanting time new does =
         let due : IsDue idle (On place Comes ∷ acts) Opens (course (On place Comes ∷ acts) place) =
         here_at (course (On place Comes ∷ acts) place) (taken_at (clock acts)) IsNew there refl in (
@@ -166,7 +166,7 @@ module _ {S : Type 0} (opens : S → ℕ → S → Type 0) (refuses : S → ℕ 
           stays_counted place 1 0 wanting wanting acts (On place Opens ∷ On place Comes ∷ acts) (omega arith)
               (stays_both place 1 0 0 0 0 acts (On place Comes ∷ acts) (On place Opens ∷ On place Comes ∷ acts) (stays_one place Comes acts) (stays_one place Opens (On place Comes ∷ acts))),
           (step known.0, (old, known.1, does), ((due, λ so. absurd (false≢true so)), (((free, hearing, goes), λ so. absurd (false≢true so)), known.2))),
-          here_at (course (On place Opens ∷ On place Comes ∷ acts) place) (record (taken_at (clock acts)) { is_open = true }) (Keeps [] [] now false) (went place Opens (On place Comes ∷ acts) (taken_at (clock acts)) there)
+          here_at (course (On place Opens ∷ On place Comes ∷ acts) place) (record (taken_at (clock acts)) { is_open = true }) (KeepsCourse [] [] now false) (went place Opens (On place Comes ∷ acts) (taken_at (clock acts)) there)
               (record { fine = (refl, (refl, refl, refl)); input_rest = refl; output_rest = refl; last = time; end = refl }),
           inl (λ (none : course (On place Opens ∷ On place Comes ∷ acts) place ≡ None). some_there _ (sym (went place Opens (On place Comes ∷ acts) (taken_at (clock acts)) there) ∙ none)),
           still_unread place Opens (On place Comes ∷ acts) refl (still_unread place Comes acts refl unread),

@@ -9,8 +9,8 @@ use Rattle.connections.specs.declared.ending.SessionFault.{SessionFault}
 use Rattle.connections.specs.declared.limits.TheConstants.{FULL_OUTPUT}
 use Rattle.connections.specs.Endings.{newcomers}
 use Rattle.connections.specs.Telling.{lost}
-use Rattle.connections.specs.Rounds.{asks, InRound, IsUnread}
-use Rattle.connections.specs.Fitting.{Adds, Attends, GoesOrCloses, Hearkens, HearsFrom, IsOfConnection, Keeps, KeepsTalk, Knows, Stays}
+use Rattle.connections.specs.Rounds.{gives_turn, InRound, IsUnread}
+use Rattle.connections.specs.Fitting.{Adds, Attends, GoesOrCloses, Hearkens, HearsFrom, IsOfConnection, KeepsCourse, KeepsTalk, Knows, Stays}
 use Rattle.connections.specs.Histories.{On, Deed, Comes, Opens, Refuses, Reads, IsOver, IsSilent, Hears, Misses, Lacks, Takes, TakesNone, Fails, Ends, Closes, History, Course, Hearing, course, stage, Leads}
 use Rattle.connections.specs.Soundness.{Here}
 use Rattle.connections.proofs.Steps.{attended, next_lack, not_read, stays_both, stays_counted, stays_none, stays_one}
@@ -76,7 +76,7 @@ stays_adds place wanting acts after (inr (deed, is, same)) =
     (subst (λ (came : ℕ). Stays place came wanting wanting acts (On place deed ∷ acts)) (none_come deed is)
     (stays_counted place (newcomers deed) (lost deed) wanting wanting acts (On place deed ∷ acts) (none_more deed wanting is) (stays_one place deed acts)))
 
-or_full : (over : Bool) (acts : History) (place : ℕ) (output : List ℕ) → (over ≡ true) ⊎ (FULL_OUTPUT < length output) → (over ≡ true) ⊎ InRound asks acts place ⊎ (FULL_OUTPUT < length output)
+or_full : (over : Bool) (acts : History) (place : ℕ) (output : List ℕ) → (over ≡ true) ⊎ (FULL_OUTPUT < length output) → (over ≡ true) ⊎ InRound gives_turn acts place ⊎ (FULL_OUTPUT < length output)
 or_full over acts place output (inl gone) = inl gone
 or_full over acts place output (inr more) = inr (inr more)
 
@@ -94,7 +94,7 @@ module _ {S : Type 0} (opens : S → ℕ → S → Type 0) (refuses : S → ℕ 
     λ over idle start acts held hearing time here.
         let a = one.1 over idle start acts held hearing time here in
         let b = two.1 over idle start a.0 a.3 (a.1.same_stage ∙ hearing) (a.1.same_clock ∙ time) a.4 in
-        (b.0, stays_both place 0 0 0 0 0 acts a.0 b.0 a.1 b.1, b.2 ∙ a.2, b.3, subst (λ (t : List ℕ). Here (course b.0 place) (Keeps t output_new active_new over)) (drops heard count input) b.4, λ so. b.5 refl),
+        (b.0, stays_both place 0 0 0 0 0 acts a.0 b.0 a.1 b.1, b.2 ∙ a.2, b.3, subst (λ (t : List ℕ). Here (course b.0 place) (KeepsCourse t output_new active_new over)) (drops heard count input) b.4, λ so. b.5 refl),
   )
 
   -- memory is wanting for one more
@@ -113,21 +113,21 @@ module _ {S : Type 0} (opens : S → ℕ → S → Type 0) (refuses : S → ℕ 
   -- what is heard of what waits, and what then waits
   pub heard_some : {X : Type 0} (test : X → Bool) (done : X) (place now : ℕ) (old : S) (input output : List ℕ) (active : ℕ) (over : Bool) (count : ℕ) (new : S) (rest output_new : List ℕ) (active_new : ℕ)
       → HearsFrom opens refuses hears misses ends place now old input output active (Ok count) new output_new active_new → rest ≡ drop count input
-      → Hearkens opens refuses hears misses ends {X = X} test place now old (Keeps input output active over) (Ok done) new (λ _. Keeps rest output_new active_new over)
+      → Hearkens opens refuses hears misses ends {X = X} test place now old (KeepsCourse input output active over) (Ok done) new (λ _. KeepsCourse rest output_new active_new over)
   heard_some test done place now old input output active over count new rest output_new active_new one same = λ idle start acts held hearing time here.
       let a = one.1 over idle start acts held hearing time here in
-      (a.0, a.1, a.2, a.3, subst (λ (t : List ℕ). Here (course a.0 place) (Keeps t output_new active_new over)) (sym same) a.4, λ so. a.5 refl)
+      (a.0, a.1, a.2, a.3, subst (λ (t : List ℕ). Here (course a.0 place) (KeepsCourse t output_new active_new over)) (sym same) a.4, λ so. a.5 refl)
 
   pub heard_stop : {X : Type 0} (test : X → Bool) (why : Ending) (place now : ℕ) (old : S) (input output : List ℕ) (active : ℕ) (over : Bool) (new : S) (output_new : List ℕ) (active_new : ℕ) (Then : X → Course → Type 0)
       → HearsFrom opens refuses hears misses ends place now old input output active (Err why) new output_new active_new
-      → Hearkens opens refuses hears misses ends {X = X} test place now old (Keeps input output active over) (Err why) new Then
+      → Hearkens opens refuses hears misses ends {X = X} test place now old (KeepsCourse input output active over) (Err why) new Then
   heard_stop test why place now old input output active over new output_new active_new Then one = λ idle start acts held hearing time here.
       let a = one.1 over idle start acts held hearing time here in (a.0, a.1, a.2, a.3, a.4, tt)
 
   -- what is left cannot be kept
   pub heard_lost : {X : Type 0} (test : X → Bool) (place now : ℕ) (old : S) (input output : List ℕ) (active : ℕ) (over : Bool) (count : ℕ) (new : S) (output_new : List ℕ) (active_new : ℕ) (Then : X → Course → Type 0)
       → HearsFrom opens refuses hears misses ends place now old input output active (Ok count) new output_new active_new → drop count input ≢ [] → FULL_OUTPUT < length output_new
-      → Hearkens opens refuses hears misses ends {X = X} test place now old (Keeps input output active over) (Err Memory) new Then
+      → Hearkens opens refuses hears misses ends {X = X} test place now old (KeepsCourse input output active over) (Err Memory) new Then
   heard_lost test place now old input output active over count new output_new active_new Then one some full = λ idle start acts held hearing time here.
       let a = one.1 over idle start acts held hearing time here in
       let next = next_lack idle a.0 place (drop count input) output_new active_new over (a.1.same_stage ∙ hearing) some full a.4 in (
@@ -176,7 +176,7 @@ module _ {S : Type 0} (opens : S → ℕ → S → Type 0) (refuses : S → ℕ 
         (b.0, b.1, (subst (has connections) (sym b.2) known.0, b.3.0, b.3.1), b.4, tt)
     attends_last place now connections old talk (Ok true) new talk_new two all same busy = λ idle start acts known hearing time unread here.
         let b = two idle start acts (known.1, known.2) hearing time here in
-        let asked : InRound asks b.0 place = b.5 refl in (
+        let asked : InRound gives_turn b.0 place = b.5 refl in (
           b.0,
           b.1,
           (subst (has connections) (sym b.2) known.0, b.3.0, b.3.1),
@@ -198,7 +198,7 @@ module _ {S : Type 0} (opens : S → ℕ → S → Type 0) (refuses : S → ℕ 
     -- what a read of a connection comes to: this is then so of it, or there is a reason to close it
     abbrev pub ReadsFirst : ℕ → C → Talk → C → Result Bool Ending → (Course → Type 0) → Type 0
     ReadsFirst place connections talk connections_new result Kept = (idle : ℕ) (acts : History) → Knows has idle connections acts → stage acts ≡ Hearing → IsUnread place acts → Here (course acts place) (KeepsTalk talk)
-        → (after : History) × Adds place acts after × Knows has idle connections_new after × GoesOrCloses idle after place result (λ _. Kept) × IfOk result (λ done. InRound asks after place)
+        → (after : History) × Adds place acts after × Knows has idle connections_new after × GoesOrCloses idle after place result (λ _. Kept) × IfOk result (λ done. InRound gives_turn after place)
 
     -- what happened to the connection, and then to its session
     pub attends_both : (place now : ℕ) (connections : C) (old : S) (talk : Talk) (connections_new : C) (Kept : Course → Type 0) (new : S) (talk_new : Talk)
@@ -211,7 +211,7 @@ module _ {S : Type 0} (opens : S → ℕ → S → Type 0) (refuses : S → ℕ 
         let stays : Stays place 0 0 0 acts a.0 = stays_adds place 0 acts a.0 a.1 in
         let leads : Leads opens refuses hears misses ends start a.0 old = leads_adds start acts a.0 old place a.1 known.1 in
         let b = two idle start a.0 (leads, a.2.1) (stays.same_stage ∙ hearing) (stays.same_clock ∙ time) a.3 in
-        let asked : InRound asks b.0 place = b.1.lasts.turns asks place a.4 in (
+        let asked : InRound gives_turn b.0 place = b.1.lasts.turns gives_turn place a.4 in (
           b.0,
           stays_both place 0 0 0 0 0 acts a.0 b.0 stays b.1,
           (subst (has connections_new) (sym b.2) a.2.0, b.3.0, b.3.1),
@@ -240,7 +240,7 @@ module _ {S : Type 0} (opens : S → ℕ → S → Type 0) (refuses : S → ℕ 
         (a.0, stays_adds place 0 acts a.0 a.1, (a.2.0, leads_adds start acts a.0 old place a.1 known.1, a.2.1), a.3, tt)
     attends_first place now connections old talk connections_new (Ok done) talk_new one none = λ idle start acts known hearing time unread here.
         let a = one idle acts (known.0, known.2) hearing unread here in
-        let asked : InRound asks a.0 place = a.4 in (
+        let asked : InRound gives_turn a.0 place = a.4 in (
           a.0,
           stays_adds place 0 acts a.0 a.1,
           (a.2.0, leads_adds start acts a.0 old place a.1 known.1, a.2.1),

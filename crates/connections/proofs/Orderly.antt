@@ -6,7 +6,7 @@ use Rattle.connections.specs.declared.ending.Ending.TheVariants.{Done}
 use Rattle.connections.specs.declared.ending.SessionFault.TheVariants as fault
 use Rattle.connections.specs.Histories.{At, Ordered, GoesOn, Syncs, NoneWaits, On, Deed, Comes, Opens, Refuses, Reads, IsOver, IsSilent, Hears, Misses, Lacks, Takes, TakesNone, Fails, Ends, Closes, History, Course, clock, course, done_at}
 use Rattle.connections.specs.Laws.{AreInOrder}
-use Rattle.connections.specs.Soundness.{Here, IsDue, IsHeard, IsSound, IsTold}
+use Rattle.connections.specs.Soundness.{Here, IsDue, IsHeard, IsSoundHistory, IsTaken}
 
 stays_in_order : (idle : ℕ) (acts : History) (deed : Deed) (now : ℕ) (there : Option Course) → IsDue idle acts deed there → AreInOrder there → AreInOrder (done_at deed now there)
 stays_in_order idle acts Comes now None due order = ([], [], refl, refl)
@@ -52,7 +52,7 @@ at_place idle acts deed other place true is due order =
     rw is (stays_in_order idle acts deed (clock acts) (course acts place) (subst (λ (n : ℕ). IsDue idle acts deed (course acts n)) (eqb-true other place is) due) order)
 at_place idle acts deed other place false is due order = rw is order
 
-pub in_order : (idle : ℕ) (acts : History) (place : ℕ) → IsSound idle acts → AreInOrder (course acts place)
+pub in_order : (idle : ℕ) (acts : History) (place : ℕ) → IsSoundHistory idle acts → AreInOrder (course acts place)
 in_order idle [] place sound = tt
 in_order idle (At now ∷ acts) place sound = in_order idle acts place sound
 in_order idle (Ordered ∷ acts) place sound = in_order idle acts place sound
@@ -61,9 +61,9 @@ in_order idle (GoesOn ∷ acts) place sound = in_order idle acts place sound.1
 in_order idle (NoneWaits ∷ acts) place sound = in_order idle acts place sound.2
 in_order idle (On other deed ∷ acts) place sound = at_place idle acts deed other place (other == place) refl sound.0.0 (in_order idle acts place sound.1)
 
-whole : (idle : ℕ) (acts : History) (there : Option Course) → IsDue idle acts (Closes Done) there → Here there (λ of. IsHeard of × IsTold of)
+whole : (idle : ℕ) (acts : History) (there : Option Course) → IsDue idle acts (Closes Done) there → Here there (λ of. IsHeard of × IsTaken of)
 whole idle acts None due = due
 whole idle acts (Some of) (shut, (fine, over, heard, told)) = (heard, told)
 
-pub done_whole : (idle : ℕ) (acts : History) (place : ℕ) → IsSound idle (On place (Closes Done) ∷ acts) → Here (course acts place) (λ of. IsHeard of × IsTold of)
+pub done_whole : (idle : ℕ) (acts : History) (place : ℕ) → IsSoundHistory idle (On place (Closes Done) ∷ acts) → Here (course acts place) (λ of. IsHeard of × IsTaken of)
 done_whole idle acts place sound = whole idle acts (course acts place) sound.0.0

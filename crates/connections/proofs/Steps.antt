@@ -9,12 +9,12 @@ use Rattle.connections.specs.declared.limits.TheConstants.{PIECE_SIZE, FULL_OUTP
 use Rattle.connections.specs.declared.talk.Talk.{Talk}
 use Rattle.connections.specs.Endings.{comers, newcomers}
 use Rattle.connections.specs.Fairness.{IfThere, IsAttended, IsFull, IsNotDue, IsServed, IsUsed}
-use Rattle.connections.specs.Fitting.{Adds, IsOfConnection, Keeps, KeepsTalk, Knows, Lasts, Stays, ending_of}
+use Rattle.connections.specs.Fitting.{Adds, IsOfConnection, KeepsCourse, KeepsTalk, Knows, Lasts, Stays, ending_of}
 use Rattle.connections.specs.declared.ending.SessionFault.{SessionFault}
 use Rattle.connections.specs.Histories.{NoneWaits, On, Deed, Comes, Opens, Refuses, Reads, IsOver, IsSilent, Hears, Misses, Lacks, Takes, TakesNone, Fails, Ends, Closes, History, Course, Hearing, Telling, clock, course, done_at, if_answered, of_connections, stage, went_on}
 use Rattle.connections.specs.Telling.{losses, lost}
-use Rattle.connections.specs.Rounds.{asks, closes, offers, reads, InRound, IsUnread}
-use Rattle.connections.specs.Soundness.{Here, AreNext, HasRoom, IsDue, IsOnce, IsReason, IsWell, MayHear, MayRead, MayTake}
+use Rattle.connections.specs.Rounds.{closes, gives_turn, offers, reads, InRound, IsUnread}
+use Rattle.connections.specs.Soundness.{Here, AreNext, HasRoom, IsDue, IsOnce, IsReason, IsWell, MayBeOffered, MayBeRead, MayHear}
 
 -- ---- where a connection is
 
@@ -157,7 +157,7 @@ none_left xs ys (x ∷ rest) split same =
     absurd (omega arith)
 
 -- output waits, so less is taken than answered
-pub not_told : (of : Course) (input output : List ℕ) (active : ℕ) (over : Bool) → output ≢ [] → Keeps input output active over of → of.answered ≢ of.taken
+pub not_told : (of : Course) (input output : List ℕ) (active : ℕ) (over : Bool) → output ≢ [] → KeepsCourse input output active over of → of.answered ≢ of.taken
 not_told of input output active over some keeps same = some (none_left of.answered of.taken output keeps.output_rest same)
 
 -- ---- a deed that leaves a connection
@@ -167,14 +167,14 @@ abbrev pub Next : ℕ → History → ℕ → Deed → (Course → Type 0) → T
 Next idle acts place deed P = (IsDue idle acts deed (course acts place) × IsOnce acts place deed) × Here (course (On place deed ∷ acts) place) P
 
 pub next_read : (idle : ℕ) (acts : History) (place : ℕ) (bytes input output : List ℕ) (active : ℕ) (over : Bool) → IsUnread place acts → stage acts ≡ Hearing → 1 ≤ length bytes → length bytes ≤ PIECE_SIZE
-    → Here (course acts place) (λ of. Keeps input output active over of × MayRead of) → Next idle acts place (Reads bytes) (Keeps bytes output active over)
+    → Here (course acts place) (λ of. KeepsCourse input output active over of × MayBeRead of) → Next idle acts place (Reads bytes) (KeepsCourse bytes output active over)
 next_read idle acts place bytes input output active over unread hearing some few here =
-    let found = here_of (course acts place) (λ (of : Course). Keeps input output active over of × MayRead of) here in
+    let found = here_of (course acts place) (λ (of : Course). KeepsCourse input output active over of × MayBeRead of) here in
     let of : Course = found.0 in
-    let keeps : Keeps input output active over of = found.2.0 in
-    let may : MayRead of = found.2.1 in (
-      (here_at (course acts place) of (λ (of : Course). MayRead of × (stage acts ≡ Hearing) × (1 ≤ length bytes) × (length bytes ≤ PIECE_SIZE)) found.1 (may, hearing, some, few), λ so. unread),
-      here_at (course (On place (Reads bytes) ∷ acts) place) (record of { read = of.read ++ bytes }) (Keeps bytes output active over) (went place (Reads bytes) acts of found.1)
+    let keeps : KeepsCourse input output active over of = found.2.0 in
+    let may : MayBeRead of = found.2.1 in (
+      (here_at (course acts place) of (λ (of : Course). MayBeRead of × (stage acts ≡ Hearing) × (1 ≤ length bytes) × (length bytes ≤ PIECE_SIZE)) found.1 (may, hearing, some, few), λ so. unread),
+      here_at (course (On place (Reads bytes) ∷ acts) place) (record of { read = of.read ++ bytes }) (KeepsCourse bytes output active over) (went place (Reads bytes) acts of found.1)
           (record {
             fine = keeps.fine;
             input_rest = ap (λ (t : List ℕ). t ++ bytes) may.1;
@@ -185,13 +185,13 @@ next_read idle acts place bytes input output active over unread hearing some few
     )
 
 pub next_over : (idle : ℕ) (acts : History) (place : ℕ) (input output : List ℕ) (active : ℕ) (over : Bool) → IsUnread place acts → stage acts ≡ Hearing
-    → Here (course acts place) (λ of. Keeps input output active over of × MayRead of) → Next idle acts place IsOver (Keeps input output active true)
+    → Here (course acts place) (λ of. KeepsCourse input output active over of × MayBeRead of) → Next idle acts place IsOver (KeepsCourse input output active true)
 next_over idle acts place input output active over unread hearing here =
-    let found = here_of (course acts place) (λ (of : Course). Keeps input output active over of × MayRead of) here in
+    let found = here_of (course acts place) (λ (of : Course). KeepsCourse input output active over of × MayBeRead of) here in
     let of : Course = found.0 in
-    let keeps : Keeps input output active over of = found.2.0 in (
-      (here_at (course acts place) of (λ (of : Course). MayRead of × (stage acts ≡ Hearing)) found.1 (found.2.1, hearing), λ so. unread),
-      here_at (course (On place IsOver ∷ acts) place) (record of { is_over = true }) (Keeps input output active true) (went place IsOver acts of found.1)
+    let keeps : KeepsCourse input output active over of = found.2.0 in (
+      (here_at (course acts place) of (λ (of : Course). MayBeRead of × (stage acts ≡ Hearing)) found.1 (found.2.1, hearing), λ so. unread),
+      here_at (course (On place IsOver ∷ acts) place) (record of { is_over = true }) (KeepsCourse input output active true) (went place IsOver acts of found.1)
           (record {
             fine = keeps.fine;
             input_rest = keeps.input_rest;
@@ -202,22 +202,22 @@ next_over idle acts place input output active over unread hearing here =
     )
 
 pub next_silent : (idle : ℕ) (acts : History) (place : ℕ) (input output : List ℕ) (active : ℕ) (over : Bool) → IsUnread place acts → stage acts ≡ Hearing
-    → Here (course acts place) (λ of. Keeps input output active over of × MayRead of) → Next idle acts place IsSilent (Keeps input output active over)
+    → Here (course acts place) (λ of. KeepsCourse input output active over of × MayBeRead of) → Next idle acts place IsSilent (KeepsCourse input output active over)
 next_silent idle acts place input output active over unread hearing here =
-    let found = here_of (course acts place) (λ (of : Course). Keeps input output active over of × MayRead of) here in
+    let found = here_of (course acts place) (λ (of : Course). KeepsCourse input output active over of × MayBeRead of) here in
     let of : Course = found.0 in (
-      (here_at (course acts place) of (λ (of : Course). MayRead of × (stage acts ≡ Hearing)) found.1 (found.2.1, hearing), λ so. unread),
-      here_at (course (On place IsSilent ∷ acts) place) of (Keeps input output active over) (went place IsSilent acts of found.1) found.2.0,
+      (here_at (course acts place) of (λ (of : Course). MayBeRead of × (stage acts ≡ Hearing)) found.1 (found.2.1, hearing), λ so. unread),
+      here_at (course (On place IsSilent ∷ acts) place) of (KeepsCourse input output active over) (went place IsSilent acts of found.1) found.2.0,
     )
 
 -- a read fails, where the connection may be read, or a write does, where it may take
 abbrev pub MayFail : History → Course → Type 0
-MayFail acts of = (MayRead of × (stage acts ≡ Hearing)) ⊎ (MayTake of × (stage acts ≡ Telling true))
+MayFail acts of = (MayBeRead of × (stage acts ≡ Hearing)) ⊎ (MayBeOffered of × (stage acts ≡ Telling true))
 
-pub next_fail : (idle : ℕ) (acts : History) (place : ℕ) (input output : List ℕ) (active : ℕ) (over : Bool) → Here (course acts place) (λ of. Keeps input output active over of × MayFail acts of)
+pub next_fail : (idle : ℕ) (acts : History) (place : ℕ) (input output : List ℕ) (active : ℕ) (over : Bool) → Here (course acts place) (λ of. KeepsCourse input output active over of × MayFail acts of)
     → Next idle acts place Fails (λ of. (of.is_open ≡ true) × (of.has_failed ≡ true))
 next_fail idle acts place input output active over here =
-    let found = here_of (course acts place) (λ (of : Course). Keeps input output active over of × MayFail acts of) here in
+    let found = here_of (course acts place) (λ (of : Course). KeepsCourse input output active over of × MayFail acts of) here in
     let of : Course = found.0 in (
       (here_at (course acts place) of (MayFail acts) found.1 found.2.1, λ so. absurd (false≢true so)),
       here_at (course (On place Fails ∷ acts) place) (record of { has_failed = true }) (λ (of : Course). (of.is_open ≡ true) × (of.has_failed ≡ true)) (went place Fails acts of found.1) (found.2.0.fine.0, refl),
@@ -228,19 +228,19 @@ some_bytes [] rest some none = absurd (omega arith)
 some_bytes (byte ∷ more) rest some none = cc
 
 pub next_take : (idle : ℕ) (acts : History) (place : ℕ) (bytes rest input output : List ℕ) (active : ℕ) (over : Bool) (now : ℕ) → clock acts ≡ now → stage acts ≡ Telling true → 1 ≤ length bytes → output ≡ bytes ++ rest
-    → Here (course acts place) (Keeps input output active over) → Next idle acts place (Takes bytes) (Keeps input rest now over)
+    → Here (course acts place) (KeepsCourse input output active over) → Next idle acts place (Takes bytes) (KeepsCourse input rest now over)
 next_take idle acts place bytes rest input output active over now time telling some split here =
-    let found = here_of (course acts place) (Keeps input output active over) here in
+    let found = here_of (course acts place) (KeepsCourse input output active over) here in
     let of : Course = found.0 in
-    let keeps : Keeps input output active over of = found.2 in
+    let keeps : KeepsCourse input output active over of = found.2 in
     let answered : of.answered ≡ of.taken ++ (bytes ++ rest) = keeps.output_rest ∙ ap (λ (t : List ℕ). of.taken ++ t) split in
     let more : output ≢ [] = λ none. some_bytes bytes rest some (sym split ∙ none) in (
       (
-        here_at (course acts place) of (λ (of : Course). MayTake of × (stage acts ≡ Telling true) × (1 ≤ length bytes) × AreNext bytes of.answered of.taken) found.1
+        here_at (course acts place) of (λ (of : Course). MayBeOffered of × (stage acts ≡ Telling true) × (1 ≤ length bytes) × AreNext bytes of.answered of.taken) found.1
             ((keeps.fine, not_told of input output active over more keeps), telling, some, (rest, answered)),
         λ so. absurd (false≢true so),
       ),
-      here_at (course (On place (Takes bytes) ∷ acts) place) (record of { taken = of.taken ++ bytes; active = clock acts }) (Keeps input rest now over) (went place (Takes bytes) acts of found.1)
+      here_at (course (On place (Takes bytes) ∷ acts) place) (record of { taken = of.taken ++ bytes; active = clock acts }) (KeepsCourse input rest now over) (went place (Takes bytes) acts of found.1)
           (record {
             fine = keeps.fine;
             input_rest = keeps.input_rest;
@@ -251,12 +251,12 @@ next_take idle acts place bytes rest input output active over now time telling s
     )
 
 pub next_take_none : (idle : ℕ) (acts : History) (place : ℕ) (input output : List ℕ) (active : ℕ) (over : Bool) → stage acts ≡ Telling true → output ≢ []
-    → Here (course acts place) (Keeps input output active over) → Next idle acts place TakesNone (Keeps input output active over)
+    → Here (course acts place) (KeepsCourse input output active over) → Next idle acts place TakesNone (KeepsCourse input output active over)
 next_take_none idle acts place input output active over telling some here =
-    let found = here_of (course acts place) (Keeps input output active over) here in
+    let found = here_of (course acts place) (KeepsCourse input output active over) here in
     let of : Course = found.0 in (
-      (here_at (course acts place) of (λ (of : Course). MayTake of × (stage acts ≡ Telling true)) found.1 ((found.2.fine, not_told of input output active over some found.2), telling), λ so. absurd (false≢true so)),
-      here_at (course (On place TakesNone ∷ acts) place) of (Keeps input output active over) (went place TakesNone acts of found.1) found.2,
+      (here_at (course acts place) of (λ (of : Course). MayBeOffered of × (stage acts ≡ Telling true)) found.1 ((found.2.fine, not_told of input output active over some found.2), telling), λ so. absurd (false≢true so)),
+      here_at (course (On place TakesNone ∷ acts) place) of (KeepsCourse input output active over) (went place TakesNone acts of found.1) found.2,
     )
 
 -- ---- a deed of a connection
@@ -285,18 +285,18 @@ active_is (x ∷ reply) out grown now active result is longer same =
     sym (longer e)
 
 pub next_hear : (idle : ℕ) (acts : History) (place : ℕ) (part rest reply input output : List ℕ) (active : ℕ) (over : Bool) → stage acts ≡ Hearing → 1 ≤ length part → input ≡ part ++ rest
-    → length output ≤ FULL_OUTPUT → Here (course acts place) (Keeps input output active over)
-    → Next idle acts place (Hears part reply) (Keeps rest (output ++ reply) (if_answered reply (clock acts) active) over)
+    → length output ≤ FULL_OUTPUT → Here (course acts place) (KeepsCourse input output active over)
+    → Next idle acts place (Hears part reply) (KeepsCourse rest (output ++ reply) (if_answered reply (clock acts) active) over)
 next_hear idle acts place part rest reply input output active over hearing some split few here =
-    let found = here_of (course acts place) (Keeps input output active over) here in
+    let found = here_of (course acts place) (KeepsCourse input output active over) here in
     let of : Course = found.0 in
-    let keeps : Keeps input output active over of = found.2 in
+    let keeps : KeepsCourse input output active over of = found.2 in
     let read : of.read ≡ of.heard ++ (part ++ rest) = keeps.input_rest ∙ ap (λ (t : List ℕ). of.heard ++ t) split in
     let size : length of.answered ≡ length of.taken + length output = ap length keeps.output_rest ∙ length-append of.taken output in
     let room : HasRoom of = omega arith in (
       (here_at (course acts place) of (λ (of : Course). MayHear of part × (stage acts ≡ Hearing)) found.1 ((keeps.fine, room, some, (rest, read)), hearing), λ so. absurd (false≢true so)),
       here_at (course (On place (Hears part reply) ∷ acts) place) (record of { heard = of.heard ++ part; answered = of.answered ++ reply; active = if_answered reply (clock acts) of.active })
-          (Keeps rest (output ++ reply) (if_answered reply (clock acts) active) over) (went place (Hears part reply) acts of found.1)
+          (KeepsCourse rest (output ++ reply) (if_answered reply (clock acts) active) over) (went place (Hears part reply) acts of found.1)
           (record {
             fine = keeps.fine;
             input_rest = read ∙ sym (append_assoc of.heard part rest);
@@ -313,12 +313,12 @@ missed idle acts part fault.Memory now of opened = (record of { is_wanting = tru
 missed idle acts part fault.Refused now of opened = (record of { is_refused = true }, refl, opened, refl)
 
 pub next_miss : (idle : ℕ) (acts : History) (place : ℕ) (part rest input output : List ℕ) (active : ℕ) (over : Bool) (why : SessionFault) → stage acts ≡ Hearing → 1 ≤ length part → input ≡ part ++ rest
-    → length output ≤ FULL_OUTPUT → Here (course acts place) (Keeps input output active over)
+    → length output ≤ FULL_OUTPUT → Here (course acts place) (KeepsCourse input output active over)
     → Next idle acts place (Misses part why) (λ of. (of.is_open ≡ true) × IsReason idle (On place (Misses part why) ∷ acts) (ending_of why) of)
 next_miss idle acts place part rest input output active over why hearing some split few here =
-    let found = here_of (course acts place) (Keeps input output active over) here in
+    let found = here_of (course acts place) (KeepsCourse input output active over) here in
     let of : Course = found.0 in
-    let keeps : Keeps input output active over of = found.2 in
+    let keeps : KeepsCourse input output active over of = found.2 in
     let read : of.read ≡ of.heard ++ (part ++ rest) = keeps.input_rest ∙ ap (λ (t : List ℕ). of.heard ++ t) split in
     let size : length of.answered ≡ length of.taken + length output = ap length keeps.output_rest ∙ length-append of.taken output in
     let room : HasRoom of = omega arith in
@@ -330,11 +330,11 @@ next_miss idle acts place part rest input output active over why hearing some sp
 
 -- what waits to be heard cannot be kept
 pub next_lack : (idle : ℕ) (acts : History) (place : ℕ) (input output : List ℕ) (active : ℕ) (over : Bool) → stage acts ≡ Hearing → input ≢ [] → FULL_OUTPUT < length output
-    → Here (course acts place) (Keeps input output active over) → Next idle acts place Lacks (λ of. (of.is_open ≡ true) × (of.is_wanting ≡ true))
+    → Here (course acts place) (KeepsCourse input output active over) → Next idle acts place Lacks (λ of. (of.is_open ≡ true) × (of.is_wanting ≡ true))
 next_lack idle acts place input output active over hearing some full here =
-    let found = here_of (course acts place) (Keeps input output active over) here in
+    let found = here_of (course acts place) (KeepsCourse input output active over) here in
     let of : Course = found.0 in
-    let keeps : Keeps input output active over of = found.2 in
+    let keeps : KeepsCourse input output active over of = found.2 in
     let size : length of.answered ≡ length of.taken + length output = ap length keeps.output_rest ∙ length-append of.taken output in
     let no_room : ¬ HasRoom of = λ (room : length of.answered ≤ length of.taken + FULL_OUTPUT). absurd (omega arith) in (
       (
@@ -385,36 +385,36 @@ stays_counted place came more wanting wanting_new acts after is stays = record {
 
 -- ---- what may be read, and told
 
-pub may_read : (there : Option Course) (input output : List ℕ) (active : ℕ) (over : Bool) → input ≡ [] → over ≡ false → length output ≤ FULL_OUTPUT → Here there (Keeps input output active over)
-    → Here there (λ of. Keeps input output active over of × MayRead of)
+pub may_read : (there : Option Course) (input output : List ℕ) (active : ℕ) (over : Bool) → input ≡ [] → over ≡ false → length output ≤ FULL_OUTPUT → Here there (KeepsCourse input output active over)
+    → Here there (λ of. KeepsCourse input output active over of × MayBeRead of)
 may_read there input output active over none more few here =
-    here_so there (Keeps input output active over) (λ (of : Course). Keeps input output active over of × MayRead of)
-    (λ (of : Course) (keeps : Keeps input output active over of).
+    here_so there (KeepsCourse input output active over) (λ (of : Course). KeepsCourse input output active over of × MayBeRead of)
+    (λ (of : Course) (keeps : KeepsCourse input output active over of).
     let size : length of.answered ≡ length of.taken + length output = ap length keeps.output_rest ∙ length-append of.taken output in
     let room : HasRoom of = omega arith in
     (keeps, (keeps.fine, keeps.input_rest ∙ ap (λ (t : List ℕ). of.heard ++ t) none ∙ append-nil of.heard, room, keeps.end ∙ more)))
     here
 
 -- output waits, so it may be offered
-pub may_take : (there : Option Course) (input output : List ℕ) (active : ℕ) (over : Bool) → output ≢ [] → Here there (Keeps input output active over)
-    → Here there (λ of. Keeps input output active over of × MayTake of)
+pub may_take : (there : Option Course) (input output : List ℕ) (active : ℕ) (over : Bool) → output ≢ [] → Here there (KeepsCourse input output active over)
+    → Here there (λ of. KeepsCourse input output active over of × MayBeOffered of)
 may_take there input output active over some here =
-    here_so there (Keeps input output active over) (λ (of : Course). Keeps input output active over of × MayTake of)
-    (λ (of : Course) (keeps : Keeps input output active over of). (keeps, (keeps.fine, not_told of input output active over some keeps))) here
+    here_so there (KeepsCourse input output active over) (λ (of : Course). KeepsCourse input output active over of × MayBeOffered of)
+    (λ (of : Course) (keeps : KeepsCourse input output active over of). (keeps, (keeps.fine, not_told of input output active over some keeps))) here
 
 -- ---- the turn to send
 
 -- nothing is left to be heard, or the output is full
 pub attended : (there : Option Course) (acts : History) (place : ℕ) (input output : List ℕ) (active : ℕ) (over : Bool) → (input ≡ []) ⊎ (FULL_OUTPUT < length output)
-    → (over ≡ true) ⊎ InRound asks acts place ⊎ (FULL_OUTPUT < length output) → Here there (Keeps input output active over) → Here there (IsAttended acts place)
+    → (over ≡ true) ⊎ InRound gives_turn acts place ⊎ (FULL_OUTPUT < length output) → Here there (KeepsCourse input output active over) → Here there (IsAttended acts place)
 attended there acts place input output active over all asked here =
-    here_so there (Keeps input output active over) (IsAttended acts place) (λ (of : Course) (keeps : Keeps input output active over of). by_case of keeps all asked) here
+    here_so there (KeepsCourse input output active over) (IsAttended acts place) (λ (of : Course) (keeps : KeepsCourse input output active over of). by_case of keeps all asked) here
   where
-    full : (of : Course) → Keeps input output active over of → FULL_OUTPUT < length output → IsFull of
+    full : (of : Course) → KeepsCourse input output active over of → FULL_OUTPUT < length output → IsFull of
     full of keeps more =
         let size : length of.answered ≡ length of.taken + length output = ap length keeps.output_rest ∙ length-append of.taken output in omega arith
 
-    by_case : (of : Course) → Keeps input output active over of → (input ≡ []) ⊎ (FULL_OUTPUT < length output) → (over ≡ true) ⊎ InRound asks acts place ⊎ (FULL_OUTPUT < length output)
+    by_case : (of : Course) → KeepsCourse input output active over of → (input ≡ []) ⊎ (FULL_OUTPUT < length output) → (over ≡ true) ⊎ InRound gives_turn acts place ⊎ (FULL_OUTPUT < length output)
         → IsAttended acts place of
     by_case of keeps (inr more) asked = inl (full of keeps more)
     by_case of keeps (inl none) (inl gone) = inr (keeps.input_rest ∙ ap (λ (t : List ℕ). of.heard ++ t) none ∙ append-nil of.heard, inl (keeps.end ∙ gone))

@@ -10,10 +10,10 @@ use Rattle.connections.specs.declared.limits.TheConstants.{LAST_MILLISECONDS}
 use Rattle.connections.specs.declared.talk.Talk.{Talk}
 use Rattle.connections.specs.Endings.{AreInside, AreWithin, HasEnded, IsClosing, IsFinished, IsStopped, comers, most_comers, rounds}
 use Rattle.connections.specs.Fairness.{AreAttended, AreHeard, AreUsed, IfThere, IsAttended, IsFair, IsServed, IsUsed, IsWhole, NoneOrdered, NoneWaited}
-use Rattle.connections.specs.Rounds.{asks, offers, InRound, IsUnread}
-use Rattle.connections.specs.Fitting.{AreUnread, Fits, FitAll, Has, HasWholeRounds, MayOrder, Passes, Serves, Stays, Tours, Turns}
+use Rattle.connections.specs.Rounds.{gives_turn, offers, InRound, IsUnread}
+use Rattle.connections.specs.Fitting.{AreUnread, Fits, FitAll, Has, HasWholeRounds, MayOrder, ServesPlace, Stays, StaysInRound, Tours, Turns}
 use Rattle.connections.specs.Histories.{At, History, Course, Hearing, Telling, Stage, clock, course, stage, stopped, Leads}
-use Rattle.connections.specs.Soundness.{IsReason, IsTold}
+use Rattle.connections.specs.Soundness.{IsReason, IsTaken}
 use Rattle.connections.specs.Telling.{losses, TellsLosses, TellsTimes}
 use Rattle.connections.proofs.Closing.{fits_none, fits_used}
 use Rattle.connections.proofs.Steps.{lasts_both, lasts_none, some_there}
@@ -67,14 +67,14 @@ more_attended place came wanting wanting_new before after stays below here =
     on : (other : ℕ) (of : Course) → IsAttended before other of → IsAttended after other of
     on other of (inl full) = inl full
     on other of (inr (heard, inl gone)) = inr (heard, inl gone)
-    on other of (inr (heard, inr found)) = inr (heard, inr (stays.lasts.turns asks other found))
+    on other of (inr (heard, inr found)) = inr (heard, inr (stays.lasts.turns gives_turn other found))
 
 pub more_served : (idle place came wanting wanting_new : ℕ) (before after : History) → Stays place came wanting wanting_new before after → Below (Served idle) place before → Served idle place after → Below (Served idle) (place + 1) after
 more_served idle place came wanting wanting_new before after stays below here =
     below_more (λ other. Served idle other after) place
     (λ other less. there_stays before after other (IsServed idle before other) (IsServed idle after other) (stays.others other (λ same. absurd (omega arith))) (on other) (below other less)) here
   where
-    told : (other : ℕ) (of : Course) → IsTold of ⊎ InRound offers before other → IsTold of ⊎ InRound offers after other
+    told : (other : ℕ) (of : Course) → IsTaken of ⊎ InRound offers before other → IsTaken of ⊎ InRound offers after other
     told other of (inl all) = inl all
     told other of (inr found) = inr (stays.lasts.turns offers other found)
 
@@ -82,7 +82,7 @@ more_served idle place came wanting wanting_new before after stays below here =
     back of Done reason = reason
     back of Fault reason = reason
     back of Idle (fine, may, late) = (fine, may, subst (λ (now : ℕ). of.active + idle ≤ now) stays.same_clock late)
-    back of Stopped (fine, since, is, all) = (fine, since, sym stays.same_stop ∙ is, subst (λ (now : ℕ). IsTold of ⊎ (since + LAST_MILLISECONDS ≤ now)) stays.same_clock all)
+    back of Stopped (fine, since, is, all) = (fine, since, sym stays.same_stop ∙ is, subst (λ (now : ℕ). IsTaken of ⊎ (since + LAST_MILLISECONDS ≤ now)) stays.same_clock all)
     back of Unsynced (fine, unsynced, some) = (fine, sym stays.same_stage ∙ unsynced, some)
     back of Memory reason = reason
     back of Refused reason = reason
@@ -119,7 +119,7 @@ pub used_here : (places : List (Option Talk)) (place : ℕ) (acts : History) →
 used_here places place acts some fit below = below_more (λ other. IsUsed acts other) place below (inl (fits_used (get_or places place None) (course acts place) (fit place) some))
 
 -- the connections of a round are heard, once none more are taken and each had its turn
-pub are_heard : (count size left places wanting wanting_new : ℕ) (taken heard : History) → Passes places 0 0 wanting wanting_new taken heard → comers taken + left ≡ most_comers count
+pub are_heard : (count size left places wanting wanting_new : ℕ) (taken heard : History) → StaysInRound places 0 0 wanting wanting_new taken heard → comers taken + left ≡ most_comers count
     → IsStopped taken ⊎ NoneOrdered taken → IsStopped taken ⊎ (left ≡ 0) ⊎ NoneWaited taken ⊎ AreUsed size taken → IsStopped heard ⊎ AreAttended heard → AreHeard count size heard
 are_heard count size left places wanting wanting_new taken heard passes most asked took turns = (may_come took, may_hear asked turns)
   where
@@ -138,7 +138,7 @@ are_heard count size left places wanting wanting_new taken heard passes most ask
     may_come (inr (inr (inr used))) = inr (inr (λ place less. passes.lasts.used place (used place less)))
 
 -- whether to stop stays asked
-pub asked_on : (size left left_new wanting wanting_new : ℕ) (before after : History) → Passes size left left_new wanting wanting_new before after → IsStopped before ⊎ NoneOrdered before → IsStopped after ⊎ NoneOrdered after
+pub asked_on : (size left left_new wanting wanting_new : ℕ) (before after : History) → StaysInRound size left left_new wanting wanting_new before after → IsStopped before ⊎ NoneOrdered before → IsStopped after ⊎ NoneOrdered after
 asked_on size left left_new wanting wanting_new before after passes (inl (since, order)) = inl (since, passes.same_stop ∙ order)
 asked_on size left left_new wanting wanting_new before after passes (inr none) = inr (passes.lasts.none_ordered none)
 
@@ -215,7 +215,7 @@ module _ {S : Type 0} (opens : S → ℕ → S → Type 0) (refuses : S → ℕ 
           (places places_new : List (Option Talk)) (item slot : Option Talk) → middle ≡ left_new + came → place < length places_new → length places_new ≡ length places → item ≡ get_or places_new place item
           → ((acts : History) → Before acts → ReadyThere acts) → ((before after : History) → Stays place came wanting_then wanting_new before after → Before before → There after → After after)
           → Tours opens refuses hears misses ends has when idle now stop left middle wanting wanting_then Ready Before connections old places between new places_new
-          → Serves opens refuses hears misses ends has when idle now stop place came wanting_then wanting_new ReadyThere There between new (get_or places_new place item) connections_new latest slot
+          → ServesPlace opens refuses hears misses ends has when idle now stop place came wanting_then wanting_new ReadyThere There between new (get_or places_new place item) connections_new latest slot
           → Tours opens refuses hears misses ends has when idle now stop left left_new wanting wanting_new Ready After connections old places connections_new latest (set places_new place slot)
       toured left middle left_new came wanting wanting_then wanting_new place Ready ReadyThere Before There After connections between connections_new old new latest places places_new item slot fewer inside same_size is ready leads tours serves =
           λ start acts known at time order is_ready fit.

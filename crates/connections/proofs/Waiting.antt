@@ -7,7 +7,7 @@ use Rattle.connections.specs.declared.ending.SessionFault.TheVariants as fault
 use Rattle.connections.specs.declared.limits.TheConstants.{FULL_OUTPUT}
 use Rattle.connections.specs.Histories.{At, Ordered, GoesOn, Syncs, NoneWaits, On, Deed, Comes, Opens, Refuses, Reads, IsOver, IsSilent, Hears, Misses, Lacks, Takes, TakesNone, Fails, Ends, Closes, History, Course, clock, course, done_at}
 use Rattle.connections.specs.Laws.{AlwaysWaitWithin, AreAnsweredWithin, IsAnsweredWithin, WaitsWithin}
-use Rattle.connections.specs.Soundness.{IsDue, IsSound}
+use Rattle.connections.specs.Soundness.{IsDue, IsSoundHistory}
 
 stays_within : (idle most : ℕ) (acts : History) (deed : Deed) (now : ℕ) (there : Option Course) → IsDue idle acts deed there → IsAnsweredWithin most deed → WaitsWithin most there → WaitsWithin most (done_at deed now there)
 stays_within idle most acts Comes now None due few waits = omega arith
@@ -53,7 +53,7 @@ at_place idle most acts deed other place true is due few waits =
     rw is (stays_within idle most acts deed (clock acts) (course acts place) (subst (λ (n : ℕ). IsDue idle acts deed (course acts n)) (eqb-true other place is) due) few waits)
 at_place idle most acts deed other place false is due few waits = rw is waits
 
-waits_now : (idle most : ℕ) (acts : History) (place : ℕ) → IsSound idle acts → AreAnsweredWithin most acts → WaitsWithin most (course acts place)
+waits_now : (idle most : ℕ) (acts : History) (place : ℕ) → IsSoundHistory idle acts → AreAnsweredWithin most acts → WaitsWithin most (course acts place)
 waits_now idle most [] place sound few = tt
 waits_now idle most (At now ∷ acts) place sound few = waits_now idle most acts place sound few
 waits_now idle most (Ordered ∷ acts) place sound few = waits_now idle most acts place sound few
@@ -65,7 +65,7 @@ waits_now idle most (On other deed ∷ acts) place sound few =
 
 -- ---- what is so of a history is so at each earlier time
 
-sound_before : (idle : ℕ) (later earlier : History) → IsSound idle (later ++ earlier) → IsSound idle earlier
+sound_before : (idle : ℕ) (later earlier : History) → IsSoundHistory idle (later ++ earlier) → IsSoundHistory idle earlier
 sound_before idle [] earlier sound = sound
 sound_before idle (At now ∷ later) earlier sound = sound_before idle later earlier sound
 sound_before idle (Ordered ∷ later) earlier sound = sound_before idle later earlier sound
@@ -83,6 +83,6 @@ few_before most (GoesOn ∷ later) earlier few = few_before most later earlier f
 few_before most (NoneWaits ∷ later) earlier few = few_before most later earlier few
 few_before most (On place deed ∷ later) earlier few = few_before most later earlier few.1
 
-pub always_wait_within : (idle most : ℕ) (acts : History) → IsSound idle acts → AreAnsweredWithin most acts → AlwaysWaitWithin most acts
+pub always_wait_within : (idle most : ℕ) (acts : History) → IsSoundHistory idle acts → AreAnsweredWithin most acts → AlwaysWaitWithin most acts
 always_wait_within idle most acts sound few later earlier place split =
-    waits_now idle most earlier place (sound_before idle later earlier (subst (IsSound idle) split sound)) (few_before most later earlier (subst (AreAnsweredWithin most) split few))
+    waits_now idle most earlier place (sound_before idle later earlier (subst (IsSoundHistory idle) split sound)) (few_before most later earlier (subst (AreAnsweredWithin most) split few))

@@ -4,8 +4,8 @@ use Rattle.connections.specs.declared.ending.Ending.{Ending}
 use Rattle.connections.specs.declared.limits.TheConstants.{FULL_OUTPUT}
 use Rattle.connections.specs.Endings.{IsClosing, IsFinished, IsStopped}
 use Rattle.connections.specs.Histories.{At, Ordered, GoesOn, Syncs, NoneWaits, On, History, Course, Hearing, course, stage}
-use Rattle.connections.specs.Rounds.{asks, closes, offers, InRound}
-use Rattle.connections.specs.Soundness.{IsHeard, IsReason, IsTold}
+use Rattle.connections.specs.Rounds.{closes, gives_turn, offers, InRound}
+use Rattle.connections.specs.Soundness.{IsHeard, IsReason, IsTaken}
 
 -- ---- what happened in a round
 
@@ -42,7 +42,7 @@ IsFull of = length of.taken + FULL_OUTPUT < length of.answered
 
 -- unless the connection is full, all that was read is heard, and it was asked for more, unless it sends no more
 abbrev pub IsAttended : History → ℕ → Course → Type 0
-IsAttended acts place of = IsFull of ⊎ (IsHeard of × ((of.is_over ≡ true) ⊎ InRound asks acts place))
+IsAttended acts place of = IsFull of ⊎ (IsHeard of × ((of.is_over ≡ true) ⊎ InRound gives_turn acts place))
 
 -- there is no reason to close the connection
 abbrev pub IsNotDue : ℕ → History → Course → Type 0
@@ -50,7 +50,7 @@ IsNotDue idle acts of = (why : Ending) → ¬ IsReason idle acts why of
 
 -- all that was answered is taken or was offered, and there is no reason to close the connection
 abbrev pub IsServed : ℕ → History → ℕ → Course → Type 0
-IsServed idle acts place of = (IsTold of ⊎ InRound offers acts place) × IsNotDue idle acts of
+IsServed idle acts place of = (IsTaken of ⊎ InRound offers acts place) × IsNotDue idle acts of
 
 -- a place has a connection, or had one in this round
 abbrev pub IsUsed : History → ℕ → Type 0

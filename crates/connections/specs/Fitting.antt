@@ -10,12 +10,12 @@ use Rattle.connections.specs.declared.talk.Talk.{Talk}
 use Rattle.connections.specs.Endings.{AreInside, IsFinished, comers, most_comers, rounds}
 use Rattle.connections.specs.Fairness.{IsAttended, IsFair, IsUsed, IsWhole, NoneOrdered, NoneWaited}
 use Rattle.connections.specs.Histories.{Stage, Hearing, Ordered, GoesOn, On, Deed, Comes, Opens, Refuses, Reads, IsOver, IsSilent, Hears, Misses, Lacks, Takes, TakesNone, Fails, Ends, Closes, History, Course, clock, course, of_connections, stage, stopped, Leads}
-use Rattle.connections.specs.Rounds.{asks, InRound, IsUnread}
+use Rattle.connections.specs.Rounds.{gives_turn, InRound, IsUnread}
 use Rattle.connections.specs.Telling.{losses}
-use Rattle.connections.specs.Soundness.{Here, IsReason, IsSound, IsWell}
+use Rattle.connections.specs.Soundness.{Here, IsReason, IsSoundHistory, IsWell}
 
 -- what was read and not heard, what was answered and not taken, and when the connection was last active
-pub record Keeps (input output : List ℕ) (active : ℕ) (over : Bool) (of : Course) : Type 0 where
+pub record KeepsCourse (input output : List ℕ) (active : ℕ) (over : Bool) (of : Course) : Type 0 where
   pub fine : IsWell of
   pub input_rest : of.read ≡ of.heard ++ input
   pub output_rest : of.answered ≡ of.taken ++ output
@@ -23,7 +23,7 @@ pub record Keeps (input output : List ℕ) (active : ℕ) (over : Bool) (of : Co
   pub end : of.is_over ≡ over
 
 abbrev pub KeepsTalk : Talk → Course → Type 0
-KeepsTalk talk = Keeps talk.input.items talk.output.items talk.active talk.is_over
+KeepsTalk talk = KeepsCourse talk.input.items talk.output.items talk.active talk.is_over
 
 -- the place has this connection, or is free
 abbrev pub Fits : Option Talk → Option Course → Type 0
@@ -82,7 +82,7 @@ size_of places = length places.slots.items
 
 -- the round stays where it is, at so many places; so many more connections may be taken before, and so many after, and
 -- so many were counted that were closed for want of memory
-pub record Passes (size left left_new wanting wanting_new : ℕ) (before after : History) : Type 0 where
+pub record StaysInRound (size left left_new wanting wanting_new : ℕ) (before after : History) : Type 0 where
   pub same_clock : clock after ≡ clock before
   pub same_stage : stage after ≡ stage before
   pub same_stop : stopped after ≡ stopped before
@@ -162,7 +162,7 @@ MayHearFrom input output = (input ≢ []) × (length output ≤ FULL_OUTPUT)
 
 -- the history of connections alone
 abbrev pub Knows : {C : Type 0} → (C → History → Type 0) → ℕ → C → History → Type 0
-Knows has idle connections acts = has connections (of_connections acts) × IsSound idle acts
+Knows has idle connections acts = has connections (of_connections acts) × IsSoundHistory idle acts
 
 -- the rounds so far are whole, and of so many connections so many more may be taken
 abbrev pub HasWholeRounds : ℕ → ℕ → ℕ → ℕ → History → Type 0
@@ -173,7 +173,7 @@ HasWholeRounds idle count size left acts = (comers acts + left ≡ most_comers c
 module _ {S : Type 0} (opens : S → ℕ → S → Type 0) (refuses : S → ℕ → SessionFault → Type 0) (hears : S → ℕ → List ℕ → List ℕ → S → Type 0) (misses : S → ℕ → List ℕ → SessionFault → S → Type 0) (ends : S → ℕ → S → Type 0) where
   -- the history leads from these sessions to those, and is sound
   abbrev pub Held : ℕ → S → S → History → Type 0
-  Held idle start sessions acts = Leads opens refuses hears misses ends start acts sessions × IsSound idle acts
+  Held idle start sessions acts = Leads opens refuses hears misses ends start acts sessions × IsSoundHistory idle acts
 
   -- what happens to the session of a place while connections are heard, from what is kept of it to what is then kept;
   -- by the test, whether it heard anything
@@ -181,17 +181,17 @@ module _ {S : Type 0} (opens : S → ℕ → S → Type 0) (refuses : S → ℕ 
   Hearkens hears_some place now old Kept result new Then = (idle : ℕ) (start : S) (acts : History) → Held idle start old acts → stage acts ≡ Hearing → clock acts ≡ now
       → Here (course acts place) Kept
       → (after : History) × Stays place 0 0 0 acts after × (of_connections after ≡ of_connections acts) × Held idle start new after × GoesOrCloses idle after place result Then
-      × IfOk result (λ done. hears_some done ≡ true → InRound asks after place)
+      × IfOk result (λ done. hears_some done ≡ true → InRound gives_turn after place)
 
   -- the session hears so many bytes, at least one, of those that wait to be heard
   abbrev pub HearsFrom : ℕ → ℕ → S → List ℕ → List ℕ → ℕ → Result ℕ Ending → S → List ℕ → ℕ → Type 0
   HearsFrom place now old input output active result new output_new active_new = IfOk result (λ count. (1 ≤ count) × (count ≤ length input))
-      × ((over : Bool) → Hearkens (λ _. true) place now old (Keeps input output active over) result new (λ count. Keeps (drop count input) output_new active_new over))
+      × ((over : Bool) → Hearkens (λ _. true) place now old (KeepsCourse input output active over) result new (λ count. KeepsCourse (drop count input) output_new active_new over))
 
   module _ {C : Type 0} (has : C → History → Type 0) where
     -- all that is known of connections and sessions
     abbrev pub Has : ℕ → S → C → S → History → Type 0
-    Has idle start connections sessions acts = has connections (of_connections acts) × Leads opens refuses hears misses ends start acts sessions × IsSound idle acts
+    Has idle start connections sessions acts = has connections (of_connections acts) × Leads opens refuses hears misses ends start acts sessions × IsSoundHistory idle acts
 
     -- what happens to a connection and its session, at this stage of a round, and what is then kept
     abbrev pub Attends : {X : Type 0} → Stage → ℕ → ℕ → C → S → Talk → Result X Ending → C → S → Talk → Type 0
@@ -202,8 +202,8 @@ module _ {S : Type 0} (opens : S → ℕ → S → Type 0) (refuses : S → ℕ 
 
     -- what happens at a place at this stage of a round that is ready for it, whatever is there, where so many
     -- connections come, and so many are counted as lost before and after, and what is then kept, and so of the round
-    abbrev pub Serves : Stage → ℕ → ℕ → Option ℕ → ℕ → ℕ → ℕ → ℕ → (History → Type 0) → (History → Type 0) → C → S → Option Talk → C → S → Option Talk → Type 0
-    Serves when idle now stop place came wanting wanting_new Ready Turn connections old slot connections_new new slot_new = (start : S) (acts : History) → Has idle start connections old acts
+    abbrev pub ServesPlace : Stage → ℕ → ℕ → Option ℕ → ℕ → ℕ → ℕ → ℕ → (History → Type 0) → (History → Type 0) → C → S → Option Talk → C → S → Option Talk → Type 0
+    ServesPlace when idle now stop place came wanting wanting_new Ready Turn connections old slot connections_new new slot_new = (start : S) (acts : History) → Has idle start connections old acts
         → stage acts ≡ when → clock acts ≡ now → stopped acts ≡ stop → Ready acts → Fits slot (course acts place)
         → (after : History) × Stays place came wanting wanting_new acts after × Has idle start connections_new new after × Fits slot_new (course after place) × Turn after
 
@@ -211,7 +211,7 @@ module _ {S : Type 0} (opens : S → ℕ → S → Type 0) (refuses : S → ℕ 
     abbrev pub Tours : Stage → ℕ → ℕ → Option ℕ → ℕ → ℕ → ℕ → ℕ → (History → Type 0) → (History → Type 0) → C → S → List (Option Talk) → C → S → List (Option Talk) → Type 0
     Tours when idle now stop left left_new wanting wanting_new Ready Turn connections old places connections_new new places_new = (start : S) (acts : History) → Has idle start connections old acts
         → stage acts ≡ when → clock acts ≡ now → stopped acts ≡ stop → Ready acts → FitAll places acts
-        → (after : History) × Passes (length places) left left_new wanting wanting_new acts after × Has idle start connections_new new after × FitAll places_new after × Turn after
+        → (after : History) × StaysInRound (length places) left left_new wanting wanting_new acts after × Has idle start connections_new new after × FitAll places_new after × Turn after
 
     -- one round, in which so many connections are closed for want of memory
     abbrev pub Turns : ℕ → Option ℕ → ℕ → C → S → List (Option Talk) → Option ℕ → ℕ → ℕ → C → S → List (Option Talk) → Type 0

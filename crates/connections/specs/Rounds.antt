@@ -3,21 +3,21 @@ use Rattle.std.specs.Prelude.{◌≡◌, ◌⊎◌, ℕ, [], ◌∷◌, Bool, tr
 use Rattle.connections.specs.Histories.{At, Ordered, GoesOn, Syncs, NoneWaits, On, Deed, Comes, Opens, Refuses, Reads, IsOver, IsSilent, Hears, Misses, Lacks, Takes, TakesNone, Fails, Ends, Closes, History}
 
 -- a connection was asked for what it sends, or its session heard some of it
-abbrev pub asks : Deed → Bool
-asks Comes = false
-asks Opens = false
-asks (Refuses why) = false
-asks (Reads bytes) = true
-asks IsOver = true
-asks IsSilent = true
-asks (Hears part reply) = true
-asks (Misses part why) = false
-asks Lacks = false
-asks (Takes bytes) = false
-asks TakesNone = false
-asks Fails = false
-asks Ends = false
-asks (Closes why) = false
+abbrev pub gives_turn : Deed → Bool
+gives_turn Comes = false
+gives_turn Opens = false
+gives_turn (Refuses why) = false
+gives_turn (Reads bytes) = true
+gives_turn IsOver = true
+gives_turn IsSilent = true
+gives_turn (Hears part reply) = true
+gives_turn (Misses part why) = false
+gives_turn Lacks = false
+gives_turn (Takes bytes) = false
+gives_turn TakesNone = false
+gives_turn Fails = false
+gives_turn Ends = false
+gives_turn (Closes why) = false
 
 -- a connection was asked for what it sends
 abbrev pub reads : Deed → Bool

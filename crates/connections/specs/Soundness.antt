@@ -16,8 +16,8 @@ abbrev pub IsHeard : Course → Type 0
 IsHeard course = course.read ≡ course.heard
 
 -- all that was answered is taken
-abbrev pub IsTold : Course → Type 0
-IsTold course = course.answered ≡ course.taken
+abbrev pub IsTaken : Course → Type 0
+IsTaken course = course.answered ≡ course.taken
 
 -- of what was answered no more waits for the connection than it may
 abbrev pub HasRoom : Course → Type 0
@@ -40,23 +40,23 @@ abbrev pub IsWell : Course → Type 0
 IsWell course = (course.is_open ≡ true) × IsFaultless course
 
 -- a connection may be read from: nothing that was read waits, and its answers leave room
-abbrev pub MayRead : Course → Type 0
-MayRead course = IsWell course × IsHeard course × HasRoom course × (course.is_over ≡ false)
+abbrev pub MayBeRead : Course → Type 0
+MayBeRead course = IsWell course × IsHeard course × HasRoom course × (course.is_over ≡ false)
 
 -- a session may hear these bytes: they are the next ones, and its answers leave room
 abbrev pub MayHear : Course → List ℕ → Type 0
 MayHear course part = IsWell course × HasRoom course × (1 ≤ length part) × AreNext part course.read course.heard
 
 -- a connection may be offered what its session was answered: some of it is not taken
-abbrev pub MayTake : Course → Type 0
-MayTake course = IsWell course × (course.answered ≢ course.taken)
+abbrev pub MayBeOffered : Course → Type 0
+MayBeOffered course = IsWell course × (course.answered ≢ course.taken)
 
 -- why a connection is closed, where a connection may be idle for so long
 abbrev pub IsReason : ℕ → History → Ending → Course → Type 0
-IsReason idle before Done course = IsFaultless course × (course.is_over ≡ true) × IsHeard course × IsTold course
+IsReason idle before Done course = IsFaultless course × (course.is_over ≡ true) × IsHeard course × IsTaken course
 IsReason idle before Fault course = course.has_failed ≡ true
 IsReason idle before Idle course = IsFaultless course × (1 ≤ idle) × (course.active + idle ≤ clock before)
-IsReason idle before Stopped course = IsFaultless course × (since : ℕ) × (stopped before ≡ Some since) × (IsTold course ⊎ (since + LAST_MILLISECONDS ≤ clock before))
+IsReason idle before Stopped course = IsFaultless course × (since : ℕ) × (stopped before ≡ Some since) × (IsTaken course ⊎ (since + LAST_MILLISECONDS ≤ clock before))
 IsReason idle before Unsynced course = IsFaultless course × (stage before ≡ Telling false) × (course.answered ≢ course.taken)
 IsReason idle before Memory course = course.is_wanting ≡ true
 IsReason idle before Refused course = course.is_refused ≡ true
@@ -66,15 +66,15 @@ abbrev pub IsDue : ℕ → History → Deed → Option Course → Type 0
 IsDue idle before Comes there = (there ≡ None) × (stage before ≡ Hearing) × (stopped before ≡ None)
 IsDue idle before Opens there = Here there IsNew
 IsDue idle before (Refuses why) there = Here there IsNew
-IsDue idle before (Reads bytes) there = Here there (λ course. MayRead course × (stage before ≡ Hearing) × (1 ≤ length bytes) × (length bytes ≤ PIECE_SIZE))
-IsDue idle before IsOver there = Here there (λ course. MayRead course × (stage before ≡ Hearing))
-IsDue idle before IsSilent there = Here there (λ course. MayRead course × (stage before ≡ Hearing))
+IsDue idle before (Reads bytes) there = Here there (λ course. MayBeRead course × (stage before ≡ Hearing) × (1 ≤ length bytes) × (length bytes ≤ PIECE_SIZE))
+IsDue idle before IsOver there = Here there (λ course. MayBeRead course × (stage before ≡ Hearing))
+IsDue idle before IsSilent there = Here there (λ course. MayBeRead course × (stage before ≡ Hearing))
 IsDue idle before (Hears part reply) there = Here there (λ course. MayHear course part × (stage before ≡ Hearing))
 IsDue idle before (Misses part why) there = Here there (λ course. MayHear course part × (stage before ≡ Hearing))
 IsDue idle before Lacks there = Here there (λ course. IsWell course × (course.read ≢ course.heard) × (¬ HasRoom course) × (stage before ≡ Hearing))
-IsDue idle before (Takes bytes) there = Here there (λ course. MayTake course × (stage before ≡ Telling true) × (1 ≤ length bytes) × AreNext bytes course.answered course.taken)
-IsDue idle before TakesNone there = Here there (λ course. MayTake course × (stage before ≡ Telling true))
-IsDue idle before Fails there = Here there (λ course. (MayRead course × (stage before ≡ Hearing)) ⊎ (MayTake course × (stage before ≡ Telling true)))
+IsDue idle before (Takes bytes) there = Here there (λ course. MayBeOffered course × (stage before ≡ Telling true) × (1 ≤ length bytes) × AreNext bytes course.answered course.taken)
+IsDue idle before TakesNone there = Here there (λ course. MayBeOffered course × (stage before ≡ Telling true))
+IsDue idle before Fails there = Here there (λ course. (MayBeRead course × (stage before ≡ Hearing)) ⊎ (MayBeOffered course × (stage before ≡ Telling true)))
 IsDue idle before Ends there = Here there (λ course. course.is_open ≡ true)
 IsDue idle before (Closes why) there = Here there (λ course. (course.is_open ≡ false) × IsReason idle before why course)
 
@@ -83,11 +83,11 @@ abbrev pub IsOnce : History → ℕ → Deed → Type 0
 IsOnce before place deed = reads deed ≡ true → IsUnread place before
 
 -- Each deed had its time. What was answered is put on its disk at most once in a round, once all are heard.
-abbrev pub IsSound : ℕ → History → Type 0
-IsSound idle [] = ⊤
-IsSound idle (At now ∷ before) = IsSound idle before
-IsSound idle (Ordered ∷ before) = IsSound idle before
-IsSound idle (Syncs kept ∷ before) = (stage before ≡ Hearing) × IsSound idle before
-IsSound idle (GoesOn ∷ before) = (stopped before ≡ None) × IsSound idle before
-IsSound idle (NoneWaits ∷ before) = (stage before ≡ Hearing) × (stopped before ≡ None) × IsSound idle before
-IsSound idle (On place deed ∷ before) = (IsDue idle before deed (course before place) × IsOnce before place deed) × IsSound idle before
+abbrev pub IsSoundHistory : ℕ → History → Type 0
+IsSoundHistory idle [] = ⊤
+IsSoundHistory idle (At now ∷ before) = IsSoundHistory idle before
+IsSoundHistory idle (Ordered ∷ before) = IsSoundHistory idle before
+IsSoundHistory idle (Syncs kept ∷ before) = (stage before ≡ Hearing) × IsSoundHistory idle before
+IsSoundHistory idle (GoesOn ∷ before) = (stopped before ≡ None) × IsSoundHistory idle before
+IsSoundHistory idle (NoneWaits ∷ before) = (stage before ≡ Hearing) × (stopped before ≡ None) × IsSoundHistory idle before
+IsSoundHistory idle (On place deed ∷ before) = (IsDue idle before deed (course before place) × IsOnce before place deed) × IsSoundHistory idle before

@@ -5,7 +5,7 @@
 //! connection, in order and each byte once, and a connection takes a beginning of what its session was
 //! answered; both are whole if it was closed as done. Nothing is read or heard while more than 64 KiB of
 //! answers wait; nothing more is read, heard or taken once a read or write failed, memory was wanting, or the
-//! session refused a part; and no answer of a round leaves before the sync of that round (`IsSound`). Each
+//! session refused a part; and no answer of a round leaves before the sync of that round (`IsSoundHistory`). Each
 //! round gives each connection its turn to send and to take, and none that waits finds a place left free
 //! (`IsFair`). The loop returns once it is over (`HasEnded`), and each want of memory has its line
 //! (`TellsLosses`).

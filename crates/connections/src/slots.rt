@@ -3,7 +3,7 @@
 ghost use Rattle.std.specs.Prelude.{◌≡◌, ◌↔◌, ◌+◌, ◌-◌, ◌^◌, ◌<◌, ◌≤◌, ℕ, List, [], true, false, None, Some, IsTrue, IfOk, IfErr, ⊤};
 ghost use Rattle.connections.specs.Rounds.{IsUnread};
 ghost use Rattle.connections.specs.Fairness.{IfThere, IsAttended, IsNotDue, IsServed};
-ghost use Rattle.connections.specs.Fitting.{Adds, Has, HasTried, Judged, KeepsTalk, Knows, Serves, Stays, came_by};
+ghost use Rattle.connections.specs.Fitting.{Adds, Has, HasTried, Judged, KeepsTalk, Knows, ServesPlace, Stays, came_by};
 ghost use Rattle.connections.specs.Histories.{History, Hearing, Telling, clock, course, stage, stopped};
 ghost use Rattle.connections.specs.Pauses.{until_due};
 ghost use Rattle.connections.specs.Soundness.{Here, IsReason};
@@ -92,7 +92,7 @@ pub(crate) fn take_at<S: Sessions, C: Connections>(
     requires free { slot.old ≡ None }
     requires goes_on { round.stopped ≡ None }
     requires few { work.old.wanting < 2 ^ 64 - 1 }
-    ensures serves { Serves S.opens S.refuses S.hears S.misses S.ends C.has Hearing round.idle round.now round.stopped place (came_by result) work.old.wanting work.new.wanting (IsUnread place) (λ after. HasTried result place after × IsUnread place after) connections.old sessions.old slot.old connections.new sessions.new slot.new }
+    ensures serves { ServesPlace S.opens S.refuses S.hears S.misses S.ends C.has Hearing round.idle round.now round.stopped place (came_by result) work.old.wanting work.new.wanting (IsUnread place) (λ after. HasTried result place after × IsUnread place after) connections.old sessions.old slot.old connections.new sessions.new slot.new }
     ensures few { work.new.wanting ≤ work.old.wanting + 1 }
 {
     if !connections.take(place) {
@@ -125,7 +125,7 @@ pub(crate) fn hear_at<S: Sessions, C: Connections>(
     work: &mut Work,
 )
     requires { work.old.wanting < 2 ^ 64 - 1 }
-    ensures serves { Serves S.opens S.refuses S.hears S.misses S.ends C.has Hearing round.idle round.now round.stopped place 0 work.old.wanting work.new.wanting (IsUnread place) (λ after. IfThere (course after place) (IsAttended after place)) connections.old sessions.old slot.old connections.new sessions.new slot.new }
+    ensures serves { ServesPlace S.opens S.refuses S.hears S.misses S.ends C.has Hearing round.idle round.now round.stopped place 0 work.old.wanting work.new.wanting (IsUnread place) (λ after. IfThere (course after place) (IsAttended after place)) connections.old sessions.old slot.old connections.new sessions.new slot.new }
     ensures few { work.new.wanting ≤ work.old.wanting + 1 }
 {
     let Some(talk) = slot else {
@@ -151,7 +151,7 @@ pub(crate) fn tell_at<S: Sessions, C: Connections>(
     round: Round,
     work: &mut Work,
 )
-    ensures { Serves S.opens S.refuses S.hears S.misses S.ends C.has (Telling round.is_synced) round.idle round.now round.stopped place 0 work.old.wanting work.new.wanting (λ _. ⊤) (λ after. IfThere (course after place) (IsServed round.idle after place)) connections.old sessions.old slot.old connections.new sessions.new slot.new }
+    ensures { ServesPlace S.opens S.refuses S.hears S.misses S.ends C.has (Telling round.is_synced) round.idle round.now round.stopped place 0 work.old.wanting work.new.wanting (λ _. ⊤) (λ after. IfThere (course after place) (IsServed round.idle after place)) connections.old sessions.old slot.old connections.new sessions.new slot.new }
 {
     let Some(talk) = slot else {
         return;

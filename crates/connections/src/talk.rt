@@ -2,11 +2,11 @@
 //! the rest waits, and nothing is read before it is heard.
 
 ghost use Rattle.std.specs.Prelude.{◌≡◌, ◌≢◌, ◌⊎◌, ◌↔◌, ◌<◌, ◌≤◌, ◌++◌, [], ℕ, List, length, drop, IsTrue, IfOk, IfErr, OnOk, Some, true, false};
-ghost use Rattle.connections.specs.Rounds.{InRound, asks, offers};
-ghost use Rattle.connections.specs.Fitting.{Adds, Attends, Hearkens, HearsFrom, IsDone, IsIdleDue, IsJudged, IsStopDue, Judged, Keeps, KeepsTalk, Knows, MayHearFrom};
+ghost use Rattle.connections.specs.Rounds.{InRound, gives_turn, offers};
+ghost use Rattle.connections.specs.Fitting.{Adds, Attends, Hearkens, HearsFrom, IsDone, IsIdleDue, IsJudged, IsStopDue, Judged, KeepsCourse, KeepsTalk, Knows, MayHearFrom};
 ghost use Rattle.connections.specs.Histories.{History, Hearing, Telling, clock, course, stage, stopped};
 ghost use Rattle.connections.specs.Pauses.{until_due, until_idle, until_stopped};
-ghost use Rattle.connections.specs.Soundness.{Here, MayRead};
+ghost use Rattle.connections.specs.Soundness.{Here, MayBeRead};
 ghost use Rattle.connections.specs.Telling.{lost_by};
 ghost use Rattle.connections.specs.declared.limits.TheConstants.{FULL_OUTPUT};
 
@@ -101,7 +101,7 @@ impl Talk {
     ) -> Result<(), Ending>
         requires none { self.old.input.items ≡ [] }
         requires some { MayHearFrom bytes.now self.old.output.items }
-        ensures hears { Hearkens S.opens S.refuses S.hears S.misses S.ends (λ _. true) place now sessions.old (Keeps bytes.now self.old.output.items self.old.active self.old.is_over) result sessions.new (λ _. KeepsTalk self.new) }
+        ensures hears { Hearkens S.opens S.refuses S.hears S.misses S.ends (λ _. true) place now sessions.old (KeepsCourse bytes.now self.old.output.items self.old.active self.old.is_over) result sessions.new (λ _. KeepsTalk self.new) }
         ensures all { IfOk result (λ _. (self.new.input.items ≡ []) ⊎ (FULL_OUTPUT < length self.new.output.items)) }
     {
         let heard = hear_parts(

@@ -112,8 +112,8 @@ directory_app names =
     (root_app names).top) (prove_app names).top) audit_app.top) judge_app.top) play_app.top) serve_app.top) listen_app.top) ask_app.top
 
 -- the words are refused, by a kind of fault that clap's function of the words gives
-abbrev pub Refuses : List Text → Error → Type 0
-Refuses words fault = (names : ValueParser) × IsHashNames names × (takes (directory_app names) words ≡ false)
+abbrev pub RefusesWords : List Text → Error → Type 0
+RefusesWords words fault = (names : ValueParser) × IsHashNames names × (takes (directory_app names) words ≡ false)
     × IsAmong (kind_of fault) (fault_of (directory_app names) words)
 
 -- the status of a program whose words clap refused: 0 where they asked for help or the version

@@ -8,10 +8,10 @@ use Rattle.clap.specs.ValueTests.{is_unsigned_in}
 use Rattle.clap.specs.Words.{Row, Text, fault_of, first_of, subcommand_of}
 use Rattle.items.specs.declared.orders.HashChoice.{HashChoice}
 use Rattle.items.specs.declared.orders.HashChoice.TheVariants.{Sha256, Sum}
-use Rattle.items.specs.TreeOptions.{TreeOptions, values_of}
+use Rattle.items.specs.TreeOptions.{TreeOptions, tree_values}
 use Rattle.server.specs.ConnectionOptions.{ConnectionOptions, connections_of}
-use Rattle.server.specs.DirectoryOptions.{DirectoryOptions, values_of as directory_values}
-use Rattle.asking.specs.AskOptions.{AskOptions, values_of as ask_values}
+use Rattle.server.specs.DirectoryOptions.{DirectoryOptions, directory_values}
+use Rattle.asking.specs.AskOptions.{AskOptions, ask_values}
 use Rattle.directoryd.specs.declared.order.subcommands.Order.{Order}
 use Rattle.directoryd.specs.declared.order.subcommands.Order.TheVariants.{Root, Prove, Audit, Judge, Play, Serve, Listen, Ask}
 use Rattle.directoryd.specs.CommandLine.{directory_app, greatest, IsHashNames}
@@ -30,8 +30,8 @@ pub data Task : Type 0 where
   the_questions : AskOptions → Option Text → Task
 
 abbrev pub values_in : Order → Task
-values_in (Root order) = the_root (values_of order)
-values_in (Prove order) = the_path order.index.now (values_of order.root)
+values_in (Root order) = the_root (tree_values order)
+values_in (Prove order) = the_path order.index.now (tree_values order.root)
 values_in (Audit order) = the_audit order.key.now
 values_in (Judge order) = the_verdict order.key.now order.file.now
 values_in Play = the_script

@@ -23,7 +23,7 @@ use Rattle.server.specs.Directories.{keys_of}
 use Rattle.server.specs.Listening.{ListenTells}
 use Rattle.server.specs.Programs.{DirectoryServes}
 use Rattle.directoryd.specs.declared.ending.Ending.{Ending}
-use Rattle.directoryd.specs.CommandLine.{status_of, Refuses}
+use Rattle.directoryd.specs.CommandLine.{status_of, RefusesWords}
 use Rattle.directoryd.specs.Orders.{IsTask, Task, the_root, the_path, the_audit, the_verdict, the_script, the_session, the_connections, the_questions}
 use Rattle.directoryd.specs.KeyFiles.{ask_with, directory_with, HasNoKeys, Uses}
 use Rattle.server.specs.ConnectionOptions.{ConnectionOptions}
@@ -31,9 +31,9 @@ use Rattle.server.specs.DirectoryOptions.{DirectoryOptions}
 use Rattle.asking.specs.AskOptions.{AskOptions, ask_keys_of}
 
 -- a program gives a text for its input, and returns this status if the text was written
-abbrev pub EndsAt : ℕ → (List ℕ → Result (List ℕ) ProgramFault → Type 0) → Option (List ℕ) → Option (List ℕ) → Option (List ℕ) → Result ℕ ProgramFault → Type 0
-EndsAt status Says input old new (Ok given) = (given ≡ status) × Ends Says input old new (Ok tt)
-EndsAt status Says input old new (Err fault) = Ends Says input old new (Err fault)
+abbrev pub EndsWithStatus : ℕ → (List ℕ → Result (List ℕ) ProgramFault → Type 0) → Option (List ℕ) → Option (List ℕ) → Option (List ℕ) → Result ℕ ProgramFault → Type 0
+EndsWithStatus status Says input old new (Ok given) = (given ≡ status) × Ends Says input old new (Ok tt)
+EndsWithStatus status Says input old new (Err fault) = Ends Says input old new (Err fault)
 
 -- an outcome without its status, which is 0 if all went well
 abbrev pub without_status : Result ℕ ProgramFault → Result (Unit {0}) ProgramFault
@@ -72,8 +72,8 @@ AsksKeyed asked keys out out-new err err-new outcome =
 -- judged; a script is played; a directory begins, or goes on from its journal, and serves one session; one serves connections, and
 -- writes its address to the errors; or a directory is asked. The line about a journal is on the errors too.
 abbrev pub Obeys : Task → Option (List ℕ) → Option (List ℕ) → Option (List ℕ) → Option (List ℕ) → Option (List ℕ) → Result ℕ ProgramFault → Type 0
-Obeys (the_root asked) input out out-new err err-new outcome = EndsAt 0 (λ input said. root_answer asked input ≡ said) input out out-new outcome × Keeps err err-new
-Obeys (the_path index asked) input out out-new err err-new outcome = EndsAt 0 (Proves asked.hash (nonce_of asked.nonce) (hex32 index)) input out out-new outcome × Keeps err err-new
+Obeys (the_root asked) input out out-new err err-new outcome = EndsWithStatus 0 (λ input said. root_answer asked input ≡ said) input out out-new outcome × Keeps err err-new
+Obeys (the_path index asked) input out out-new err err-new outcome = EndsWithStatus 0 (Proves asked.hash (nonce_of asked.nonce) (hex32 index)) input out out-new outcome × Keeps err err-new
 Obeys (the_audit key) input out out-new err err-new outcome = IsZero outcome × Keeps err err-new
     × (left : Option (List ℕ)) × AuditsText key input left out (without_status outcome) out-new
 Obeys (the_verdict key file) input out out-new err err-new outcome = Keeps err err-new
@@ -96,9 +96,9 @@ Prints status text old new (Err _) = ⊥
 
 -- Words that order nothing are answered by a text of clap's, on the output with status 0, on the errors
 -- with any other. The other stream stays.
-abbrev pub Shows : ℕ → Option (List ℕ) → Option (List ℕ) → Option (List ℕ) → Option (List ℕ) → Result ℕ ProgramFault → Type 0
-Shows zero out out-new err err-new outcome = ((text : List ℕ) × Prints 0 text out out-new outcome) × Keeps err err-new
-Shows (suc n) out out-new err err-new outcome = Keeps out out-new × ((text : List ℕ) × Prints (suc n) text err err-new outcome)
+abbrev pub ShowsText : ℕ → Option (List ℕ) → Option (List ℕ) → Option (List ℕ) → Option (List ℕ) → Result ℕ ProgramFault → Type 0
+ShowsText zero out out-new err err-new outcome = ((text : List ℕ) × Prints 0 text out out-new outcome) × Keeps err err-new
+ShowsText (suc n) out out-new err err-new outcome = Keeps out out-new × ((text : List ℕ) × Prints (suc n) text err err-new outcome)
 
 -- memory ran out, and nothing is written
 abbrev pub WantsMemory : Option (List ℕ) → Option (List ℕ) → Option (List ℕ) → Option (List ℕ) → Result ℕ ProgramFault → Type 0
@@ -110,12 +110,12 @@ DoesOrder words input out out-new err err-new outcome = (what : Task) × IsTask 
 
 -- clap refuses the words, or they ask for help
 abbrev pub Refused : List Text → Option (List ℕ) → Option (List ℕ) → Option (List ℕ) → Option (List ℕ) → Result ℕ ProgramFault → Type 0
-Refused words out out-new err err-new outcome = (error : Error) × Refuses words error
-    × Shows (status_of (kind_of error)) out out-new err err-new outcome
+Refused words out out-new err err-new outcome = (error : Error) × RefusesWords words error
+    × ShowsText (status_of (kind_of error)) out out-new err err-new outcome
 
 -- what comes of words and an input
-abbrev pub Runs : List Text → Option (List ℕ) → Option (List ℕ) → Option (List ℕ) → Option (List ℕ) → Option (List ℕ) → Result ℕ ProgramFault → Type 0
-Runs words input out out-new err err-new outcome =
+abbrev pub RunsProgram : List Text → Option (List ℕ) → Option (List ℕ) → Option (List ℕ) → Option (List ℕ) → Option (List ℕ) → Result ℕ ProgramFault → Type 0
+RunsProgram words input out out-new err err-new outcome =
     DoesOrder words input out out-new err err-new outcome ⊎ (Refused words out out-new err err-new outcome ⊎ WantsMemory out out-new err err-new outcome)
 
 -- the line about words that are not UTF-8
@@ -124,12 +124,12 @@ no_text = codes "error: invalid UTF-8 was detected in one or more arguments\n"
 
 -- what comes of what the process is given: the words, or why there are none; and the input, or none if
 -- memory ran out
-abbrev pub Starts : {A B R : Type 0} → (R → Option (List ℕ)) → Result (Vec (String A) B) IoError → Result R IoError
+abbrev pub StartsProgram : {A B R : Type 0} → (R → Option (List ℕ)) → Result (Vec (String A) B) IoError → Result R IoError
     → Option (List ℕ) → Option (List ℕ) → Option (List ℕ) → Option (List ℕ) → Result ℕ ProgramFault → Type 0
-Starts remaining (Err error) reader out out-new err err-new outcome = Keeps out out-new
+StartsProgram remaining (Err error) reader out out-new err err-new outcome = Keeps out out-new
     × Prints 2 no_text err err-new outcome × ((outcome ≡ Err OutOfMemory) ↔ (error_kind error ≡ io.OutOfMemory))
-Starts remaining (Ok words) (Err error) out out-new err err-new outcome = WantsMemory out out-new err err-new outcome
-Starts remaining (Ok words) (Ok reader) out out-new err err-new outcome = Runs (map string_bytes words.items) (remaining reader) out out-new err err-new outcome
+StartsProgram remaining (Ok words) (Err error) out out-new err err-new outcome = WantsMemory out out-new err err-new outcome
+StartsProgram remaining (Ok words) (Ok reader) out out-new err err-new outcome = RunsProgram (map string_bytes words.items) (remaining reader) out out-new err err-new outcome
 
 -- a fault's line is written, whole or, if a write failed, less of it
 abbrev pub TellsFault : Bool → List ℕ → Option (List ℕ) → Option (List ℕ) → Type 0

@@ -6,7 +6,7 @@ ghost use Rattle.textio.specs.declared.program_fault.ProgramFault.{ProgramFault}
 ghost use Rattle.audits.specs.declared.judging.Verdict.{Verdict};
 ghost use Rattle.audits.specs.Verdicts.{JudgesAt};
 ghost use Rattle.directoryd.specs.Orders.{values_in};
-ghost use Rattle.directoryd.specs.Programs.{verdict_outcome, EndsAs, Obeys, Runs, Starts};
+ghost use Rattle.directoryd.specs.Programs.{verdict_outcome, EndsAs, Obeys, RunsProgram, StartsProgram};
 
 use crate::keyed::{ask_keyed, listen_keyed, serve_keyed};
 use crate::order::{Order, order};
@@ -96,7 +96,7 @@ where
     R: BufRead,
     W: Write,
     E: Write,
-    ensures { Runs (map S.text words.now) (R.remaining reader.old) (W.contents writer.old) (W.contents writer.new)
+    ensures { RunsProgram (map S.text words.now) (R.remaining reader.old) (W.contents writer.old) (W.contents writer.new)
         (E.contents errors.old) (E.contents errors.new) result }
 {
     match order(alloc, words) {
@@ -119,7 +119,7 @@ where
     R: BufRead + Drop,
     W: Write,
     E: Write,
-    ensures { Starts R.remaining words reader (W.contents writer.old) (W.contents writer.new)
+    ensures { StartsProgram R.remaining words reader (W.contents writer.old) (W.contents writer.new)
         (E.contents errors.old) (E.contents errors.new) result }
 {
     let words = match words {
@@ -170,7 +170,7 @@ where
     W: Write,
     E: Write,
     ensures { (outcome : _) × (errors_between : _)
-        × Starts R.remaining words reader (W.contents writer.old) (W.contents writer.new)
+        × StartsProgram R.remaining words reader (W.contents writer.old) (W.contents writer.new)
         (E.contents errors.old) errors_between outcome
         × EndsAs outcome errors_between (E.contents errors.new) result }
 {

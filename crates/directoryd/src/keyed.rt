@@ -1,8 +1,8 @@
 // Servers, and questions, with keys of which some may stand in a file.
 ghost use Rattle.std.specs.Prelude.{option_map};
-ghost use Rattle.asking.specs.AskOptions.{values_of as ask_values};
+ghost use Rattle.asking.specs.AskOptions.{ask_values};
 ghost use Rattle.server.specs.ConnectionOptions.{connections_of};
-ghost use Rattle.server.specs.DirectoryOptions.{values_of as directory_values};
+ghost use Rattle.server.specs.DirectoryOptions.{directory_values};
 ghost use Rattle.directoryd.specs.Programs.{AsksKeyed, ListensKeyed, ServesKeyed};
 
 use crate::keys::{ask_with, directory_with, keys_at, listen_with};

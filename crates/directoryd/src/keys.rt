@@ -2,8 +2,8 @@
 // space and 64 hexadecimal digits; of a name that stands there twice, the first counts. An option on the command
 // line wins over the file, unless it is empty. Contracts do not know which bytes a file has.
 ghost use Rattle.std.specs.Prelude.{◌≡◌, ◌⊎◌, Decides, IfErr, IfOk, MatchOption, MatchResult, false, option_map, string_bytes, true};
-ghost use Rattle.asking.specs.AskOptions.{values_of as ask_values};
-ghost use Rattle.server.specs.DirectoryOptions.{values_of as directory_values};
+ghost use Rattle.asking.specs.AskOptions.{ask_values};
+ghost use Rattle.server.specs.DirectoryOptions.{directory_values};
 ghost use Rattle.directoryd.specs.KeyFiles.{HasKeyLines, IsKeysFault, IsKeysFile, ask_with, directory_with, gives, is_key_line, key_in, name_in, option_or, text_or, value_in};
 ghost use Rattle.server.specs.ConnectionOptions.{connections_of};
 

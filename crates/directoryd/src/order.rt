@@ -4,11 +4,11 @@ ghost use Rattle.clap.specs.Words.{app_of, first_of, found_of, kind_of, rows_of,
 ghost use Rattle.clap.specs.declared.builder.command.Command.TheViews.{out-Command};
 ghost use Rattle.clap.specs.declared.builder.value_parser.ValueParser.{ValueParser};
 ghost use Rattle.clap.specs.declared.error.kind.ErrorKind.TheVariants.{OutOfMemory};
-ghost use Rattle.directoryd.specs.CommandLine.{bare_app, directory_app, IsHashNames, Refuses};
+ghost use Rattle.directoryd.specs.CommandLine.{bare_app, directory_app, IsHashNames, RefusesWords};
 ghost use Rattle.directoryd.specs.Tables.{app_in, apps_in, rule_in};
-ghost use Rattle.items.specs.TreeOptions.{values_of};
-ghost use Rattle.server.specs.DirectoryOptions.{values_of as directory_values};
-ghost use Rattle.asking.specs.AskOptions.{values_of as ask_values};
+ghost use Rattle.items.specs.TreeOptions.{tree_values};
+ghost use Rattle.server.specs.DirectoryOptions.{directory_values};
+ghost use Rattle.asking.specs.AskOptions.{ask_values};
 ghost use Rattle.directoryd.specs.Orders.{asked_in, asking_in, connections_in, directory_in, flag_in, hash_named, number_from, task_in, text_in, the_connections, values_in, IsTask};
 
 mod subcommands;
@@ -151,7 +151,7 @@ fn number(found: &ArgMatches<'_>, name: &str, least: u64) -> u64
 
 /// The options of a tree, as a subcommand has them.
 fn root_order<'a>(found: &ArgMatches<'a>) -> RootOrder<'a>
-    ensures { values_of result ≡ asked_in (rows_of (found_of found.now)) }
+    ensures { tree_values result ≡ asked_in (rows_of (found_of found.now)) }
 {
     RootOrder {
         hash: hash_choice(found.get_str("hash")),
@@ -252,7 +252,7 @@ fn named_order<'a>(name: &str, found: &ArgMatches<'a>) -> Order<'a>
 /// clap's, of words that it refuses or that ask for help, or of memory that ran out.
 pub fn order<'a, S: AsStr>(alloc: Global, words: &'a [S]) -> Result<Order<'a>, Error>
     ensures ok { IfOk result (λ order. IsTask (map S.text words.entry.now) (values_in order)) }
-    ensures err { IfErr result (λ fault. (kind_of fault ≡ OutOfMemory) ⊎ Refuses (map S.text words.entry.now) fault) }
+    ensures err { IfErr result (λ fault. (kind_of fault ≡ OutOfMemory) ⊎ RefusesWords (map S.text words.entry.now) fault) }
 {
     let matches = command(alloc)?.try_get_matches_from(words)?;
     let Some((name, found)) = matches.subcommand() else {

@@ -3,7 +3,7 @@ ghost use Rattle.std.specs.IoError.{error_kind};
 ghost use Rattle.clap.specs.Words.{kind_of};
 ghost use Rattle.clap.specs.declared.error.kind.ErrorKind.TheVariants.{OutOfMemory};
 ghost use Rattle.directoryd.specs.CommandLine.{status_of};
-ghost use Rattle.directoryd.specs.Programs.{no_text, Prints, Shows};
+ghost use Rattle.directoryd.specs.Programs.{no_text, Prints, ShowsText};
 
 use clap::Error;
 use clap::error::ErrorKind;
@@ -46,7 +46,7 @@ pub fn refuse<W: Write, E: Write>(
     errors: &mut E,
 ) -> Result<u8, ProgramFault>
     ensures memory { kind_of error.now ≡ OutOfMemory → result ≡ Err ProgramFault.OutOfMemory }
-    ensures shows { Shows (status_of (kind_of error.now)) (W.contents writer.old) (W.contents writer.new)
+    ensures shows { ShowsText (status_of (kind_of error.now)) (W.contents writer.old) (W.contents writer.new)
         (E.contents errors.old) (E.contents errors.new) result }
 {
     if error.kind() == ErrorKind::OutOfMemory {

@@ -8,12 +8,12 @@ use Rattle.std.specs.declared.cmp.Ordering.TheVariants.{Less, Equal, Greater}
 use Rattle.prefixtree.proofs.Order.{same-equal}
 use Rattle.rand_core.specs.Stream.{Stream}
 use Rattle.book.specs.Books.{Binding}
-use Rattle.book.specs.Maps.{Map, at, put}
+use Rattle.book.specs.Maps.{Map, at, put_name}
 use Rattle.book.specs.Shows.{Provider}
-use Rattle.book.specs.Sound.{IsHeld}
+use Rattle.book.specs.Sound.{HoldsName}
 use Rattle.book.proofs.Entries.{found-entry}
 use Rattle.epochs.specs.declared.address.Address.{Address}
-use Rattle.epochs.specs.Addresses.{AreAddresses, Names, address_of, with_name}
+use Rattle.epochs.specs.Addresses.{AreAddresses, NamesContent, address_of, with_name}
 use Rattle.epochs.specs.Histories.{Version, chosen, binding_at, waiting}
 use Rattle.epochs.specs.Parts.{Keeps, Parts, last_of, pending_of}
 use Rattle.epochs.specs.Versions.{AreHistories}
@@ -30,18 +30,18 @@ module _ (provider : Provider) where
       let e = found-entry (λ entry. entry.1 ≡ address_of provider entry.0) addresses name address found are in
       sym e.3 ∙ e.1 ∙ ap (address_of provider) e.2
 
-  addresses-put : (addresses : Map Address) (name : List ℕ) (address : Address) → AreAddresses provider addresses → address ≡ address_of provider name → AreAddresses provider (put addresses name address)
+  addresses-put : (addresses : Map Address) (name : List ℕ) (address : Address) → AreAddresses provider addresses → address ≡ address_of provider name → AreAddresses provider (put_name addresses name address)
   addresses-put [] name address are is = (is, tt)
   addresses-put (e ∷ es) name address are is = by (bytes_cmp name e.0) refl (addresses-put es name address are.1 is)
     where
-      by : (r : Ordering) → bytes_cmp name e.0 ≡ r → AreAddresses provider (put es name address)
-          → AreAddresses provider (match_ordering r ((name, address) ∷ e ∷ es) ((e.0, address) ∷ es) (e ∷ put es name address))
+      by : (r : Ordering) → bytes_cmp name e.0 ≡ r → AreAddresses provider (put_name es name address)
+          → AreAddresses provider (match_ordering r ((name, address) ∷ e ∷ es) ((e.0, address) ∷ es) (e ∷ put_name es name address))
       by Less same more = (is, are)
       by Equal same more = (is ∙ ap (address_of provider) (same-equal name e.0 same), are.1)
       by Greater same more = (are.0, more)
 
   -- a version more leaves each name its own
-  pub addresses_with : (names : Names) (name : List ℕ) (address : Address) (version : Version) → AreAddresses provider names.addresses → address ≡ address_of provider name
+  pub addresses_with : (names : NamesContent) (name : List ℕ) (address : Address) (version : Version) → AreAddresses provider names.addresses → address ≡ address_of provider name
       → AreAddresses provider (with_name names name address version).addresses
   addresses_with names name address version are is = addresses-put names.addresses name (unwrap_or (at names.addresses name) address) are (by (at names.addresses name) refl)
     where
@@ -92,12 +92,12 @@ module _ (provider : Provider) (parts : Parts) (salt : List ℕ) (left : Stream)
     pub none_shown : None ≡ at (last_of parts).bindings name
     none_shown = chosen_found (binding_at (length parts.roots - 1)) parts.names name keeps.histories None none
 
-    unheld : IsHeld (book_of parts salt left) name → ⊥
+    unheld : HoldsName (book_of parts salt left) name → ⊥
     unheld (inl some) = absurd (cc (ap is_some none_shown, some))
     unheld (inr some) = absurd (cc (ap is_some none_waits, some))
 
   -- a name that is held has a history
-  pub held_there : IsHeld (book_of parts salt left) name → is_some (at parts.names name) ≡ true
+  pub held_there : HoldsName (book_of parts salt left) name → is_some (at parts.names name) ≡ true
   held_there held = by (at parts.names name) refl
     where
       by : (o : Option (List Version)) → at parts.names name ≡ o → is_some o ≡ true

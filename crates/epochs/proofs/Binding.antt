@@ -7,11 +7,11 @@ use Rattle.commit.specs.Commitments.{commitment_bytes}
 use Rattle.prefixtree.specs.Placement.{Items, commitment_of, put}
 use Rattle.book.specs.Answers.{with_pending}
 use Rattle.book.specs.Books.{Book}
-use Rattle.book.specs.Maps.{Map, at, put as put_name}
+use Rattle.book.specs.Maps.{Map, at, put_name}
 use Rattle.book.specs.Replays.{with_bound}
 use Rattle.book.specs.Salted.{salted}
 use Rattle.book.specs.Shows.{Provider, index_of}
-use Rattle.book.specs.Sound.{IsHeld}
+use Rattle.book.specs.Sound.{HoldsName}
 use Rattle.book.proofs.Joining.{first-salt}
 use Rattle.epochs.specs.Histories.{Version}
 use Rattle.epochs.specs.Parts.{Keeps, Parts, pending_of}
@@ -41,7 +41,7 @@ resalted provider parts salt left keeps other rest small = record {
 }
 
 module _ (provider : Provider) (parts : Parts) (own : List ℕ) (left : Stream) (keeps : Keeps provider parts (book_of parts own left)) (name key : List ℕ)
-    (none : at (pending_of parts) name ≡ None) (free : (other : List ℕ) → IsHeld (book_of parts own left) other → index_of provider other ≡ index_of provider name → other ≡ name)
+    (none : at (pending_of parts) name ≡ None) (free : (other : List ℕ) → HoldsName (book_of parts own left) other → index_of provider other ≡ index_of provider name → other ≡ name)
     (salt : List ℕ) (small : Is32Bytes salt) where
   -- the salts to come, where the binding's own comes first
   abbrev ahead : Stream

@@ -21,7 +21,7 @@ use Rattle.book.specs.Books.{Binding}
 use Rattle.book.specs.Maps.{Map, at}
 use Rattle.book.specs.Replays.{put_refusal}
 use Rattle.book.specs.Shows.{Provider, index_of, placement, IsRootOf}
-use Rattle.book.specs.Sound.{IsHeld}
+use Rattle.book.specs.Sound.{HoldsName}
 use Rattle.book.specs.Turns.{Shows}
 use Rattle.book.proofs.Distinct.{HasName}
 use Rattle.book.proofs.Entries.{Ascends}
@@ -74,7 +74,7 @@ some-name : (map : Map Binding) (name : List ℕ) → HasName map name → IsSom
 some-name map name has = subst IsSome (sym has.1) refl
 
 module _ (provider : Provider) (parts : Parts) (salt : List ℕ) (left : Stream) (keeps : Keeps provider parts (book_of parts salt left)) (name key : List ℕ)
-    (none : at (pending_of parts) name ≡ None) (free : (other : List ℕ) → IsHeld (book_of parts salt left) other → index_of provider other ≡ index_of provider name → other ≡ name) where
+    (none : at (pending_of parts) name ≡ None) (free : (other : List ℕ) → HoldsName (book_of parts salt left) other → index_of provider other ≡ index_of provider name → other ≡ name) where
   -- its index does not wait
   pub index_free : (index : List ℕ) → index ≡ index_of provider name → commitment_of parts.waiting index ≡ None
   index_free index is =
@@ -173,7 +173,7 @@ module _ (provider : Provider) (parts : Parts) (salt : List ℕ) (left : Stream)
   due = put_refusal (index_of provider) (book_of parts salt left) Register name
 
   -- a name that is there has its index there
-  own : (bindings : Map Binding) (binding : Binding) → Ascends bindings → ((other : List ℕ) → HasName bindings other → IsHeld (book_of parts salt left) other) → IsHeld (book_of parts salt left) name
+  own : (bindings : Map Binding) (binding : Binding) → Ascends bindings → ((other : List ℕ) → HasName bindings other → HoldsName (book_of parts salt left) other) → HoldsName (book_of parts salt left) name
       → at bindings name ≡ Some binding → commitment_of (placement provider bindings) (index_of provider name) ≡ Some (commitment provider name binding)
   own bindings binding up all held found =
       placed_some provider name bindings binding up (apart-alone provider bindings name (λ other has same. free_held provider parts salt left keeps name held other (all other has) same)) found
@@ -222,5 +222,5 @@ module _ (provider : Provider) (parts : Parts) (salt : List ℕ) (left : Stream)
     pub taken_later : waits ≡ false → at later name ≡ None
     taken_later none = is-none (at later name) (untaken none).0
 
-    pub taken_free : waits ≡ false → (other : List ℕ) → IsHeld (book_of parts salt left) other → index_of provider other ≡ index_of provider name → other ≡ name
+    pub taken_free : waits ≡ false → (other : List ℕ) → HoldsName (book_of parts salt left) other → index_of provider other ≡ index_of provider name → other ≡ name
     taken_free none = free_untaken provider parts salt left keeps name (untaken none).1

@@ -1,9 +1,9 @@
 -- All but the last of a list, and its last.
 use Rattle.std.proofs.Common.{◌≡◌, ℕ, ◌-◌, ◌<◌, List, [], ◌∷◌, ◌++◌, length, take, slice_get, Some, refl, ap, ◌∙◌, arith}
-use Rattle.epochs.specs.Ends.{final, front}
+use Rattle.epochs.specs.Ends.{all_but_last, final}
 
 module _ {X : Type 0} where
-  pub front_push : (xs : List X) (x : X) → front (xs ++ x ∷ []) ≡ xs
+  pub front_push : (xs : List X) (x : X) → all_but_last (xs ++ x ∷ []) ≡ xs
   front_push [] x = refl
   front_push (y ∷ []) x = refl
   front_push (y ∷ z ∷ more) x = ap (λ (l : List X). y ∷ l) (front_push (z ∷ more) x)
@@ -12,7 +12,7 @@ module _ {X : Type 0} where
   final_push none [] x = refl
   final_push none (y ∷ more) x = final_push y more x
 
-  pub front_final : (none : X) (xs : List X) → 0 < length xs → front xs ++ final none xs ∷ [] ≡ xs
+  pub front_final : (none : X) (xs : List X) → 0 < length xs → all_but_last xs ++ final none xs ∷ [] ≡ xs
   front_final none [] some = absurd (omega arith)
   front_final none (x ∷ []) some = refl
   front_final none (x ∷ y ∷ more) some = ap (λ (l : List X). x ∷ l) (front_final x (y ∷ more) (omega arith))
@@ -28,13 +28,13 @@ module _ {X : Type 0} where
       last y [] = refl
       last y (z ∷ zs) = last z zs
 
-  pub front_take : (xs : List X) → front xs ≡ take (length xs - 1) xs
+  pub front_take : (xs : List X) → all_but_last xs ≡ take (length xs - 1) xs
   front_take [] = refl
   front_take (x ∷ more) = go x more ∙ ap (λ (n : ℕ). take n (x ∷ more)) place
     where
       place : length more ≡ length (x ∷ more) - 1
       place = omega arith
 
-      go : (y : X) (ys : List X) → front (y ∷ ys) ≡ take (length ys) (y ∷ ys)
+      go : (y : X) (ys : List X) → all_but_last (y ∷ ys) ≡ take (length ys) (y ∷ ys)
       go y [] = refl
       go y (z ∷ zs) = ap (λ (l : List X). y ∷ l) (go z zs)

@@ -16,7 +16,7 @@ use Rattle.rootchain.specs.Bodies.{body_bytes}
 use Rattle.rootchain.specs.declared.signed_root.SignedRoot.{SignedRoot}
 use Rattle.book.specs.Answers.{page_range, with_page}
 use Rattle.book.specs.Books.{Book, Page, page_at, pages}
-use Rattle.epochs.specs.Ends.{final, front}
+use Rattle.epochs.specs.Ends.{all_but_last, final}
 use Rattle.book.specs.Shows.{Provider, SignedPage, body_behind, roots, sealed_behind, signed, IsRootOf}
 use Rattle.epochs.proofs.Ends.{front_final, slice_get-final}
 use Rattle.book.proofs.Members.{first-or-later, first-there, later-there, none-there}
@@ -236,4 +236,4 @@ module _ (provider : Provider) where
   sealed_pushed-at book page last at =
       let e : Some (final last (roots provider book)) ≡ Some last = sym (slice_get-final last (roots provider book) (roots_some book)) ∙ at in
       let same : final last (roots provider book) ≡ last = cc in
-      sealed_pushed book page (front (roots provider book)) last (sym (front_final last (roots provider book) (roots_some book)) ∙ ap (λ (root : SignedRoot). front (roots provider book) ++ root ∷ []) same)
+      sealed_pushed book page (all_but_last (roots provider book)) last (sym (front_final last (roots provider book) (roots_some book)) ∙ ap (λ (root : SignedRoot). all_but_last (roots provider book) ++ root ∷ []) same)

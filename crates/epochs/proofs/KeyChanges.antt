@@ -15,9 +15,9 @@ use Rattle.book.specs.declared.refusal.Refusal.TheVariants.{NoSuchName, PendingE
 use Rattle.book.specs.Maps.{at}
 use Rattle.book.specs.Replays.{put_refusal, with_bound}
 use Rattle.book.specs.Shows.{Provider, index_of}
-use Rattle.book.specs.Sound.{IsHeld}
+use Rattle.book.specs.Sound.{HoldsName}
 use Rattle.epochs.specs.declared.address.Address.{Address}
-use Rattle.epochs.specs.Addresses.{AreAddresses, History, Names, address_of, named, with_history}
+use Rattle.epochs.specs.Addresses.{AreAddresses, HistoryContent, NamesContent, address_of, named, with_history}
 use Rattle.epochs.specs.Histories.{Version, binding_at, chosen, waiting}
 use Rattle.epochs.specs.KeyChanges.{AreChangedNames, FitsHistory, FitsNames, IsChangedHistory, change_refusal, refused_before}
 use Rattle.epochs.specs.Parts.{Keeps, Parts, last_of, pending_of}
@@ -63,7 +63,7 @@ module _ {X : Type 0} (of : X → Binding) (found : Option X) (none : Bool) (tes
 -- ---- what becomes of a history
 
 -- from what a call makes known that adds a version, once nothing refuses
-pub changed_history : (A : Type 0) (B C : Refusal → Type 0) (history history_after : History) (waits waits_after : Items) (version made : Version) (commitment text : List ℕ) (result : Result (List ℕ) Refusal)
+pub changed_history : (A : Type 0) (B C : Refusal → Type 0) (history history_after : HistoryContent) (waits waits_after : Items) (version made : Version) (commitment text : List ℕ) (result : Result (List ℕ) Refusal)
     → refused_before made.number history.versions ≡ None → version ≡ made → commitment ≡ text → ((why : Refusal) → B why → C why)
     → MatchResult result
     (λ index. A × (index ≡ history.address.index) × (history_after ≡ record history { versions = history.versions ++ version ∷ [] }) × (waits_after ≡ put waits index commitment))
@@ -77,17 +77,17 @@ changed_history A B C history history_after waits waits_after version made commi
 
 -- ---- what becomes of the names
 
-module _ {K : Type 0} (bytes : K → List ℕ) (name : List ℕ) (es : List (K × History)) where
+module _ {K : Type 0} (bytes : K → List ℕ) (name : List ℕ) (es : List (K × HistoryContent)) where
   -- a name that has no history
   pub not_there : lookup (test bytes name) es ≡ None → (page : ℕ) → refused_before page (versions_of (named bytes es).versions name) ≡ Some NoSuchName
   not_there none page = ap (λ (o : Option (List Version)). refused_before page (unwrap_or o [])) (sym at-none)
     where
       at-none : None ≡ at (named bytes es).versions name
-      at-none = ap (option_map (λ (history : History). history.versions)) (sym none) ∙ lookup-bytes bytes (λ (history : History). history.versions) name es
+      at-none = ap (option_map (λ (history : HistoryContent). history.versions)) (sym none) ∙ lookup-bytes bytes (λ (history : HistoryContent). history.versions) name es
 
-  module _ (earlier : History) (found : lookup (test bytes name) es ≡ Some earlier) where
+  module _ (earlier : HistoryContent) (found : lookup (test bytes name) es ≡ Some earlier) where
     at-address : at (named bytes es).addresses name ≡ Some earlier.address
-    at-address = sym (ap (option_map (λ (history : History). history.address)) (sym found) ∙ lookup-bytes bytes (λ (history : History). history.address) name es)
+    at-address = sym (ap (option_map (λ (history : HistoryContent). history.address)) (sym found) ∙ lookup-bytes bytes (λ (history : HistoryContent). history.address) name es)
 
     same-versions : versions_of (named bytes es).versions name ≡ earlier.versions
     same-versions = versions-there bytes name es earlier found
@@ -98,7 +98,7 @@ module _ {K : Type 0} (bytes : K → List ℕ) (name : List ℕ) (es : List (K �
         (subst (AllBefore page) same-versions these.0, these.1 earlier.address at-address)
 
     -- from what became of the history
-    pub changed_names : (A : Type 0) (B : Option Refusal → Refusal → Type 0) (waits waits_after : Items) (version : Version) (text : List ℕ) (result : Result (List ℕ) Refusal) (es_set es_after : List (K × History)) (later : History)
+    pub changed_names : (A : Type 0) (B : Option Refusal → Refusal → Type 0) (waits waits_after : Items) (version : Version) (text : List ℕ) (result : Result (List ℕ) Refusal) (es_set es_after : List (K × HistoryContent)) (later : HistoryContent)
         → es_after ≡ es_set → named bytes es_set ≡ with_history (named bytes es) name later
         → MatchResult result
         (λ index. A × IsChangedHistory earlier waits version text index later waits_after)
@@ -122,15 +122,15 @@ module _ {K : Type 0} (bytes : K → List ℕ) (name : List ℕ) (es : List (K �
     )
 
 -- what a call makes known that changes a key
-abbrev pub ChangedNames : Type 0 → (Refusal → Type 0) → Names → Items → List ℕ → Version → List ℕ → Result (List ℕ) Refusal → Names → Items → Type 0
+abbrev pub ChangedNames : Type 0 → (Refusal → Type 0) → NamesContent → Items → List ℕ → Version → List ℕ → Result (List ℕ) Refusal → NamesContent → Items → Type 0
 ChangedNames A B names waits name version text result names_after waits_after =
     MatchResult result (λ index. A × AreChangedNames names waits name version text index names_after waits_after) (λ why. (names_after ≡ names) × (waits_after ≡ waits) × B why)
 
-pub histories_changed : (A : Type 0) (B : Refusal → Type 0) (names names_after : Names) (waits waits_after : Items) (name : List ℕ) (version : Version) (text : List ℕ) (result : Result (List ℕ) Refusal)
+pub histories_changed : (A : Type 0) (B : Refusal → Type 0) (names names_after : NamesContent) (waits waits_after : Items) (name : List ℕ) (version : Version) (text : List ℕ) (result : Result (List ℕ) Refusal)
     → AreHistories names.versions → FitsNames names waits name version.number → ChangedNames A B names waits name version text result names_after waits_after → AreHistories names_after.versions
 histories_changed A B names names_after waits waits_after name version text (Ok index) are fits (kept, (none, place, added, put_in)) =
-    subst (λ (n : Names). AreHistories n.versions) (sym (added (record { value = []; index = index }))) (histories_with names.versions name version are (fits none).0)
-histories_changed A B names names_after waits waits_after name version text (Err why) are fits (same, stays, refused) = subst (λ (n : Names). AreHistories n.versions) (sym same) are
+    subst (λ (n : NamesContent). AreHistories n.versions) (sym (added (record { value = []; index = index }))) (histories_with names.versions name version are (fits none).0)
+histories_changed A B names names_after waits waits_after name version text (Err why) are fits (same, stays, refused) = subst (λ (n : NamesContent). AreHistories n.versions) (sym same) are
 
 -- ---- what becomes of the book
 
@@ -139,7 +139,7 @@ opened None waits is = absurd cc
 opened (Some x) None is = (refl, refl)
 opened (Some x) (Some y) is = absurd cc
 
-module _ (provider : Provider) (names : Names) (rest : Parts) where
+module _ (provider : Provider) (names : NamesContent) (rest : Parts) where
   abbrev parts : Parts
   parts = record { names = names.versions; roots = rest.roots; trees = rest.trees; waiting = rest.waiting; body_hash = rest.body_hash }
 
@@ -170,7 +170,7 @@ module _ (provider : Provider) (names : Names) (rest : Parts) where
       nothing-waits : at (pending_of parts) name ≡ None
       nothing-waits = (opened (at (last_of parts).bindings name) (at (pending_of parts) name) none).1
 
-      alone : (other : List ℕ) → IsHeld (book_of parts own left) other → index_of provider other ≡ index_of provider name → other ≡ name
+      alone : (other : List ℕ) → HoldsName (book_of parts own left) other → index_of provider other ≡ index_of provider name → other ≡ name
       alone = free_shown provider parts own left keeps name (opened (at (last_of parts).bindings name) (at (pending_of parts) name) none).0
 
     its-index : (address : Address) → at names.addresses name ≡ Some address → address.index ≡ index_of provider name
@@ -187,7 +187,7 @@ module _ (provider : Provider) (names : Names) (rest : Parts) where
           (λ address found. bound_free provider parts own left keeps name key (nothing-waits none) (alone none) salt small address.index (its-index address found)),
         )
 
-    module _ (A : Type 0) (B : Option Refusal → Refusal → Type 0) (names_after : Names) (waits_after : Items) where
+    module _ (A : Type 0) (B : Option Refusal → Refusal → Type 0) (names_after : NamesContent) (waits_after : Items) where
       abbrev parts_changed : Parts
       parts_changed = record { names = names_after.versions; roots = rest.roots; trees = rest.trees; waiting = waits_after; body_hash = rest.body_hash }
 
@@ -198,17 +198,17 @@ module _ (provider : Provider) (names : Names) (rest : Parts) where
       keeps_changed is-name is-key (Ok index) (kept, (refused, place, added, put_in)) =
           let none = sym due-is ∙ refused in
           keeps_bound provider parts own left keeps name key (nothing-waits none) (alone none) salt small len long the_version refl
-          index text names_after.versions waits_after (found-index (at names.addresses name) index refl place) refl (ap (λ (n : Names). n.versions) (added (address_of provider name))) put_in is-name is-key
+          index text names_after.versions waits_after (found-index (at names.addresses name) index refl place) refl (ap (λ (n : NamesContent). n.versions) (added (address_of provider name))) put_in is-name is-key
       keeps_changed is-name is-key (Err why) (same, stays, refused) =
-          subst (λ (x : Names × Items). Keeps provider (over x) (book_of (over x) own left)) (λ i. (sym same i, sym stays i)) keeps
+          subst (λ (x : NamesContent × Items). Keeps provider (over x) (book_of (over x) own left)) (λ i. (sym same i, sym stays i)) keeps
         where
-          over : Names × Items → Parts
+          over : NamesContent × Items → Parts
           over x = record { names = (x.0).versions; roots = rest.roots; trees = rest.trees; waiting = x.1; body_hash = rest.body_hash }
 
       pub addresses_changed : (result : Result (List ℕ) Refusal) → Made result → AreAddresses provider names_after.addresses
       addresses_changed (Ok index) (kept, (refused, place, added, put_in)) =
-          subst (λ (n : Names). AreAddresses provider n.addresses) (sym (added (address_of provider name))) (addresses_with provider names name (address_of provider name) the_version are refl)
-      addresses_changed (Err why) (same, stays, refused) = subst (λ (n : Names). AreAddresses provider n.addresses) (sym same) are
+          subst (λ (n : NamesContent). AreAddresses provider n.addresses) (sym (added (address_of provider name))) (addresses_with provider names name (address_of provider name) the_version are refl)
+      addresses_changed (Err why) (same, stays, refused) = subst (λ (n : NamesContent). AreAddresses provider n.addresses) (sym same) are
 
       pub book_changed : (result : Result (List ℕ) Refusal) → Made result
           → MatchResult result
@@ -221,7 +221,7 @@ module _ (provider : Provider) (names : Names) (rest : Parts) where
             indexed,
             kept,
             book_bound provider parts own left keeps name key (nothing-waits none) (alone none) salt small len long the_version refl
-                index text names_after.versions waits_after indexed refl (ap (λ (n : Names). n.versions) (added (address_of provider name))) put_in,
+                index text names_after.versions waits_after indexed refl (ap (λ (n : NamesContent). n.versions) (added (address_of provider name))) put_in,
           )
       book_changed (Err why) (same, stays, refused) = (
         (λ i. book_of (record { names = (same i).versions; roots = rest.roots; trees = rest.trees; waiting = stays i; body_hash = rest.body_hash }) own left),

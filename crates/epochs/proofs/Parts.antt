@@ -15,7 +15,7 @@ use Rattle.book.specs.Shows.{Provider, IsRootOf, roots}
 use Rattle.book.specs.Sound.{IsPage}
 use Rattle.book.proofs.Placed.{is_placement}
 use Rattle.book.proofs.Turning.{the-last}
-use Rattle.epochs.specs.Ends.{front}
+use Rattle.epochs.specs.Ends.{all_but_last}
 use Rattle.epochs.specs.Histories.{Version, chosen, binding_at}
 use Rattle.epochs.specs.Parts.{Keeps, Parts, earlier_of, last_of, last_root, no_root, page_of, pages_from, pending_of, tree_of}
 use Rattle.epochs.proofs.Ends.{front_final, slice_get-final}
@@ -75,19 +75,19 @@ pages_alike names others bound same number (root ∷ roots) within =
 -- ---- of parts
 
 module _ (parts : Parts) (some : 0 < length parts.roots) where
-  whole : front parts.roots ++ last_root parts ∷ [] ≡ parts.roots
+  whole : all_but_last parts.roots ++ last_root parts ∷ [] ≡ parts.roots
   whole = front_final no_root parts.roots some
 
-  pub length_front : length (front parts.roots) ≡ length parts.roots - 1
-  length_front = omega (arith, ap length whole, length_push (front parts.roots) (last_root parts), some)
+  pub length_front : length (all_but_last parts.roots) ≡ length parts.roots - 1
+  length_front = omega (arith, ap length whole, length_push (all_but_last parts.roots) (last_root parts), some)
 
   -- the pages of the book are numbered from 0
   pub pages_kept : (salt : List ℕ) (left : Stream) → pages (book_of parts salt left) ≡ pages_from parts.names 0 parts.roots
   pages_kept salt left =
       ap (λ (n : ℕ). earlier_of parts ++ page_of parts.names n (last_root parts) ∷ []) place
-      ∙ sym (pages-push parts.names 0 (front parts.roots) (last_root parts)) ∙ ap (pages_from parts.names 0) whole
+      ∙ sym (pages-push parts.names 0 (all_but_last parts.roots) (last_root parts)) ∙ ap (pages_from parts.names 0) whole
     where
-      place : length parts.roots - 1 ≡ 0 + length (front parts.roots)
+      place : length parts.roots - 1 ≡ 0 + length (all_but_last parts.roots)
       place = omega (arith, length_front)
 
   pub last_get : slice_get parts.roots (length parts.roots - 1) ≡ Some (last_root parts)

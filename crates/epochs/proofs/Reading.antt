@@ -23,13 +23,13 @@ use Rattle.proofs.specs.Replies.{reply_bytes}
 use Rattle.book.specs.declared.refusal.Refusal.{Refusal}
 use Rattle.book.specs.declared.refusal.Refusal.TheVariants.{BadName, NoPromise, NoSuchEpoch}
 use Rattle.book.specs.declared.reply.Reply.TheVariants as reply
-use Rattle.book.specs.Answers.{Found, Promised, Told, bad_name, first, is_within, refusal, page_range}
+use Rattle.book.specs.Answers.{Found, Promised, Told, bad_name, first, has_length_within, refusal, page_range}
 use Rattle.commands.specs.Operations.{History, Lookup, Promise, Query}
 use Rattle.book.specs.Books.{Binding, Book, Page, page_at, pages}
 use Rattle.book.specs.Maps.{at}
 use Rattle.book.specs.Shows.{Provider, index_of, roots, reply_end, IsRootOf}
-use Rattle.book.specs.Steps.{found_in, promise_of}
-use Rattle.book.specs.Turns.{IsRead, IsRefused, Reads, Shows}
+use Rattle.book.specs.Steps.{found_in, promise_outcome}
+use Rattle.book.specs.Turns.{IsReadAnswer, IsRefused, ReadsOnly, Shows}
 use Rattle.book.proofs.Rooted.{rooted-part}
 use Rattle.book.proofs.Stepping.{does_steps, due_steps}
 use Rattle.epochs.specs.Histories.{chosen, binding_at}
@@ -40,22 +40,22 @@ use Rattle.epochs.proofs.Parts.{book_of, last_get, page_kept, root_kept, tree_ke
 two-pass : (a b : Bool) (u v : Refusal) → a ≡ false → b ≡ false → first ((a, u) ∷ (b, v) ∷ []) ≡ None
 two-pass a b u v e f = rw (e, f) refl
 
-name-passes : (name : List ℕ) → IsName name → not (is_within 1 255 name) ≡ false
+name-passes : (name : List ℕ) → IsName name → not (has_length_within 1 255 name) ≡ false
 name-passes name is = rw (le-leb 1 (length name) is.0, le-leb (length name) 255 is.1) refl
 
 -- the promise of the key that waits is one to read
 pub promise_reads : (provider : Provider) (book : Book) (name key : List ℕ) (signed : SignedPromise) → IsName name → Some key ≡ option_map (λ (binding : Binding). binding.key) (at book.pending name)
-    → ((salt : List ℕ) → Shows provider book (Promised name (record { key = key; salt = salt })) (reply.Promised signed)) → Reads provider book (Query (Promise name)) (reply.Promised signed)
+    → ((salt : List ℕ) → Shows provider book (Promised name (record { key = key; salt = salt })) (reply.Promised signed)) → ReadsOnly provider book (Query (Promise name)) (reply.Promised signed)
 promise_reads provider book name key signed named waits shows = by (at book.pending name) refl waits
   where
-    by : (found : Option Binding) → at book.pending name ≡ found → Some key ≡ option_map (λ (binding : Binding). binding.key) found → Reads provider book (Query (Promise name)) (reply.Promised signed)
+    by : (found : Option Binding) → at book.pending name ≡ found → Some key ≡ option_map (λ (binding : Binding). binding.key) found → ReadsOnly provider book (Query (Promise name)) (reply.Promised signed)
     by None is e = absurd cc
     by (Some binding) is e =
         let same : key ≡ binding.key = cc in
         let none : refusal (index_of provider) book (Query (Promise name)) ≡ None =
-        two-pass (not (is_within 1 255 name)) (is_none (at book.pending name)) BadName NoPromise (name-passes name named) (ap (λ (o : Option Binding). is_none o) is) in (
+        two-pass (not (has_length_within 1 255 name)) (is_none (at book.pending name)) BadName NoPromise (name-passes name named) (ap (λ (o : Option Binding). is_none o) is) in (
           Promised name binding,
-          does_steps (index_of provider) book (Query (Promise name)) (Promised name binding) book none (ap (promise_of name) is, refl),
+          does_steps (index_of provider) book (Query (Promise name)) (Promised name binding) book none (ap (promise_outcome name) is, refl),
           subst (λ (k : List ℕ). Shows provider book (Promised name (record { key = k; salt = binding.salt })) (reply.Promised signed)) same (shows binding.salt),
         )
 
@@ -116,7 +116,7 @@ module _ (provider : Provider) (parts : Parts) (salt : List ℕ) (left : Stream)
       → IsName name → page_at the_book epoch ≡ slice_get (pages the_book) place → place < length (pages the_book) → root ≡ get_or parts.roots place root → tree ≡ get_or parts.trees place tree
       → value ≡ provider.value name → index ≡ provider.hash value → IsPath provider.hash tree.nonce tree.items index siblings end → found ≡ at (chosen (binding_at place) parts.names) name
       → text ≡ reply_bytes (record { body = root.body; value = value; end = reply_end index found end; siblings = siblings })
-      → Reads provider the_book (Query (Lookup name epoch)) (reply.Found text)
+      → ReadsOnly provider the_book (Query (Lookup name epoch)) (reply.Found text)
   lookup_reads name epoch place root tree value index siblings end found text named is below there tree_there value_is index_is path found_is spelled = (
     Found page name (at page.bindings name),
     does_steps (index_of provider) the_book (Query (Lookup name epoch)) (Found page name (at page.bindings name)) the_book none (ap (found_in name) the_page, refl),
@@ -149,7 +149,7 @@ module _ (provider : Provider) (parts : Parts) (salt : List ℕ) (left : Stream)
 
       none : refusal (index_of provider) the_book (Query (Lookup name epoch)) ≡ None
       none =
-          two-pass (not (is_within 1 255 name)) (is_none (page_at the_book epoch)) BadName NoSuchEpoch (name-passes name named) (ap (λ (o : Option Page). is_none o) the_page)
+          two-pass (not (has_length_within 1 255 name)) (is_none (page_at the_book epoch)) BadName NoSuchEpoch (name-passes name named) (ap (λ (o : Option Page). is_none o) the_page)
 
       tree_at : slice_get parts.trees place ≡ Some (tree_of provider page)
       tree_at = tree_kept provider parts salt left keeps place root at_place
@@ -188,7 +188,7 @@ module _ (provider : Provider) (parts : Parts) (salt : List ℕ) (left : Stream)
   pub history_reads : (from count start end : ℕ) (later given : List SignedRoot) → count ≢ 0 → count ≤ 64
       → IsPartitionPoint (λ (root : SignedRoot). ltb root.body.epoch from ≡ true) (λ (root : SignedRoot). ltb root.body.epoch from ≡ false) parts.roots start
       → later ≡ drop start parts.roots → end ≡ min (length later) count → given ≡ take end later
-      → (told_pages : List Page) × IsRead provider the_book (Query (History from count)) (Told told_pages) × AllZip (IsRootOf provider the_book) told_pages given
+      → (told_pages : List Page) × IsReadAnswer provider the_book (Query (History from count)) (Told told_pages) × AllZip (IsRootOf provider the_book) told_pages given
   history_reads from count start end later given some few point later_is end_is given_is = (
     page_range the_book from count,
     does_steps (index_of provider) the_book (Query (History from count)) (Told (page_range the_book from count)) the_book none (refl, refl),

@@ -12,7 +12,7 @@ use Rattle.commands.specs.declared.edit.Verb.{Verb}
 use Rattle.commands.specs.Operations.{Operation, Edit, Put}
 use Rattle.book.specs.Books.{Book}
 use Rattle.book.specs.Shows.{Provider, index_of}
-use Rattle.book.specs.Turns.{Keeps, Shows, Turn, kept_of}
+use Rattle.book.specs.Turns.{KeepsOne, Shows, Turn, kept_of}
 use Rattle.book.proofs.Calls.{answers, fails, wants}
 use Rattle.book.proofs.Stepping.{Does}
 use Rattle.epochs.specs.Replied.{last, promised}
@@ -36,7 +36,7 @@ module _ (provider : Provider) {K : Type 0} (kept failed : K → Record → K �
   kept_turn said after keeper_after keeps is shows =
       subst (λ (b : Book). Turn provider kept failed book keeper asked said b keeper_after) (sym is)
       (answers provider kept failed book done asked answer none does keeper keeper_after said
-      (subst (λ (w : Option Record). Keeps provider kept failed keeper w keeper_after) (sym recorded) keeps)
+      (subst (λ (w : Option Record). KeepsOne provider kept failed keeper w keeper_after) (sym recorded) keeps)
       (subst (λ (b : Book). Shows provider b answer said) is shows))
 
   pub promised_turn : (r : Result SignedPromise Refusal) (after : Book) (keeper_after : K)

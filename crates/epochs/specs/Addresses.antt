@@ -2,31 +2,31 @@
 use Rattle.std.specs.Prelude.{◌≡◌, ℕ, List, [], ◌∷◌, ◌++◌}
 use Rattle.std.specs.List.{AllByRecursion}
 use Rattle.std.specs.Option.{unwrap_or}
-use Rattle.book.specs.Maps.{Map, at, put}
+use Rattle.book.specs.Maps.{Map, at, put_name}
 use Rattle.book.specs.Shows.{Provider, index_of}
 use Rattle.epochs.specs.declared.address.Address.{Address}
 use Rattle.epochs.specs.Histories.{Version}
 use Rattle.epochs.specs.Versions.{at_bytes, versions_of}
 
-pub record History : Type 0 where
+pub record HistoryContent : Type 0 where
   pub address : Address
   pub versions : List Version
 
 -- the versions and the address of each name
-pub record Names : Type 0 where
+pub record NamesContent : Type 0 where
   pub versions : Map (List Version)
   pub addresses : Map Address
 
 -- those of the entries of a map, which stand in any order, each at the bytes of its key
-abbrev pub named : {K : Type 0} → (K → List ℕ) → List (K × History) → Names
+abbrev pub named : {K : Type 0} → (K → List ℕ) → List (K × HistoryContent) → NamesContent
 named bytes entries = record { versions = at_bytes bytes (λ history. history.versions) entries; addresses = at_bytes bytes (λ history. history.address) entries }
 
 -- the names with this history of a name
-abbrev pub with_history : Names → List ℕ → History → Names
-with_history names name history = record { versions = put names.versions name history.versions; addresses = put names.addresses name history.address }
+abbrev pub with_history : NamesContent → List ℕ → HistoryContent → NamesContent
+with_history names name history = record { versions = put_name names.versions name history.versions; addresses = put_name names.addresses name history.address }
 
 -- the names with this as the last version of a name, which keeps its address, or else gets this one
-abbrev pub with_name : Names → List ℕ → Address → Version → Names
+abbrev pub with_name : NamesContent → List ℕ → Address → Version → NamesContent
 with_name names name address version = with_history names name (record { address = unwrap_or (at names.addresses name) address; versions = versions_of names.versions name ++ version ∷ [] })
 
 -- the address of a name

@@ -16,8 +16,8 @@ module _ {H V S R : Type 0} where
     body_hash = inside.body_hash;
   }
 
-  abbrev pub kept_of : (V → List ℕ) → (S → List ℕ) → (H → ℕ) → Inside H V S R → DirectoryState R
-  kept_of vuf_key signing_key digests inside = record {
+  abbrev pub state_of : (V → List ℕ) → (S → List ℕ) → (H → ℕ) → Inside H V S R → DirectoryState R
+  state_of vuf_key signing_key digests inside = record {
     earlier = earlier_of (parts_of inside);
     last = last_of (parts_of inside);
     pending = pending_of (parts_of inside);
@@ -29,8 +29,8 @@ module _ {H V S R : Type 0} where
   }
 
   -- the fields keep the book, and each name has its own address
-  abbrev pub IsKept : (List ℕ → List ℕ) → (List ℕ → List ℕ → List ℕ) → (List ℕ → List ℕ → List ℕ) → (V → List ℕ) → (S → List ℕ) → (H → ℕ) → (R → Stream) → Inside H V S R → Type 0
-  IsKept digest_of value_of signature_of vuf_key signing_key digests stream inside =
-      let kept = kept_of vuf_key signing_key digests inside in
+  abbrev pub KeepsBook : (List ℕ → List ℕ) → (List ℕ → List ℕ → List ℕ) → (List ℕ → List ℕ → List ℕ) → (V → List ℕ) → (S → List ℕ) → (H → ℕ) → (R → Stream) → Inside H V S R → Type 0
+  KeepsBook digest_of value_of signature_of vuf_key signing_key digests stream inside =
+      let kept = state_of vuf_key signing_key digests inside in
       Keeps (provider digest_of value_of signature_of kept) (parts_of inside) (book stream kept)
       × AreAddresses (provider digest_of value_of signature_of kept) inside.names.addresses

@@ -3,7 +3,7 @@
 use Rattle.std.specs.Prelude.{◌≡◌, ℕ, List}
 use Rattle.rand_core.specs.Stream.{Stream}
 use Rattle.book.specs.Books.{Binding, Book, Page}
-use Rattle.book.specs.Fresh.{provider_of}
+use Rattle.book.specs.Fresh.{keyed_provider}
 use Rattle.book.specs.Maps.{Map}
 use Rattle.book.specs.Shows.{Provider}
 
@@ -25,7 +25,7 @@ book stream kept = record { earlier = kept.earlier; last = kept.last; pending = 
 
 -- the functions of the provider, under its public keys
 abbrev pub provider : {R : Type 0} → (List ℕ → List ℕ) → (List ℕ → List ℕ → List ℕ) → (List ℕ → List ℕ → List ℕ) → DirectoryState R → Provider
-provider digest_of value_of signature_of kept = provider_of digest_of value_of kept.vuf_key signature_of kept.signing_key
+provider digest_of value_of signature_of kept = keyed_provider digest_of value_of kept.vuf_key signature_of kept.signing_key
 
 -- the public keys are those of before
 abbrev pub HasKeysOf : {R : Type 0} → DirectoryState R → DirectoryState R → Type 0

@@ -2,10 +2,10 @@
 use Rattle.std.specs.Prelude.{List, [], ◌∷◌}
 
 -- all but the last
-abbrev pub front : {X : Type 0} → List X → List X
-front [] = []
-front (x ∷ []) = []
-front (x ∷ y ∷ more) = x ∷ front (y ∷ more)
+abbrev pub all_but_last : {X : Type 0} → List X → List X
+all_but_last [] = []
+all_but_last (x ∷ []) = []
+all_but_last (x ∷ y ∷ more) = x ∷ all_but_last (y ∷ more)
 
 -- the last, or the given one where there is none
 abbrev pub final : {X : Type 0} → X → List X → X

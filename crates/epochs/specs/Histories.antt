@@ -6,8 +6,8 @@ use Rattle.book.specs.Maps.{Map}
 use Rattle.epochs.specs.declared.directory.reading.Opening.{Opening}
 
 -- what an opening opens a leaf to
-abbrev pub opened : Opening → Binding
-opened opening = record { key = opening.key; salt = opening.salt }
+abbrev pub opened_binding : Opening → Binding
+opened_binding opening = record { key = opening.key; salt = opening.salt }
 
 pub record Version : Type 0 where
   pub number : ℕ

@@ -6,9 +6,9 @@ use Rattle.book.specs.declared.refusal.Refusal.{Refusal}
 use Rattle.book.specs.declared.refusal.Refusal.TheVariants.{NoSuchName, PendingExists}
 use Rattle.book.specs.Books.{Binding}
 use Rattle.book.specs.Maps.{at}
-use Rattle.prefixtree.specs.Placement.{Items, commitment_of, put as put_item}
+use Rattle.prefixtree.specs.Placement.{Items, commitment_of, put}
 use Rattle.epochs.specs.declared.address.Address.{Address}
-use Rattle.epochs.specs.Addresses.{History, Names, with_name}
+use Rattle.epochs.specs.Addresses.{HistoryContent, NamesContent, with_name}
 use Rattle.epochs.specs.Histories.{Version, binding_at, waiting}
 use Rattle.epochs.specs.Versions.{AllBefore, IsUnkept, versions_of}
 
@@ -25,26 +25,26 @@ abbrev pub IsRefusedSo : {K : Type 0} → (K → Record → K → Type 0) → K 
 IsRefusedSo failed keeper lost due why after = ((due ≡ Some why) × (after ≡ keeper)) ⊎ ((due ≡ None) × IsUnkept failed keeper lost why after)
 
 -- if nothing refuses a change, a version of this page comes after those of the history, and nothing waits at its index
-abbrev pub FitsHistory : History → Items → ℕ → Type 0
+abbrev pub FitsHistory : HistoryContent → Items → ℕ → Type 0
 FitsHistory history waits page = refused_before page history.versions ≡ None → AllBefore page history.versions × (commitment_of waits history.address.index ≡ None)
 
 -- the same of the history of a name, if it has one
-abbrev pub FitsNames : Names → Items → List ℕ → ℕ → Type 0
+abbrev pub FitsNames : NamesContent → Items → List ℕ → ℕ → Type 0
 FitsNames names waits name page = refused_before page (versions_of names.versions name) ≡ None
     → AllBefore page (versions_of names.versions name) × ((address : Address) → at names.addresses name ≡ Some address → commitment_of waits address.index ≡ None)
 
 -- nothing refuses the version; it is the last one of the history, and its commitment waits at the index
-abbrev pub IsChangedHistory : History → Items → Version → List ℕ → List ℕ → History → Items → Type 0
+abbrev pub IsChangedHistory : HistoryContent → Items → Version → List ℕ → List ℕ → HistoryContent → Items → Type 0
 IsChangedHistory history waits version commitment index history_after waits_after =
     (refused_before version.number history.versions ≡ None)
     × (index ≡ history.address.index)
     × (history_after ≡ record history { versions = history.versions ++ version ∷ [] })
-    × (waits_after ≡ put_item waits index commitment)
+    × (waits_after ≡ put waits index commitment)
 
 -- the same of the history of a name, which has its index already
-abbrev pub AreChangedNames : Names → Items → List ℕ → Version → List ℕ → List ℕ → Names → Items → Type 0
+abbrev pub AreChangedNames : NamesContent → Items → List ℕ → Version → List ℕ → List ℕ → NamesContent → Items → Type 0
 AreChangedNames names waits name version commitment index names_after waits_after =
     (refused_before version.number (versions_of names.versions name) ≡ None)
     × (option_map (λ address. address.index) (at names.addresses name) ≡ Some index)
     × ((address : Address) → names_after ≡ with_name names name address version)
-    × (waits_after ≡ put_item waits index commitment)
+    × (waits_after ≡ put waits index commitment)

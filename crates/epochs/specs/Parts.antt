@@ -8,7 +8,7 @@ use Rattle.book.specs.Books.{Binding, Book, Page, pages}
 use Rattle.book.specs.Maps.{Map}
 use Rattle.book.specs.Shows.{Provider, index_of, placement, roots}
 use Rattle.book.specs.Sound.{IsSound}
-use Rattle.epochs.specs.Ends.{final, front}
+use Rattle.epochs.specs.Ends.{all_but_last, final}
 use Rattle.epochs.specs.Histories.{Version, chosen, binding_at, waiting}
 use Rattle.epochs.specs.Versions.{AreHistories, NamesWithin}
 
@@ -43,7 +43,7 @@ module _ (parts : Parts) where
   last_root = final no_root parts.roots
 
   abbrev pub earlier_of : List Page
-  earlier_of = pages_from parts.names 0 (front parts.roots)
+  earlier_of = pages_from parts.names 0 (all_but_last parts.roots)
 
   abbrev pub last_of : Page
   last_of = page_of parts.names (length parts.roots - 1) last_root

@@ -20,10 +20,10 @@ last (Ok root) = reply.Last root
 last (Err why) = reply.Refused why
 
 -- the reply tells these roots, or is the refusal
-abbrev pub IsTold : Result (Bor (List SignedRoot)) Refusal → Reply → Type 0
-IsTold (Ok roots) (reply.Told told) = told.items ≡ roots.now
-IsTold (Ok roots) (reply.Promised promise) = ⊥
-IsTold (Ok roots) (reply.Found text) = ⊥
-IsTold (Ok roots) (reply.Last root) = ⊥
-IsTold (Ok roots) (reply.Refused why) = ⊥
-IsTold (Err why) answered = answered ≡ reply.Refused why
+abbrev pub TellsRoots : Result (Bor (List SignedRoot)) Refusal → Reply → Type 0
+TellsRoots (Ok roots) (reply.Told told) = told.items ≡ roots.now
+TellsRoots (Ok roots) (reply.Promised promise) = ⊥
+TellsRoots (Ok roots) (reply.Found text) = ⊥
+TellsRoots (Ok roots) (reply.Last root) = ⊥
+TellsRoots (Ok roots) (reply.Refused why) = ⊥
+TellsRoots (Err why) answered = answered ≡ reply.Refused why

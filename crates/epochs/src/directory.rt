@@ -50,11 +50,11 @@ impl<H: NodeHash, V: Vuf, S: Signer, R: Rng> Model for Directory<H, V, S, R> {
 
     ghost Value = { DirectoryState R };
 
-    ghost use Rattle.epochs.specs.Directories.{kept_of, IsKept};
+    ghost use Rattle.epochs.specs.Directories.{state_of, KeepsBook};
 
-    ghost view = { kept_of V.public_key S.public_key H.digests };
+    ghost view = { state_of V.public_key S.public_key H.digests };
 
-    ghost invariant = { IsKept H.digest_of V.value_of S.signature_of V.public_key S.public_key H.digests R.stream };
+    ghost invariant = { KeepsBook H.digest_of V.value_of S.signature_of V.public_key S.public_key H.digests R.stream };
 }
 
 impl<H: NodeHash, V: Vuf, S: Signer, R: Rng> Directory<H, V, S, R> {

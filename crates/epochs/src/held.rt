@@ -1,7 +1,7 @@
 //! A change of the key of a name that has a history.
 ghost use Rattle.std.specs.Prelude.{◌≡◌, ◌+◌, ◌<◌, ◌≤◌, ◌++◌, ◌∷◌, [], None, MatchResult, Some};
 ghost use Rattle.commit.specs.Commitments.{commitment_bytes};
-ghost use Rattle.prefixtree.specs.Placement.{commitment_of, put as put_item};
+ghost use Rattle.prefixtree.specs.Placement.{commitment_of, put};
 ghost use Rattle.epochs.specs.KeyChanges.{FitsHistory, IsChangedHistory, IsRefusedSo, refused_before};
 ghost use Rattle.epochs.specs.Versions.{AllBefore, IsUnkept, in_order};
 
@@ -81,7 +81,7 @@ fn add_at<K: Keeper>(
         (λ index. K.kept keeper.old what.now keeper.new
         × (index ≡ history.old.address.index)
         × (history.new ≡ record history.old { versions = history.old.versions ++ version ∷ [] })
-        × (in_order commitments.new.entries ≡ put_item (in_order commitments.old.entries) index commitment))
+        × (in_order commitments.new.entries ≡ put (in_order commitments.old.entries) index commitment))
         (λ why. (history.new ≡ history.old) × (in_order commitments.new.entries ≡ in_order commitments.old.entries) × IsUnkept K.failed keeper.old what.now why keeper.new) }
 {
     let index = history.index();

@@ -83,10 +83,10 @@ pub(crate) struct History {
 
 impl Model for History {
     ghost use Rattle.encoding.specs.Limits.{IsSmall};
-    ghost use Rattle.epochs.specs.Addresses as addresses;
+    ghost use Rattle.epochs.specs.Addresses.{HistoryContent};
     ghost use Rattle.epochs.specs.Versions.{Ascends};
 
-    ghost Value = { addresses.History };
+    ghost Value = { HistoryContent };
 
     ghost view = { λ history. record { address = record { value = history.value.items; index = history.index }; versions = history.versions.items } };
 

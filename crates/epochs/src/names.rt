@@ -2,7 +2,7 @@ ghost use Rattle.std.specs.Prelude.{◌≡◌, ◌+◌, ◌<◌, ◌≤◌, [], 
 ghost use Rattle.std.specs.Option.{option_map};
 ghost use Rattle.commit.specs.Commitments.{commitment_bytes};
 ghost use Rattle.book.specs.Maps.{at};
-ghost use Rattle.epochs.specs.Addresses.{named, with_name};
+ghost use Rattle.epochs.specs.Addresses.{named, with_name, NamesContent};
 ghost use Rattle.epochs.specs.Histories.{binding_at};
 ghost use Rattle.epochs.specs.KeyChanges.{AreChangedNames, FitsNames, IsRefusedSo, refused_before};
 ghost use Rattle.epochs.specs.Versions.{AllBefore, AreHistories, IsUnkept, in_order, versions_of};
@@ -28,11 +28,10 @@ pub(crate) struct Names {
 }
 
 impl Model for Names {
-    ghost use Rattle.epochs.specs.Addresses as addresses;
     ghost use Rattle.epochs.specs.Addresses.{named};
     ghost use Rattle.epochs.specs.Versions.{AreHistories};
 
-    ghost Value = { addresses.Names };
+    ghost Value = { NamesContent };
 
     ghost view = { λ names. named (λ key. key.items) names.histories.entries };
 

@@ -1,6 +1,6 @@
 ghost use Rattle.std.specs.Prelude.{◌≡◌, ◌+◌, ◌<◌, ◌≤◌, [], None, IfOk, MatchResult, is_some};
 ghost use Rattle.commit.specs.Commitments.{commitment_bytes};
-ghost use Rattle.prefixtree.specs.Placement.{HasDistinctIndices, commitment_of, put as put_item};
+ghost use Rattle.prefixtree.specs.Placement.{HasDistinctIndices, commitment_of, put};
 ghost use Rattle.epochs.specs.Addresses.{with_name};
 ghost use Rattle.epochs.specs.KeyChanges.{AreChangedNames, FitsNames, IsRefusedSo, refused_before};
 ghost use Rattle.epochs.specs.Versions.{AllBefore, IsUnkept, in_order, versions_of};
@@ -88,7 +88,7 @@ pub(crate) fn let_wait<K: Keeper>(
     ensures { MatchResult result
         (λ _. K.kept keeper.old what.now keeper.new
         × (names.new ≡ with_name names.old name.now address.now version)
-        × (waiting.new ≡ put_item waiting.old (address.now).index commitment))
+        × (waiting.new ≡ put waiting.old (address.now).index commitment))
         (λ why. (names.new ≡ names.old) × (waiting.new ≡ waiting.old) × IsUnkept K.failed keeper.old what.now why keeper.new) }
 {
     add(
@@ -153,7 +153,7 @@ fn add<K: Keeper>(
     ensures { MatchResult result
         (λ _. K.kept keeper.old what.now keeper.new
         × (names.new ≡ with_name names.old name.now address.now version)
-        × (in_order commitments.new.entries ≡ put_item (in_order commitments.old.entries) (address.now).index commitment))
+        × (in_order commitments.new.entries ≡ put (in_order commitments.old.entries) (address.now).index commitment))
         (λ why. (names.new ≡ names.old) × (in_order commitments.new.entries ≡ in_order commitments.old.entries) × IsUnkept K.failed keeper.old what.now why keeper.new) }
 {
     match commitments.entry(address.index)? {

@@ -5,9 +5,9 @@ use Rattle.std.specs.Prelude.{◌==◌, is_some}
 use Rattle.wire.specs.Streams.{Remainder, Message, messages, with_more}
 use Rattle.hub.specs.declared.hub_refusal.HubRefusal.{HubRefusal}
 use Rattle.hub.specs.declared.hub_refusal.HubRefusal.TheVariants.{NoSession}
-use Rattle.hub.specs.Events.{BySession, Happening, Open, Bytes, End, at, due, number}
-use Rattle.hub.specs.Laws.{lines_of, messages_of, own_events, own_streams, sent, stream_messages, CutsBringTheSame, OwnStream}
-use Rattle.hub.specs.Runs.{Line, Streams, after_event, asked, brought, bytes_of, commands, completed_by, each, fresh, or_nothing, told, unless_refused, was_open, AreOutputs}
+use Rattle.hub.specs.Events.{BySession, Happening, Open, Bytes, End, at_session, due, number}
+use Rattle.hub.specs.Laws.{lines_for, messages_of, own_events, own_streams, sent, stream_messages, CutsBringTheSame, OwnStream}
+use Rattle.hub.specs.Runs.{Line, Streams, after_event, asked_by, brought, bytes_of, commands, completed_by, each, or_nothing, told_to, unanswered, unless_due, was_open, AreOutputs}
 use Rattle.hub.proofs.Owning.{of_other, own_asked, own_told, same_is, sessions_hear}
 
 -- ---- messages of sessions in turn
@@ -63,37 +63,37 @@ all_sent (stream ∷ more) = ap₂ (λ (ms : List Message) (rest : List Message)
 
 pub cuts_bring : CutsBringTheSame
 cuts_bring sessions events others up same =
-    by_sessions (commands (each fresh sessions) events) (commands (each fresh sessions) others) same.turns (λ session.
+    by_sessions (commands (each unanswered sessions) events) (commands (each unanswered sessions) others) same.turns (λ session.
     sessions_hear session sessions events up
-    ∙ all_sent (own_streams (at sessions session) (own_events session (each fresh sessions) events))
+    ∙ all_sent (own_streams (at_session sessions session) (own_events session (each unanswered sessions) events))
     ∙ ap (flat_map of_sent) (same.streams session)
-    ∙ sym (all_sent (own_streams (at sessions session) (own_events session (each fresh sessions) others)))
+    ∙ sym (all_sent (own_streams (at_session sessions session) (own_events session (each unanswered sessions) others)))
     ∙ sym (sessions_hear session sessions others up))
 
 -- ---- a session that is not open
 
-either_way : (refusal : Option HubRefusal) (messages : List Message) → unless_refused refusal messages messages ≡ messages
+either_way : (refusal : Option HubRefusal) (messages : List Message) → unless_due refusal messages messages ≡ messages
 either_way None messages = refl
 either_way (Some refusal) messages = refl
 
-none_brought : (streams : Streams) (it : Happening) → is_some (at streams (number it)) ≡ false → brought streams it ≡ []
+none_brought : (streams : Streams) (it : Happening) → is_some (at_session streams (number it)) ≡ false → brought streams it ≡ []
 none_brought streams (Open session) none = either_way (due streams (Open session)) []
 none_brought streams (Bytes session piece) none =
-    ap (λ (refusal : Option HubRefusal). unless_refused refusal (completed_by streams (Bytes session piece)) []) (ap (λ (t : Bool). cond t None (Some NoSession)) none)
+    ap (λ (refusal : Option HubRefusal). unless_due refusal (completed_by streams (Bytes session piece)) []) (ap (λ (t : Bool). cond t None (Some NoSession)) none)
 none_brought streams (End session) none = either_way (due streams (End session)) []
 
 none_sent : (streams : Streams) (events : List Happening) (session : ℕ) → was_open streams events session ≡ false → messages_of session (commands streams events) ≡ []
 none_sent streams [] session closed = refl
 none_sent streams (it ∷ more) session closed = by (number it == session) refl (none_sent (after_event streams it) more session c.1)
   where
-    c : (is_some (at streams session) ≡ false) × (was_open (after_event streams it) more session ≡ false)
-    c = or_parts (is_some (at streams session)) (was_open (after_event streams it) more session) closed
+    c : (is_some (at_session streams session) ≡ false) × (was_open (after_event streams it) more session ≡ false)
+    c = or_parts (is_some (at_session streams session)) (was_open (after_event streams it) more session) closed
 
     by : (t : Bool) → (number it == session) ≡ t → messages_of session (commands (after_event streams it) more) ≡ []
         → messages_of session (map (λ message. (number it, message)) (brought streams it) ++ commands (after_event streams it) more) ≡ []
     by true own later =
         ap (λ (ms : List Message). messages_of session (map (λ message. (number it, message)) ms ++ commands (after_event streams it) more))
-        (none_brought streams it (ap (λ (n : ℕ). is_some (at streams n)) (eqb-true (number it) session own) ∙ c.0))
+        (none_brought streams it (ap (λ (n : ℕ). is_some (at_session streams n)) (eqb-true (number it) session own) ∙ c.0))
         ∙ later
     by false other later = of_other session (number it) (brought streams it) (commands (after_event streams it) more) other ∙ later
 
@@ -101,14 +101,14 @@ none_mapped : {X Y : Type 0} (f : X → Y) (xs : List X) → map f xs ≡ [] →
 none_mapped f [] none = refl
 none_mapped f (x ∷ xs) none = absurd cc
 
-none_told : (session : ℕ) (lines : List Line) → messages_of session (map asked lines) ≡ [] → told session lines ≡ []
-none_told session lines none = own_told session lines ∙ ap (flat_map (λ (line : Line). line.reply)) (none_mapped (λ (line : Line). line.message) (lines_of session lines) (own_asked session lines ∙ none))
+none_told : (session : ℕ) (lines : List Line) → messages_of session (map asked_by lines) ≡ [] → told_to session lines ≡ []
+none_told session lines none = own_told session lines ∙ ap (flat_map (λ (line : Line). line.reply)) (none_mapped (λ (line : Line). line.message) (lines_for session lines) (own_asked session lines ∙ none))
 
 -- the bytes that a session gets are the replies to its messages
-pub bytes_told : (streams : Streams) (events : List Happening) (lines : List Line) (outputs : BySession (List ℕ)) → map asked lines ≡ commands streams events → AreOutputs streams events lines outputs
-    → (session : ℕ) → bytes_of outputs session ≡ told session lines
+pub bytes_told : (streams : Streams) (events : List Happening) (lines : List Line) (outputs : BySession (List ℕ)) → map asked_by lines ≡ commands streams events → AreOutputs streams events lines outputs
+    → (session : ℕ) → bytes_of outputs session ≡ told_to session lines
 bytes_told streams events lines outputs messages are session = by (was_open streams events session) refl (are.of_each session)
   where
-    by : (t : Bool) → was_open streams events session ≡ t → at outputs session ≡ cond t (Some (told session lines)) None → bytes_of outputs session ≡ told session lines
+    by : (t : Bool) → was_open streams events session ≡ t → at_session outputs session ≡ cond t (Some (told_to session lines)) None → bytes_of outputs session ≡ told_to session lines
     by true opens is = ap or_nothing is
     by false closed is = ap or_nothing is ∙ sym (none_told session lines (ap (messages_of session) messages ∙ none_sent streams events session closed))

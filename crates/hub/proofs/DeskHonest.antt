@@ -15,7 +15,7 @@ use Rattle.epochs.proofs.Running.{same_provider}
 use Rattle.wire.specs.Requests as request
 use Rattle.wire.specs.Streams.{Message, Whole, BadFrame}
 use Rattle.hub.specs.Desks.{command, DeskState, DeskAnswers}
-use Rattle.hub.specs.DeskRuns.{IsWell, Reaches, ShowHonestRun, ShowReplies}
+use Rattle.hub.specs.DeskRuns.{IsSoundDesk, Reaches, ShowHonestRun, ShowReplies}
 use Rattle.hub.specs.Runs.{Line, AllAnswered}
 use Rattle.hub.proofs.DeskRunning.{lines_show_run}
 use Rattle.hub.proofs.Readable.{lines_read, run_for}
@@ -53,7 +53,7 @@ commands_are token (line ∷ more) commands replies (inr (asked, told, later, ot
 module _ {R K : Type 0} (digest_of : List ℕ → List ℕ) (value_of signature_of : List ℕ → List ℕ → List ℕ) (stream : R → Stream) (kept failed : K → Record → K → Type 0)
     (accepted verified : List ℕ → List ℕ → List ℕ → Type 0) where
   pub lines_show_honest_run : (before : DeskState R K) (lines : List Line) (after : DeskState R K)
-      → IsWell digest_of value_of signature_of stream accepted verified before → IsWell digest_of value_of signature_of stream accepted verified after
+      → IsSoundDesk digest_of value_of signature_of stream accepted verified before → IsSoundDesk digest_of value_of signature_of stream accepted verified after
       → AllAnswered (DeskAnswers digest_of value_of signature_of stream kept failed) before lines after
       → ShowHonestRun digest_of value_of signature_of stream kept failed accepted verified before lines after
   lines_show_honest_run before lines after well well_after answered =

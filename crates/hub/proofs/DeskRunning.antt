@@ -4,7 +4,7 @@ use Rattle.rand_core.specs.Stream.{Stream}
 use Rattle.book.specs.declared.record.Record.{Record}
 use Rattle.book.specs.declared.reply.Reply.{Reply}
 use Rattle.commands.specs.Operations.{Operation}
-use Rattle.book.specs.Fresh.{provider_of}
+use Rattle.book.specs.Fresh.{keyed_provider}
 use Rattle.book.specs.Shows.{Provider}
 use Rattle.book.specs.Turns.{Run}
 use Rattle.epochs.specs.DirectoryStates.{DirectoryState, book, provider, HasKeysOf}
@@ -26,7 +26,7 @@ module _ {R K : Type 0} (digest_of : List ℕ → List ℕ) (value_of signature_
 
   same_provider : (before after : DirectoryState R) → HasKeysOf before after → provider_at after ≡ provider_at before
   same_provider before after (values, key) =
-      ap (λ (k : List ℕ). provider_of digest_of value_of k signature_of after.signing_key) values ∙ ap (λ (k : List ℕ). provider_of digest_of value_of before.vuf_key signature_of k) key
+      ap (λ (k : List ℕ). keyed_provider digest_of value_of k signature_of after.signing_key) values ∙ ap (λ (k : List ℕ). keyed_provider digest_of value_of before.vuf_key signature_of k) key
 
   -- a message that does not reach the directory
   away : (before middle after : DeskState R K) (line : Line) (more : List Line) (code : ℕ) → IsTurnedAway before.token line.message code → line.reply ≡ refused_frame code → middle ≡ before

@@ -20,9 +20,9 @@ use Rattle.book.specs.Books.{Book, Page}
 use Rattle.book.specs.Books.{pages as pages_of}
 use Rattle.book.specs.Shows.{Provider, IsRootOf, index_of}
 use Rattle.book.specs.Steps.{Outcome, Answers, Refuses, unless_refused, step}
-use Rattle.book.specs.Turns.{IsRead as IsAnswered, IsRefused, Reads, Turn}
+use Rattle.book.specs.Turns.{IsReadAnswer, IsRefused, ReadsOnly, Turn}
 use Rattle.epochs.specs.DirectoryStates.{DirectoryState, HasKeysOf, book as book_kept, provider as provider_kept}
-use Rattle.epochs.specs.Replied.{IsTold}
+use Rattle.epochs.specs.Replied.{TellsRoots}
 use Rattle.epochs.proofs.Running.{head_reads, reads_turn, tells_reads}
 use Rattle.wire.specs.declared.refusals.ReadRefusal.{ReadRefusal}
 use Rattle.wire.specs.declared.refusals.ReadRefusal.TheVariants.{BadKind, BadBody}
@@ -54,7 +54,7 @@ few_pages by book from count pages e =
 
 pub few_roots : (provider : Provider) (book : Book) (from count : ℕ) (answer : Result (Bor (List SignedRoot)) Refusal)
     → MatchResult answer
-    (λ roots. (pages : List Page) × IsAnswered provider book (Query (History from count)) (ToldPages pages) × AllZip (IsRootOf provider book) pages roots.now)
+    (λ roots. (pages : List Page) × IsReadAnswer provider book (Query (History from count)) (ToldPages pages) × AllZip (IsRootOf provider book) pages roots.now)
     (λ why. IsRefused provider book (Query (History from count)) why)
     → IfOk answer (λ roots. length roots.now ≤ 64)
 few_roots provider book from count (Err why) reads = tt
@@ -84,7 +84,7 @@ module _ {R K : Type 0} (digest_of : List ℕ → List ℕ) (value_of signature_
 
   -- a query
   pub read_turned : (directory : DirectoryState R) (keeper : K) (token : List ℕ) (question : Question) (output : List ℕ) (later : DirectoryState R) (grown : List ℕ) (said : Reply)
-      → Reads (provider_of directory) (book_kept stream directory) (Query question) said → book_kept stream later ≡ book_kept stream directory → HasKeysOf directory later
+      → ReadsOnly (provider_of directory) (book_kept stream directory) (Query question) said → book_kept stream later ≡ book_kept stream directory → HasKeysOf directory later
       → grown ≡ output ++ frame_bytes (reply_frame said) → Serving directory keeper token (Some (Query question)) output later keeper grown
   read_turned directory keeper token question output later grown said reads stays keys wrote =
       turned directory keeper token (Query question) output later keeper grown said
@@ -93,9 +93,9 @@ module _ {R K : Type 0} (digest_of : List ℕ → List ℕ) (value_of signature_
 
   pub roots_turned : (any : Vec ℕ Global) (directory : DirectoryState R) (keeper : K) (token : List ℕ) (from count : ℕ) (output : List ℕ) (grown : List ℕ) (answer : Result (Bor (List SignedRoot)) Refusal)
       → MatchResult answer
-      (λ roots. (pages : List Page) × IsAnswered (provider_of directory) (book_kept stream directory) (Query (History from count)) (ToldPages pages) × AllZip (IsRootOf (provider_of directory) (book_kept stream directory)) pages roots.now)
+      (λ roots. (pages : List Page) × IsReadAnswer (provider_of directory) (book_kept stream directory) (Query (History from count)) (ToldPages pages) × AllZip (IsRootOf (provider_of directory) (book_kept stream directory)) pages roots.now)
       (λ why. IsRefused (provider_of directory) (book_kept stream directory) (Query (History from count)) why)
-      → ((said : Reply) → IsTold answer said → grown ≡ output ++ frame_bytes (reply_frame said)) → Serving directory keeper token (Some (Query (History from count))) output directory keeper grown
+      → ((said : Reply) → TellsRoots answer said → grown ≡ output ++ frame_bytes (reply_frame said)) → Serving directory keeper token (Some (Query (History from count))) output directory keeper grown
   roots_turned any directory keeper token from count output grown answer reads wrote =
       let said = by answer (few_roots (provider_of directory) (book_kept stream directory) from count answer reads) in
       read_turned directory keeper token (History from count) output directory grown said.0
@@ -104,7 +104,7 @@ module _ {R K : Type 0} (digest_of : List ℕ → List ℕ) (value_of signature_
       the_reply : Reply → Result Reply (Unit {0})
       the_reply said = Ok said
 
-      by : (answer : Result (Bor (List SignedRoot)) Refusal) → IfOk answer (λ roots. length roots.now ≤ 64) → (said : Reply) × IsTold answer said
+      by : (answer : Result (Bor (List SignedRoot)) Refusal) → IfOk answer (λ roots. length roots.now ≤ 64) → (said : Reply) × TellsRoots answer said
       by (Ok roots) few = let all = listed any roots.now few in (reply.Told all.0, all.1)
       by (Err why) few = (reply.Refused why, refl)
 

@@ -7,7 +7,7 @@ use Rattle.std.specs.declared.cmp.Ordering.TheVariants.{Less, Equal, Greater}
 use Rattle.std.specs.Ordering.{nat_cmp, match_ordering}
 use Rattle.std.specs.BTreeMap.{is_at, insert_entry}
 use Rattle.std.specs.Map.{lookup, remove_entry, set_value}
-use Rattle.hub.specs.Events.{BySession, Happening, Open, Bytes, End, at, due}
+use Rattle.hub.specs.Events.{BySession, Happening, Open, Bytes, End, at_session, due}
 use Rattle.hub.specs.Runs.{each}
 
 module _ {X Y : Type 0} (f : X → Y) where
@@ -61,8 +61,8 @@ module _ {X Y : Type 0} (f : X → Y) where
   is_some_map None = refl
   is_some_map (Some x) = refl
 
-  pub is_some_each : (entries : BySession X) (n : ℕ) → is_some (at (each f entries) n) ≡ is_some (at entries n)
-  is_some_each entries n = ap is_some (lookup_each (is_at (nat_cmp n)) entries) ∙ is_some_map (at entries n)
+  pub is_some_each : (entries : BySession X) (n : ℕ) → is_some (at_session (each f entries) n) ≡ is_some (at_session entries n)
+  is_some_each entries n = ap is_some (lookup_each (is_at (nat_cmp n)) entries) ∙ is_some_map (at_session entries n)
 
   -- the same refusals are due
   pub due_each : (entries : BySession X) (it : Happening) → due (each f entries) it ≡ due entries it

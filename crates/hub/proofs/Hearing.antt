@@ -9,11 +9,11 @@ use Rattle.wire.specs.Frames.{Frame}
 use Rattle.wire.specs.Streams.{Remainder, Failed}
 use Rattle.hub.specs.declared.hub_refusal.HubRefusal.{HubRefusal}
 use Rattle.hub.specs.declared.hub_refusal.HubRefusal.TheVariants.{TooManySessions, SessionOpen, NoSession, Memory}
-use Rattle.hub.specs.Exchanges.{Hears}
-use Rattle.hub.specs.Events.{HubState, BySession, at, due, Bytes}
+use Rattle.hub.specs.Exchanges.{HearsPiece}
+use Rattle.hub.specs.Events.{HubState, BySession, at_session, due, Bytes}
 use Rattle.hub.specs.Happenings.{Happens, HearsAt}
 
-none_due : (sessions : BySession Remainder) (session : ℕ) (piece : List ℕ) (held : Remainder) → at sessions session ≡ Some held → due sessions (Bytes session piece) ≡ None
+none_due : (sessions : BySession Remainder) (session : ℕ) (piece : List ℕ) (held : Remainder) → at_session sessions session ≡ Some held → due sessions (Bytes session piece) ≡ None
 none_due sessions session piece held e = ap (λ (found : Option Remainder). cond (is_some found) None (Some NoSession)) e
 
 same_hub : {S : Type 0} (x y : HubState S) → x.service ≡ y.service → x.sessions ≡ y.sessions → x ≡ y
@@ -24,8 +24,8 @@ same_hub {S} x y e f =
 
 module _ {S : Type 0} (answers : S → Frame → List ℕ → S → Type 0) where
   heard_happens : (before after : HubState S) (session : ℕ) (piece : List ℕ) (held left : Remainder) (output grown : List ℕ) (result : Result (Unit {0}) HubRefusal)
-      → at before.sessions session ≡ Some held → after.sessions ≡ set_value (is_at (nat_cmp session)) before.sessions left
-      → Hears answers before.service held piece output result after.service left grown
+      → at_session before.sessions session ≡ Some held → after.sessions ≡ set_value (is_at (nat_cmp session)) before.sessions left
+      → HearsPiece answers before.service held piece output result after.service left grown
       → Happens answers before (Bytes session piece) output result after grown
   heard_happens before after session piece held left output grown (Ok done) here set (exchanges, exchanged, spent, wrote) =
       (none_due before.sessions session piece held here, exchanges, (held, left, here, set, exchanged, spent), wrote)

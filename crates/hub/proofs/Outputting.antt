@@ -16,11 +16,11 @@ use Rattle.wire.specs.Frames.{Frame}
 use Rattle.wire.specs.Streams.{Remainder, Rest}
 use Rattle.hub.specs.declared.hub_refusal.HubRefusal.{HubRefusal}
 use Rattle.hub.specs.declared.hub_refusal.HubRefusal.TheVariants.{NoSession}
-use Rattle.hub.specs.Events.{BySession, Happening, Open, Bytes, End, HubState, at, due, number}
-use Rattle.hub.specs.Happenings.{Passes}
+use Rattle.hub.specs.Events.{BySession, Happening, Open, Bytes, End, HubState, at_session, due, number}
+use Rattle.hub.specs.Happenings.{DoesUnlessRefused}
 use Rattle.hub.specs.Exchanges.{Exchange, replies}
 use Rattle.hub.specs.Outputs.{appended, Appends, AppendsUnless}
-use Rattle.hub.specs.Runs.{Line, Stream, Streams, after_event, after_events, changed, each, fresh, was_open, told, with_piece, AreOutputs}
+use Rattle.hub.specs.Runs.{Line, Stream, Streams, after_event, after_events, changed, each, unanswered, was_open, told_to, with_piece, AreOutputs}
 use Rattle.hub.proofs.Entries.{is_some_each}
 use Rattle.hub.proofs.Others.{insert_other, remove_other, set_other}
 use Rattle.hub.proofs.Running.{open_last, open_more, run_more, told_more, RunsSo}
@@ -53,22 +53,22 @@ not_here m n differ = apart m n differ m (is_here m)
 -- ---- which sessions are open
 
 -- what was put in is found
-pub insert_found : {X : Type 0} (entries : BySession X) (n : ℕ) (x : X) → at (insert_entry nat_cmp entries n x) n ≡ Some x
+pub insert_found : {X : Type 0} (entries : BySession X) (n : ℕ) (x : X) → at_session (insert_entry nat_cmp entries n x) n ≡ Some x
 insert_found [] n x = rw (is_here n) refl
 insert_found {X} (entry ∷ more) n x = by_order (nat_cmp n entry.0) refl (insert_found more n x)
   where
-    by_order : (o : Ordering) → nat_cmp n entry.0 ≡ o → at (insert_entry nat_cmp more n x) n ≡ Some x
+    by_order : (o : Ordering) → nat_cmp n entry.0 ≡ o → at_session (insert_entry nat_cmp more n x) n ≡ Some x
         → lookup (is_at (nat_cmp n)) (match_ordering o ((n, x) ∷ entry ∷ more) ((entry.0, x) ∷ more) (entry ∷ insert_entry nat_cmp more n x)) ≡ Some x
     by_order Less e next = rw (is_here n) refl
     by_order Equal e next = let here : is_at (nat_cmp n) entry.0 ≡ true = ap is_eq e in rw here refl
     by_order Greater e next = let not : is_at (nat_cmp n) entry.0 ≡ false = ap is_eq e in rw not next
 
 -- an event leaves which other sessions are open
-pub other_stays : (streams : Streams) (it : Happening) (n : ℕ) → number it ≢ n → at (changed streams it) n ≡ at streams n
-other_stays streams (Open m) n differ = insert_other m (is_at (nat_cmp n)) (not_here m n differ) (apart m n differ) streams (fresh (Rest []))
-other_stays streams (Bytes m piece) n differ = by_stream (at streams m) refl
+pub other_stays : (streams : Streams) (it : Happening) (n : ℕ) → number it ≢ n → at_session (changed streams it) n ≡ at_session streams n
+other_stays streams (Open m) n differ = insert_other m (is_at (nat_cmp n)) (not_here m n differ) (apart m n differ) streams (unanswered (Rest []))
+other_stays streams (Bytes m piece) n differ = by_stream (at_session streams m) refl
   where
-    by_stream : (found : Option Stream) → at streams m ≡ found → at (changed streams (Bytes m piece)) n ≡ at streams n
+    by_stream : (found : Option Stream) → at_session streams m ≡ found → at_session (changed streams (Bytes m piece)) n ≡ at_session streams n
     by_stream None e = rw e refl
     by_stream (Some stream) e = rw e (set_other (is_at (nat_cmp m)) (is_at (nat_cmp n)) (apart m n differ) streams (with_piece stream piece))
 other_stays streams (End m) n differ = remove_other (is_at (nat_cmp m)) (is_at (nat_cmp n)) (apart m n differ) streams
@@ -78,14 +78,14 @@ open_if true refusal e = refl
 open_if false refusal e = absurd cc
 
 -- the session of an event that is not refused is open before it or after it
-own_open : (streams : Streams) (it : Happening) (b : Bool) → due streams it ≡ None → (is_some (at streams (number it)) ≡ true → b ≡ true) → (b || is_some (at (changed streams it) (number it))) ≡ true
-own_open streams (Open n) b fine before = ap (λ (x : Option Stream). b || is_some x) (insert_found streams n (fresh (Rest []))) ∙ or_true b
+own_open : (streams : Streams) (it : Happening) (b : Bool) → due streams it ≡ None → (is_some (at_session streams (number it)) ≡ true → b ≡ true) → (b || is_some (at_session (changed streams it) (number it))) ≡ true
+own_open streams (Open n) b fine before = ap (λ (x : Option Stream). b || is_some x) (insert_found streams n (unanswered (Rest []))) ∙ or_true b
   where
     or_true : (b : Bool) → (b || true) ≡ true
     or_true true = refl
     or_true false = refl
-own_open streams (Bytes n piece) b fine before = ap (λ (x : Bool). x || is_some (at (changed streams (Bytes n piece)) n)) (before (open_if (is_some (at streams n)) NoSession fine))
-own_open streams (End n) b fine before = ap (λ (x : Bool). x || is_some (at (changed streams (End n)) n)) (before (open_if (is_some (at streams n)) NoSession fine))
+own_open streams (Bytes n piece) b fine before = ap (λ (x : Bool). x || is_some (at_session (changed streams (Bytes n piece)) n)) (before (open_if (is_some (at_session streams n)) NoSession fine))
+own_open streams (End n) b fine before = ap (λ (x : Bool). x || is_some (at_session (changed streams (End n)) n)) (before (open_if (is_some (at_session streams n)) NoSession fine))
 
 or_less : (b c : Bool) → (c ≡ true → b ≡ true) → (b || c) ≡ b
 or_less true c e = refl
@@ -96,16 +96,16 @@ or_less false false e = refl
 
 -- the outputs so far, and that a session that was not open is told nothing
 abbrev pub OutputsSo : Streams → List Happening → List Line → BySession (List ℕ) → Type 0
-OutputsSo streams events ls outputs = ((n : ℕ) → at outputs n ≡ cond (was_open streams events n) (Some (told n ls)) None)
-    × ((n : ℕ) → was_open streams events n ≡ false → told n ls ≡ [])
+OutputsSo streams events ls outputs = ((n : ℕ) → at_session outputs n ≡ cond (was_open streams events n) (Some (told_to n ls)) None)
+    × ((n : ℕ) → was_open streams events n ≡ false → told_to n ls ≡ [])
 
 begun_at : {X : Type 0} (none : List ℕ) (found : Option X) → option_map (λ _. none) found ≡ cond (is_some found) (Some none) None
 begun_at none None = refl
 begun_at none (Some x) = refl
 
-pub outputs_begin : (sessions : BySession Remainder) (outputs : BySession (List ℕ)) → ((n : ℕ) → at outputs n ≡ option_map (λ _. []) (at sessions n)) → OutputsSo (each fresh sessions) [] [] outputs
+pub outputs_begin : (sessions : BySession Remainder) (outputs : BySession (List ℕ)) → ((n : ℕ) → at_session outputs n ≡ option_map (λ _. []) (at_session sessions n)) → OutputsSo (each unanswered sessions) [] [] outputs
 outputs_begin sessions outputs are = (
-  λ n. are n ∙ begun_at [] (at sessions n) ∙ ap (λ (b : Bool). cond b (Some []) None) (sym (is_some_each fresh sessions n)),
+  λ n. are n ∙ begun_at [] (at_session sessions n) ∙ ap (λ (b : Bool). cond b (Some []) None) (sym (is_some_each unanswered sessions n)),
   λ n e. refl,
 )
 
@@ -115,19 +115,19 @@ with_more_bytes false text bytes e = ap (λ (t : List ℕ). t ++ bytes) (sym (e 
 
 module _ (streams : Streams) (events : List Happening) (ls : List Line) (it : Happening) (xs : List Exchange) (before after : BySession (List ℕ)) (so : OutputsSo streams events ls before) where
   -- a refused event
-  refused_more : after_event (after_events streams events) it ≡ after_events streams events → xs ≡ [] → ((n : ℕ) → at after n ≡ at before n) → OutputsSo streams (events ++ it ∷ []) (ls ++ lines (number it) xs) after
+  refused_more : after_event (after_events streams events) it ≡ after_events streams events → xs ≡ [] → ((n : ℕ) → at_session after n ≡ at_session before n) → OutputsSo streams (events ++ it ∷ []) (ls ++ lines (number it) xs) after
   refused_more stays none same = (
-    λ n. same n ∙ so.0 n ∙ ap (λ (b : Bool). cond b (Some (told n ls)) None) (sym (opens n)) ∙ ap (λ (t : List ℕ). cond (was_open streams (events ++ it ∷ []) n) (Some t) None) (sym (tells n)),
+    λ n. same n ∙ so.0 n ∙ ap (λ (b : Bool). cond b (Some (told_to n ls)) None) (sym (opens n)) ∙ ap (λ (t : List ℕ). cond (was_open streams (events ++ it ∷ []) n) (Some t) None) (sym (tells n)),
     λ n e. tells n ∙ so.1 n (sym (opens n) ∙ e),
   )
     where
       opens : (n : ℕ) → was_open streams (events ++ it ∷ []) n ≡ was_open streams events n
       opens n =
-          open_more streams events it n ∙ ap (λ (m : Streams). was_open streams events n || is_some (at m n)) stays
-          ∙ or_less (was_open streams events n) (is_some (at (after_events streams events) n)) (open_last streams events n)
+          open_more streams events it n ∙ ap (λ (m : Streams). was_open streams events n || is_some (at_session m n)) stays
+          ∙ or_less (was_open streams events n) (is_some (at_session (after_events streams events) n)) (open_last streams events n)
 
-      tells : (n : ℕ) → told n (ls ++ lines (number it) xs) ≡ told n ls
-      tells n = ap (λ (ys : List Exchange). told n (ls ++ lines (number it) ys)) none ∙ ap (told n) (append-nil ls)
+      tells : (n : ℕ) → told_to n (ls ++ lines (number it) xs) ≡ told_to n ls
+      tells n = ap (λ (ys : List Exchange). told_to n (ls ++ lines (number it) ys)) none ∙ ap (told_to n) (append-nil ls)
 
   -- another event
   done_more : due (after_events streams events) it ≡ None → Appends before (number it) (replies xs) after → OutputsSo streams (events ++ it ∷ []) (ls ++ lines (number it) xs) after
@@ -139,34 +139,34 @@ module _ (streams : Streams) (events : List Happening) (ls : List Line) (it : Ha
       next : after_event now it ≡ changed now it
       next = rw fine refl
 
-      at_each : (n : ℕ) → (at after n ≡ cond (was_open streams (events ++ it ∷ []) n) (Some (told n (ls ++ lines (number it) xs))) None)
-          × (was_open streams (events ++ it ∷ []) n ≡ false → told n (ls ++ lines (number it) xs) ≡ [])
+      at_each : (n : ℕ) → (at_session after n ≡ cond (was_open streams (events ++ it ∷ []) n) (Some (told_to n (ls ++ lines (number it) xs))) None)
+          × (was_open streams (events ++ it ∷ []) n ≡ false → told_to n (ls ++ lines (number it) xs) ≡ [])
       at_each n = by_test (number it == n) refl
         where
-          opens : was_open streams (events ++ it ∷ []) n ≡ (was_open streams events n || is_some (at (changed now it) n))
-          opens = open_more streams events it n ∙ ap (λ (m : Streams). was_open streams events n || is_some (at m n)) next
+          opens : was_open streams (events ++ it ∷ []) n ≡ (was_open streams events n || is_some (at_session (changed now it) n))
+          opens = open_more streams events it n ∙ ap (λ (m : Streams). was_open streams events n || is_some (at_session m n)) next
 
           by_test : (b : Bool) → (number it == n) ≡ b
-              → (at after n ≡ cond (was_open streams (events ++ it ∷ []) n) (Some (told n (ls ++ lines (number it) xs))) None)
-              × (was_open streams (events ++ it ∷ []) n ≡ false → told n (ls ++ lines (number it) xs) ≡ [])
+              → (at_session after n ≡ cond (was_open streams (events ++ it ∷ []) n) (Some (told_to n (ls ++ lines (number it) xs))) None)
+              × (was_open streams (events ++ it ∷ []) n ≡ false → told_to n (ls ++ lines (number it) xs) ≡ [])
           by_test true e =
               let same : number it ≡ n = eqb-true (number it) n e in
-              let opened : was_open streams (events ++ it ∷ []) n ≡ true = opens ∙ subst (λ (k : ℕ). (was_open streams events k || is_some (at (changed now it) k)) ≡ true) same (own_open now it (was_open streams events (number it)) fine (open_last streams events (number it))) in
-              let tells : told n (ls ++ lines (number it) xs) ≡ told n ls ++ replies xs = told_more n (number it) ls xs ∙ ap (λ (b : Bool). told n ls ++ cond b (replies xs) []) e in (
-                appends n ∙ ap (λ (b : Bool). cond b (Some (appended (at before n) (replies xs))) (at before n)) e
+              let opened : was_open streams (events ++ it ∷ []) n ≡ true = opens ∙ subst (λ (k : ℕ). (was_open streams events k || is_some (at_session (changed now it) k)) ≡ true) same (own_open now it (was_open streams events (number it)) fine (open_last streams events (number it))) in
+              let tells : told_to n (ls ++ lines (number it) xs) ≡ told_to n ls ++ replies xs = told_more n (number it) ls xs ∙ ap (λ (b : Bool). told_to n ls ++ cond b (replies xs) []) e in (
+                appends n ∙ ap (λ (b : Bool). cond b (Some (appended (at_session before n) (replies xs))) (at_session before n)) e
                     ∙ ap (λ (found : Option (List ℕ)). Some (appended found (replies xs))) (so.0 n)
-                    ∙ ap (λ (t : List ℕ). Some t) (with_more_bytes (was_open streams events n) (told n ls) (replies xs) (so.1 n) ∙ sym tells)
-                    ∙ ap (λ (b : Bool). cond b (Some (told n (ls ++ lines (number it) xs))) None) (sym opened),
+                    ∙ ap (λ (t : List ℕ). Some t) (with_more_bytes (was_open streams events n) (told_to n ls) (replies xs) (so.1 n) ∙ sym tells)
+                    ∙ ap (λ (b : Bool). cond b (Some (told_to n (ls ++ lines (number it) xs))) None) (sym opened),
                 λ closed. absurd (let wrong : true ≡ false = sym opened ∙ closed in cc),
               )
           by_test false e =
               let opened : was_open streams (events ++ it ∷ []) n ≡ was_open streams events n =
               opens ∙ ap (λ (found : Option Stream). was_open streams events n || is_some found) (other_stays now it n (eqb-false (number it) n e))
-              ∙ or_less (was_open streams events n) (is_some (at now n)) (open_last streams events n)
+              ∙ or_less (was_open streams events n) (is_some (at_session now n)) (open_last streams events n)
               in
-              let tells : told n (ls ++ lines (number it) xs) ≡ told n ls = told_more n (number it) ls xs ∙ ap (λ (b : Bool). told n ls ++ cond b (replies xs) []) e ∙ append-nil (told n ls) in (
-                appends n ∙ ap (λ (b : Bool). cond b (Some (appended (at before n) (replies xs))) (at before n)) e ∙ so.0 n
-                    ∙ ap (λ (b : Bool). cond b (Some (told n ls)) None) (sym opened) ∙ ap (λ (t : List ℕ). cond (was_open streams (events ++ it ∷ []) n) (Some t) None) (sym tells),
+              let tells : told_to n (ls ++ lines (number it) xs) ≡ told_to n ls = told_more n (number it) ls xs ∙ ap (λ (b : Bool). told_to n ls ++ cond b (replies xs) []) e ∙ append-nil (told_to n ls) in (
+                appends n ∙ ap (λ (b : Bool). cond b (Some (appended (at_session before n) (replies xs))) (at_session before n)) e ∙ so.0 n
+                    ∙ ap (λ (b : Bool). cond b (Some (told_to n ls)) None) (sym opened) ∙ ap (λ (t : List ℕ). cond (was_open streams (events ++ it ∷ []) n) (Some t) None) (sym tells),
                 λ closed. tells ∙ so.1 n (sym opened ∙ closed),
               )
 
@@ -185,17 +185,17 @@ module _ (streams : Streams) (events : List Happening) (ls : List Line) (it : Ha
 module _ {S : Type 0} (answers : S → Frame → List ℕ → S → Type 0) where
   -- a run with its outputs so far
   abbrev pub RanSo : HubState S → List Happening → HubState S → BySession (List ℕ) → Type 0
-  RanSo before events after outputs = (ls : List Line) × RunsSo answers before events ls after × OutputsSo (each fresh before.sessions) events ls outputs
+  RanSo before events after outputs = (ls : List Line) × RunsSo answers before events ls after × OutputsSo (each unanswered before.sessions) events ls outputs
 
-  passes_so : (middle after : HubState S) (streams : Streams) (it : Happening) (xs : List Exchange) → Matches middle.sessions streams → Passes answers middle it xs after → (xs ≡ []) ⊎ (due streams it ≡ None)
+  passes_so : (middle after : HubState S) (streams : Streams) (it : Happening) (xs : List Exchange) → Matches middle.sessions streams → DoesUnlessRefused answers middle it xs after → (xs ≡ []) ⊎ (due streams it ≡ None)
   passes_so middle after streams it xs match (inl (refusal, is, none, same)) = inl none
   passes_so middle after streams it xs match (inr (fine, does)) = inr (sym (due_same middle.sessions streams it match) ∙ fine)
 
   pub ran_more : (before middle after : HubState S) (events more : List Happening) (it : Happening) (old new : BySession (List ℕ)) → more ≡ events ++ it ∷ []
       → RanSo before events middle old
-      → ((xs : List Exchange) × Passes answers middle it xs after × AppendsUnless (due middle.sessions it) old (number it) (replies xs) new) → RanSo before more after new
+      → ((xs : List Exchange) × DoesUnlessRefused answers middle it xs after × AppendsUnless (due middle.sessions it) old (number it) (replies xs) new) → RanSo before more after new
   ran_more before middle after events more it old new is (ls, run, so) (xs, passes, appends) =
-      let streams : Streams = each fresh before.sessions in
+      let streams : Streams = each unanswered before.sessions in
       let match : Matches middle.sessions (after_events streams events) = (run.0.left, run.1) in
       let same = due_same middle.sessions (after_events streams events) it match in
       let all = run_more answers before events ls middle it xs after run passes in
@@ -229,7 +229,7 @@ here_is n m false e = not_here m n (eqb-false m n e)
 
 -- the sessions still to come, each with an empty output
 abbrev Completes : {X : Type 0} → BySession (List ℕ) → BySession X → BySession X → Type 0
-Completes outputs rest all = (n : ℕ) → or_else (at outputs n) (option_map (λ _. []) (at rest n)) ≡ option_map (λ _. []) (at all n)
+Completes outputs rest all = (n : ℕ) → or_else (at_session outputs n) (option_map (λ _. []) (at_session rest n)) ≡ option_map (λ _. []) (at_session all n)
 
 pub one_completed : {X : Type 0} (before after : BySession (List ℕ)) (entry : ℕ × X) (rest all : BySession X) → Completes before (entry ∷ rest) all → Appends before entry.0 [] after → Completes after rest all
 one_completed {X} before after entry rest all so appends n = by_test (entry.0 == n) refl
@@ -240,12 +240,12 @@ one_completed {X} before after entry rest all so appends n = by_test (entry.0 ==
     both true (Some text) found = ap (λ (t : List ℕ). Some t) (append-nil text)
     both false old found = refl
 
-    by_test : (b : Bool) → (entry.0 == n) ≡ b → or_else (at after n) (option_map (λ _. []) (at rest n)) ≡ option_map (λ _. []) (at all n)
+    by_test : (b : Bool) → (entry.0 == n) ≡ b → or_else (at_session after n) (option_map (λ _. []) (at_session rest n)) ≡ option_map (λ _. []) (at_session all n)
     by_test b e =
-        ap (λ (found : Option (List ℕ)). or_else found (option_map (λ _. []) (at rest n))) (appends n ∙ ap (λ (c : Bool). cond c (Some (appended (at before n) [])) (at before n)) e)
-        ∙ both b (at before n) (at rest n)
-        ∙ ap (λ (c : Bool). or_else (at before n) (option_map (λ _. []) (cond c (Some entry.1) (at rest n)))) (sym (here_is n entry.0 b e))
+        ap (λ (found : Option (List ℕ)). or_else found (option_map (λ _. []) (at_session rest n))) (appends n ∙ ap (λ (c : Bool). cond c (Some (appended (at_session before n) [])) (at_session before n)) e)
+        ∙ both b (at_session before n) (at_session rest n)
+        ∙ ap (λ (c : Bool). or_else (at_session before n) (option_map (λ _. []) (cond c (Some entry.1) (at_session rest n)))) (sym (here_is n entry.0 b e))
         ∙ so n
 
-pub all_completed : {X : Type 0} (outputs : BySession (List ℕ)) (all : BySession X) → Completes outputs [] all → (n : ℕ) → at outputs n ≡ option_map (λ _. []) (at all n)
-all_completed outputs all so n = sym (or_none (at outputs n)) ∙ so n
+pub all_completed : {X : Type 0} (outputs : BySession (List ℕ)) (all : BySession X) → Completes outputs [] all → (n : ℕ) → at_session outputs n ≡ option_map (λ _. []) (at_session all n)
+all_completed outputs all so n = sym (or_none (at_session outputs n)) ∙ so n

@@ -7,14 +7,14 @@ use Rattle.std.specs.Prelude.{◌==◌, is_some, nat_le}
 use Rattle.std.specs.Option.{option_map}
 use Rattle.std.specs.Ordering.{nat_cmp}
 use Rattle.std.specs.BTreeMap.{is_at}
+use Rattle.rootchain.specs.TakingPieces.{joined}
 use Rattle.wire.specs.Frames.{Frame}
-use Rattle.wire.specs.Laws.{joined}
 use Rattle.wire.specs.Streams.{Remainder, Message, Rest, Failed, messages, with_more}
 use Rattle.hub.specs.declared.hub_refusal.HubRefusal.{HubRefusal}
 use Rattle.hub.specs.declared.hub_refusal.HubRefusal.TheVariants.{TooManySessions, SessionOpen, NoSession}
-use Rattle.hub.specs.Events.{Happening, Open, Bytes, End, at, due, number}
-use Rattle.hub.specs.Laws.{lines_of, messages_of, opened, own_events, own_streams, pieces, stream_messages, RunsTellTheirOwn, SessionsHearTheirOwn}
-use Rattle.hub.specs.Runs.{Line, Stream, Streams, asked, changed, commands, completed, completed_by, each, fresh, told, with_piece}
+use Rattle.hub.specs.Events.{Happening, Open, Bytes, End, at_session, due, number}
+use Rattle.hub.specs.Laws.{lines_for, messages_of, opened_streams, own_events, own_streams, pieces, stream_messages, RunsTellTheirOwn, SessionsHearTheirOwn}
+use Rattle.hub.specs.Runs.{Line, Stream, Streams, asked_by, changed, commands, completed, completed_by, each, told_to, unanswered, with_piece}
 use Rattle.hub.proofs.Entries.{lookup_each}
 use Rattle.hub.proofs.Once.{ended_once, fresh_once, heard_once, opened_once, other_once, StandsOnce}
 use Rattle.hub.proofs.Others.{set_found}
@@ -35,7 +35,7 @@ abbrev more_messages : Stream → List (List ℕ) → List Message
 more_messages stream [] = []
 more_messages stream (piece ∷ more) = drop stream.answered (messages (with_more stream.came (joined (piece ∷ more)))).0
 
-fresh_messages : (held : Remainder) (ps : List (List ℕ)) → more_messages (fresh held) ps ≡ stream_messages (held, ps)
+fresh_messages : (held : Remainder) (ps : List (List ℕ)) → more_messages (unanswered held) ps ≡ stream_messages (held, ps)
 fresh_messages held [] = refl
 fresh_messages held (piece ∷ more) = refl
 
@@ -79,8 +79,8 @@ of_same n k (m ∷ ms) rest e = rw e (ap (λ (t : List Message). m ∷ t) (of_sa
 
 -- what its events bring: first of the stream that is open, and then of those that they open
 abbrev later_messages : Option Stream → List Happening → List Message
-later_messages None events = flat_map stream_messages (opened events)
-later_messages (Some stream) events = more_messages stream (pieces events) ++ flat_map stream_messages (opened events)
+later_messages None events = flat_map stream_messages (opened_streams events)
+later_messages (Some stream) events = more_messages stream (pieces events) ++ flat_map stream_messages (opened_streams events)
 
 abbrev AreCounted : Option Stream → Type 0
 AreCounted None = Unit {0}
@@ -88,7 +88,7 @@ AreCounted (Some stream) = IsCounted stream
 
 -- the messages of a session are what its own events bring
 abbrev HearsOwn : ℕ → Streams → List Happening → Type 0
-HearsOwn n streams events = messages_of n (commands streams events) ≡ later_messages (at streams n) (own_events n streams events)
+HearsOwn n streams events = messages_of n (commands streams events) ≡ later_messages (at_session streams n) (own_events n streams events)
 
 nothing_more : (found : Option Stream) → [] ≡ later_messages found []
 nothing_more None = refl
@@ -121,10 +121,10 @@ none_found (Some stream) refusal e = absurd cc
 refused_own : (streams : Streams) (it : Happening) (more : List Happening) (refusal : HubRefusal) → due streams it ≡ Some refusal → HearsOwn (number it) streams more → HearsOwn (number it) streams (it ∷ more)
 refused_own streams (Open n) more refusal refused next = rw (refused, same_is n) next
 refused_own streams (Bytes n piece) more refusal refused next =
-    let none : at streams n ≡ None = none_found (at streams n) refusal refused in
+    let none : at_session streams n ≡ None = none_found (at_session streams n) refusal refused in
     rw (refused, same_is n, none) (next ∙ ap (λ (found : Option Stream). later_messages found (own_events n streams more)) none)
 refused_own streams (End n) more refusal refused next =
-    let none : at streams n ≡ None = none_found (at streams n) refusal refused in
+    let none : at_session streams n ≡ None = none_found (at_session streams n) refusal refused in
     rw (refused, same_is n, none) (next ∙ ap (λ (found : Option Stream). later_messages found (own_events n streams more)) none)
 
 -- ---- another event of the session itself
@@ -140,23 +140,23 @@ some_found (Some stream) e = (stream, refl)
 
 open_own : (n : ℕ) (streams : Streams) (more : List Happening) → due streams (Open n) ≡ None → HearsOwn n (changed streams (Open n)) more → HearsOwn n streams (Open n ∷ more)
 open_own n streams more fine next =
-    let new : Stream = fresh (Rest []) in
+    let new : Stream = unanswered (Rest []) in
     let later : List Happening = own_events n (changed streams (Open n)) more in
-    let none : at streams n ≡ None = open_finds (nat_le MAX_SESSIONS (length streams)) (at streams n) fine in
+    let none : at_session streams n ≡ None = open_finds (nat_le MAX_SESSIONS (length streams)) (at_session streams n) fine in
     rw (fine, same_is n, none) (
     next ∙ ap (λ (found : Option Stream). later_messages found later) (insert_found streams n new)
-    ∙ ap (λ (t : List Message). t ++ flat_map stream_messages (opened later)) (fresh_messages (Rest []) (pieces later))
+    ∙ ap (λ (t : List Message). t ++ flat_map stream_messages (opened_streams later)) (fresh_messages (Rest []) (pieces later))
     )
 
-bytes_own : (n : ℕ) (streams : Streams) (piece : List ℕ) (more : List Happening) → due streams (Bytes n piece) ≡ None → AreCounted (at streams n) → HearsOwn n (changed streams (Bytes n piece)) more
+bytes_own : (n : ℕ) (streams : Streams) (piece : List ℕ) (more : List Happening) → due streams (Bytes n piece) ≡ None → AreCounted (at_session streams n) → HearsOwn n (changed streams (Bytes n piece)) more
     → HearsOwn n streams (Bytes n piece ∷ more)
 bytes_own n streams piece more fine counted next =
-    let s = some_found (at streams n) fine in
+    let s = some_found (at_session streams n) fine in
     let stream : Stream = s.0 in
     let later : List Happening = own_events n (changed streams (Bytes n piece)) more in
-    let rest : List Message = flat_map stream_messages (opened later) in
-    let now : at (changed streams (Bytes n piece)) n ≡ Some (with_piece stream piece) =
-    ap (λ (m : Streams). at m n) (bytes_changed streams n piece stream s.1) ∙ set_found (is_at (nat_cmp n)) streams (with_piece stream piece) stream s.1
+    let rest : List Message = flat_map stream_messages (opened_streams later) in
+    let now : at_session (changed streams (Bytes n piece)) n ≡ Some (with_piece stream piece) =
+    ap (λ (m : Streams). at_session m n) (bytes_changed streams n piece stream s.1) ∙ set_found (is_at (nat_cmp n)) streams (with_piece stream piece) stream s.1
     in
     let heard : messages_of n (of_session (Bytes n piece) (completed_by streams (Bytes n piece)) ++ commands (changed streams (Bytes n piece)) more)
     ≡ more_messages stream (piece ∷ pieces later) ++ rest =
@@ -170,7 +170,7 @@ bytes_own n streams piece more fine counted next =
 
 end_own : (n : ℕ) (streams : Streams) (more : List Happening) → due streams (End n) ≡ None → StandsOnce n streams → HearsOwn n (changed streams (End n)) more → HearsOwn n streams (End n ∷ more)
 end_own n streams more fine once next =
-    let s = some_found (at streams n) fine in
+    let s = some_found (at_session streams n) fine in
     let later : List Happening = own_events n (changed streams (End n)) more in
     rw (fine, same_is n) (
     next ∙ ap (λ (found : Option Stream). later_messages found later) once
@@ -181,15 +181,15 @@ end_own n streams more fine once next =
 
 -- what is kept from event to event
 abbrev Kept : ℕ → Streams → Type 0
-Kept n streams = StandsOnce n streams × AreCounted (at streams n)
+Kept n streams = StandsOnce n streams × AreCounted (at_session streams n)
 
 own_kept : (streams : Streams) (it : Happening) → due streams it ≡ None → Kept (number it) streams → Kept (number it) (changed streams it)
 own_kept streams (Open n) fine (once, counted) = (
-  opened_once streams n (fresh (Rest [])) (open_finds (nat_le MAX_SESSIONS (length streams)) (at streams n) fine),
-  subst AreCounted (sym (insert_found streams n (fresh (Rest [])))) (omega arith),
+  opened_once streams n (unanswered (Rest [])) (open_finds (nat_le MAX_SESSIONS (length streams)) (at_session streams n) fine),
+  subst AreCounted (sym (insert_found streams n (unanswered (Rest [])))) (omega arith),
 )
 own_kept streams (Bytes n piece) fine (once, counted) =
-    let s = some_found (at streams n) fine in
+    let s = some_found (at_session streams n) fine in
     subst (Kept n) (sym (bytes_changed streams n piece s.0 s.1)) (
       heard_once streams n (with_piece s.0 piece) once,
       subst AreCounted (sym (set_found (is_at (nat_cmp n)) streams (with_piece s.0 piece) s.0 s.1)) (piece_counted s.0 piece),
@@ -230,44 +230,44 @@ one_own n streams it more (Some refusal) refused kept next _ = by_test (number i
     by_test false e = refused_other n streams it more refusal refused e next
 
 hears_own : (n : ℕ) (streams : Streams) (events : List Happening) → Kept n streams → HearsOwn n streams events
-hears_own n streams [] kept = nothing_more (at streams n)
+hears_own n streams [] kept = nothing_more (at_session streams n)
 hears_own n streams (it ∷ more) kept = one_own n streams it more (due streams it) refl kept (hears_own n streams more kept) (hears_own n (changed streams it) more)
 
 -- ---- the law
 
-fresh_counted : (found : Option Remainder) → AreCounted (option_map fresh found)
+fresh_counted : (found : Option Remainder) → AreCounted (option_map unanswered found)
 fresh_counted None = tt
 fresh_counted (Some held) = omega arith
 
-fresh_streams : (found : Option Remainder) (events : List Happening) → later_messages (option_map fresh found) events ≡ flat_map stream_messages (own_streams found events)
+fresh_streams : (found : Option Remainder) (events : List Happening) → later_messages (option_map unanswered found) events ≡ flat_map stream_messages (own_streams found events)
 fresh_streams None events = refl
-fresh_streams (Some held) events = ap (λ (t : List Message). t ++ flat_map stream_messages (opened events)) (fresh_messages held (pieces events))
+fresh_streams (Some held) events = ap (λ (t : List Message). t ++ flat_map stream_messages (opened_streams events)) (fresh_messages held (pieces events))
 
 pub sessions_hear : SessionsHearTheirOwn
 sessions_hear session sessions events up =
-    let streams : Streams = each fresh sessions in
-    let found : at streams session ≡ option_map fresh (at sessions session) = lookup_each fresh (is_at (nat_cmp session)) sessions in
-    hears_own session streams events (fresh_once sessions session up, subst AreCounted (sym found) (fresh_counted (at sessions session)))
+    let streams : Streams = each unanswered sessions in
+    let found : at_session streams session ≡ option_map unanswered (at_session sessions session) = lookup_each unanswered (is_at (nat_cmp session)) sessions in
+    hears_own session streams events (fresh_once sessions session up, subst AreCounted (sym found) (fresh_counted (at_session sessions session)))
     ∙ ap (λ (s : Option Stream). later_messages s (own_events session streams events)) found
-    ∙ fresh_streams (at sessions session) (own_events session streams events)
+    ∙ fresh_streams (at_session sessions session) (own_events session streams events)
 
 -- ---- runs
 
-pub own_asked : (n : ℕ) (ls : List Line) → map (λ line. line.message) (lines_of n ls) ≡ messages_of n (map asked ls)
+pub own_asked : (n : ℕ) (ls : List Line) → map (λ line. line.message) (lines_for n ls) ≡ messages_of n (map asked_by ls)
 own_asked n [] = refl
 own_asked n (line ∷ ls) = by_test (line.session == n) (own_asked n ls)
   where
-    by_test : (b : Bool) → map (λ line. line.message) (lines_of n ls) ≡ messages_of n (map asked ls)
-        → map (λ line. line.message) (cond b (line ∷ lines_of n ls) (lines_of n ls)) ≡ map (λ one. one.1) (cond b (asked line ∷ filter (λ one. one.0 == n) (map asked ls)) (filter (λ one. one.0 == n) (map asked ls)))
+    by_test : (b : Bool) → map (λ line. line.message) (lines_for n ls) ≡ messages_of n (map asked_by ls)
+        → map (λ line. line.message) (cond b (line ∷ lines_for n ls) (lines_for n ls)) ≡ map (λ one. one.1) (cond b (asked_by line ∷ filter (λ one. one.0 == n) (map asked_by ls)) (filter (λ one. one.0 == n) (map asked_by ls)))
     by_test true next = ap (λ (t : List Message). line.message ∷ t) next
     by_test false next = next
 
-pub own_told : (n : ℕ) (ls : List Line) → told n ls ≡ flat_map (λ line. line.reply) (lines_of n ls)
+pub own_told : (n : ℕ) (ls : List Line) → told_to n ls ≡ flat_map (λ line. line.reply) (lines_for n ls)
 own_told n [] = refl
 own_told n (line ∷ ls) = by_test (line.session == n) (own_told n ls)
   where
-    by_test : (b : Bool) → told n ls ≡ flat_map (λ line. line.reply) (lines_of n ls)
-        → cond b line.reply [] ++ told n ls ≡ flat_map (λ line. line.reply) (cond b (line ∷ lines_of n ls) (lines_of n ls))
+    by_test : (b : Bool) → told_to n ls ≡ flat_map (λ line. line.reply) (lines_for n ls)
+        → cond b line.reply [] ++ told_to n ls ≡ flat_map (λ line. line.reply) (cond b (line ∷ lines_for n ls) (lines_for n ls))
     by_test true next = ap (λ (t : List ℕ). line.reply ++ t) next
     by_test false next = next
 

@@ -3,7 +3,7 @@ use Rattle.std.proofs.Common.{◌≡◌, ◌⊎◌, ℕ, ◌<◌, ◌≤◌, Lis
 use Rattle.std.specs.Bool.{⊤}
 use Rattle.std.specs.List.{AllByRecursion, AllZip}
 use Rattle.std.proofs.lemmas.Slice.Zip.{AllZip-long}
-use Rattle.proofs.specs.Replies.{Reply as Spelled, Spells}
+use Rattle.proofs.specs.Replies.{Reply as Spelled, SpellsReply}
 use Rattle.rootchain.specs.SignedRoots.{IsSignedRoot}
 use Rattle.rootchain.specs.declared.signed_root.SignedRoot.{SignedRoot}
 use Rattle.book.specs.declared.record.Record.{Record}
@@ -16,8 +16,8 @@ use Rattle.book.specs.Answers as answer
 use Rattle.commands.specs.Operations as ask
 use Rattle.commands.specs.Operations.{Operation, Question, Query, Edit, Put, Promise, Lookup, History, Head}
 use Rattle.book.specs.Books.{Book, Page}
-use Rattle.book.specs.Honest.{key_at, IsAnswer, IsDouble, IsHonest, IsSaid}
-use Rattle.book.specs.Refusals.{refusal_number}
+use Rattle.book.specs.Honest.{key_at, IsAnswer, IsDouble, IsHonestRun, IsSaid}
+use Rattle.book.specs.Refusals.{book_refusal_number}
 use Rattle.book.specs.Shows.{Provider, index_of, roots, IsRootOf}
 use Rattle.book.specs.Steps.{Answers, step}
 use Rattle.book.specs.Turns.{Run, Turn}
@@ -34,7 +34,7 @@ use Rattle.wire.specs.Responses.{ResponseContent, proof_frame, response_frame, I
 use Rattle.wire.specs.Streams.{Message, Whole, BadFrame}
 use Rattle.wire.proofs.ReadBack.{responses_read}
 use Rattle.hub.specs.Desks.{reply_frame, IsResponseOf}
-use Rattle.hub.specs.DeskRuns.{AreRead, IsTurnedAway, ShowReplies}
+use Rattle.hub.specs.DeskRuns.{AreResponses, IsTurnedAway, ShowReplies}
 use Rattle.hub.specs.Runs.{Line}
 use Rattle.hub.proofs.Desking.{few_pages}
 
@@ -99,7 +99,7 @@ module _ (provider : Provider) where
 
 -- ---- responses
 
-number_small : (why : Refusal) → refusal_number why < 256
+number_small : (why : Refusal) → book_refusal_number why < 256
 number_small BadName = omega arith
 number_small BadKey = omega arith
 number_small NameTaken = omega arith
@@ -123,7 +123,7 @@ away_small token (Whole frame) code (inl (refusal, read, is)) = omega (arith, is
 away_small token (Whole frame) code (inr (requested, read, none, is)) = omega (arith, is)
 
 module _ (provider : Provider) (accepted verified : List ℕ → List ℕ → List ℕ → Type 0) (key : List ℕ) (before after : Book) (all : List Operation) (said : List Reply)
-    (honest : IsHonest provider accepted verified key before after all said) where
+    (honest : IsHonestRun provider accepted verified key before after all said) where
   told_form : (root : SignedRoot) → Contains (roots provider after) root → IsSignedRoot root
   told_form root (k, within, is) = subst IsSignedRoot is (honest.forms k root within)
 
@@ -146,16 +146,16 @@ module _ (provider : Provider) (accepted verified : List ℕ → List ℕ → Li
       reads_back (reply.Found text) (response.Proof read) (read, spells, refl) spells.1 (ap proof_frame spells.0)
     where
       spelled : (name : List ℕ) (epoch : ℕ) (text : List ℕ) {latest : ℕ}
-          → IsAnswer provider accepted verified key after latest name epoch text ⊎ IsDouble provider accepted verified key after latest name epoch text → (read : Spelled) × Spells text read
+          → IsAnswer provider accepted verified key after latest name epoch text ⊎ IsDouble provider accepted verified key after latest name epoch text → (read : Spelled) × SpellsReply text read
       spelled name epoch text (inl answer) = let states = (answer.states (key_at answer.page name)).1 refl in (states.0, states.1)
       spelled name epoch text (inr double) = (double.reply, double.spelled)
   reply_read asked (reply.Told told) is few =
       reads_back (reply.Told told) (response.Roots told.items) refl (few, told_forms told.items (λ root there. honest.told asked (reply.Told told) root is there)) refl
   reply_read asked (reply.Last root) is for = reads_back (reply.Last root) (response.Root root) refl (told_form root (honest.told asked (reply.Last root) root is refl)) refl
-  reply_read asked (reply.Refused why) is for = reads_back (reply.Refused why) (response.Refused (refusal_number why)) refl (number_small why) refl
+  reply_read asked (reply.Refused why) is for = reads_back (reply.Refused why) (response.Refused (book_refusal_number why)) refl (number_small why) refl
 
   pub lines_read : (token : List ℕ) (lines : List Line) (commands : List Operation) (replies : List Reply) (shown : ShowReplies token lines commands replies) → AllZip IsFor commands replies
-      → ((asked : Operation) (told : Reply) → IsSaid commands replies asked told → IsSaid all said asked told) → AreRead token lines commands replies shown
+      → ((asked : Operation) (told : Reply) → IsSaid commands replies asked told → IsSaid all said asked told) → AreResponses token lines commands replies shown
   lines_read token [] commands replies shown for are = tt
   lines_read token (line ∷ more) commands replies (inl (code, away, says, shows)) for are =
       (responses_read (response.Refused code) (away_small token line.message code away), lines_read token more commands replies shows for are)

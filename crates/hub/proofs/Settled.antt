@@ -6,9 +6,9 @@ use Rattle.book.specs.declared.reply.Reply.TheVariants as reply
 use Rattle.book.specs.declared.refusal.Refusal.{Refusal}
 use Rattle.book.specs.declared.refusal.Refusal.TheVariants.{BadName, BadKey, NameTaken, NoSuchName, PendingExists, IndexTaken, NoSuchEpoch, EpochNotLater, NoPromise, Memory, BadRange, KeepFailed}
 use Rattle.commands.specs.Operations.{Operation}
-use Rattle.book.specs.Refusals.{refusal_number}
+use Rattle.book.specs.Refusals.{book_refusal_number}
 use Rattle.book.specs.Replies as seen
-use Rattle.book.specs.Replies.{ReplyContent, FailAlike, seen as seen_of}
+use Rattle.book.specs.Replies.{ReplyContent, FailAlike, reply_content}
 use Rattle.wire.specs.declared.refusals.ReadRefusal.{ReadRefusal}
 use Rattle.wire.specs.declared.refusals.ReadRefusal.TheVariants.{BadKind, BadBody}
 use Rattle.wire.specs.Frames.{Frame, frame_bytes}
@@ -21,7 +21,7 @@ use Rattle.wire.proofs.Requests.{one_request}
 use Rattle.hub.specs.Desks.{command, reply_frame, IsRead}
 use Rattle.hub.specs.DeskRuns.{IsTurnedAway, Reaches, RefuseAlike, ShowReplies}
 use Rattle.hub.specs.Exchanges.{refused_frame}
-use Rattle.hub.specs.Runs.{Line, asked as asked_by}
+use Rattle.hub.specs.Runs.{Line, asked_by}
 
 -- ---- a message means one thing
 
@@ -79,16 +79,16 @@ seen_frame (seen.Promised signed) = response_frame (response.Promise signed)
 seen_frame (seen.Found text) = proof_frame text
 seen_frame (seen.Told told) = response_frame (response.Roots told)
 seen_frame (seen.Last root) = response_frame (response.Root root)
-seen_frame (seen.Refused why) = response_frame (response.Refused (refusal_number why))
+seen_frame (seen.Refused why) = response_frame (response.Refused (book_refusal_number why))
 
-frame_is : (told : Reply) → reply_frame told ≡ seen_frame (seen_of told)
+frame_is : (told : Reply) → reply_frame told ≡ seen_frame (reply_content told)
 frame_is (reply.Promised signed) = refl
 frame_is (reply.Found text) = refl
 frame_is (reply.Told told) = refl
 frame_is (reply.Last root) = refl
 frame_is (reply.Refused why) = refl
 
-same_frame : (told other : Reply) → seen_of told ≡ seen_of other → frame_bytes (reply_frame told) ≡ frame_bytes (reply_frame other)
+same_frame : (told other : Reply) → reply_content told ≡ reply_content other → frame_bytes (reply_frame told) ≡ frame_bytes (reply_frame other)
 same_frame told other same = ap frame_bytes (frame_is told ∙ ap seen_frame same ∙ sym (frame_is other))
 
 -- the frame of a refusal, because a record was not kept, is that of no other reply
@@ -98,7 +98,7 @@ after_head frame = refl
 abbrev byte_at : ℕ → List ℕ → ℕ
 byte_at place bytes = get_or bytes place 0
 
-not_kept : (why : Refusal) → refusal_number why ≡ 19 → why ≡ KeepFailed
+not_kept : (why : Refusal) → book_refusal_number why ≡ 19 → why ≡ KeepFailed
 not_kept BadName is = let e : 4 ≡ 19 = is in absurd (omega (arith, e))
 not_kept BadKey is = let e : 5 ≡ 19 = is in absurd (omega (arith, e))
 not_kept NameTaken is = let e : 6 ≡ 19 = is in absurd (omega (arith, e))
@@ -112,17 +112,17 @@ not_kept Memory is = let e : 14 ≡ 19 = is in absurd (omega (arith, e))
 not_kept BadRange is = let e : 15 ≡ 19 = is in absurd (omega (arith, e))
 not_kept KeepFailed is = refl
 
-not_kept_frame : (told : Reply) → frame_bytes (reply_frame told) ≡ refused_frame 19 → seen_of told ≡ seen.Refused KeepFailed
+not_kept_frame : (told : Reply) → frame_bytes (reply_frame told) ≡ refused_frame 19 → reply_content told ≡ seen.Refused KeepFailed
 not_kept_frame told same = by told (sym (after_head (reply_frame told)) ∙ ap (drop 4) same ∙ after_head (response_frame (response.Refused 19)))
   where
-    by : (said : Reply) → (reply_frame said).kind ∷ (reply_frame said).body ≡ 255 ∷ 19 ∷ [] → seen_of said ≡ seen.Refused KeepFailed
+    by : (said : Reply) → (reply_frame said).kind ∷ (reply_frame said).body ≡ 255 ∷ 19 ∷ [] → reply_content said ≡ seen.Refused KeepFailed
     by (reply.Promised signed) e = let f : 129 ≡ 255 = ap (byte_at 0) e in absurd (omega (arith, f))
     by (reply.Found text) e = let f : 130 ≡ 255 = ap (byte_at 0) e in absurd (omega (arith, f))
     by (reply.Told told) e = let f : 131 ≡ 255 = ap (byte_at 0) e in absurd (omega (arith, f))
     by (reply.Last root) e = let f : 132 ≡ 255 = ap (byte_at 0) e in absurd (omega (arith, f))
-    by (reply.Refused why) e = let f : refusal_number why ≡ 19 = ap (byte_at 1) e in ap (λ (w : Refusal). seen.Refused w) (not_kept why f)
+    by (reply.Refused why) e = let f : book_refusal_number why ≡ 19 = ap (byte_at 1) e in ap (λ (w : Refusal). seen.Refused w) (not_kept why f)
 
-failed_frame : (told : Reply) (s : ReplyContent) → seen_of told ≡ s → frame_bytes (reply_frame told) ≡ frame_bytes (seen_frame s)
+failed_frame : (told : Reply) (s : ReplyContent) → reply_content told ≡ s → frame_bytes (reply_frame told) ≡ frame_bytes (seen_frame s)
 failed_frame told s same = ap frame_bytes (frame_is told ∙ ap seen_frame same)
 
 -- ---- lines
@@ -136,8 +136,8 @@ module _ (token : List ℕ) where
   heads line other more rest same =
       let e = consed (asked_by line) (asked_by other) (map asked_by more) (map asked_by rest) same in (ap (λ (p : ℕ × Message). p.0) e.0, ap (λ (p : ℕ × Message). p.1) e.0, e.1)
 
-  seen_heads : (a b : Reply) (xs ys : List Reply) → map seen_of (a ∷ xs) ≡ map seen_of (b ∷ ys) → (seen_of a ≡ seen_of b) × (map seen_of xs ≡ map seen_of ys)
-  seen_heads a b xs ys same = consed (seen_of a) (seen_of b) (map seen_of xs) (map seen_of ys) same
+  seen_heads : (a b : Reply) (xs ys : List Reply) → map reply_content (a ∷ xs) ≡ map reply_content (b ∷ ys) → (reply_content a ≡ reply_content b) × (map reply_content xs ≡ map reply_content ys)
+  seen_heads a b xs ys same = consed (reply_content a) (reply_content b) (map reply_content xs) (map reply_content ys) same
 
   ok_once : (asked other : Operation) → asks asked ≡ asks other → asked ≡ other
   ok_once asked other same = cc
@@ -154,7 +154,7 @@ module _ (token : List ℕ) where
 
   abbrev TellsTheSame : List Line → List Line → Type 0
   TellsTheSame lines told = (commands others : List Operation) (replies answers : List Reply) → ShowReplies token lines commands replies → ShowReplies token told others answers
-      → map seen_of replies ≡ map seen_of answers → lines ≡ told
+      → map reply_content replies ≡ map reply_content answers → lines ≡ told
 
   pub same_commands : (lines told : List Line) (commands others : List Operation) (replies answers : List Reply) → map asked_by lines ≡ map asked_by told
       → ShowReplies token lines commands replies → ShowReplies token told others answers → commands ≡ others
@@ -212,7 +212,7 @@ module _ (token : List ℕ) where
           subst₂ (λ (r : List Reply) (a : List Reply). AllZip FailAlike r a) (sym are) (sym too) (pair told said tells says, next later after ones twos show shows)
 
   pub same_lines : (lines told : List Line) (commands others : List Operation) (replies answers : List Reply) → map asked_by lines ≡ map asked_by told
-      → ShowReplies token lines commands replies → ShowReplies token told others answers → map seen_of replies ≡ map seen_of answers → lines ≡ told
+      → ShowReplies token lines commands replies → ShowReplies token told others answers → map reply_content replies ≡ map reply_content answers → lines ≡ told
   same_lines [] [] commands others replies answers same shows show seen_same = refl
   same_lines [] (other ∷ rest) commands others replies answers same shows show seen_same = absurd cc
   same_lines (line ∷ more) [] commands others replies answers same shows show seen_same = absurd cc
@@ -234,5 +234,5 @@ module _ (token : List ℕ) where
       by next (inl (code, away, says, shows)) (inr (asked, told, later, ones, reaches, tells, is, are, show)) = absurd (never code asked (once (refuses code) (asks asked) away reaches))
       by next (inr (asked, told, later, ones, reaches, tells, is, are, show)) (inl (code, away, says, shows)) = absurd (never code asked (sym (once (asks asked) (refuses code) reaches away)))
       by next (inr (asked, told, later, ones, reaches, tells, is, are, show)) (inr (wants, said, after, twos, gets, says, also, too, shows)) =
-          let s = seen_heads told said ones twos (sym (ap (map seen_of) are) ∙ seen_same ∙ ap (map seen_of) too) in
+          let s = seen_heads told said ones twos (sym (ap (map reply_content) are) ∙ seen_same ∙ ap (map reply_content) too) in
           with_reply (tells ∙ same_frame told said s.0 ∙ sym says) (next later after ones twos show shows s.1)

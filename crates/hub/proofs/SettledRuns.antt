@@ -12,7 +12,7 @@ use Rattle.epochs.specs.DirectoryStates.{book, provider}
 use Rattle.hub.specs.Desks.{DeskState, DeskAnswers}
 use Rattle.hub.specs.DeskRuns.{RefuseAlike}
 use Rattle.hub.specs.Events.{BySession, Happening, HubState}
-use Rattle.hub.specs.Runs.{Line, asked as asked_by, bytes_of, each, fresh, told as told_to, AreOutputs, BringTheSame, Runs}
+use Rattle.hub.specs.Runs.{Line, asked_by, bytes_of, each, told_to, unanswered, AreOutputs, BringTheSame, Runs}
 use Rattle.hub.proofs.Cutting.{bytes_told}
 use Rattle.hub.proofs.DeskRunning.{lines_show_run}
 use Rattle.hub.proofs.Settled.{fail_alike, same_commands, same_lines}
@@ -20,10 +20,10 @@ use Rattle.hub.proofs.Settled.{fail_alike, same_commands, same_lines}
 module _ {R K : Type 0} (digest_of : List ℕ → List ℕ) (value_of signature_of : List ℕ → List ℕ → List ℕ) (stream : R → Stream) (kept failed : K → Record → K → Type 0) where
   pub runs_settled : (before after left : HubState (DeskState R K)) (events others : List Happening) (lines told : List Line) (outputs given : BySession (List ℕ))
       → IsSound (index_of (provider digest_of value_of signature_of before.service.directory)) (book stream before.service.directory)
-      → BringTheSame (each fresh before.sessions) events others → AllZip RefuseAlike lines told
+      → BringTheSame (each unanswered before.sessions) events others → AllZip RefuseAlike lines told
       → Runs (DeskAnswers digest_of value_of signature_of stream kept failed) before events lines after
       → Runs (DeskAnswers digest_of value_of signature_of stream kept failed) before others told left
-      → AreOutputs (each fresh before.sessions) events lines outputs → AreOutputs (each fresh before.sessions) others told given
+      → AreOutputs (each unanswered before.sessions) events lines outputs → AreOutputs (each unanswered before.sessions) others told given
       → (lines ≡ told) × (book stream after.service.directory ≡ book stream left.service.directory)
       × ((session : ℕ) → bytes_of outputs session ≡ bytes_of given session)
   runs_settled before after left events others lines told outputs given sound bring alike run also are too =
@@ -43,7 +43,7 @@ module _ {R K : Type 0} (digest_of : List ℕ → List ℕ) (value_of signature_
         equal,
         settled.0,
         λ session.
-            bytes_told (each fresh before.sessions) events lines outputs run.messages are session
+            bytes_told (each unanswered before.sessions) events lines outputs run.messages are session
             ∙ ap (told_to session) equal
-            ∙ sym (bytes_told (each fresh before.sessions) others told given also.messages too session),
+            ∙ sym (bytes_told (each unanswered before.sessions) others told given also.messages too session),
       )

@@ -6,27 +6,27 @@ use Rattle.std.specs.Ordering.{nat_cmp}
 use Rattle.std.specs.BTreeMap.{is_at, insert_entry}
 use Rattle.std.specs.Map.{remove_entry, set_value}
 use Rattle.wire.specs.Frames.{Frame}
-use Rattle.wire.specs.Streams.{Remainder, Message, Rest, messages, messages_within, with_more, IsSpent, Tells}
-use Rattle.hub.specs.Events.{BySession, Happening, Open, Bytes, End, HubState, at, due, number}
+use Rattle.wire.specs.Streams.{Remainder, Message, Rest, messages, messages_within, with_more, IsSpent, TellsMessages}
+use Rattle.hub.specs.Events.{BySession, Happening, Open, Bytes, End, HubState, at_session, due, number}
 use Rattle.hub.specs.Exchanges.{Exchange, Exchanges}
 use Rattle.hub.specs.Happenings.{Answered, Does}
 pub use Rattle.hub.specs.Runs.{lines}
-use Rattle.hub.specs.Runs.{Stream, Streams, changed, completed, completed_by, each, fresh, rest_of, with_piece, AllAnswered}
+use Rattle.hub.specs.Runs.{Stream, Streams, changed, completed, completed_by, each, rest_of, unanswered, with_piece, AllAnswered}
 use Rattle.hub.proofs.Entries.{due_each, insert_each, lookup_each, remove_each, set_each, all_found, all_inserted, all_removed, all_set, AllAt}
 use Rattle.hub.proofs.Streaming.{left_within, tells_append, tells_more, told_all, told_of}
 
 -- as many messages of the stream are answered as it says
 abbrev pub IsTold : Stream → Type 0
-IsTold stream = (told : List Message) × Tells stream.came told (rest_of stream) × (length told ≡ stream.answered)
+IsTold stream = (told : List Message) × TellsMessages stream.came told (rest_of stream) × (length told ≡ stream.answered)
 
-pub fresh_told : (held : Remainder) → IsTold (fresh held)
+pub fresh_told : (held : Remainder) → IsTold (unanswered held)
 fresh_told held = ([], refl, refl)
 
-pub all_fresh : (sessions : BySession Remainder) → AllAt IsTold (each fresh sessions)
+pub all_fresh : (sessions : BySession Remainder) → AllAt IsTold (each unanswered sessions)
 all_fresh [] = tt
 all_fresh (entry ∷ more) = (fresh_told entry.1, all_fresh more)
 
-pub each_fresh : (sessions : BySession Remainder) → sessions ≡ each rest_of (each fresh sessions)
+pub each_fresh : (sessions : BySession Remainder) → sessions ≡ each rest_of (each unanswered sessions)
 each_fresh [] = refl
 each_fresh (entry ∷ more) = ap (λ (t : BySession Remainder). entry ∷ t) (each_fresh more)
 
@@ -35,25 +35,25 @@ abbrev pub messages_of : List Exchange → List Message
 messages_of = map (λ exchange. exchange.message)
 
 -- a piece whose messages are all told
-piece_told : (stream : Stream) (piece : List ℕ) (now : List Message) (left : Remainder) → IsTold stream → Tells (with_more (rest_of stream) piece) now left → IsSpent left
+piece_told : (stream : Stream) (piece : List ℕ) (now : List Message) (left : Remainder) → IsTold stream → TellsMessages (with_more (rest_of stream) piece) now left → IsSpent left
     → (completed stream piece ≡ now) × (rest_of (with_piece stream piece) ≡ left) × IsTold (with_piece stream piece)
 piece_told stream piece now left (told, tells, count) more spent =
     let came : Remainder = with_more stream.came piece in
-    let all : Tells came (told ++ now) left = tells_append came told (with_more (rest_of stream) piece) now left (tells_more stream.came told (rest_of stream) piece tells) more in
+    let all : TellsMessages came (told ++ now) left = tells_append came told (with_more (rest_of stream) piece) now left (tells_more stream.came told (rest_of stream) piece tells) more in
     let is : messages came ≡ (told ++ now, left) = told_all came (told ++ now) left all spent in
     let whole : (messages came).0 ≡ told ++ now = ap (λ (t : List Message × Remainder). t.0) is in
     let rest : rest_of (with_piece stream piece) ≡ left = ap (λ (t : List Message). (messages_within (length t) came).1) whole ∙ left_within came (told ++ now) left all in (
       ap (λ (n : ℕ). drop n (messages came).0) (sym count) ∙ ap (drop (length told)) whole ∙ drop-append_seam told now,
       rest,
-      (told ++ now, subst (λ (h : Remainder). Tells came (told ++ now) h) (sym rest) all, ap (λ (t : List Message). length t) (sym whole)),
+      (told ++ now, subst (λ (h : Remainder). TellsMessages came (told ++ now) h) (sym rest) all, ap (λ (t : List Message). length t) (sym whole)),
     )
 
 -- a piece of whose messages the first are told
-piece_begun : (stream : Stream) (piece : List ℕ) (now : List Message) (left : Remainder) → IsTold stream → Tells (with_more (rest_of stream) piece) now left
+piece_begun : (stream : Stream) (piece : List ℕ) (now : List Message) (left : Remainder) → IsTold stream → TellsMessages (with_more (rest_of stream) piece) now left
     → (later : List Message) × (completed stream piece ≡ now ++ later)
 piece_begun stream piece now left (told, tells, count) more =
     let came : Remainder = with_more stream.came piece in
-    let all : Tells came (told ++ now) left = tells_append came told (with_more (rest_of stream) piece) now left (tells_more stream.came told (rest_of stream) piece tells) more in
+    let all : TellsMessages came (told ++ now) left = tells_append came told (with_more (rest_of stream) piece) now left (tells_more stream.came told (rest_of stream) piece tells) more in
     let is = told_of came (told ++ now) left all in
     let later : List Message = (messages_within is.0 left).0 in
     let whole : (messages came).0 ≡ told ++ (now ++ later) = ap (λ (t : List Message × Remainder). t.0) is.1 ∙ append_assoc told now later in
@@ -70,26 +70,26 @@ some_of f None y e = absurd cc
 some_of f (Some x) y e = (x, refl, let same : f x ≡ y = cc in same)
 
 -- the stream of a session that holds something
-pub stream_at : (sessions : BySession Remainder) (streams : Streams) (session : ℕ) (held : Remainder) → Matches sessions streams → at sessions session ≡ Some held
-    → (stream : Stream) × (at streams session ≡ Some stream) × (rest_of stream ≡ held) × IsTold stream
+pub stream_at : (sessions : BySession Remainder) (streams : Streams) (session : ℕ) (held : Remainder) → Matches sessions streams → at_session sessions session ≡ Some held
+    → (stream : Stream) × (at_session streams session ≡ Some stream) × (rest_of stream ≡ held) × IsTold stream
 stream_at sessions streams session held (same, all) here =
-    let found : option_map rest_of (at streams session) ≡ Some held = sym (lookup_each rest_of (is_at (nat_cmp session)) streams) ∙ ap (λ (m : BySession Remainder). at m session) (sym same) ∙ here in
-    let s = some_of rest_of (at streams session) held found in
+    let found : option_map rest_of (at_session streams session) ≡ Some held = sym (lookup_each rest_of (is_at (nat_cmp session)) streams) ∙ ap (λ (m : BySession Remainder). at_session m session) (sym same) ∙ here in
+    let s = some_of rest_of (at_session streams session) held found in
     (s.0, s.1, s.2, all_found IsTold (is_at (nat_cmp session)) streams s.0 all s.1)
 
 pub due_same : (sessions : BySession Remainder) (streams : Streams) (it : Happening) → Matches sessions streams → due sessions it ≡ due streams it
 due_same sessions streams it (same, all) = ap (λ (m : BySession Remainder). due m it) same ∙ due_each rest_of streams it
 
-pub bytes_changed : (streams : Streams) (session : ℕ) (piece : List ℕ) (stream : Stream) → at streams session ≡ Some stream
+pub bytes_changed : (streams : Streams) (session : ℕ) (piece : List ℕ) (stream : Stream) → at_session streams session ≡ Some stream
     → changed streams (Bytes session piece) ≡ set_value (is_at (nat_cmp session)) streams (with_piece stream piece)
 bytes_changed streams session piece stream here = rw here refl
 
-pub bytes_completed : (streams : Streams) (session : ℕ) (piece : List ℕ) (stream : Stream) → at streams session ≡ Some stream
+pub bytes_completed : (streams : Streams) (session : ℕ) (piece : List ℕ) (stream : Stream) → at_session streams session ≡ Some stream
     → completed_by streams (Bytes session piece) ≡ completed stream piece
 bytes_completed streams session piece stream here = rw here refl
 
 module _ {S : Type 0} (answers : S → Frame → List ℕ → S → Type 0) where
-  pub exchanges_tell : (s : S) (h : Remainder) (xs : List Exchange) (t : S) (left : Remainder) → Exchanges answers s h xs t left → Tells h (messages_of xs) left
+  pub exchanges_tell : (s : S) (h : Remainder) (xs : List Exchange) (t : S) (left : Remainder) → Exchanges answers s h xs t left → TellsMessages h (messages_of xs) left
   exchanges_tell s h [] t left (e, f) = f
   exchanges_tell s h (x ∷ xs) t left (middle, between, takes, replies, rest) = (between, takes, exchanges_tell middle between xs t left rest)
 
@@ -104,7 +104,7 @@ module _ {S : Type 0} (answers : S → Frame → List ℕ → S → Type 0) wher
   bytes_does before after streams session piece xs match (held, left, here, set, exchanges, spent) =
       let s = stream_at before.sessions streams session held match here in
       let tells = exchanges_tell before.service (with_more held piece) xs after.service left exchanges in
-      let all = piece_told s.0 piece (messages_of xs) left s.3 (subst (λ (h : Remainder). Tells (with_more h piece) (messages_of xs) left) (sym s.2) tells) spent in
+      let all = piece_told s.0 piece (messages_of xs) left s.3 (subst (λ (h : Remainder). TellsMessages (with_more h piece) (messages_of xs) left) (sym s.2) tells) spent in
       let is = bytes_changed streams session piece s.0 s.1 in
       let p : ℕ → Bool = is_at (nat_cmp session) in (
         bytes_completed streams session piece s.0 s.1 ∙ all.0,
@@ -121,8 +121,8 @@ module _ {S : Type 0} (answers : S → Frame → List ℕ → S → Type 0) wher
   does_changes before after streams (Open session) xs match (none, same) = (
     ap messages_of (sym none),
     (
-      ap (λ (h : HubState S). h.sessions) same ∙ ap (λ (m : BySession Remainder). insert_entry nat_cmp m session (Rest [])) match.0 ∙ insert_each rest_of streams session (fresh (Rest [])),
-      all_inserted IsTold streams session (fresh (Rest [])) match.1 (fresh_told (Rest [])),
+      ap (λ (h : HubState S). h.sessions) same ∙ ap (λ (m : BySession Remainder). insert_entry nat_cmp m session (Rest [])) match.0 ∙ insert_each rest_of streams session (unanswered (Rest [])),
+      all_inserted IsTold streams session (unanswered (Rest [])) match.1 (fresh_told (Rest [])),
     ),
     subst (λ (xs : List Exchange). AllAnswered answers before.service (lines session xs) after.service) (sym none) (ap (λ (h : HubState S). h.service) same),
   )
@@ -143,5 +143,5 @@ module _ {S : Type 0} (answers : S → Frame → List ℕ → S → Type 0) wher
   bytes_begins before after streams session piece all xs match (held, left, here, set, exchanges, spent) =
       let s = stream_at before.sessions streams session held match here in
       let tells = exchanges_tell before.service (with_more held piece) xs after.service left exchanges in
-      let t = piece_begun s.0 piece (messages_of xs) left s.3 (subst (λ (h : Remainder). Tells (with_more h piece) (messages_of xs) left) (sym s.2) tells) in
+      let t = piece_begun s.0 piece (messages_of xs) left s.3 (subst (λ (h : Remainder). TellsMessages (with_more h piece) (messages_of xs) left) (sym s.2) tells) in
       (t.0, bytes_completed streams session piece s.0 s.1 ∙ t.1, exchanges_answer before.service (with_more held piece) xs after.service left session exchanges, rw s.1 refl)

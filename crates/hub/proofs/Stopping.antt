@@ -6,8 +6,8 @@ use Rattle.wire.specs.Frames.{Frame}
 use Rattle.wire.specs.Streams.{Message}
 use Rattle.hub.specs.Events.{Bytes, Happening, HubState, number}
 use Rattle.hub.specs.Exchanges.{Exchange}
-use Rattle.hub.specs.Happenings.{Answered, IsPart, Passes}
-use Rattle.hub.specs.Runs.{Line, Streams, after_event, after_events, asked, brought, commands, each, fresh, Begins, Runs, Stops}
+use Rattle.hub.specs.Happenings.{Answered, DoesUnlessRefused, IsPart}
+use Rattle.hub.specs.Runs.{Line, Streams, after_event, after_events, asked_by, brought, commands, each, unanswered, BeginsRun, Runs, Stops}
 use Rattle.hub.proofs.Running.{answered_append, asked_lines, commands_append, of_session, run_more, RunsSo}
 use Rattle.hub.proofs.Steps.{bytes_begins, lines, messages_of}
 
@@ -22,7 +22,7 @@ if_err (Err e) P Q p next = next p
 module _ {S : Type 0} (answers : S → Frame → List ℕ → S → Type 0) where
   pub stopped : {X : Type 0} (f : X → Happening) (before between after : HubState S) (events : List X) (k : ℕ) (d : X) → k < length events
       → ((ls : List Line) × RunsSo answers before (map f (take k events)) ls between)
-      → ((xs : List Exchange) × Passes answers between (f (get_or events k d)) xs after) ⊎ IsPart answers between (f (get_or events k d) ∷ []) after
+      → ((xs : List Exchange) × DoesUnlessRefused answers between (f (get_or events k d)) xs after) ⊎ IsPart answers between (f (get_or events k d) ∷ []) after
       → Stops answers before (map f events) after
   stopped {X} f before between after events k d low (ls, run) came = by came
     where
@@ -42,16 +42,16 @@ module _ {S : Type 0} (answers : S → Frame → List ℕ → S → Type 0) wher
       part_after [] = refl
       part_after (other ∷ more) = inl refl
 
-      by : ((xs : List Exchange) × Passes answers between it xs after) ⊎ IsPart answers between (it ∷ []) after → Stops answers before (map f events) after
+      by : ((xs : List Exchange) × DoesUnlessRefused answers between it xs after) ⊎ IsPart answers between (it ∷ []) after → Stops answers before (map f events) after
       by (inl (xs, passes)) =
           let more = run_more answers before one ls between it xs after run passes in
           (one ++ it ∷ [], rest, ls ++ lines (number it) xs, after, split ∙ sym (append_assoc one (it ∷ []) rest), more.0, part_after rest)
       by (inr part) = (one, it ∷ rest, ls, between, split, run.0, part)
 
   -- the messages of a run are the first of a longer one
-  pub runs_begin : (before between : HubState S) (done rest events : List Happening) (ls : List Line) → events ≡ done ++ rest → Runs answers before done ls between → Begins answers before events between.service
+  pub runs_begin : (before between : HubState S) (done rest events : List Happening) (ls : List Line) → events ≡ done ++ rest → Runs answers before done ls between → BeginsRun answers before events between.service
   runs_begin before between done rest events ls split run =
-      let start : Streams = each fresh before.sessions in (
+      let start : Streams = each unanswered before.sessions in (
         ls,
         (
           commands (after_events start done) rest,
@@ -62,15 +62,15 @@ module _ {S : Type 0} (answers : S → Frame → List ℕ → S → Type 0) wher
 
   -- and so are those of a run and a first part of a piece
   piece_begins : (before between after : HubState S) (done rest events : List Happening) (ls : List Line) (session : ℕ) (piece : List ℕ) (xs : List Exchange) → events ≡ done ++ Bytes session piece ∷ rest
-      → RunsSo answers before done ls between → Answered answers between session piece false xs after → Begins answers before events after.service
+      → RunsSo answers before done ls between → Answered answers between session piece false xs after → BeginsRun answers before events after.service
   piece_begins before between after done rest events ls session piece xs split (run, all) answered =
-      let start : Streams = each fresh before.sessions in
+      let start : Streams = each unanswered before.sessions in
       let streams : Streams = after_events start done in
       let it : Happening = Bytes session piece in
       let t = bytes_begins answers between after streams session piece false xs (run.left, all) answered in
       let later : List (ℕ × Message) = of_session it t.0 ++ commands (after_event streams it) rest in
       let bring : brought streams it ≡ messages_of xs ++ t.0 = rw t.3 t.1 in
-      let first : commands streams (it ∷ rest) ≡ map asked (lines session xs) ++ later =
+      let first : commands streams (it ∷ rest) ≡ map asked_by (lines session xs) ++ later =
       ap (λ (m : List Message). of_session it m ++ commands (after_event streams it) rest) bring
       ∙ ap (λ (m : List (ℕ × Message)). m ++ commands (after_event streams it) rest) (map-append (λ message. (session, message)) (messages_of xs) t.0)
       ∙ append_assoc (of_session it (messages_of xs)) (of_session it t.0) (commands (after_event streams it) rest)
@@ -81,17 +81,17 @@ module _ {S : Type 0} (answers : S → Frame → List ℕ → S → Type 0) wher
           later,
           ap (commands start) split ∙ commands_append start done (it ∷ rest)
               ∙ ap (λ (m : List (ℕ × Message)). m ++ commands streams (it ∷ rest)) (sym run.messages)
-              ∙ ap (λ (m : List (ℕ × Message)). map asked ls ++ m) first
-              ∙ sym (append_assoc (map asked ls) (map asked (lines session xs)) later)
-              ∙ ap (λ (m : List (ℕ × Message)). m ++ later) (sym (map-append asked ls (lines session xs))),
+              ∙ ap (λ (m : List (ℕ × Message)). map asked_by ls ++ m) first
+              ∙ sym (append_assoc (map asked_by ls) (map asked_by (lines session xs)) later)
+              ∙ ap (λ (m : List (ℕ × Message)). m ++ later) (sym (map-append asked_by ls (lines session xs))),
           answered_append answers before.service ls between.service (lines session xs) after.service run.answered t.2,
         ),
       )
 
   pub begun : {X : Type 0} (f : X → Happening) (before between after : HubState S) (events : List X) (k : ℕ) (d : X) → k < length events
       → ((ls : List Line) × RunsSo answers before (map f (take k events)) ls between)
-      → ((xs : List Exchange) × Passes answers between (f (get_or events k d)) xs after) ⊎ IsPart answers between (f (get_or events k d) ∷ []) after
-      → Begins answers before (map f events) after.service
+      → ((xs : List Exchange) × DoesUnlessRefused answers between (f (get_or events k d)) xs after) ⊎ IsPart answers between (f (get_or events k d) ∷ []) after
+      → BeginsRun answers before (map f events) after.service
   begun {X} f before between after events k d low (ls, run) came = by came
     where
       one : List Happening
@@ -106,11 +106,11 @@ module _ {S : Type 0} (answers : S → Frame → List ℕ → S → Type 0) wher
       split : map f events ≡ one ++ it ∷ rest
       split = ap (map f) (sym (take-append-drop k events) ∙ ap (λ t. take k events ++ t) (drop-cons events k d low)) ∙ map-append f (take k events) (get_or events k d ∷ drop (suc k) events)
 
-      by : ((xs : List Exchange) × Passes answers between it xs after) ⊎ IsPart answers between (it ∷ []) after → Begins answers before (map f events) after.service
+      by : ((xs : List Exchange) × DoesUnlessRefused answers between it xs after) ⊎ IsPart answers between (it ∷ []) after → BeginsRun answers before (map f events) after.service
       by (inl (xs, passes)) =
           let more = run_more answers before one ls between it xs after run passes in
           runs_begin before after (one ++ it ∷ []) rest (map f events) (ls ++ lines (number it) xs) (split ∙ sym (append_assoc one (it ∷ []) rest)) more.0
-      by (inr (inl same)) = subst (λ (h : HubState S). Begins answers before (map f events) h.service) (sym same) (runs_begin before between one (it ∷ rest) (map f events) ls split run.0)
+      by (inr (inl same)) = subst (λ (h : HubState S). BeginsRun answers before (map f events) h.service) (sym same) (runs_begin before between one (it ∷ rest) (map f events) ls split run.0)
       by (inr (inr (session, piece, xs, is, answered))) =
           piece_begins before between after one rest (map f events) ls session piece xs (split ∙ ap (λ (e : Happening). one ++ e ∷ rest) is) run answered
 

@@ -4,35 +4,35 @@ use Rattle.std.proofs.lemmas.List.{append-nil}
 use Rattle.encoding.specs.declared.fault.Fault.TheVariants.{Short, Trailing, OutOfRange}
 use Rattle.encoding.specs.Reading.{Reading}
 use Rattle.wire.specs.Frames.{Frame, read_frame}
-use Rattle.wire.specs.Streams.{Remainder, Message, Rest, Failed, Whole, BadFrame, after_first, first_by, first_message, held_size, messages, messages_within, with_more, IsSpent, Takes, Tells}
+use Rattle.wire.specs.Streams.{Remainder, Message, Rest, Failed, Whole, BadFrame, after_first, first_by, first_message, held_size, messages, messages_within, with_more, IsSpent, TakesMessage, TellsMessages}
 use Rattle.hub.proofs.Fronts.{bad_more, frame_less, frame_more}
 
 -- what is taken is taken also where more follows
-pub takes_more : (held : Remainder) (message : Message) (after : Remainder) (more : List ℕ) → Takes held message after → Takes (with_more held more) message (with_more after more)
+pub takes_more : (held : Remainder) (message : Message) (after : Remainder) (more : List ℕ) → TakesMessage held message after → TakesMessage (with_more held more) message (with_more after more)
 takes_more (Rest bytes) (Whole frame) after more (left, e, same) = (left ++ more, frame_more bytes more frame left e, ap (λ (x : Remainder). with_more x more) same)
 takes_more (Rest bytes) BadFrame after more (e, same) = (bad_more bytes more e, ap (λ (x : Remainder). with_more x more) same)
 takes_more Failed message after more taken = absurd taken
 
-pub tells_more : (held : Remainder) (told : List Message) (after : Remainder) (more : List ℕ) → Tells held told after → Tells (with_more held more) told (with_more after more)
+pub tells_more : (held : Remainder) (told : List Message) (after : Remainder) (more : List ℕ) → TellsMessages held told after → TellsMessages (with_more held more) told (with_more after more)
 tells_more held [] after more e = ap (λ (x : Remainder). with_more x more) e
 tells_more held (message ∷ rest) after more (between, one, later) =
     (with_more between more, takes_more held message between more one, tells_more between rest after more later)
 
-pub tells_append : (held : Remainder) (told : List Message) (between : Remainder) (more : List Message) (after : Remainder) → Tells held told between → Tells between more after → Tells held (told ++ more) after
-tells_append held [] between more after e later = subst (λ (x : Remainder). Tells x more after) e later
+pub tells_append : (held : Remainder) (told : List Message) (between : Remainder) (more : List Message) (after : Remainder) → TellsMessages held told between → TellsMessages between more after → TellsMessages held (told ++ more) after
+tells_append held [] between more after e later = subst (λ (x : Remainder). TellsMessages x more after) e later
 tells_append held (message ∷ rest) between more after (next, one, two) later = (next, one, tells_append next rest between more after two later)
 
 -- a message takes of what is held
-takes_less : (held : Remainder) (message : Message) (after : Remainder) → Takes held message after → held_size after < held_size held
+takes_less : (held : Remainder) (message : Message) (after : Remainder) → TakesMessage held message after → held_size after < held_size held
 takes_less (Rest bytes) (Whole frame) after (left, e, same) = omega (arith, ap held_size same, frame_less bytes frame left e)
 takes_less (Rest bytes) BadFrame after (e, same) = omega (arith, ap held_size same)
 takes_less Failed message after taken = absurd taken
 
-pub tells_few : (held : Remainder) (told : List Message) (after : Remainder) → Tells held told after → length told + held_size after ≤ held_size held
+pub tells_few : (held : Remainder) (told : List Message) (after : Remainder) → TellsMessages held told after → length told + held_size after ≤ held_size held
 tells_few held [] after e = omega (arith, ap held_size e)
 tells_few held (message ∷ more) after (between, one, rest) = omega (arith, takes_less held message between one, tells_few between more after rest)
 
-takes_first : (held : Remainder) (message : Message) (after : Remainder) → Takes held message after → first_message held ≡ Some (message, after)
+takes_first : (held : Remainder) (message : Message) (after : Remainder) → TakesMessage held message after → first_message held ≡ Some (message, after)
 takes_first (Rest bytes) (Whole frame) after (left, e, same) = ap first_by e ∙ ap (λ (x : Remainder). Some (Whole frame, x)) (sym same)
 takes_first (Rest bytes) BadFrame after (e, same) = ap first_by e ∙ ap (λ (x : Remainder). Some (BadFrame, x)) (sym same)
 takes_first Failed message after taken = absurd taken
@@ -42,7 +42,7 @@ spent_first (Rest bytes) e = ap first_by e
 spent_first Failed spent = refl
 
 -- what is computed begins with what was told
-pub told_within : (held : Remainder) (told : List Message) (after : Remainder) (count : ℕ) → Tells held told after
+pub told_within : (held : Remainder) (told : List Message) (after : Remainder) (count : ℕ) → TellsMessages held told after
     → messages_within (length told + count) held ≡ (told ++ (messages_within count after).0, (messages_within count after).1)
 told_within held [] after count e = ap (λ (n : ℕ). messages_within n held) (omega arith) ∙ ap (messages_within count) (sym e)
 told_within held (message ∷ more) after count (between, one, rest) =
@@ -56,7 +56,7 @@ spent_within held zero spent = refl
 spent_within held (suc count) spent = ap (λ (first : Option (Message × Remainder)). after_first held first (messages_within count)) (spent_first held spent)
 
 -- all that is held begins with what was told of it
-pub told_of : (held : Remainder) (told : List Message) (after : Remainder) → Tells held told after
+pub told_of : (held : Remainder) (told : List Message) (after : Remainder) → TellsMessages held told after
     → (count : ℕ) × (messages held ≡ (told ++ (messages_within count after).0, (messages_within count after).1))
 told_of held told after tells =
     let few = tells_few held told after tells in
@@ -64,24 +64,24 @@ told_of held told after tells =
     (held_size held - length told, ap (λ (n : ℕ). messages_within n held) (sym size) ∙ told_within held told after (held_size held - length told) tells)
 
 -- what is told to the end is all that is held
-pub told_all : (held : Remainder) (told : List Message) (after : Remainder) → Tells held told after → IsSpent after → messages held ≡ (told, after)
+pub told_all : (held : Remainder) (told : List Message) (after : Remainder) → TellsMessages held told after → IsSpent after → messages held ≡ (told, after)
 told_all held told after tells spent =
     let t = told_of held told after tells in
     t.1 ∙ ap (λ (later : List Message × Remainder). (told ++ later.0, later.1)) (spent_within after t.0 spent) ∙ ap (λ (all : List Message). (all, after)) (append-nil told)
 
 -- what is left behind what was told
-pub left_within : (held : Remainder) (told : List Message) (after : Remainder) → Tells held told after → (messages_within (length told) held).1 ≡ after
+pub left_within : (held : Remainder) (told : List Message) (after : Remainder) → TellsMessages held told after → (messages_within (length told) held).1 ≡ after
 left_within held told after tells =
     ap (λ (n : ℕ). (messages_within n held).1) (omega arith) ∙ ap (λ (all : List Message × Remainder). all.1) (told_within held told after 0 tells)
 
 -- what is computed is told
-within_tells : (count : ℕ) (held : Remainder) → Tells held (messages_within count held).0 (messages_within count held).1
+within_tells : (count : ℕ) (held : Remainder) → TellsMessages held (messages_within count held).0 (messages_within count held).1
 within_tells zero held = refl
 within_tells (suc count) Failed = refl
 within_tells (suc count) (Rest bytes) = by_read (read_frame bytes) refl (λ left. within_tells count left)
   where
-    by_read : (r : Reading Frame) → read_frame bytes ≡ r → ((left : Remainder) → Tells left (messages_within count left).0 (messages_within count left).1)
-        → Tells (Rest bytes) (after_first (Rest bytes) (first_by r) (messages_within count)).0 (after_first (Rest bytes) (first_by r) (messages_within count)).1
+    by_read : (r : Reading Frame) → read_frame bytes ≡ r → ((left : Remainder) → TellsMessages left (messages_within count left).0 (messages_within count left).1)
+        → TellsMessages (Rest bytes) (after_first (Rest bytes) (first_by r) (messages_within count)).0 (after_first (Rest bytes) (first_by r) (messages_within count)).1
     by_read (Ok read) e next = (Rest read.1, (read.1, e, refl), next (Rest read.1))
     by_read (Err OutOfRange) e next = (Failed, (e, refl), next Failed)
     by_read (Err Short) e next = refl

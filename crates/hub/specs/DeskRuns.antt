@@ -6,7 +6,7 @@ use Rattle.book.specs.declared.record.Record.{Record}
 use Rattle.book.specs.declared.reply.Reply.{Reply}
 use Rattle.commands.specs.Operations.{Operation}
 use Rattle.book.specs.Fresh.{KeepsLaws}
-use Rattle.book.specs.Honest.{IsHonest}
+use Rattle.book.specs.Honest.{IsHonestRun}
 use Rattle.book.specs.Shows.{index_of}
 use Rattle.book.specs.Sound.{IsSound}
 use Rattle.book.specs.Turns.{Run}
@@ -45,19 +45,19 @@ ShowReplies token (line ∷ more) commands replies =
     × (line.reply ≡ frame_bytes (reply_frame told)) × (commands ≡ asked ∷ later) × (replies ≡ told ∷ others) × ShowReplies token more later others)
 
 -- each frame is read as one response: that of the reply, or the refusal
-abbrev pub AreRead : (token : List ℕ) (lines : List Line) (commands : List Operation) (replies : List Reply) → ShowReplies token lines commands replies → Type 0
-AreRead token [] commands replies shown = ⊤
-AreRead token (line ∷ more) commands replies (inl (code, away, says, shown)) =
-    IsReadAs (response_frame (response.Refused code)) (response.Refused code) × AreRead token more commands replies shown
-AreRead token (line ∷ more) commands replies (inr (asked, told, later, others, reaches, says, is, are, shown)) =
-    ((responded : response.ResponseContent) × IsResponseOf told responded × IsReadAs (reply_frame told) responded) × AreRead token more later others shown
+abbrev pub AreResponses : (token : List ℕ) (lines : List Line) (commands : List Operation) (replies : List Reply) → ShowReplies token lines commands replies → Type 0
+AreResponses token [] commands replies shown = ⊤
+AreResponses token (line ∷ more) commands replies (inl (code, away, says, shown)) =
+    IsReadAs (response_frame (response.Refused code)) (response.Refused code) × AreResponses token more commands replies shown
+AreResponses token (line ∷ more) commands replies (inr (asked, told, later, others, reaches, says, is, are, shown)) =
+    ((responded : response.ResponseContent) × IsResponseOf told responded × IsReadAs (reply_frame told) responded) × AreResponses token more later others shown
 
 -- neither reply refuses because memory ran out; and both refuse because a record was not kept, or neither does
 abbrev pub RefuseAlike : Line → Line → Type 0
 RefuseAlike line other = (line.reply ≢ refused_frame 14) × (other.reply ≢ refused_frame 14) × ((line.reply ≡ refused_frame 19) ↔ (other.reply ≡ refused_frame 19))
 
 -- what the types keep of each desk: its book is sound, and the functions of its provider keep their laws
-pub record IsWell {R K : Type 0} (digest_of : List ℕ → List ℕ) (value_of signature_of : List ℕ → List ℕ → List ℕ) (stream : R → Stream) (accepted verified : List ℕ → List ℕ → List ℕ → Type 0) (desk : DeskState R K) : Type 0 where
+pub record IsSoundDesk {R K : Type 0} (digest_of : List ℕ → List ℕ) (value_of signature_of : List ℕ → List ℕ → List ℕ) (stream : R → Stream) (accepted verified : List ℕ → List ℕ → List ℕ → Type 0) (desk : DeskState R K) : Type 0 where
   pub sound : IsSound (index_of (provider digest_of value_of signature_of desk.directory)) (book stream desk.directory)
   pub laws : KeepsLaws accepted verified desk.directory.signing_key (provider digest_of value_of signature_of desk.directory)
 
@@ -70,7 +70,7 @@ pub record ShowHonestRun {R K : Type 0} (digest_of : List ℕ → List ℕ) (val
   pub replies : List Reply
   pub shown : ShowReplies before.token lines commands replies
   pub run : Run (provider digest_of value_of signature_of before.directory) kept failed (book stream before.directory) before.keeper commands replies (book stream after.directory) after.keeper
-  pub read : AreRead before.token lines commands replies shown
-  pub honest : IsHonest (provider digest_of value_of signature_of before.directory) accepted verified before.directory.signing_key (book stream before.directory) (book stream after.directory) commands replies
+  pub read : AreResponses before.token lines commands replies shown
+  pub honest : IsHonestRun (provider digest_of value_of signature_of before.directory) accepted verified before.directory.signing_key (book stream before.directory) (book stream after.directory) commands replies
   pub keys : HasKeysOf before.directory after.directory
   pub token : after.token ≡ before.token

@@ -2,13 +2,13 @@
 use Rattle.std.specs.Prelude.{◌≡◌, ℕ, List, Option, Some, None, Result, Ok, Err, if◌then◌else◌}
 use Rattle.std.specs.Str.{bytes_eq}
 use Rattle.rand_core.specs.Stream.{Stream}
-use Rattle.proofs.specs.Replies.{Reply as Spelled, Spells}
+use Rattle.proofs.specs.Replies.{Reply as Spelled, SpellsReply}
 use Rattle.book.specs.declared.record.Record.{Record}
 use Rattle.book.specs.declared.reply.Reply.{Reply}
 use Rattle.book.specs.declared.reply.Reply.TheVariants as reply
 use Rattle.commands.specs.Operations.{Operation, Query, Edit, Put}
 use Rattle.commands.specs.Operations as ask
-use Rattle.book.specs.Refusals.{refusal_number}
+use Rattle.book.specs.Refusals.{book_refusal_number}
 use Rattle.book.specs.Turns.{Turn}
 use Rattle.epochs.specs.DirectoryStates.{DirectoryState, book, provider, HasKeysOf}
 use Rattle.wire.specs.declared.refusals.ReadRefusal.{ReadRefusal}
@@ -44,15 +44,15 @@ reply_frame (reply.Promised signed) = response_frame (response.Promise signed)
 reply_frame (reply.Found text) = proof_frame text
 reply_frame (reply.Told told) = response_frame (response.Roots told.items)
 reply_frame (reply.Last root) = response_frame (response.Root root)
-reply_frame (reply.Refused why) = response_frame (response.Refused (refusal_number why))
+reply_frame (reply.Refused why) = response_frame (response.Refused (book_refusal_number why))
 
 -- the response that a reply is; the text of a look-up's reply spells it
 abbrev pub IsResponseOf : Reply → response.ResponseContent → Type 0
 IsResponseOf (reply.Promised signed) responded = responded ≡ response.Promise signed
-IsResponseOf (reply.Found text) responded = (found : Spelled) × Spells text found × (responded ≡ response.Proof found)
+IsResponseOf (reply.Found text) responded = (found : Spelled) × SpellsReply text found × (responded ≡ response.Proof found)
 IsResponseOf (reply.Told told) responded = responded ≡ response.Roots told.items
 IsResponseOf (reply.Last root) responded = responded ≡ response.Root root
-IsResponseOf (reply.Refused why) responded = responded ≡ response.Refused (refusal_number why)
+IsResponseOf (reply.Refused why) responded = responded ≡ response.Refused (book_refusal_number why)
 
 module _ {R K : Type 0} (digest_of : List ℕ → List ℕ) (value_of signature_of : List ℕ → List ℕ → List ℕ) (stream : R → Stream) (kept failed : K → Record → K → Type 0) where
   -- the directory takes the turn of a command, and the frame of its reply is told; whoever closes an epoch
@@ -64,12 +64,12 @@ module _ {R K : Type 0} (digest_of : List ℕ → List ℕ) (value_of signature_
       × (text ≡ frame_bytes (reply_frame told)) × HasKeysOf before.directory after.directory × (after.token ≡ before.token)
 
   -- a request is served
-  abbrev pub Serves : DeskState R K → request.RequestContent → List ℕ → DeskState R K → Type 0
-  Serves before requested text after = Commanded before (command before.token requested) text after
+  abbrev pub ServesRequest : DeskState R K → request.RequestContent → List ℕ → DeskState R K → Type 0
+  ServesRequest before requested text after = Commanded before (command before.token requested) text after
 
   -- what was read is served, or refused
   abbrev pub Told : DeskState R K → Result request.RequestContent ReadRefusal → List ℕ → DeskState R K → Type 0
-  Told before (Ok requested) text after = Serves before requested text after
+  Told before (Ok requested) text after = ServesRequest before requested text after
   Told before (Err refusal) text after = (text ≡ refused_frame (read_refusal_number refusal)) × (after ≡ before)
 
   abbrev pub DeskAnswers : DeskState R K → Frame → List ℕ → DeskState R K → Type 0

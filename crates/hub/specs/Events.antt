@@ -16,10 +16,10 @@ pub data Happening : Type 0 where
   Bytes : ℕ → List ℕ → Happening
   End : ℕ → Happening
 
-abbrev pub seen : Event → Happening
-seen (event.Open session) = Open session
-seen (event.Bytes session piece) = Bytes session piece.now
-seen (event.End session) = End session
+abbrev pub event_seen : Event → Happening
+event_seen (event.Open session) = Open session
+event_seen (event.Bytes session piece) = Bytes session piece.now
+event_seen (event.End session) = End session
 
 -- the number of its session
 abbrev pub number : Happening → ℕ
@@ -31,8 +31,8 @@ number (End session) = session
 abbrev pub BySession : Type 0 → Type 0
 BySession X = List (ℕ × X)
 
-abbrev pub at : {X : Type 0} → BySession X → ℕ → Option X
-at sessions session = lookup (is_at (nat_cmp session)) sessions
+abbrev pub at_session : {X : Type 0} → BySession X → ℕ → Option X
+at_session sessions session = lookup (is_at (nat_cmp session)) sessions
 
 -- how many of so many bytes are the next part of a session's stream: all, where it is not open
 abbrev pub next_part : Option Remainder → ℕ → ℕ
@@ -41,9 +41,9 @@ next_part (Some held) count = part_of held count
 
 -- the refusal that applies, memory aside: at most 1,024 sessions are open
 abbrev pub due : {X : Type 0} → BySession X → Happening → Option HubRefusal
-due sessions (Open session) = if nat_le MAX_SESSIONS (length sessions) then Some TooManySessions else (if is_some (at sessions session) then Some SessionOpen else None)
-due sessions (Bytes session piece) = if is_some (at sessions session) then None else Some NoSession
-due sessions (End session) = if is_some (at sessions session) then None else Some NoSession
+due sessions (Open session) = if nat_le MAX_SESSIONS (length sessions) then Some TooManySessions else (if is_some (at_session sessions session) then Some SessionOpen else None)
+due sessions (Bytes session piece) = if is_some (at_session sessions session) then None else Some NoSession
+due sessions (End session) = if is_some (at_session sessions session) then None else Some NoSession
 
 -- what contracts see of a hub: the service, and what the stream of each open session holds
 pub record HubState (S : Type 0) : Type 0 where

@@ -3,7 +3,7 @@ use Rattle.std.specs.Prelude.{◌≡◌, ◌≢◌, ◌+◌, ◌<◌, ℕ, List,
 use Rattle.std.specs.declared.alloc.AllocError.{AllocError}
 use Rattle.wire.specs.Frames.{Frame, frame_bytes}
 use Rattle.wire.specs.Responses.{response_frame, Refused}
-use Rattle.wire.specs.Streams.{Remainder, Message, Failed, Whole, BadFrame, with_more, IsSpent, Takes}
+use Rattle.wire.specs.Streams.{Remainder, Message, Failed, Whole, BadFrame, with_more, IsSpent, TakesMessage}
 use Rattle.hub.specs.declared.hub_refusal.HubRefusal.{HubRefusal}
 use Rattle.hub.specs.declared.hub_refusal.HubRefusal.TheVariants.{TooManySessions, SessionOpen, NoSession, Memory}
 use Rattle.wire.specs.declared.answer.TheConstants.{MAX_ANSWER_LEN}
@@ -40,7 +40,7 @@ module _ {S : Type 0} (answers : S → Frame → List ℕ → S → Type 0) wher
   abbrev pub Exchanges : S → Remainder → List Exchange → S → Remainder → Type 0
   Exchanges service held [] service_after after = (service_after ≡ service) × (after ≡ held)
   Exchanges service held (exchange ∷ more) service_after after = (middle : S) × (between : Remainder)
-      × Takes held exchange.message between × Replies service exchange.message exchange.reply middle × Exchanges middle between more service_after after
+      × TakesMessage held exchange.message between × Replies service exchange.message exchange.reply middle × Exchanges middle between more service_after after
 
   -- some messages are answered: all that are held, unless memory runs out while a whole one waits
   abbrev pub Drained : S → Remainder → List ℕ → Result (Unit {0}) AllocError → S → Remainder → List ℕ → Type 0
@@ -57,10 +57,10 @@ module _ {S : Type 0} (answers : S → Frame → List ℕ → S → Type 0) wher
       (exchanges : List Exchange) × Exchanges service (with_more held piece) exchanges service_after after × (¬ IsSpent after) × (output ≡ before ++ replies exchanges)
 
   -- a piece is taken and all its messages are answered, unless memory runs out
-  abbrev pub Hears : S → Remainder → List ℕ → List ℕ → Result (Unit {0}) HubRefusal → S → Remainder → List ℕ → Type 0
-  Hears service held piece before (Ok done) service_after after output =
+  abbrev pub HearsPiece : S → Remainder → List ℕ → List ℕ → Result (Unit {0}) HubRefusal → S → Remainder → List ℕ → Type 0
+  HearsPiece service held piece before (Ok done) service_after after output =
       (exchanges : List Exchange) × Exchanges service (with_more held piece) exchanges service_after after × IsSpent after × (output ≡ before ++ replies exchanges)
-  Hears service held piece before (Err (Memory taken)) service_after after output = Wants service held piece before taken service_after after output
-  Hears service held piece before (Err TooManySessions) service_after after output = ⊥
-  Hears service held piece before (Err SessionOpen) service_after after output = ⊥
-  Hears service held piece before (Err NoSession) service_after after output = ⊥
+  HearsPiece service held piece before (Err (Memory taken)) service_after after output = Wants service held piece before taken service_after after output
+  HearsPiece service held piece before (Err TooManySessions) service_after after output = ⊥
+  HearsPiece service held piece before (Err SessionOpen) service_after after output = ⊥
+  HearsPiece service held piece before (Err NoSession) service_after after output = ⊥

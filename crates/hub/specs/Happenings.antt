@@ -7,14 +7,14 @@ use Rattle.wire.specs.Frames.{Frame}
 use Rattle.wire.specs.Streams.{Remainder, Rest, Failed, with_more, IsSpent}
 use Rattle.hub.specs.declared.hub_refusal.HubRefusal.{HubRefusal}
 use Rattle.hub.specs.declared.hub_refusal.HubRefusal.TheVariants.{TooManySessions, SessionOpen, NoSession, Memory}
-use Rattle.hub.specs.Events.{BySession, Happening, Open, Bytes, End, HubState, at, due}
-use Rattle.hub.specs.Exchanges.{Exchange, Exchanges, Hears, replies}
+use Rattle.hub.specs.Events.{BySession, Happening, Open, Bytes, End, HubState, at_session, due}
+use Rattle.hub.specs.Exchanges.{Exchange, Exchanges, HearsPiece, replies}
 
 -- the event takes memory: the end of a session takes none, nor a piece that is empty or of a stream that
 -- failed
 abbrev pub TakesMemory : BySession Remainder → Happening → Type 0
 TakesMemory sessions (Open session) = ⊤
-TakesMemory sessions (Bytes session piece) = (piece ≢ []) × ¬ (at sessions session ≡ Some Failed)
+TakesMemory sessions (Bytes session piece) = (piece ≢ []) × ¬ (at_session sessions session ≡ Some Failed)
 TakesMemory sessions (End session) = ⊥
 
 -- what a piece leaves in its session: no whole message where all are answered, else at least one
@@ -26,7 +26,7 @@ module _ {S : Type 0} (answers : S → Frame → List ℕ → S → Type 0) wher
   -- a session takes a piece, and whole messages are answered: all, or a first part; others wait
   abbrev pub Answered : HubState S → ℕ → List ℕ → Bool → List Exchange → HubState S → Type 0
   Answered before session piece all exchanges after = (held : Remainder) × (left : Remainder)
-      × (at before.sessions session ≡ Some held) × (after.sessions ≡ set_value (is_at (nat_cmp session)) before.sessions left)
+      × (at_session before.sessions session ≡ Some held) × (after.sessions ≡ set_value (is_at (nat_cmp session)) before.sessions left)
       × Exchanges answers before.service (with_more held piece) exchanges after.service left × Leaves all left
 
   -- what an event does that is not refused, and the messages that it brings
@@ -47,8 +47,8 @@ module _ {S : Type 0} (answers : S → Frame → List ℕ → S → Type 0) wher
   Happens before it output (Err NoSession) after grown = (due before.sessions it ≡ Some NoSession) × (after ≡ before) × (grown ≡ output)
 
   -- an event that is refused does nothing and brings no message; another one does what it does
-  abbrev pub Passes : HubState S → Happening → List Exchange → HubState S → Type 0
-  Passes before it exchanges after =
+  abbrev pub DoesUnlessRefused : HubState S → Happening → List Exchange → HubState S → Type 0
+  DoesUnlessRefused before it exchanges after =
       ((refusal : HubRefusal) × (due before.sessions it ≡ Some refusal) × (exchanges ≡ []) × (after ≡ before))
       ⊎ ((due before.sessions it ≡ None) × Does before it exchanges after)
 
@@ -61,6 +61,6 @@ module _ {S : Type 0} (answers : S → Frame → List ℕ → S → Type 0) wher
   -- what a piece does where its session is looked for: there is none, or it alone hears
   abbrev pub HearsAt : HubState S → ℕ → List ℕ → List ℕ → Result (Unit {0}) HubRefusal → HubState S → List ℕ → Type 0
   HearsAt before session piece output result after grown =
-      ((at before.sessions session ≡ None) × (result ≡ Err NoSession) × (after ≡ before) × (grown ≡ output))
-      ⊎ ((held : Remainder) × (left : Remainder) × (at before.sessions session ≡ Some held) × (after.sessions ≡ set_value (is_at (nat_cmp session)) before.sessions left)
-      × Hears answers before.service held piece output result after.service left grown)
+      ((at_session before.sessions session ≡ None) × (result ≡ Err NoSession) × (after ≡ before) × (grown ≡ output))
+      ⊎ ((held : Remainder) × (left : Remainder) × (at_session before.sessions session ≡ Some held) × (after.sessions ≡ set_value (is_at (nat_cmp session)) before.sessions left)
+      × HearsPiece answers before.service held piece output result after.service left grown)

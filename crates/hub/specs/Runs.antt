@@ -9,7 +9,7 @@ use Rattle.std.specs.Map.{keys_of, remove_entry, set_value}
 use Rattle.wire.specs.Frames.{Frame}
 use Rattle.wire.specs.Streams.{Remainder, Message, Rest, messages, messages_within, with_more}
 use Rattle.hub.specs.declared.hub_refusal.HubRefusal.{HubRefusal}
-use Rattle.hub.specs.Events.{BySession, Happening, Open, Bytes, End, HubState, at, due, number}
+use Rattle.hub.specs.Events.{BySession, Happening, Open, Bytes, End, HubState, at_session, due, number}
 use Rattle.hub.specs.Exchanges.{Exchange, Replies}
 use Rattle.hub.specs.Happenings.{IsPart}
 
@@ -21,8 +21,8 @@ pub record Stream : Type 0 where
   pub answered : ℕ
 
 -- a stream of which this came, and no message is answered
-abbrev pub fresh : Remainder → Stream
-fresh came = record { came = came; answered = 0 }
+abbrev pub unanswered : Remainder → Stream
+unanswered came = record { came = came; answered = 0 }
 
 -- with one piece more, and all its messages answered
 abbrev pub with_piece : Stream → List ℕ → Stream
@@ -48,8 +48,8 @@ each f (entry ∷ more) = (entry.0, f entry.1) ∷ each f more
 
 -- what an event does that is not refused
 abbrev pub changed : Streams → Happening → Streams
-changed streams (Open session) = insert_entry nat_cmp streams session (fresh (Rest []))
-changed streams (Bytes session piece) = grown (at streams session)
+changed streams (Open session) = insert_entry nat_cmp streams session (unanswered (Rest []))
+changed streams (Bytes session piece) = grown (at_session streams session)
   where
     grown : Option Stream → Streams
     grown None = streams
@@ -59,7 +59,7 @@ changed streams (End session) = remove_entry (is_at (nat_cmp session)) streams
 -- the messages that it brings
 abbrev pub completed_by : Streams → Happening → List Message
 completed_by streams (Open session) = []
-completed_by streams (Bytes session piece) = of (at streams session)
+completed_by streams (Bytes session piece) = of (at_session streams session)
   where
     of : Option Stream → List Message
     of None = []
@@ -67,17 +67,17 @@ completed_by streams (Bytes session piece) = of (at streams session)
 completed_by streams (End session) = []
 
 -- a refused event does nothing
-abbrev pub unless_refused : {X : Type 0} → Option HubRefusal → X → X → X
-unless_refused None this other = this
-unless_refused (Some refusal) this other = other
+abbrev pub unless_due : {X : Type 0} → Option HubRefusal → X → X → X
+unless_due None this other = this
+unless_due (Some refusal) this other = other
 
 -- the streams after an event
 abbrev pub after_event : Streams → Happening → Streams
-after_event streams it = unless_refused (due streams it) (changed streams it) streams
+after_event streams it = unless_due (due streams it) (changed streams it) streams
 
 -- the messages that an event brings
 abbrev pub brought : Streams → Happening → List Message
-brought streams it = unless_refused (due streams it) (completed_by streams it) []
+brought streams it = unless_due (due streams it) (completed_by streams it) []
 
 -- the streams after events
 abbrev pub after_events : Streams → List Happening → Streams
@@ -95,8 +95,8 @@ BringTheSame streams events others = commands streams events ≡ commands stream
 
 -- at some time the session was open: before one of the events, or after the last
 abbrev pub was_open : Streams → List Happening → ℕ → Bool
-was_open streams [] session = is_some (at streams session)
-was_open streams (it ∷ more) session = is_some (at streams session) || was_open (after_event streams it) more session
+was_open streams [] session = is_some (at_session streams session)
+was_open streams (it ∷ more) session = is_some (at_session streams session) || was_open (after_event streams it) more session
 
 -- ---- answers
 
@@ -111,18 +111,18 @@ abbrev pub lines : ℕ → List Exchange → List Line
 lines session [] = []
 lines session (exchange ∷ more) = record { session = session; message = exchange.message; reply = exchange.reply } ∷ lines session more
 
-abbrev pub asked : Line → ℕ × Message
-asked line = (line.session, line.message)
+abbrev pub asked_by : Line → ℕ × Message
+asked_by line = (line.session, line.message)
 
 -- what a session is told: the replies to its messages, joined
-abbrev pub told : ℕ → List Line → List ℕ
-told session [] = []
-told session (line ∷ more) = (if line.session == session then line.reply else []) ++ told session more
+abbrev pub told_to : ℕ → List Line → List ℕ
+told_to session [] = []
+told_to session (line ∷ more) = (if line.session == session then line.reply else []) ++ told_to session more
 
 -- an output for each session that is open once, of what it is told, ascending by their numbers
 pub record AreOutputs (streams : Streams) (events : List Happening) (lines : List Line) (outputs : BySession (List ℕ)) : Type 0 where
   pub ascend : IsStrictlySortedBy nat_cmp (keys_of outputs)
-  pub of_each : (session : ℕ) → at outputs session ≡ (if was_open streams events session then Some (told session lines) else None)
+  pub of_each : (session : ℕ) → at_session outputs session ≡ (if was_open streams events session then Some (told_to session lines) else None)
 
 -- the bytes that a session gets: none, if it has no output
 abbrev pub or_nothing : Option (List ℕ) → List ℕ
@@ -130,7 +130,7 @@ or_nothing None = []
 or_nothing (Some output) = output
 
 abbrev pub bytes_of : BySession (List ℕ) → ℕ → List ℕ
-bytes_of outputs session = or_nothing (at outputs session)
+bytes_of outputs session = or_nothing (at_session outputs session)
 
 module _ {S : Type 0} (answers : S → Frame → List ℕ → S → Type 0) where
   -- each message is answered as the service stands after those before it
@@ -140,18 +140,18 @@ module _ {S : Type 0} (answers : S → Frame → List ℕ → S → Type 0) wher
 
   -- these are the messages of a run with their replies, and all are answered
   pub record Runs (before : HubState S) (events : List Happening) (lines : List Line) (after : HubState S) : Type 0 where
-    pub messages : map asked lines ≡ commands (each fresh before.sessions) events
+    pub messages : map asked_by lines ≡ commands (each unanswered before.sessions) events
     pub answered : AllAnswered before.service lines after.service
-    pub left : after.sessions ≡ each rest_of (after_events (each fresh before.sessions) events)
+    pub left : after.sessions ≡ each rest_of (after_events (each unanswered before.sessions) events)
 
   -- these are the first messages of a run with their replies, and they are answered
   abbrev pub AreFirst : HubState S → List Happening → List Line → S → Type 0
   AreFirst before events lines after = (later : List (ℕ × Message))
-      × (commands (each fresh before.sessions) events ≡ map asked lines ++ later) × AllAnswered before.service lines after
+      × (commands (each unanswered before.sessions) events ≡ map asked_by lines ++ later) × AllAnswered before.service lines after
 
   -- the first messages of a run are answered
-  abbrev pub Begins : HubState S → List Happening → S → Type 0
-  Begins before events after = (lines : List Line) × AreFirst before events lines after
+  abbrev pub BeginsRun : HubState S → List Happening → S → Type 0
+  BeginsRun before events after = (lines : List Line) × AreFirst before events lines after
 
   -- a run that stopped where memory ran out: after some of its events, and perhaps in one
   abbrev pub Stops : HubState S → List Happening → HubState S → Type 0

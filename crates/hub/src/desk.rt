@@ -4,13 +4,13 @@ ghost use Rattle.commands.specs.Operations.{question, Lookup, Promise};
 ghost use Rattle.book.specs.declared.reply.Reply.{Reply};
 ghost use Rattle.book.specs.Shows.{IsRootOf};
 ghost use Rattle.epochs.specs.DirectoryStates.{book, provider};
-ghost use Rattle.epochs.specs.Replied.{last, promised, IsTold};
+ghost use Rattle.epochs.specs.Replied.{last, promised, TellsRoots};
 ghost use Rattle.wire.specs.Frames.{frame_bytes};
 ghost use Rattle.wire.specs.Requests.{request_seen};
 ghost use Rattle.wire.specs.Requests as asks;
 ghost use Rattle.wire.specs.Responses.{answer_frame, HasFewRoots};
-ghost use Rattle.hub.specs.DeskRuns.{IsWell};
-ghost use Rattle.hub.specs.Desks.{reply_frame, Serves};
+ghost use Rattle.hub.specs.DeskRuns.{IsSoundDesk};
+ghost use Rattle.hub.specs.Desks.{reply_frame, ServesRequest};
 ghost use Rattle.wire.specs.declared.answer.TheConstants.{MAX_ANSWER_LEN};
 
 use crate::Service;
@@ -58,7 +58,7 @@ impl<H: NodeHash, V: Vuf, S: Signer, R: Rng, K: Keeper> Desk<H, V, S, R, K> {
     /// The latest root of the directory.
     pub(crate) fn head(&self) -> &SignedRoot
         ensures head { IsRootOf (provider H.digest_of V.value_of S.signature_of (self.now).directory) (book R.stream (self.now).directory) (self.now).directory.last result.now }
-        ensures well { IsWell H.digest_of V.value_of S.signature_of R.stream V.accepted S.verified self.now }
+        ensures well { IsSoundDesk H.digest_of V.value_of S.signature_of R.stream V.accepted S.verified self.now }
     {
         self.directory.head()
     }
@@ -66,7 +66,7 @@ impl<H: NodeHash, V: Vuf, S: Signer, R: Rng, K: Keeper> Desk<H, V, S, R, K> {
     /// Answers a request by one call of the directory, and writes the reply.
     fn serve(&mut self, request: &Request<'_>, output: &mut Vec<u8>)
         requires { vec_len output.old + MAX_ANSWER_LEN ≤ vec_capacity output.old }
-        ensures { (reply : List ℕ) × Serves H.digest_of V.value_of S.signature_of R.stream K.kept K.failed self.old (request_seen request.now) reply self.new
+        ensures { (reply : List ℕ) × ServesRequest H.digest_of V.value_of S.signature_of R.stream K.kept K.failed self.old (request_seen request.now) reply self.new
             × (output.new.items ≡ output.old.items ++ reply) }
     {
         match request {
@@ -83,7 +83,7 @@ impl<H: NodeHash, V: Vuf, S: Signer, R: Rng, K: Keeper> Desk<H, V, S, R, K> {
     /// Answers a query.
     fn read(&mut self, query: &Query<'_>, output: &mut Vec<u8>)
         requires { vec_len output.old + MAX_ANSWER_LEN ≤ vec_capacity output.old }
-        ensures { (reply : List ℕ) × Serves H.digest_of V.value_of S.signature_of R.stream K.kept K.failed self.old (asks.Query (question query.now)) reply self.new
+        ensures { (reply : List ℕ) × ServesRequest H.digest_of V.value_of S.signature_of R.stream K.kept K.failed self.old (asks.Query (question query.now)) reply self.new
             × (output.new.items ≡ output.old.items ++ reply) }
     {
         match *query {
@@ -99,7 +99,7 @@ impl<H: NodeHash, V: Vuf, S: Signer, R: Rng, K: Keeper> Desk<H, V, S, R, K> {
     /// Puts a key to a name.
     fn put(&mut self, put: &Put<'_>, output: &mut Vec<u8>)
         requires { vec_len output.old + MAX_ANSWER_LEN ≤ vec_capacity output.old }
-        ensures { (reply : List ℕ) × Serves H.digest_of V.value_of S.signature_of R.stream K.kept K.failed self.old (asks.Put put.now.verb put.now.name.now put.now.key.now) reply self.new
+        ensures { (reply : List ℕ) × ServesRequest H.digest_of V.value_of S.signature_of R.stream K.kept K.failed self.old (asks.Put put.now.verb put.now.name.now put.now.key.now) reply self.new
             × (output.new.items ≡ output.old.items ++ reply) }
     {
         match put.verb {
@@ -112,7 +112,7 @@ impl<H: NodeHash, V: Vuf, S: Signer, R: Rng, K: Keeper> Desk<H, V, S, R, K> {
     /// replies when it is entered.
     fn register(&mut self, name: &[u8], key: &[u8], output: &mut Vec<u8>)
         requires { vec_len output.old + MAX_ANSWER_LEN ≤ vec_capacity output.old }
-        ensures { (reply : List ℕ) × Serves H.digest_of V.value_of S.signature_of R.stream K.kept K.failed self.old (asks.Put Register name.now key.now) reply self.new
+        ensures { (reply : List ℕ) × ServesRequest H.digest_of V.value_of S.signature_of R.stream K.kept K.failed self.old (asks.Put Register name.now key.now) reply self.new
             × (output.new.items ≡ output.old.items ++ reply) }
     {
         write_promise(self.directory.register(&mut self.keeper, name, key), output)
@@ -121,7 +121,7 @@ impl<H: NodeHash, V: Vuf, S: Signer, R: Rng, K: Keeper> Desk<H, V, S, R, K> {
     /// Changes the key of a name.
     fn change(&mut self, name: &[u8], key: &[u8], output: &mut Vec<u8>)
         requires { vec_len output.old + MAX_ANSWER_LEN ≤ vec_capacity output.old }
-        ensures { (reply : List ℕ) × Serves H.digest_of V.value_of S.signature_of R.stream K.kept K.failed self.old (asks.Put Change name.now key.now) reply self.new
+        ensures { (reply : List ℕ) × ServesRequest H.digest_of V.value_of S.signature_of R.stream K.kept K.failed self.old (asks.Put Change name.now key.now) reply self.new
             × (output.new.items ≡ output.old.items ++ reply) }
     {
         write_promise(self.directory.change(&mut self.keeper, name, key), output)
@@ -130,7 +130,7 @@ impl<H: NodeHash, V: Vuf, S: Signer, R: Rng, K: Keeper> Desk<H, V, S, R, K> {
     /// Answers with the promise that waits for a name.
     fn promise(&mut self, name: &[u8], output: &mut Vec<u8>)
         requires { vec_len output.old + MAX_ANSWER_LEN ≤ vec_capacity output.old }
-        ensures { (reply : List ℕ) × Serves H.digest_of V.value_of S.signature_of R.stream K.kept K.failed self.old (asks.Query (Promise name.now)) reply self.new
+        ensures { (reply : List ℕ) × ServesRequest H.digest_of V.value_of S.signature_of R.stream K.kept K.failed self.old (asks.Query (Promise name.now)) reply self.new
             × (output.new.items ≡ output.old.items ++ reply) }
     {
         write_promise(self.directory.promise(name), output)
@@ -139,7 +139,7 @@ impl<H: NodeHash, V: Vuf, S: Signer, R: Rng, K: Keeper> Desk<H, V, S, R, K> {
     /// Looks a name up.
     fn look_up(&mut self, name: &[u8], epoch: u64, output: &mut Vec<u8>)
         requires { vec_len output.old + MAX_ANSWER_LEN ≤ vec_capacity output.old }
-        ensures { (reply : List ℕ) × Serves H.digest_of V.value_of S.signature_of R.stream K.kept K.failed self.old (asks.Query (Lookup name.now epoch)) reply self.new
+        ensures { (reply : List ℕ) × ServesRequest H.digest_of V.value_of S.signature_of R.stream K.kept K.failed self.old (asks.Query (Lookup name.now epoch)) reply self.new
             × (output.new.items ≡ output.old.items ++ reply) }
     {
         let start = output.len();
@@ -157,7 +157,7 @@ impl<H: NodeHash, V: Vuf, S: Signer, R: Rng, K: Keeper> Desk<H, V, S, R, K> {
     /// Ends the epoch for whoever has the token.
     fn turn(&mut self, token: &Hash32, epoch: u64, nonce: Option<Hash32>, output: &mut Vec<u8>)
         requires { vec_len output.old + MAX_ANSWER_LEN ≤ vec_capacity output.old }
-        ensures { (reply : List ℕ) × Serves H.digest_of V.value_of S.signature_of R.stream K.kept K.failed self.old (asks.Turn token.now epoch nonce) reply self.new
+        ensures { (reply : List ℕ) × ServesRequest H.digest_of V.value_of S.signature_of R.stream K.kept K.failed self.old (asks.Turn token.now epoch nonce) reply self.new
             × (output.new.items ≡ output.old.items ++ reply) }
     {
         if *token != self.token {
@@ -203,7 +203,7 @@ fn write_promise(answer: Result<SignedPromise, Refusal>, output: &mut Vec<u8>)
 fn write_roots(answer: Result<&[SignedRoot], Refusal>, output: &mut Vec<u8>)
     requires few { IfOk answer (λ roots. length roots.now ≤ 64) }
     requires room { vec_len output.old + MAX_ANSWER_LEN ≤ vec_capacity output.old }
-    ensures { (told : Reply) → IsTold answer.entry told → output.new.items ≡ output.old.items ++ frame_bytes (reply_frame told) }
+    ensures { (told : Reply) → TellsRoots answer.entry told → output.new.items ≡ output.old.items ++ frame_bytes (reply_frame told) }
 {
     match answer {
         Ok(roots) => write(&Answer::Roots(roots), output),

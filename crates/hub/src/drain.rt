@@ -3,7 +3,7 @@
 //! stays in the feed with all that follows.
 ghost use Rattle.std.specs.Prelude.{◌≡◌, ◌≢◌, ◌+◌, ◌<◌, ◌≤◌, ◌++◌, vec_len, vec_capacity, OnErr};
 ghost use Rattle.wire.specs.Streams.{Failed};
-ghost use Rattle.hub.specs.Exchanges.{refused_frame, Drained, Hears, LacksRoom};
+ghost use Rattle.hub.specs.Exchanges.{refused_frame, Drained, HearsPiece, LacksRoom};
 ghost use Rattle.wire.specs.declared.answer.TheConstants.{MAX_ANSWER_LEN};
 
 use crate::{HubRefusal, Service};
@@ -17,7 +17,7 @@ pub(crate) fn hear<S: Service>(
     piece: &[u8],
     output: &mut Vec<u8>,
 ) -> Result<(), HubRefusal>
-    ensures hears { Hears S.answers service.old feed.old piece.now output.old.items result service.new feed.new output.new.items }
+    ensures hears { HearsPiece S.answers service.old feed.old piece.now output.old.items result service.new feed.new output.new.items }
     ensures room { LacksRoom result (vec_len output.new) (vec_capacity output.new) }
 {
     match feed.feed(piece) {

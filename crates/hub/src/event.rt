@@ -1,5 +1,5 @@
 ghost use Rattle.std.specs.Prelude.{◌≡◌};
-ghost use Rattle.hub.specs.Events.{number, seen};
+ghost use Rattle.hub.specs.Events.{event_seen, number};
 
 /// What happens to a session.
 #[derive(Clone, Copy, Debug)]
@@ -15,7 +15,7 @@ pub enum Event<'a> {
 impl Event<'_> {
     /// The number of the session.
     pub(crate) fn session(&self) -> u32
-        ensures { result ≡ number (seen self.now) }
+        ensures { result ≡ number (event_seen self.now) }
     {
         match self {
             Event::Open(session) | Event::Bytes(session, _) | Event::End(session) => *session,

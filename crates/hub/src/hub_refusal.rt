@@ -21,11 +21,11 @@ pub enum HubRefusal {
 }
 
 impl HubRefusal {
-    ghost use Rattle.hub.specs.Refusals.{refusal_number};
+    ghost use Rattle.hub.specs.Refusals.{hub_refusal_number};
 
     /// The number of this refusal.
     pub fn number(self) -> u8
-        ensures { result ≡ refusal_number self }
+        ensures { result ≡ hub_refusal_number self }
     {
         match self {
             HubRefusal::TooManySessions => 16,

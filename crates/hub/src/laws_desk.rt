@@ -1,11 +1,11 @@
 ghost use Rattle.std.specs.Prelude.{◌≡◌, ℕ, List};
 ghost use Rattle.std.specs.List.{AllZip};
 ghost use Rattle.epochs.specs.DirectoryStates.{book};
-ghost use Rattle.hub.specs.DeskRuns.{IsWell, RefuseAlike, ShowHonestRun};
+ghost use Rattle.hub.specs.DeskRuns.{IsSoundDesk, RefuseAlike, ShowHonestRun};
 ghost use Rattle.hub.specs.Desks.{DeskState, DeskAnswers};
 ghost use Rattle.hub.specs.Events.{BySession, Happening, HubState};
 ghost use Rattle.hub.specs.Laws.{CutsBringTheSame};
-ghost use Rattle.hub.specs.Runs.{bytes_of, each, fresh, AllAnswered, AreOutputs, BringTheSame, Line, Runs};
+ghost use Rattle.hub.specs.Runs.{bytes_of, each, unanswered, AllAnswered, AreOutputs, BringTheSame, Line, Runs};
 
 use book::Keeper;
 use nodehash::NodeHash;
@@ -18,8 +18,8 @@ use vrfiface::Vuf;
 /// see of it what those of an honest provider see.
 pub fn replies_are_honest<H: NodeHash, V: Vuf, S: Signer, R: Rng, K: Keeper>()
     ensures { (before after : DeskState R K) (lines : List Line)
-        → IsWell H.digest_of V.value_of S.signature_of R.stream V.accepted S.verified before
-        → IsWell H.digest_of V.value_of S.signature_of R.stream V.accepted S.verified after
+        → IsSoundDesk H.digest_of V.value_of S.signature_of R.stream V.accepted S.verified before
+        → IsSoundDesk H.digest_of V.value_of S.signature_of R.stream V.accepted S.verified after
         → AllAnswered (DeskAnswers H.digest_of V.value_of S.signature_of R.stream K.kept K.failed) before lines after
         → ShowHonestRun H.digest_of V.value_of S.signature_of R.stream K.kept K.failed V.accepted S.verified before lines after }
 {}
@@ -30,12 +30,12 @@ pub fn replies_are_honest<H: NodeHash, V: Vuf, S: Signer, R: Rng, K: Keeper>()
 pub fn cuts_do_not_matter<H: NodeHash, V: Vuf, S: Signer, R: Rng, K: Keeper>()
     ensures bring { CutsBringTheSame }
     ensures tell { (before after left : HubState (DeskState R K)) (events others : List Happening) (lines told : List Line) (outputs given : BySession (List ℕ))
-        → IsWell H.digest_of V.value_of S.signature_of R.stream V.accepted S.verified before.service
-        → BringTheSame (each fresh before.sessions) events others
+        → IsSoundDesk H.digest_of V.value_of S.signature_of R.stream V.accepted S.verified before.service
+        → BringTheSame (each unanswered before.sessions) events others
         → AllZip RefuseAlike lines told
         → Runs (DeskAnswers H.digest_of V.value_of S.signature_of R.stream K.kept K.failed) before events lines after
         → Runs (DeskAnswers H.digest_of V.value_of S.signature_of R.stream K.kept K.failed) before others told left
-        → AreOutputs (each fresh before.sessions) events lines outputs → AreOutputs (each fresh before.sessions) others told given
+        → AreOutputs (each unanswered before.sessions) events lines outputs → AreOutputs (each unanswered before.sessions) others told given
         → (lines ≡ told) × (book R.stream after.service.directory ≡ book R.stream left.service.directory)
         × ((session : ℕ) → bytes_of outputs session ≡ bytes_of given session) }
 {}

@@ -3,7 +3,7 @@ ghost use Rattle.std.specs.List.Sorted.{IsStrictlySortedBy};
 ghost use Rattle.std.specs.Map.{keys_of};
 ghost use Rattle.std.specs.Option.{option_map};
 ghost use Rattle.std.specs.Ordering.{nat_cmp};
-ghost use Rattle.hub.specs.Events.{at};
+ghost use Rattle.hub.specs.Events.{at_session};
 ghost use Rattle.hub.specs.Outputs.{pair_seen, Appends};
 
 use std::alloc::{AllocError, Global};
@@ -64,7 +64,7 @@ impl Outputs {
         alloc: Global,
         sessions: &BTreeMap<u32, Feed>,
     ) -> Result<Outputs, AllocError>
-        ensures empty { IfOk result (λ outputs. (session : ℕ) → at outputs session ≡ option_map (λ _. []) (at sessions.now.entries session)) }
+        ensures empty { IfOk result (λ outputs. (session : ℕ) → at_session outputs session ≡ option_map (λ _. []) (at_session sessions.now.entries session)) }
         ensures ascend { IsStrictlySortedBy nat_cmp (keys_of sessions.now.entries) }
     {
         let mut outputs = Outputs {

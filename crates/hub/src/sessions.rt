@@ -6,14 +6,14 @@ ghost use Rattle.std.specs.Map.{keys_of};
 ghost use Rattle.std.specs.Ordering.{nat_cmp};
 ghost use Rattle.book.specs.Shows.{IsRootOf};
 ghost use Rattle.epochs.specs.DirectoryStates.{book, provider};
-ghost use Rattle.hub.specs.DeskRuns.{IsWell, ShowHonestRun};
+ghost use Rattle.hub.specs.DeskRuns.{IsSoundDesk, ShowHonestRun};
 ghost use Rattle.hub.specs.Desks.{DeskAnswers};
 ghost use Rattle.wire.specs.Streams.{Remainder, EndsOne};
-ghost use Rattle.hub.specs.Events.{at, due, next_part, number, seen, Bytes as AreBytes, End as IsEnd, Open as IsOpen};
+ghost use Rattle.hub.specs.Events.{at_session, due, event_seen, next_part, number, Bytes as AreBytes, End as IsEnd, Open as IsOpen};
 ghost use Rattle.hub.specs.Exchanges.{Exchange, LacksRoom, replies};
-ghost use Rattle.hub.specs.Happenings.{Happens, HearsAt, IsPart, Passes};
+ghost use Rattle.hub.specs.Happenings.{DoesUnlessRefused, Happens, HearsAt, IsPart};
 ghost use Rattle.hub.specs.Outputs.{pair_seen, AppendsUnless};
-ghost use Rattle.hub.specs.Runs.{each, fresh, AreFirst, AreOutputs, Begins, Line, Runs, Stops};
+ghost use Rattle.hub.specs.Runs.{each, unanswered, AreFirst, AreOutputs, BeginsRun, Line, Runs, Stops};
 
 use crate::desk::Desk;
 use crate::drain::hear;
@@ -70,7 +70,7 @@ where
     /// The latest root of the directory.
     pub fn head(&self) -> &SignedRoot
         ensures head { IsRootOf (provider H.digest_of V.value_of S.signature_of self.now.service.directory) (book R.stream self.now.service.directory) self.now.service.directory.last result.now }
-        ensures well { IsWell H.digest_of V.value_of S.signature_of R.stream V.accepted S.verified self.now.service }
+        ensures well { IsSoundDesk H.digest_of V.value_of S.signature_of R.stream V.accepted S.verified self.now.service }
     {
         self.service.head()
     }
@@ -86,11 +86,11 @@ where
     /// and the outputs so far are lost.
     pub fn run(&mut self, events: &[Event<'_>]) -> Result<Vec<(u32, Vec<u8>)>, AllocError>
         ensures ok { IfOk result (λ outputs. (lines : List Line)
-            × Runs (DeskAnswers H.digest_of V.value_of S.signature_of R.stream K.kept K.failed) self.old (map seen events.now) lines self.new
-            × AreOutputs (each fresh (self.old).sessions) (map seen events.now) lines (map pair_seen outputs.items)
+            × Runs (DeskAnswers H.digest_of V.value_of S.signature_of R.stream K.kept K.failed) self.old (map event_seen events.now) lines self.new
+            × AreOutputs (each unanswered (self.old).sessions) (map event_seen events.now) lines (map pair_seen outputs.items)
             × ShowHonestRun H.digest_of V.value_of S.signature_of R.stream K.kept K.failed V.accepted S.verified (self.old).service lines (self.new).service) }
-        ensures err { OnErr result (Stops (DeskAnswers H.digest_of V.value_of S.signature_of R.stream K.kept K.failed) self.old (map seen events.now) self.new) }
-        ensures begun { OnErr result ((lines : List Line) × AreFirst (DeskAnswers H.digest_of V.value_of S.signature_of R.stream K.kept K.failed) self.old (map seen events.now) lines (self.new).service
+        ensures err { OnErr result (Stops (DeskAnswers H.digest_of V.value_of S.signature_of R.stream K.kept K.failed) self.old (map event_seen events.now) self.new) }
+        ensures begun { OnErr result ((lines : List Line) × AreFirst (DeskAnswers H.digest_of V.value_of S.signature_of R.stream K.kept K.failed) self.old (map event_seen events.now) lines (self.new).service
             × ShowHonestRun H.digest_of V.value_of S.signature_of R.stream K.kept K.failed V.accepted S.verified (self.old).service lines (self.new).service) }
         ensures ascend { IsStrictlySortedBy nat_cmp (keys_of (self.old).sessions) }
     {
@@ -122,7 +122,7 @@ impl<D: Service + Drop> Hub<D> {
     /// `TooManySessions`, `SessionOpen`, `NoSession`: the first that applies, and nothing is done.
     /// Else `Memory` if memory runs out, which an end does not need.
     pub fn event(&mut self, event: &Event<'_>, output: &mut Vec<u8>) -> Result<(), HubRefusal>
-        ensures happens { Happens D.answers self.old (seen event.now) output.old.items result self.new output.new.items }
+        ensures happens { Happens D.answers self.old (event_seen event.now) output.old.items result self.new output.new.items }
         ensures room { LacksRoom result (vec_len output.new) (vec_capacity output.new) }
     {
         match event {
@@ -137,8 +137,8 @@ impl<D: Service + Drop> Hub<D> {
     pub fn part(&self, session: u32, bytes: &[u8]) -> usize
         ensures some { bytes.now ≢ [] → 1 ≤ result }
         ensures most { result ≤ length bytes.now }
-        ensures one { (held : Remainder) → at (self.now).sessions session ≡ Some held → EndsOne held (take result bytes.now) }
-        ensures size { result ≡ next_part (at (self.now).sessions session) (length bytes.now) }
+        ensures one { (held : Remainder) → at_session (self.now).sessions session ≡ Some held → EndsOne held (take result bytes.now) }
+        ensures size { result ≡ next_part (at_session (self.now).sessions session) (length bytes.now) }
     {
         match self.sessions.get(&session) {
             Some(feed) => feed.part(bytes),
@@ -148,10 +148,10 @@ impl<D: Service + Drop> Hub<D> {
 
     /// Handles events in order, of any service: see `run`.
     fn run_any(&mut self, events: &[Event<'_>]) -> Result<Vec<(u32, Vec<u8>)>, AllocError>
-        ensures ok { IfOk result (λ outputs. (lines : List Line) × Runs D.answers self.old (map seen events.now) lines self.new
-            × AreOutputs (each fresh (self.old).sessions) (map seen events.now) lines (map pair_seen outputs.items)) }
-        ensures err { OnErr result (Stops D.answers self.old (map seen events.now) self.new) }
-        ensures begun { OnErr result (Begins D.answers self.old (map seen events.now) (self.new).service) }
+        ensures ok { IfOk result (λ outputs. (lines : List Line) × Runs D.answers self.old (map event_seen events.now) lines self.new
+            × AreOutputs (each unanswered (self.old).sessions) (map event_seen events.now) lines (map pair_seen outputs.items)) }
+        ensures err { OnErr result (Stops D.answers self.old (map event_seen events.now) self.new) }
+        ensures begun { OnErr result (BeginsRun D.answers self.old (map event_seen events.now) (self.new).service) }
         ensures ascend { IsStrictlySortedBy nat_cmp (keys_of (self.old).sessions) }
     {
         let mut outputs = Outputs::of_sessions(self.alloc, &self.sessions)?;
@@ -169,10 +169,10 @@ impl<D: Service + Drop> Hub<D> {
         output: &mut Vec<u8>,
         outputs: &mut Outputs,
     ) -> Result<(), AllocError>
-        ensures ok { OnOk result ((exchanges : List Exchange) × Passes D.answers self.old (seen event.now) exchanges self.new
-            × AppendsUnless (due (self.old).sessions (seen event.now)) outputs.old (number (seen event.now)) (replies exchanges) outputs.new) }
-        ensures err { OnErr result (((exchanges : List Exchange) × Passes D.answers self.old (seen event.now) exchanges self.new)
-            ⊎ IsPart D.answers self.old (seen event.now ∷ []) self.new) }
+        ensures ok { OnOk result ((exchanges : List Exchange) × DoesUnlessRefused D.answers self.old (event_seen event.now) exchanges self.new
+            × AppendsUnless (due (self.old).sessions (event_seen event.now)) outputs.old (number (event_seen event.now)) (replies exchanges) outputs.new) }
+        ensures err { OnErr result (((exchanges : List Exchange) × DoesUnlessRefused D.answers self.old (event_seen event.now) exchanges self.new)
+            ⊎ IsPart D.answers self.old (event_seen event.now ∷ []) self.new) }
     {
         output.clear();
         match self.event(event, output) {

@@ -8,5 +8,5 @@ pub record TreeOptions : Type 0 where
   pub hash : HashChoice
   pub nonce : Option (List ℕ)
 
-abbrev pub values_of : RootOrder → TreeOptions
-values_of order = record { hash = order.hash; nonce = option_map (λ text. text.now) order.nonce }
+abbrev pub tree_values : RootOrder → TreeOptions
+tree_values order = record { hash = order.hash; nonce = option_map (λ text. text.now) order.nonce }

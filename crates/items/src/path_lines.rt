@@ -3,7 +3,7 @@ ghost use Rattle.textio.specs.Digits.{hex32, nonce_of};
 ghost use Rattle.items.specs.Items.{placement_of};
 ghost use Rattle.textio.specs.Output.{Ends};
 ghost use Rattle.items.specs.Prove.{end_line, path_lines, sibling_lines, PathTold, Proves};
-ghost use Rattle.items.specs.TreeOptions.{values_of};
+ghost use Rattle.items.specs.TreeOptions.{tree_values};
 
 use crate::listing::read_placement;
 use crate::orders::{HashChoice, ProveOrder};
@@ -104,10 +104,10 @@ pub fn prove<R: BufRead, W: Write>(
     reader: &mut R,
     writer: &mut W,
 ) -> Result<(), ProgramFault>
-    ensures ends { Ends (Proves order.entry.root.hash (nonce_of (values_of order.entry.root).nonce) (hex32 order.entry.index.now))
+    ensures ends { Ends (Proves order.entry.root.hash (nonce_of (tree_values order.entry.root).nonce) (hex32 order.entry.index.now))
         (R.remaining reader.old) (W.contents writer.old) (W.contents writer.new) result }
     ensures bad_hex { (result ≡ Err ProgramFault.BadHex)
-        ↔ ((nonce_of (values_of order.entry.root).nonce ≡ None) ⊎ (hex32 order.entry.index.now ≡ None)) }
+        ↔ ((nonce_of (tree_values order.entry.root).nonce ≡ None) ⊎ (hex32 order.entry.index.now ≡ None)) }
     ensures unread { result ≡ Err ProgramFault.BadHex → (reader.new ≡ reader.old) × (writer.new ≡ writer.old) }
 {
     let nonce = Hash32::new(option_nonce(order.root.nonce)?);

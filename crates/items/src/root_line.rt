@@ -1,5 +1,5 @@
 ghost use Rattle.std.specs.Prelude.{◌≡◌, ◌≢◌, ◌↔◌, ◌++◌, length, Err, IfErr, None};
-ghost use Rattle.items.specs.TreeOptions.{values_of};
+ghost use Rattle.items.specs.TreeOptions.{tree_values};
 ghost use Rattle.items.specs.Items.{placement_of};
 ghost use Rattle.textio.specs.Output.{Ends};
 ghost use Rattle.textio.specs.Digits.{nonce_of};
@@ -62,8 +62,8 @@ pub fn root<R: BufRead, W: Write>(
     reader: &mut R,
     writer: &mut W,
 ) -> Result<(), ProgramFault>
-    ensures ends { Ends (λ input said. root_answer (values_of order.entry) input ≡ said) (R.remaining reader.old) (W.contents writer.old) (W.contents writer.new) result }
-    ensures bad_hex { (result ≡ Err ProgramFault.BadHex) ↔ (nonce_of (values_of order.entry).nonce ≡ None) }
+    ensures ends { Ends (λ input said. root_answer (tree_values order.entry) input ≡ said) (R.remaining reader.old) (W.contents writer.old) (W.contents writer.new) result }
+    ensures bad_hex { (result ≡ Err ProgramFault.BadHex) ↔ (nonce_of (tree_values order.entry).nonce ≡ None) }
     ensures unread { result ≡ Err ProgramFault.BadHex → (reader.new ≡ reader.old) × (writer.new ≡ writer.old) }
 {
     let nonce = Hash32::new(option_nonce(order.nonce)?);

@@ -17,11 +17,11 @@ use Rattle.std.specs.List.{AllByRecursion}
 use Rattle.book.specs.Replays.{after_answer, replayed, replayed_all, with_salt_of, with_salts_of}
 use Rattle.book.specs.Shows.{Provider, index_of}
 use Rattle.book.specs.Steps.{Outcome, Answers, Refuses, step, unless_refused}
-use Rattle.book.specs.Turns.{kept_of, Declines, Keeps as KeepsOne, Run, Turn as Turns}
+use Rattle.book.specs.Turns.{kept_of, Declines, KeepsOne, Run, Turn as Turns}
 use Rattle.book.proofs.Stepping.{stepped}
 use Rattle.journal.specs.declared.beginning.Beginning.{Beginning}
 use Rattle.journal.specs.Journals.{KeepsRecord, LosesRecord, JournalState}
-use Rattle.journal.specs.Openings.{IsCut, Leads, OpensTo}
+use Rattle.journal.specs.Openings.{IsCut, OpensTo, RecordsLead}
 use Rattle.journal.specs.Records.{record_bytes, records_bytes, start_bytes, IsLater, IsRecord, IsStart}
 use Rattle.journal.specs.Reopened.{begun, with_stream, OpensInto}
 use Rattle.journal.proofs.Cuts.{longer, parted}
@@ -83,9 +83,9 @@ some_book one two e = cc
 -- records that lead from one book to another, and records that lead on from there
 leads_join : (by : List ℕ → List ℕ) (records : List Record) (before middle after : Book) (bytes more rest : List ℕ)
     → bytes ≡ records_bytes records ++ [] → AllByRecursion IsLater records → replayed_all by before records ≡ Some middle
-    → Leads by middle more after rest → Leads by before (bytes ++ more) after rest
+    → RecordsLead by middle more after rest → RecordsLead by before (bytes ++ more) after rest
 leads_join by [] before middle after bytes more rest is all leads on =
-    subst (λ (b : Book). Leads by b (bytes ++ more) after rest) (sym (some_book before middle leads)) (subst (λ (t : List ℕ). Leads by middle (t ++ more) after rest) (sym is) on)
+    subst (λ (b : Book). RecordsLead by b (bytes ++ more) after rest) (sym (some_book before middle leads)) (subst (λ (t : List ℕ). RecordsLead by middle (t ++ more) after rest) (sym is) on)
 leads_join by (kept ∷ records) before middle after bytes more rest is all leads on =
     let one = led by before middle kept records leads in
     let later = leads_join by records one.0 middle after (records_bytes records ++ []) more rest refl all.1 one.2 on in
@@ -158,7 +158,7 @@ module _ (provider : Provider) {W : Type 0} (contents : W → Option (List ℕ))
     abbrev Found : Book → JournalState W → List Operation → List Reply → Book → List ℕ → List ℕ → Type 0
     Found book keeper commands replies after front more = (n : ℕ) × (middle : Book) × (between : JournalState W) × (rest : List ℕ)
         × Ran book keeper (take n commands) (take n replies) middle between
-        × Leads (index_of provider) (with_salts_of other book) front (with_salts_of other middle) rest
+        × RecordsLead (index_of provider) (with_salts_of other book) front (with_salts_of other middle) rest
         × IsCut record_bytes IsLater rest × (more ≡ [] → middle ≡ after)
 
     -- so many bytes were written, and each beginning of them is such
@@ -189,7 +189,7 @@ module _ (provider : Provider) {W : Type 0} (contents : W → Option (List ℕ))
       end,
       rest,
       (middle, between, turn, run),
-      subst (λ (b : Book). Leads (index_of provider) (with_salts_of other b) front (with_salts_of other last) rest) same leads,
+      subst (λ (b : Book). RecordsLead (index_of provider) (with_salts_of other b) front (with_salts_of other last) rest) same leads,
       cut,
       whole,
     )
@@ -342,7 +342,7 @@ module _ (provider : Provider) {W : Type 0} (contents : W → Option (List ℕ))
               → (middle : Book) × OpensInto provider contents signing_key vuf_key later book keeper commands replies front middle × (more ≡ [] → middle ≡ after)
           joined (rest, (beginning, behind, spelled, start, positive, keys, leads), cut, length_is) (n, middle, between, left_over, ran, on, short, all) =
               let none : rest ≡ [] = nothing rest (omega (arith, length_is)) in
-              let first = subst (λ (r : List ℕ). Leads (index_of provider) (begun beginning later) behind (with_stream later book) r) none leads in
+              let first = subst (λ (r : List ℕ). RecordsLead (index_of provider) (begun beginning later) behind (with_stream later book) r) none leads in
               let both = leads_join (index_of provider) first.0 (begun beginning later) (with_stream later book) (with_stream later middle) behind m left_over first.1 first.2 first.3 on in (
                 middle,
                 (

@@ -7,15 +7,15 @@ use Rattle.book.specs.declared.record.Record.{Record}
 use Rattle.book.specs.declared.record.Record.TheVariants.{Turned}
 use Rattle.book.specs.Books.{Book}
 use Rattle.rand_core.specs.Stream.{Stream}
-use Rattle.book.specs.Fresh.{fresh, provider_of}
+use Rattle.book.specs.Fresh.{fresh, keyed_provider}
 use Rattle.book.specs.Replays.{replayed}
 use Rattle.book.specs.Shows.{index_of}
 use Rattle.epochs.specs.DirectoryStates.{DirectoryState, provider, HasKeysOf}
 use Rattle.journal.specs.declared.refusal.Refusal.{Refusal}
 use Rattle.journal.specs.declared.refusal.Refusal.TheVariants.{BadRecord, OtherKeys, Memory}
 use Rattle.journal.specs.declared.beginning.Beginning.{Beginning}
-use Rattle.journal.specs.Opened.{BeginsSo, IsNotBegun, IsNotReplayed, IsUnopened, StopsAt}
-use Rattle.journal.specs.Openings.{IsCut, IsNone, Leads, OpensTo}
+use Rattle.journal.specs.Opened.{BeginsSo, IsNotBegun, IsNotReplayed, IsOpenRefusal, OpensUpTo}
+use Rattle.journal.specs.Openings.{IsCut, IsNone, OpensTo, RecordsLead}
 use Rattle.journal.specs.Reading.{read_later, read_start}
 use Rattle.journal.specs.Records.{record_bytes, records_bytes, start_bytes, IsLater, IsStart}
 use Rattle.journal.proofs.Counted.{longer}
@@ -44,17 +44,17 @@ nothing_cut (byte ∷ bytes) few = absurd (omega (arith, few))
 pub same_index : {R : Type 0} (digest_of : List ℕ → List ℕ) (value_of signature_of : List ℕ → List ℕ → List ℕ) (before kept : DirectoryState R) → HasKeysOf before kept
     → index_of (provider digest_of value_of signature_of kept) ≡ index_of (provider digest_of value_of signature_of before)
 same_index {R} digest_of value_of signature_of before kept keys =
-    ap (λ (key : List ℕ). index_of (provider_of digest_of value_of key signature_of kept.signing_key)) keys.0
-    ∙ ap (λ (key : List ℕ). index_of (provider_of digest_of value_of before.vuf_key signature_of key)) keys.1
+    ap (λ (key : List ℕ). index_of (keyed_provider digest_of value_of key signature_of kept.signing_key)) keys.0
+    ∙ ap (λ (key : List ℕ). index_of (keyed_provider digest_of value_of before.vuf_key signature_of key)) keys.1
 
 module _ (by : List ℕ → List ℕ) where
   -- no record leads from a book to itself
-  pub leads_nowhere : (before : Book) (bytes : List ℕ) → Leads by before bytes before bytes
+  pub leads_nowhere : (before : Book) (bytes : List ℕ) → RecordsLead by before bytes before bytes
   leads_nowhere before bytes = ([], refl, tt, refl)
 
   -- one more record leads on
   pub leads_on : (before middle after : Book) (kept : Record) (bytes left rest : List ℕ) → bytes ≡ record_bytes kept ++ left → IsLater kept → replayed by before kept ≡ Some middle
-      → Leads by middle left after rest → Leads by before bytes after rest
+      → RecordsLead by middle left after rest → RecordsLead by before bytes after rest
   leads_on before middle after kept bytes left rest is later one (records, e, all, more) = (
     kept ∷ records,
     is ∙ ap (λ (t : List ℕ). record_bytes kept ++ t) e ∙ sym (append_assoc (record_bytes kept) (records_bytes records) rest),
@@ -66,23 +66,23 @@ module _ (by : List ℕ → List ℕ) where
   pub record Replaying (whole : List ℕ) (first : Book) (most counter taken : ℕ) (rest : List ℕ) (book : Book) : Type 0 where
     pub within : length rest + counter ≤ most
     pub read : length whole ≡ taken + length rest
-    pub on : (after : Book) (left : List ℕ) → Leads by book rest after left → Leads by first whole after left
+    pub on : (after : Book) (left : List ℕ) → RecordsLead by book rest after left → RecordsLead by first whole after left
 
   module _ {whole : List ℕ} {first : Book} {most counter taken : ℕ} {rest : List ℕ} {book : Book} (so : Replaying whole first most counter taken rest book) where
     -- what has been read leads to the book
-    pub leads_here : Leads by first whole book rest
+    pub leads_here : RecordsLead by first whole book rest
     leads_here = so.on book rest (leads_nowhere book rest)
 
     -- a record that is not carried out stops what is replayed
     pub stopped : (kept : Record) (left : List ℕ) (after : Book) (why : Refusal) → (rest ≡ record_bytes kept ++ left) × IsLater kept
-        → (after ≡ book) × IsNotReplayed by book kept why → StopsAt by first whole (Err why) after rest
+        → (after ≡ book) × IsNotReplayed by book kept why → OpensUpTo by first whole (Err why) after rest
     stopped kept left after BadRecord (is, later) (same, none) = (
-      subst (λ (b : Book). Leads by first whole b rest) (sym same) leads_here,
+      subst (λ (b : Book). RecordsLead by first whole b rest) (sym same) leads_here,
       inr (kept, left, is, later, subst (λ (b : Book). replayed by b kept ≡ None) (sym same) none),
     )
     stopped kept left after OtherKeys read (same, none) = none
     stopped kept left after Memory (is, later) (same, some) = (
-      subst (λ (b : Book). Leads by first whole b rest) (sym same) leads_here,
+      subst (λ (b : Book). RecordsLead by first whole b rest) (sym same) leads_here,
       (kept, left, is, later, subst (λ (b : Book). IsSome (replayed by b kept)) (sym same) some),
     )
 
@@ -105,26 +105,26 @@ start_size beginning rest h =
 
 -- the provider of a directory that was begun with these keys
 pub begun_index : {R : Type 0} (digest_of : List ℕ → List ℕ) (value_of signature_of : List ℕ → List ℕ → List ℕ) (vuf_key key : List ℕ) (kept : DirectoryState R)
-    → kept.vuf_key ≡ vuf_key → kept.signing_key ≡ key → index_of (provider digest_of value_of signature_of kept) ≡ index_of (provider_of digest_of value_of vuf_key signature_of key)
+    → kept.vuf_key ≡ vuf_key → kept.signing_key ≡ key → index_of (provider digest_of value_of signature_of kept) ≡ index_of (keyed_provider digest_of value_of vuf_key signature_of key)
 begun_index digest_of value_of signature_of vuf_key key kept one two =
-    ap (λ (k : List ℕ). index_of (provider_of digest_of value_of k signature_of kept.signing_key)) one
-    ∙ ap (λ (k : List ℕ). index_of (provider_of digest_of value_of vuf_key signature_of k)) two
+    ap (λ (k : List ℕ). index_of (keyed_provider digest_of value_of k signature_of kept.signing_key)) one
+    ∙ ap (λ (k : List ℕ). index_of (keyed_provider digest_of value_of vuf_key signature_of k)) two
 
 module _ (by : List ℕ → List ℕ) (signing_key vuf_key : List ℕ) (salts : Stream) (beginning : Beginning) {bytes : List ℕ} (rest : List ℕ) (is : bytes ≡ start_bytes beginning ++ rest) (start : IsStart beginning) where
   -- why a start does not begin a directory is why its bytes are not opened
-  pub not_begun : (why : Refusal) → IsNotBegun signing_key vuf_key beginning why → IsUnopened by signing_key vuf_key salts bytes why
+  pub not_begun : (why : Refusal) → IsNotBegun signing_key vuf_key beginning why → IsOpenRefusal by signing_key vuf_key salts bytes why
   not_begun BadRecord h = inr (inl (beginning, rest, is, start, h))
   not_begun OtherKeys h = (beginning, rest, is, start, h.0, h.1)
   not_begun Memory h = (fresh beginning.epoch beginning.nonce salts, rest, (beginning, rest, is, start, h.0, h.1, leads_nowhere by (fresh beginning.epoch beginning.nonce salts) rest))
 
   module _ (so : BeginsSo signing_key vuf_key beginning) where
     -- what stops the replay is why the bytes are not opened
-    pub not_replayed : (why : Refusal) (after : Book) (left : List ℕ) → StopsAt by (fresh beginning.epoch beginning.nonce salts) rest (Err why) after left
-        → IsUnopened by signing_key vuf_key salts bytes why
+    pub not_replayed : (why : Refusal) (after : Book) (left : List ℕ) → OpensUpTo by (fresh beginning.epoch beginning.nonce salts) rest (Err why) after left
+        → IsOpenRefusal by signing_key vuf_key salts bytes why
     not_replayed BadRecord after left h = inr (inr (after, left, (beginning, rest, is, start, so.0, so.1, h.0), h.1))
     not_replayed OtherKeys after left h = absurd h
     not_replayed Memory after left h = not_begun Memory so
 
-    pub opened : (taken : ℕ) (after : Book) (left : List ℕ) → StopsAt by (fresh beginning.epoch beginning.nonce salts) rest (Ok taken) after left
+    pub opened : (taken : ℕ) (after : Book) (left : List ℕ) → OpensUpTo by (fresh beginning.epoch beginning.nonce salts) rest (Ok taken) after left
         → OpensTo by signing_key vuf_key salts bytes after (106 + taken)
     opened taken after left h = (left, (beginning, rest, is, start, so.0, so.1, h.0), h.1, omega (arith, ap length is, start_size beginning rest start, h.2))

@@ -10,7 +10,7 @@ use Rattle.book.specs.Books.{Book}
 use Rattle.book.specs.Fresh.{fresh}
 use Rattle.book.specs.Replays.{replayed, replayed_all}
 use Rattle.journal.specs.declared.beginning.Beginning.{Beginning}
-use Rattle.journal.specs.Openings.{HasKeys, HasOtherKeys, IsBad, IsBadNext, IsCut, OpensTo, Reaches}
+use Rattle.journal.specs.Openings.{HasKeys, HasOtherKeys, IsBad, IsBadNext, IsCut, OpensTo, ReachesBook}
 use Rattle.journal.specs.Reading.{read_later, read_start}
 use Rattle.journal.specs.Records.{record_bytes, records_bytes, start_bytes, IsLater, IsStart}
 use Rattle.journal.proofs.Spelled.{later_field, start_field}
@@ -67,8 +67,8 @@ module _ (by : List ℕ → List ℕ) where
     one_start : (bytes : List ℕ) (one other : Beginning) (later rest : List ℕ) → bytes ≡ start_bytes one ++ later → IsStart one → bytes ≡ start_bytes other ++ rest → IsStart other → (other ≡ one) × (rest ≡ later)
     one_start bytes one other later rest is start so fine = one_spelling read_start start_bytes IsStart start_field other one rest later fine start (sym so ∙ is)
 
-    followed : (bytes : List ℕ) (book other : Book) (rest left : List ℕ) → Reaches by signing_key vuf_key salts bytes book rest → IsCut record_bytes IsLater rest
-        → Reaches by signing_key vuf_key salts bytes other left → Follow book rest other left
+    followed : (bytes : List ℕ) (book other : Book) (rest left : List ℕ) → ReachesBook by signing_key vuf_key salts bytes book rest → IsCut record_bytes IsLater rest
+        → ReachesBook by signing_key vuf_key salts bytes other left → Follow book rest other left
     followed bytes book other rest left (one, later, is, start, positive, keys, (records, spelled, all, leads)) cut (two, behind, so, fine, more, with_keys, (others, told, each, goes)) =
         let same = one_start bytes one two later behind is start so fine in
         follow records others (fresh one.epoch one.nonce salts) book other later rest left spelled all leads cut
@@ -92,14 +92,14 @@ module _ (by : List ℕ → List ℕ) where
         let same = one_spelling read_later record_bytes IsLater later_field kept put more behind later fine (sym is ∙ so) in
         some_none middle (sym does ∙ ap (λ (k : Record). replayed by other k) same.0 ∙ refused)
 
-    not_bad : (bytes : List ℕ) (book : Book) (rest : List ℕ) → Reaches by signing_key vuf_key salts bytes book rest → IsCut record_bytes IsLater rest → IsBad by signing_key vuf_key salts bytes → ⊥
+    not_bad : (bytes : List ℕ) (book : Book) (rest : List ℕ) → ReachesBook by signing_key vuf_key salts bytes book rest → IsCut record_bytes IsLater rest → IsBad by signing_key vuf_key salts bytes → ⊥
     not_bad bytes book rest (one, later, is, start, positive, keys, leads) cut (inl none) = none.0 (one, later, is, start)
     not_bad bytes book rest (one, later, is, start, positive, keys, leads) cut (inr (inl (two, behind, so, fine, zero_epoch))) =
         let same = one_start bytes one two later behind is start so fine in
         omega (arith, positive, zero_epoch, ap (λ (b : Beginning). b.epoch) same.0)
     not_bad bytes book rest reaches cut (inr (inr (other, left, others, bad))) = not_next book other rest left cut bad (followed bytes book other rest left reaches cut others)
 
-    not_others : (bytes : List ℕ) (book : Book) (rest : List ℕ) → Reaches by signing_key vuf_key salts bytes book rest → HasOtherKeys signing_key vuf_key bytes → ⊥
+    not_others : (bytes : List ℕ) (book : Book) (rest : List ℕ) → ReachesBook by signing_key vuf_key salts bytes book rest → HasOtherKeys signing_key vuf_key bytes → ⊥
     not_others bytes book rest (one, later, is, start, positive, keys, leads) (two, behind, so, fine, more, other) =
         let same = one_start bytes one two later behind is start so fine in
         other (subst (λ (b : Beginning). HasKeys signing_key vuf_key b) (sym same.0) keys)

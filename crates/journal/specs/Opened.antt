@@ -10,7 +10,7 @@ use Rattle.journal.specs.declared.opening.Opened.{Opened}
 use Rattle.journal.specs.declared.opening.Opened.TheVariants.{Nothing, Directory}
 use Rattle.journal.specs.declared.refusal.Refusal.{Refusal}
 use Rattle.journal.specs.declared.refusal.Refusal.TheVariants.{BadRecord, OtherKeys, Memory}
-use Rattle.journal.specs.Openings.{HasKeys, HasOtherKeys, IsBad, IsBadNext, IsBegun, IsCut, IsGoodNext, Leads, OpensTo}
+use Rattle.journal.specs.Openings.{HasKeys, HasOtherKeys, IsBad, IsBadNext, IsBegun, IsCut, IsGoodNext, OpensTo, RecordsLead}
 use Rattle.journal.specs.Records.{record_bytes, start_bytes, IsLater, IsStart}
 
 -- a directory of these keys may begin so
@@ -31,12 +31,12 @@ IsNotReplayed index_of before kept Memory = IsSome (replayed index_of before kep
 
 -- The records at the front lead to a book, and what is left is a record that was cut short; or it is bad, as
 -- the book stands; or memory is wanting for the next record, which the book does not refuse.
-abbrev pub StopsAt : (List ℕ → List ℕ) → Book → List ℕ → Result ℕ Refusal → Book → List ℕ → Type 0
-StopsAt index_of before bytes (Ok taken) after rest =
-    Leads index_of before bytes after rest × IsCut record_bytes IsLater rest × (length bytes ≡ taken + length rest)
-StopsAt index_of before bytes (Err BadRecord) after rest = Leads index_of before bytes after rest × IsBadNext index_of after rest
-StopsAt index_of before bytes (Err OtherKeys) after rest = ⊥
-StopsAt index_of before bytes (Err Memory) after rest = Leads index_of before bytes after rest × IsGoodNext index_of after rest
+abbrev pub OpensUpTo : (List ℕ → List ℕ) → Book → List ℕ → Result ℕ Refusal → Book → List ℕ → Type 0
+OpensUpTo index_of before bytes (Ok taken) after rest =
+    RecordsLead index_of before bytes after rest × IsCut record_bytes IsLater rest × (length bytes ≡ taken + length rest)
+OpensUpTo index_of before bytes (Err BadRecord) after rest = RecordsLead index_of before bytes after rest × IsBadNext index_of after rest
+OpensUpTo index_of before bytes (Err OtherKeys) after rest = ⊥
+OpensUpTo index_of before bytes (Err Memory) after rest = RecordsLead index_of before bytes after rest × IsGoodNext index_of after rest
 
 module _ (index_of : List ℕ → List ℕ) (signing_key vuf_key : List ℕ) (salts : Stream) where
   -- the bytes are no whole start; or they open to this directory, which has the keys of the start
@@ -46,7 +46,7 @@ module _ (index_of : List ℕ → List ℕ) (signing_key vuf_key : List ℕ) (sa
       × (directory.signing_key ≡ signing_key) × (directory.vuf_key ≡ vuf_key)
 
   -- why they open to nothing
-  abbrev pub IsUnopened : List ℕ → Refusal → Type 0
-  IsUnopened bytes BadRecord = IsBad index_of signing_key vuf_key salts bytes
-  IsUnopened bytes OtherKeys = HasOtherKeys signing_key vuf_key bytes
-  IsUnopened bytes Memory = IsBegun index_of signing_key vuf_key salts bytes
+  abbrev pub IsOpenRefusal : List ℕ → Refusal → Type 0
+  IsOpenRefusal bytes BadRecord = IsBad index_of signing_key vuf_key salts bytes
+  IsOpenRefusal bytes OtherKeys = HasOtherKeys signing_key vuf_key bytes
+  IsOpenRefusal bytes Memory = IsBegun index_of signing_key vuf_key salts bytes

@@ -30,8 +30,8 @@ HasOtherKeys signing_key vuf_key bytes = (beginning : Beginning) × (later : Lis
 
 module _ (index_of : List ℕ → List ℕ) where
   -- later records stand at the front of the bytes, before this rest, and lead from one book to another
-  abbrev pub Leads : Book → List ℕ → Book → List ℕ → Type 0
-  Leads before bytes book rest = (records : List Record)
+  abbrev pub RecordsLead : Book → List ℕ → Book → List ℕ → Type 0
+  RecordsLead before bytes book rest = (records : List Record)
       × (bytes ≡ records_bytes records ++ rest) × AllByRecursion IsLater records × (replayed_all index_of before records ≡ Some book)
 
   -- the bytes begin no later record; or one whose command the book refuses
@@ -45,22 +45,22 @@ module _ (index_of : List ℕ → List ℕ) where
 
   module _ (signing_key vuf_key : List ℕ) (salts : Stream) where
     -- a start of these keys and later records stand at the front of the bytes, and lead to this book
-    abbrev pub Reaches : List ℕ → Book → List ℕ → Type 0
-    Reaches bytes book rest = (beginning : Beginning) × (later : List ℕ)
+    abbrev pub ReachesBook : List ℕ → Book → List ℕ → Type 0
+    ReachesBook bytes book rest = (beginning : Beginning) × (later : List ℕ)
         × (bytes ≡ start_bytes beginning ++ later) × IsStart beginning × (0 < beginning.epoch) × HasKeys signing_key vuf_key beginning
-        × Leads (fresh beginning.epoch beginning.nonce salts) later book rest
+        × RecordsLead (fresh beginning.epoch beginning.nonce salts) later book rest
 
     -- the bytes open to this book, by so many of them
     abbrev pub OpensTo : List ℕ → Book → ℕ → Type 0
-    OpensTo bytes book taken = (rest : List ℕ) × Reaches bytes book rest × IsCut record_bytes IsLater rest × (length bytes ≡ taken + length rest)
+    OpensTo bytes book taken = (rest : List ℕ) × ReachesBook bytes book rest × IsCut record_bytes IsLater rest × (length bytes ≡ taken + length rest)
 
     -- what comes first that is no record of its place is no record that was cut short, or it is a start of
     -- epoch 0, or a record whose command is refused
     abbrev pub IsBad : List ℕ → Type 0
     IsBad bytes = IsNone start_bytes IsStart bytes
         ⊎ (((beginning : Beginning) × (later : List ℕ) × (bytes ≡ start_bytes beginning ++ later) × IsStart beginning × (beginning.epoch ≡ 0))
-        ⊎ ((book : Book) × (rest : List ℕ) × Reaches bytes book rest × IsBadNext book rest))
+        ⊎ ((book : Book) × (rest : List ℕ) × ReachesBook bytes book rest × IsBadNext book rest))
 
     -- the bytes begin with a start of these keys
     abbrev pub IsBegun : List ℕ → Type 0
-    IsBegun bytes = (book : Book) × (rest : List ℕ) × Reaches bytes book rest
+    IsBegun bytes = (book : Book) × (rest : List ℕ) × ReachesBook bytes book rest

@@ -21,16 +21,16 @@ with_stream salts book = record book { salt = (fill_bytes 32 salts).0; left = (f
 
 module _ (provider : Provider) {W : Type 0} (contents : W → Option (List ℕ)) where
   -- a run that is kept in a journal
-  abbrev pub Keeps : Book → JournalState W → List Operation → List Reply → Book → JournalState W → Type 0
-  Keeps = Run provider (KeepsRecord contents) (LosesRecord contents)
+  abbrev pub KeepsRun : Book → JournalState W → List Operation → List Reply → Book → JournalState W → Type 0
+  KeepsRun = Run provider (KeepsRecord contents) (LosesRecord contents)
 
   -- the run of the first so many commands leaves this book
-  abbrev pub Leaves : Book → JournalState W → List Operation → List Reply → ℕ → Book → Type 0
-  Leaves book keeper commands replies n middle = (between : JournalState W) × Keeps book keeper (take n commands) (take n replies) middle between
+  abbrev pub LeavesBook : Book → JournalState W → List Operation → List Reply → ℕ → Book → Type 0
+  LeavesBook book keeper commands replies n middle = (between : JournalState W) × KeepsRun book keeper (take n commands) (take n replies) middle between
 
   -- Bytes open to a beginning of a run: to the book after its first so many commands, with the same pages and the
   -- same that waits, while the salts to come are those handed in.
   abbrev pub OpensInto : List ℕ → List ℕ → Stream → Book → JournalState W → List Operation → List Reply → List ℕ → Book → Type 0
   OpensInto signing_key vuf_key salts book keeper commands replies bytes middle = (n : ℕ) × (taken : ℕ)
-      × Leaves book keeper commands replies n middle
+      × LeavesBook book keeper commands replies n middle
       × OpensTo (index_of provider) signing_key vuf_key salts bytes (with_stream salts middle) taken

@@ -8,7 +8,7 @@ ghost use Rattle.journal.specs.declared.beginning.Beginning.{Beginning};
 ghost use Rattle.journal.specs.Journals.{JournalState};
 ghost use Rattle.journal.specs.Openings.{HasOtherKeys, IsBad, IsCut, OpensTo};
 ghost use Rattle.journal.specs.Records.{start_bytes, IsStart};
-ghost use Rattle.journal.specs.Reopened.{begun, with_stream, Keeps, OpensInto};
+ghost use Rattle.journal.specs.Reopened.{begun, with_stream, KeepsRun, OpensInto};
 
 use std::io::Write;
 
@@ -19,7 +19,7 @@ pub fn journals_open_to_their_runs<W: Write + Drop>()
         → (commands : List Operation) (replies : List Reply) (bytes front more : List ℕ)
         → IsStart beginning → 0 < beginning.epoch
         → W.contents keeper.writer ≡ Some (start_bytes beginning)
-        → Keeps provider W.contents (begun beginning salts) keeper commands replies after keeper_after
+        → KeepsRun provider W.contents (begun beginning salts) keeper commands replies after keeper_after
         → W.contents keeper_after.writer ≡ Some bytes → bytes ≡ front ++ more
         → IsCut start_bytes IsStart front
         ⊎ ((middle : Book) × OpensInto provider W.contents beginning.signing_key beginning.vuf_key later (begun beginning salts) keeper commands replies front middle × (more ≡ [] → middle ≡ after)) }
@@ -33,7 +33,7 @@ pub fn journals_go_on<W: Write + Drop>()
         → (commands : List Operation) (replies : List Reply) (held bytes front more : List ℕ)
         → W.contents keeper.writer ≡ Some held
         → OpensTo (index_of provider) signing_key vuf_key later held (with_stream later book) (length held)
-        → Keeps provider W.contents book keeper commands replies after keeper_after
+        → KeepsRun provider W.contents book keeper commands replies after keeper_after
         → W.contents keeper_after.writer ≡ Some bytes → bytes ≡ front ++ more → length held ≤ length front
         → (middle : Book) × OpensInto provider W.contents signing_key vuf_key later book keeper commands replies front middle × (more ≡ [] → middle ≡ after) }
 {}

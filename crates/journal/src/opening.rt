@@ -2,13 +2,13 @@
 // read and carried out, as long as a whole one stands at the front. What is left is a record that was cut
 // short, or a fault.
 ghost use Rattle.std.specs.Prelude.{◌≡◌, ◌≤◌, length, MatchResult, Some};
-ghost use Rattle.book.specs.Fresh.{fresh, provider_of};
+ghost use Rattle.book.specs.Fresh.{fresh, keyed_provider};
 ghost use Rattle.book.specs.Shows.{index_of};
 ghost use Rattle.epochs.specs.DirectoryStates.{book, provider, HasKeysOf};
 ghost use Rattle.book.specs.declared.record.Record.TheVariants.{Bound, Turned};
 ghost use Rattle.book.specs.Replays.{replayed};
 ghost use Rattle.journal.specs.Later.{later_seen};
-ghost use Rattle.journal.specs.Opened.{BeginsSo, IsNotBegun, IsNotReplayed, IsUnopened, Opens, StopsAt};
+ghost use Rattle.journal.specs.Opened.{BeginsSo, IsNotBegun, IsNotReplayed, IsOpenRefusal, Opens, OpensUpTo};
 ghost use Rattle.journal.specs.Records.{IsLater};
 
 use crate::Refusal;
@@ -168,7 +168,7 @@ fn replay_all<H: NodeHash, V: Vuf, S: Signer, R: Rng>(
 ) -> Result<usize, Refusal>
     requires { length cursor.old ≤ most }
     ensures replays { let by = index_of (provider H.digest_of V.value_of S.signature_of directory.old) in
-        StopsAt by (book R.stream directory.old) cursor.old result (book R.stream directory.new) cursor.new }
+        OpensUpTo by (book R.stream directory.old) cursor.old result (book R.stream directory.new) cursor.new }
     ensures keys { HasKeysOf directory.old directory.new }
 {
     let mut taken = 0;
@@ -211,9 +211,9 @@ where
     V: Vuf + Drop,
     S: Signer + Drop,
     R: Rng + Drop,
-    ensures opens { let by = index_of (provider_of H.digest_of V.value_of (V.public_key vuf) S.signature_of (S.public_key signer)) in MatchResult result
+    ensures opens { let by = index_of (keyed_provider H.digest_of V.value_of (V.public_key vuf) S.signature_of (S.public_key signer)) in MatchResult result
         (Opens by (S.public_key signer) (V.public_key vuf) (R.stream salts) R.stream bytes.now)
-        (IsUnopened by (S.public_key signer) (V.public_key vuf) (R.stream salts) bytes.now) }
+        (IsOpenRefusal by (S.public_key signer) (V.public_key vuf) (R.stream salts) bytes.now) }
 {
     let mut cursor = Cursor::new(bytes);
     let beginning = match read_start(&mut cursor) {

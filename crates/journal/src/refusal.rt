@@ -16,11 +16,11 @@ pub enum Refusal {
 
 impl Refusal {
     ghost use Rattle.std.specs.Prelude.{◌≡◌};
-    ghost use Rattle.journal.specs.Refusals.{refusal_number};
+    ghost use Rattle.journal.specs.Refusals.{journal_refusal_number};
 
     /// The number of the refusal: 1 to 3.
     pub fn number(self) -> u8
-        ensures { result ≡ refusal_number self }
+        ensures { result ≡ journal_refusal_number self }
     {
         match self {
             Refusal::BadRecord => 1,

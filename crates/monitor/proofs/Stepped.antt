@@ -5,12 +5,12 @@ use Rattle.rootchain.specs.declared.signed_root.SignedRoot.{SignedRoot}
 use Rattle.proofs.specs.Views.{key_stated}
 use Rattle.proofs.specs.declared.statement.Statement.{Statement}
 use Rattle.client.specs.Clients.{Client}
-use Rattle.client.specs.Looking.{IsAnswered, IsAsked, Looks}
+use Rattle.client.specs.Looking.{IsAnswered, IsLookRoot, Looks}
 use Rattle.client.specs.declared.refusal.Refusal.{Refusal}
 use Rattle.client.specs.declared.refusal.Refusal.TheVariants.{Root, Proof, UnknownRoot, RootDiffers, Memory, NoPromise}
 use Rattle.monitor.specs.Monitors.{Monitor, IsNext, IsWatching}
 use Rattle.monitor.proofs.Watching.{watched-watching}
-use Rattle.monitor.specs.Stepping.{IsNextEpoch, Steps, Tells}
+use Rattle.monitor.specs.Stepping.{IsNextEpoch, StepTells, Steps}
 use Rattle.monitor.specs.declared.refusal.Refusal.TheVariants as refusal
 use Rattle.monitor.specs.declared.step.Step.{Step}
 
@@ -19,11 +19,11 @@ pub no-next : (monitor : Monitor) (found : Option SignedRoot) → ((root : Signe
 no-next monitor found is none root next = let some = (is root).1 next in absurd cc
 
 -- a look at an epoch from 1 on is asked under the root of that epoch
-asked-at : (chain : KeyedRoots) (epoch : ℕ) (root : SignedRoot) → 0 < epoch → IsAsked chain epoch root → IsAt chain epoch root
+asked-at : (chain : KeyedRoots) (epoch : ℕ) (root : SignedRoot) → 0 < epoch → IsLookRoot chain epoch root → IsAt chain epoch root
 asked-at chain zero root positive asked = absurd (omega arith)
 asked-at chain (suc n) root positive asked = asked
 
-at-asked : (chain : KeyedRoots) (epoch : ℕ) (root : SignedRoot) → 0 < epoch → IsAt chain epoch root → IsAsked chain epoch root
+at-asked : (chain : KeyedRoots) (epoch : ℕ) (root : SignedRoot) → 0 < epoch → IsAt chain epoch root → IsLookRoot chain epoch root
 at-asked chain zero root positive at = absurd (omega arith)
 at-asked chain (suc n) root positive at = at
 
@@ -36,7 +36,7 @@ module _ (monitor : Monitor) (epoch : ℕ) (is : IsNextEpoch monitor (Some epoch
   next-at root at = (at.0, omega (arith, is.1.1, is.2, at.1), λ k d p above. omega (arith, is.1.2 k d p above, is.2, at.1))
 
   module _ (hash : List ℕ → List ℕ) (accepted : List ℕ → List ℕ → List ℕ → Type 0) (bytes : List ℕ) (client : Client) where
-    pub step-told : (found : Statement) (step : Step) → Looks hash accepted monitor.client monitor.name epoch bytes (Ok found) client → Tells monitor.watch epoch (key_stated found) step
+    pub step-told : (found : Statement) (step : Step) → Looks hash accepted monitor.client monitor.name epoch bytes (Ok found) client → StepTells monitor.watch epoch (key_stated found) step
         → Steps hash accepted monitor bytes (Ok step) (record monitor { client = client; watched = epoch })
     unfolding IsAnswered
     step-told found step (root, reply, answered, states, kept) tells =

@@ -16,9 +16,9 @@ use Rattle.client.specs.Clients.{Client, Look}
 use Rattle.client.specs.Updating.{Updates}
 use Rattle.client.specs.UpdatingFrom.{UpdatesFrom}
 use Rattle.client.specs.declared.refusal.Refusal.{Refusal}
-use Rattle.monitor.specs.Monitors.{Monitor, begun, with_change, with_watched, IsNext, IsWatching}
+use Rattle.monitor.specs.Monitors.{Monitor, new_monitor, with_change, with_watched, IsNext, IsWatching}
 
-pub begun-watching : (client : Client) (name : List ℕ) (start : Option (List ℕ)) → IsWatching (begun client name start)
+pub begun-watching : (client : Client) (name : List ℕ) (start : Option (List ℕ)) → IsWatching (new_monitor client name start)
 begun-watching client name start = record {
   ascends = λ i j d p q. absurd (omega (arith, q));
   last = inl refl;

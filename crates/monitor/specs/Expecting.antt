@@ -20,20 +20,20 @@ pub record MayExpect (monitor : Monitor) (key : List ℕ) (promise : Promise) : 
 
 module _ (hash : List ℕ → List ℕ) (verified : List ℕ → List ℕ → List ℕ → Type 0) (before : Monitor) (key bytes : List ℕ) where
   -- the bytes spell such a promise, which the provider signed over a root of the chain
-  abbrev pub IsNew : SignedPromise → Type 0
-  IsNew signed = IsGiven hash verified before.client bytes signed × MayExpect before key signed.promise
+  abbrev pub IsNewPromise : SignedPromise → Type 0
+  IsNewPromise signed = IsGiven hash verified before.client bytes signed × MayExpect before key signed.promise
 
   -- what comes of bytes that are read as such a promise
   abbrev pub ReadsChange : Result SignedPromise Refusal → Type 0
-  ReadsChange (Ok signed) = IsNew signed
+  ReadsChange (Ok signed) = IsNewPromise signed
   ReadsChange (Err OtherPromise) = (signed : SignedPromise) × IsGiven hash verified before.client bytes signed × ¬ MayExpect before key signed.promise
   ReadsChange (Err (Client why)) = ReadsPromise hash verified before.client bytes (Err why)
 
   -- What comes of a change that is to be expected, and the monitor after it. `Memory` is the last refusal.
   abbrev pub Expects : {A : Type 0} → Result A Refusal → Monitor → Type 0
-  Expects (Ok _) after = (signed : SignedPromise) × IsNew signed × (after ≡ with_change before signed)
+  Expects (Ok _) after = (signed : SignedPromise) × IsNewPromise signed × (after ≡ with_change before signed)
   Expects (Err OtherPromise) after = ReadsChange (Err OtherPromise) × (after ≡ before)
-  Expects (Err (Client Memory)) after = ((signed : SignedPromise) × IsNew signed) × (after ≡ before)
+  Expects (Err (Client Memory)) after = ((signed : SignedPromise) × IsNewPromise signed) × (after ≡ before)
   Expects (Err (Client (Root why))) after = ReadsChange (Err (Client (Root why))) × (after ≡ before)
   Expects (Err (Client UnknownRoot)) after = ReadsChange (Err (Client UnknownRoot)) × (after ≡ before)
   Expects (Err (Client (Proof why))) after = ⊥

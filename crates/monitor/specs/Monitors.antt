@@ -17,8 +17,8 @@ pub record Monitor : Type 0 where
   pub watched : ℕ
 
 -- the monitor that has watched nothing yet and expects this from the first epoch on
-abbrev pub begun : Client → List ℕ → Option (List ℕ) → Monitor
-begun client name start = record { client = client; name = name; watch = record { start = start; changes = [] }; watched = 0 }
+abbrev pub new_monitor : Client → List ℕ → Option (List ℕ) → Monitor
+new_monitor client name start = record { client = client; name = name; watch = record { start = start; changes = [] }; watched = 0 }
 
 -- the monitor after it watched an epoch with this reply, which its client keeps
 abbrev pub with_watched : Monitor → ℕ → List ℕ → Monitor

@@ -19,9 +19,9 @@ IsNextEpoch monitor None = (root : SignedRoot) → ¬ IsNext monitor root
 IsNextEpoch monitor (Some epoch) = (root : SignedRoot) × IsNext monitor root × (root.body.epoch ≡ epoch)
 
 -- what a step says of the statement at an epoch: that it is the expected one, or else what it is
-abbrev pub Tells : Watch → ℕ → Option (List ℕ) → Step → Type 0
-Tells watch epoch statement Kept = statement ≡ expected watch epoch
-Tells watch epoch statement (Alarm at found) = (statement ≢ expected watch epoch) × (at ≡ epoch) × (key_stated found ≡ statement)
+abbrev pub StepTells : Watch → ℕ → Option (List ℕ) → Step → Type 0
+StepTells watch epoch statement Kept = statement ≡ expected watch epoch
+StepTells watch epoch statement (Alarm at found) = (statement ≢ expected watch epoch) × (at ≡ epoch) × (key_stated found ≡ statement)
 
 module _ (hash : List ℕ → List ℕ) (accepted : List ℕ → List ℕ → List ℕ → Type 0) (before : Monitor) (bytes : List ℕ) where
   -- the bytes are a reply for the watched name that is accepted under the next root
@@ -31,7 +31,7 @@ module _ (hash : List ℕ → List ℕ) (accepted : List ℕ → List ℕ → Li
   -- What a step returns, and the monitor after it. The epoch of the next root is then watched, even if
   -- the step is an alarm; a refusal watches nothing.
   abbrev pub Steps : Result Step Refusal → Monitor → Type 0
-  Steps (Ok step) after = (root : SignedRoot) × (reply : Reply) × IsFound root reply × Tells before.watch root.body.epoch (stated reply.end) step
+  Steps (Ok step) after = (root : SignedRoot) × (reply : Reply) × IsFound root reply × StepTells before.watch root.body.epoch (stated reply.end) step
       × (after ≡ with_watched before root.body.epoch bytes)
   Steps (Err (Client UnknownRoot)) after = ((root : SignedRoot) → ¬ IsNext before root) × (after ≡ before)
   Steps (Err (Client (Proof why))) after = (root : SignedRoot) × IsNext before root × Refuses hash accepted root.body before.name bytes why × (after ≡ before)

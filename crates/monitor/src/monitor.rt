@@ -10,8 +10,8 @@ ghost use Rattle.client.specs.Promising.{IsGiven};
 ghost use Rattle.client.specs.Updating.{RefusalHolds, Updates};
 ghost use Rattle.client.specs.UpdatingFrom.{UpdatesFrom};
 ghost use Rattle.monitor.specs.Expecting.{Expects, ExpectsAbove, IsExpected, MayExpect, ReadsChange};
-ghost use Rattle.monitor.specs.Monitors.{begun, IsWatching};
-ghost use Rattle.monitor.specs.Stepping.{IsNextEpoch, Steps, Tells};
+ghost use Rattle.monitor.specs.Monitors.{new_monitor, IsWatching};
+ghost use Rattle.monitor.specs.Stepping.{IsNextEpoch, StepTells, Steps};
 
 use crate::{Refusal, Step};
 use client::Client;
@@ -67,7 +67,7 @@ impl<H: NodeHash, V: VufCheck, S: Verifier> Monitor<H, V, S> {
     /// A monitor of this name, with a client of its own. From the first epoch of the client's chain on it
     /// expects this key, or no key.
     pub fn new(alloc: Global, client: Client<H, V, S>, name: Name, start: Option<KeyData>) -> Self
-        ensures { result ≡ begun client name start }
+        ensures { result ≡ new_monitor client name start }
     {
         Monitor {
             client,
@@ -230,7 +230,7 @@ impl<H: NodeHash, V: VufCheck, S: Verifier> Monitor<H, V, S> {
 
     /// The step for the statement at an epoch.
     fn tell<'a>(&self, epoch: u64, found: Statement<'a>) -> Step<'a>
-        ensures { Tells self.now.watch epoch (key_stated found.entry) result }
+        ensures { StepTells self.now.watch epoch (key_stated found.entry) result }
     {
         if is_expected(found, self.expected(epoch)) {
             Step::Kept

@@ -15,11 +15,11 @@ pub enum Refusal {
 }
 
 impl Refusal {
-    ghost use Rattle.monitor.specs.Refusals.{refusal_number};
+    ghost use Rattle.monitor.specs.Refusals.{monitor_refusal_number};
 
     /// The number of this refusal; that of the client's refusal is its own.
     pub fn number(&self) -> u8
-        ensures { result ≡ refusal_number self.now }
+        ensures { result ≡ monitor_refusal_number self.now }
     {
         match self {
             Refusal::Client(why) => why.number(),

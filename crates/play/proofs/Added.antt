@@ -21,7 +21,8 @@ use Rattle.book.specs.declared.reply.Reply.{Reply}
 use Rattle.book.specs.declared.reply.Reply.TheVariants as reply
 use Rattle.book.specs.Answers.{Promised, Found, Told, Last}
 use Rattle.book.specs.Books.{Binding, Book, Page, pages}
-use Rattle.book.specs.Fresh as fresh
+use Rattle.book.specs.Fresh.{keyed_provider}
+use Rattle.book.specs.Keeps.{KeepsNothing, NeverFails}
 use Rattle.book.specs.Shows.{Provider, SignedPage, body_behind, index_of, roots, sealed_behind, sealed_pages, signed, IsRootOf}
 use Rattle.book.specs.Sound.{IsSound}
 use Rattle.book.specs.Turns.{Turn}
@@ -34,9 +35,9 @@ use Rattle.epochs.specs.DirectoryStates.{HasKeysOf}
 use Rattle.hub.specs.Desks.{reply_frame}
 use Rattle.client.specs.Clients.{Client, started}
 use Rattle.client.specs.Starting.{Starts}
-use Rattle.monitor.specs.Monitors.{Monitor, begun}
+use Rattle.monitor.specs.Monitors.{Monitor, new_monitor}
 use Rattle.play.specs.Lines.{last_epoch}
-use Rattle.play.specs.Parties.{Parties, KeepsNothing, NeverFails, book_of, chain_under, provider_of, AreAt, HasAsked, HaveDone, IsWatcher}
+use Rattle.play.specs.Parties.{Parties, book_of, chain_under, provider_of, AreAt, HasAsked, HaveDone, IsWatcher}
 use Rattle.play.specs.Played as played
 use Rattle.play.specs.Played.{Stand, watcher_of}
 use Rattle.play.specs.Watchers.{Watcher, ahead, through}
@@ -103,7 +104,7 @@ module _ (provider : Provider) where
       }
 
   pub begins-there : (key : List ℕ) (book : Book) → Climb 0 (pages book) → (root : SignedRoot) → IsRootOf provider book book.last root → (name : List ℕ) (start : Option (List ℕ))
-      → IsWatcher key (roots provider book) book (begun (started key root) name start) (watcher_of book name start)
+      → IsWatcher key (roots provider book) book (new_monitor (started key root) name start) (watcher_of book name start)
   begins-there key book climb root rooted name start = record {
     name = refl;
     watch = refl;
@@ -227,7 +228,7 @@ module _ {R : Type 0} (digest_of : List ℕ → List ℕ) (value_of signature_of
     (asked : HasAsked digest_of value_of signature_of stream accepted verified before (request.Query Head) frame mid)
     (is_body : (whole : Frame) → IsFrame whole → frame ≡ frame_bytes whole → body ≡ whole.body)
     (starts : Starts verified before.key body (Ok client))
-    (ends : fin ≡ record mid { monitors = mid.monitors ++ begun client name start ∷ [] }) where
+    (ends : fin ≡ record mid { monitors = mid.monitors ++ new_monitor client name start ∷ [] }) where
   abbrev by : Provider
   by = provider_of digest_of value_of signature_of stream accepted verified before
 
@@ -254,11 +255,11 @@ module _ {R : Type 0} (digest_of : List ℕ → List ℕ) (value_of signature_of
   -- all stand as before, with the watcher
   pub added : AreAt digest_of value_of signature_of stream accepted verified fin (record stand { watchers = stand.watchers ++ watcher_of stand.book name start ∷ [] })
   added =
-      all-stand digest_of value_of signature_of stream accepted verified before mid fin stand (request.Query Head) frame (mid.monitors ++ begun client name start ∷ []) (stand.watchers ++ watcher_of stand.book name start ∷ [])
+      all-stand digest_of value_of signature_of stream accepted verified before mid fin stand (request.Query Head) frame (mid.monitors ++ new_monitor client name start ∷ []) (stand.watchers ++ watcher_of stand.book name start ∷ [])
       all asked ends last.stays
-      (zip-push (IsWatcher before.key (roots by stand.book) stand.book) mid.monitors stand.watchers (begun client name start) (watcher_of stand.book name start)
+      (zip-push (IsWatcher before.key (roots by stand.book) stand.book) mid.monitors stand.watchers (new_monitor client name start) (watcher_of stand.book name start)
       (subst (λ (some : List Monitor). AllZip (IsWatcher before.key (roots by stand.book) stand.book) some stand.watchers) (sym (ap (λ (m : Parties R). m.monitors) asked.others)) all.taken.monitors)
-      (subst (λ (c : Client). IsWatcher before.key (roots by stand.book) stand.book (begun c name start) (watcher_of stand.book name start)) (sym is_started)
+      (subst (λ (c : Client). IsWatcher before.key (roots by stand.book) stand.book (new_monitor c name start) (watcher_of stand.book name start)) (sym is_started)
       (begins-there by before.key stand.book climb last.root last.rooted name start)))
 
 -- ---- the monitor goes on
@@ -307,7 +308,7 @@ module _ {R : Type 0} (digest_of : List ℕ → List ℕ) (value_of signature_of
       HaveDone digest_of value_of signature_of stream accepted verified printed now.0 (record stand { watchers = slice_set (stand.watchers ++ watcher_of stand.book name start ∷ []) place now.1 }) text after)
       → (let now = played.watch (index_at before) stand name start in HaveDone digest_of value_of signature_of stream accepted verified printed now.0 now.1 text after)
   watched sound keys printed text after done =
-      let index : index_at parties ≡ index_at before = ap₂ (λ (vuf_key key : List ℕ). index_of (fresh.provider_of digest_of value_of vuf_key signature_of key)) keys.0 keys.1 in
+      let index : index_at parties ≡ index_at before = ap₂ (λ (vuf_key key : List ℕ). index_of (keyed_provider digest_of value_of vuf_key signature_of key)) keys.0 keys.1 in
       let steps : through (index_at parties) (watcher_of stand.book name start) (ahead (watcher_of stand.book name start) (pages stand.book)) ≡ through (index_at before) (watcher_of stand.book name start) (stand.book.last ∷ [])
       = ap (λ (i : List ℕ → List ℕ). through i (watcher_of stand.book name start) (ahead (watcher_of stand.book name start) (pages stand.book))) index
       ∙ ap (through (index_at before) (watcher_of stand.book name start)) (last-ahead stand.book (climbs (index_at before) stand.book sound).climb name start) in

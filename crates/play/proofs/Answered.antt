@@ -5,7 +5,7 @@ use Rattle.std.specs.Str.{bytes_eq}
 use Rattle.rand_core.specs.Stream.{Stream}
 use Rattle.encoding.specs.Bytes.{IsBytes}
 use Rattle.rootchain.specs.declared.signed_root.SignedRoot.{SignedRoot}
-use Rattle.proofs.specs.Replies.{Reply as Spelled, Spells}
+use Rattle.proofs.specs.Replies.{Reply as Spelled, SpellsReply}
 use Rattle.commands.specs.Operations.{Operation, Question, Query, Edit, Put, Promise, Lookup, History, Head}
 use Rattle.commands.specs.Operations as ask
 use Rattle.wire.specs.Requests.{RequestContent, IsAsked}
@@ -18,9 +18,10 @@ use Rattle.book.specs.declared.reply.Reply.TheVariants as reply
 use Rattle.book.specs.Answers.{Answer, Promised, Found, Told, Last}
 use Rattle.book.specs.Books.{Binding, Book, Page, page_at, pages}
 use Rattle.book.specs.Fresh.{KeepsLaws}
-use Rattle.book.specs.Honest.{IsHonest}
+use Rattle.book.specs.Honest.{IsHonestRun}
+use Rattle.book.specs.Keeps.{KeepsNothing, NeverFails}
 use Rattle.book.specs.Maps.{at}
-use Rattle.book.specs.Refusals.{refusal_number}
+use Rattle.book.specs.Refusals.{book_refusal_number}
 use Rattle.book.specs.Shows.{Provider, index_of, roots, IsReplyOf, IsRootOf}
 use Rattle.book.specs.Sound.{IsSound}
 use Rattle.book.specs.Steps.{Outcome}
@@ -30,12 +31,12 @@ use Rattle.book.proofs.Soundness.{IsBefore}
 use Rattle.book.proofs.Stepping.{finds, stepped, Does, Finds}
 use Rattle.epochs.proofs.Running.{same_provider}
 use Rattle.play.specs.Answering.{IsUnchecked}
-use Rattle.play.specs.Checked.{line_of_reply, IsFound}
+use Rattle.play.specs.Checked.{line_of_reply, HasLookedUp}
 use Rattle.play.specs.Checking.{IsShownIn}
 use Rattle.play.specs.Hearing.{response_text}
 use Rattle.play.specs.Lines.{answer_text, checked_text, found_text, numbered_text}
 use Rattle.play.specs.Messages.{comes_of, numbered, or_not_operator, request_asks, Numbered}
-use Rattle.play.specs.Parties.{book_of, chain_under, provider_of, HasAsked, KeepsNothing, NeverFails, Parties}
+use Rattle.play.specs.Parties.{book_of, chain_under, provider_of, HasAsked, Parties}
 use Rattle.play.specs.declared.ask.Ask.{Ask}
 use Rattle.play.specs.declared.ask.Ask.TheVariants as made
 use Rattle.play.specs.Scripts.{token}
@@ -105,15 +106,15 @@ unchecked-of (reply.Refused why) responded of none = tt
 
 -- and one that is a proof is the reply to a look-up
 pub found-of : (said : Reply) (responded : ResponseContent) (proof : Spelled) → IsResponseOf said responded → responded ≡ response.Proof proof
-    → (found : List ℕ) × (said ≡ reply.Found found) × Spells found proof
+    → (found : List ℕ) × (said ≡ reply.Found found) × SpellsReply found proof
 found-of (reply.Found text) responded proof (spelled, spells, of) is =
     let e : response.Proof proof ≡ response.Proof spelled = sym is ∙ of in
     let same : spelled ≡ proof = cc in
-    (text, refl, subst (Spells text) same spells)
+    (text, refl, subst (SpellsReply text) same spells)
 found-of (reply.Promised signed) responded proof of is = let e : response.Proof proof ≡ response.Promise signed = sym is ∙ of in absurd cc
 found-of (reply.Told told) responded proof of is = let e : response.Proof proof ≡ response.Roots told.items = sym is ∙ of in absurd cc
 found-of (reply.Last root) responded proof of is = let e : response.Proof proof ≡ response.Root root = sym is ∙ of in absurd cc
-found-of (reply.Refused why) responded proof of is = let e : response.Proof proof ≡ response.Refused (refusal_number why) = sym is ∙ of in absurd cc
+found-of (reply.Refused why) responded proof of is = let e : response.Proof proof ≡ response.Refused (book_refusal_number why) = sym is ∙ of in absurd cc
 
 -- ---- the reply to one request
 
@@ -165,7 +166,7 @@ module _ {R : Type 0} (digest_of : List ℕ → List ℕ) (value_of signature_of
   -- what a look-up found, for the client
   pub record HasFound (name : List ℕ) (epoch : ℕ) (found : List ℕ) (spelled : Spelled) : Type 0 where
     pub page : Page
-    pub is : IsFound digest_of value_of signature_of stream accepted verified after name epoch found page
+    pub is : HasLookedUp digest_of value_of signature_of stream accepted verified after name epoch found page
     pub told : found_text (index_of (P after)) page name ≡ line
     pub at_epoch : spelled.body.epoch ≡ page.epoch
 
@@ -230,13 +231,13 @@ module _ {R : Type 0} (digest_of : List ℕ → List ℕ) (value_of signature_of
       key-same : after.key ≡ before.key
       key-same = ap (λ (p : Parties R). p.key) a.others
 
-      honest : IsHonest (P after) accepted verified after.key (B after) (B after) (asked ∷ []) (reply.Found found ∷ [])
+      honest : IsHonestRun (P after) accepted verified after.key (B after) (B after) (asked ∷ []) (reply.Found found ∷ [])
       honest =
-          subst (λ (p : Provider). IsHonest p accepted verified after.key (B after) (B after) (asked ∷ []) (reply.Found found ∷ [])) (sym same)
-          (subst (λ (k : List ℕ). IsHonest (P before) accepted verified k (B after) (B after) (asked ∷ []) (reply.Found found ∷ [])) (sym key-same)
-          (subst (λ (b : Book). IsHonest (P before) accepted verified before.key b (B after) (asked ∷ []) (reply.Found found ∷ [])) (sym stays)
-          (subst (λ (s : Reply). IsHonest (P before) accepted verified before.key (B before) (B after) (asked ∷ []) (s ∷ [])) says
-          (subst (λ (o : Operation). IsHonest (P before) accepted verified before.key (B before) (B after) (o ∷ []) (a.said ∷ [])) asked-is a.honest))))
+          subst (λ (p : Provider). IsHonestRun p accepted verified after.key (B after) (B after) (asked ∷ []) (reply.Found found ∷ [])) (sym same)
+          (subst (λ (k : List ℕ). IsHonestRun (P before) accepted verified k (B after) (B after) (asked ∷ []) (reply.Found found ∷ [])) (sym key-same)
+          (subst (λ (b : Book). IsHonestRun (P before) accepted verified before.key b (B after) (asked ∷ []) (reply.Found found ∷ [])) (sym stays)
+          (subst (λ (s : Reply). IsHonestRun (P before) accepted verified before.key (B before) (B after) (asked ∷ []) (s ∷ [])) says
+          (subst (λ (o : Operation). IsHonestRun (P before) accepted verified before.key (B before) (B after) (o ∷ []) (a.said ∷ [])) asked-is a.honest))))
 
       laws : KeepsLaws accepted verified after.key (P after)
       laws =
@@ -256,7 +257,7 @@ module _ {R : Type 0} (digest_of : List ℕ → List ℕ) (value_of signature_of
           = ap (comes_of index (B before)) (request-is ∙ ap Ok asked-is) ∙ shown.3 in
           sym (ap line_by comes)
 
-      pub has-found : (spelled : Spelled) → Spells found spelled → before.client.chain ≡ chain_under before.key (roots (P before) (B before)) → HasFound name epoch found spelled
+      pub has-found : (spelled : Spelled) → SpellsReply found spelled → before.client.chain ≡ chain_under before.key (roots (P before) (B before)) → HasFound name epoch found spelled
       has-found spelled spells knows = record {
         page = page;
         is = record {

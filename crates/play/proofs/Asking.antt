@@ -20,28 +20,29 @@ use Rattle.wire.specs.FrameViews.{frame_seen, BeginsWith}
 use Rattle.wire.specs.Laws.{FrameIsOneMessage, IsReadAs, RequestsAreOne}
 use Rattle.wire.specs.Requests.{RequestContent, request_frame, Asks, IsAsked}
 use Rattle.wire.specs.Responses.{response_body, Refused, ResponseContent}
-use Rattle.wire.specs.Streams.{Remainder, Message, Rest, Whole, with_more, Tells}
+use Rattle.wire.specs.Streams.{Remainder, Message, Rest, Whole, with_more, TellsMessages}
 use Rattle.book.specs.declared.keeper.NoKeeper.{NoKeeper}
 use Rattle.book.specs.declared.refusal.Refusal.TheVariants.{Memory}
 use Rattle.book.specs.declared.reply.Reply.{Reply}
 use Rattle.book.specs.declared.reply.Reply.TheVariants as reply
 use Rattle.book.specs.Books.{Book}
-use Rattle.book.specs.Honest.{IsHonest}
+use Rattle.book.specs.Honest.{IsHonestRun}
+use Rattle.book.specs.Keeps.{KeepsNothing, NeverFails}
 use Rattle.book.specs.Shows.{Provider}
 use Rattle.book.specs.Turns.{Run, Turn}
 use Rattle.epochs.specs.DirectoryStates.{HasKeysOf}
 use Rattle.hub.specs.declared.hub_refusal.HubRefusal.{HubRefusal}
 use Rattle.hub.specs.Desks.{command, reply_frame, DeskState, DeskAnswers, IsRead, IsResponseOf}
-use Rattle.hub.specs.DeskRuns.{AreRead, IsTurnedAway, IsWell, ShowHonestRun, ShowReplies}
+use Rattle.hub.specs.DeskRuns.{AreResponses, IsSoundDesk, IsTurnedAway, ShowHonestRun, ShowReplies}
 use Rattle.hub.specs.declared.hub_refusal.HubRefusal.TheVariants.{NoSession}
-use Rattle.hub.specs.Events.{HubState, at, due, BySession, Bytes}
+use Rattle.hub.specs.Events.{HubState, at_session, due, BySession, Bytes}
 use Rattle.hub.specs.Exchanges as exchange
 use Rattle.hub.specs.Exchanges.{Exchange, Exchanges, Replies}
 use Rattle.hub.specs.Happenings.{Happens}
 use Rattle.hub.specs.Runs.{Line, AllAnswered}
 use Rattle.play.specs.declared.ask.Ask.{Ask}
 use Rattle.play.specs.declared.ask.Ask.TheVariants as ask
-use Rattle.play.specs.Parties.{book_of, provider_of, HasAsked, IsReady, KeepsNothing, NeverFails, Parties}
+use Rattle.play.specs.Parties.{book_of, provider_of, HasAsked, IsReady, Parties}
 use Rattle.play.specs.Scripts.{token}
 use Rattle.play.specs.Spoken.{ask_seen}
 
@@ -67,7 +68,7 @@ module _ (field : IsField read_frame frame_bytes IsFrame) (bytes : List ℕ) (fr
 -- A session that holds nothing hears a frame: the frame is answered, and the session holds nothing.
 module _ {S : Type 0} (answers : S → Frame → List ℕ → S → Type 0) where
   exchanges_tell : (service : S) (held : Remainder) (exchanges : List Exchange) (after : S) (left : Remainder) → Exchanges answers service held exchanges after left
-      → Tells held (map (λ exchange. exchange.message) exchanges) left
+      → TellsMessages held (map (λ exchange. exchange.message) exchanges) left
   exchanges_tell service held [] after left (same, kept) = kept
   exchanges_tell service held (exchange ∷ more) after left (middle, between, takes, replied, rest) = (between, takes, exchanges_tell middle between more after left rest)
 
@@ -83,7 +84,7 @@ module _ {S : Type 0} (answers : S → Frame → List ℕ → S → Type 0) wher
       subst (λ (t : List ℕ). answers service frame t after) text (subst (λ (s : S). answers service frame exchange.reply s) (sym same) told)
 
   pub frame_answered : FrameIsOneMessage → (before after : HubState S) (frame : Frame) (piece grown : List ℕ) (result : Result (Unit {0}) HubRefusal) → IsFrame frame
-      → at before.sessions 0 ≡ Some (Rest []) → piece ≡ frame_bytes frame → IsOk result → Happens answers before (Bytes 0 piece) [] result after grown
+      → at_session before.sessions 0 ≡ Some (Rest []) → piece ≡ frame_bytes frame → IsOk result → Happens answers before (Bytes 0 piece) [] result after grown
       → answers before.service frame grown after.service × (after.sessions ≡ before.sessions)
   frame_answered one before after frame piece grown (Err why) is idle whole ok happens = absurd cc
   frame_answered one before after frame piece grown (Ok done) is idle whole ok (due, exchanges, (held, left, here, set, exchanged, spent), wrote) =
@@ -96,7 +97,7 @@ module _ {S : Type 0} (answers : S → Frame → List ℕ → S → Type 0) wher
       )
 
 -- the session is open
-pub bytes-due : (sessions : BySession Remainder) (piece : List ℕ) → at sessions 0 ≡ Some (Rest []) → due sessions (Bytes 0 piece) ≡ None
+pub bytes-due : (sessions : BySession Remainder) (piece : List ℕ) → at_session sessions 0 ≡ Some (Rest []) → due sessions (Bytes 0 piece) ≡ None
 bytes-due sessions piece idle = ap (λ (held : Option Remainder). if is_some held then None else Some NoSession) idle
 
 -- a body that is not one byte long does not say that memory ran out
@@ -136,7 +137,7 @@ module _ {R : Type 0} (digest_of : List ℕ → List ℕ) (value_of signature_of
   -- the law of a hub whose records nobody keeps
   abbrev pub ShowsHonestRuns : Type 0
   ShowsHonestRuns = (before after : DeskState R NoKeeper) (lines : List Line)
-      → IsWell digest_of value_of signature_of stream accepted verified before → IsWell digest_of value_of signature_of stream accepted verified after
+      → IsSoundDesk digest_of value_of signature_of stream accepted verified before → IsSoundDesk digest_of value_of signature_of stream accepted verified after
       → AllAnswered (DeskAnswers digest_of value_of signature_of stream KeepsNothing NeverFails) before lines after
       → ShowHonestRun digest_of value_of signature_of stream KeepsNothing NeverFails accepted verified before lines after
 
@@ -163,11 +164,11 @@ module _ {R : Type 0} (digest_of : List ℕ → List ℕ) (value_of signature_of
 
   module _ (one : RequestsAreOne) (before after : Parties R) (requested : RequestContent) (asked : Operation) (text : List ℕ)
       (asks : Asks (request_frame requested).kind (request_frame requested).body requested) (is : command token requested ≡ Some asked) (ready : IsReady digest_of value_of signature_of stream accepted verified before)
-      (well : IsWell digest_of value_of signature_of stream accepted verified before.hub.service) (sessions : after.hub.sessions ≡ before.hub.sessions) (others : after ≡ record before { hub = after.hub }) where
+      (well : IsSoundDesk digest_of value_of signature_of stream accepted verified before.hub.service) (sessions : after.hub.sessions ≡ before.hub.sessions) (others : after ≡ record before { hub = after.hub }) where
     by_shown : (commands : List Operation) (replies : List Reply) (shown : ShowReplies before.hub.service.token (one_line requested text ∷ []) commands replies)
-        → AreRead before.hub.service.token (one_line requested text ∷ []) commands replies shown
+        → AreResponses before.hub.service.token (one_line requested text ∷ []) commands replies shown
         → Run (provider_of digest_of value_of signature_of stream accepted verified before) KeepsNothing NeverFails (book_of digest_of value_of signature_of stream accepted verified before) before.hub.service.keeper commands replies (book_of digest_of value_of signature_of stream accepted verified after) after.hub.service.keeper
-        → IsHonest (provider_of digest_of value_of signature_of stream accepted verified before) accepted verified before.hub.service.directory.signing_key (book_of digest_of value_of signature_of stream accepted verified before) (book_of digest_of value_of signature_of stream accepted verified after) commands replies
+        → IsHonestRun (provider_of digest_of value_of signature_of stream accepted verified before) accepted verified before.hub.service.directory.signing_key (book_of digest_of value_of signature_of stream accepted verified before) (book_of digest_of value_of signature_of stream accepted verified after) commands replies
         → HasKeysOf before.hub.service.directory after.hub.service.directory → after.hub.service.token ≡ before.hub.service.token
         → IsServed before requested text after
     by_shown commands replies (inl (code, turned, says, more)) read run honest keys kept =
@@ -205,7 +206,7 @@ module _ {R : Type 0} (digest_of : List ℕ → List ℕ) (value_of signature_of
 
   pub served : FrameIsOneMessage → RequestsAreOne → ShowsHonestRuns → (before after : Parties R) (requested : RequestContent) (asked : Operation) (piece text : List ℕ) (result : Result (Unit {0}) HubRefusal)
       → IsReady digest_of value_of signature_of stream accepted verified before → IsAsked requested → IsFrame (request_frame requested) → command token requested ≡ Some asked → piece ≡ frame_bytes (request_frame requested)
-      → IsWell digest_of value_of signature_of stream accepted verified before.hub.service → IsWell digest_of value_of signature_of stream accepted verified after.hub.service
+      → IsSoundDesk digest_of value_of signature_of stream accepted verified before.hub.service → IsSoundDesk digest_of value_of signature_of stream accepted verified after.hub.service
       → IsOk result → Happens (DeskAnswers digest_of value_of signature_of stream KeepsNothing NeverFails) before.hub (Bytes 0 piece) [] result after.hub text
       → after ≡ record before { hub = after.hub }
       → IsServed before requested text after

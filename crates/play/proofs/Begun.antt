@@ -11,6 +11,7 @@ use Rattle.wire.specs.Streams.{Remainder, Rest}
 use Rattle.book.specs.declared.keeper.NoKeeper.{NoKeeper}
 use Rattle.book.specs.Books.{Book}
 use Rattle.book.specs.Fresh.{fresh, KeepsLaws}
+use Rattle.book.specs.Keeps.{KeepsNothing, NeverFails}
 use Rattle.book.specs.Shows.{Provider, SignedPage, index_of, roots, IsRootOf}
 use Rattle.book.specs.Sound.{IsSound}
 use Rattle.book.proofs.Members.{first-or-later, none-there}
@@ -25,7 +26,7 @@ use Rattle.auditor.specs.declared.auditor.Observed.{Observed}
 use Rattle.client.specs.Clients.{Client}
 use Rattle.client.specs.Starting.{Starts}
 use Rattle.rootchain.specs.declared.refusal.Refusal.{Refusal}
-use Rattle.play.specs.Parties.{chain_under, AreAt, KeepsNothing, NeverFails}
+use Rattle.play.specs.Parties.{chain_under, AreAt}
 use Rattle.play.specs.Scripts.{token}
 use Rattle.play.proofs.Added.{one-signed}
 use Rattle.play.proofs.Looked.{sealed_well}

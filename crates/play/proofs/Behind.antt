@@ -14,7 +14,8 @@ use Rattle.book.specs.declared.reply.Reply.{Reply}
 use Rattle.book.specs.declared.reply.Reply.TheVariants as reply
 use Rattle.book.specs.Answers.{page_range, Answer, Found, Last, Promised, Told}
 use Rattle.book.specs.Books.{Binding, Book, Page, pages}
-use Rattle.book.specs.Fresh as fresh
+use Rattle.book.specs.Fresh.{keyed_provider}
+use Rattle.book.specs.Keeps.{KeepsNothing, NeverFails}
 use Rattle.book.specs.Shows.{Provider, index_of, roots, IsRootOf}
 use Rattle.book.specs.Sound.{IsSound}
 use Rattle.book.specs.Steps.{Answers, Outcome}
@@ -23,14 +24,13 @@ use Rattle.book.proofs.OneRoot.{same-roots}
 use Rattle.book.proofs.Rooted.{all-rooted}
 use Rattle.epochs.specs.DirectoryStates.{book, DirectoryState, HasKeysOf}
 use Rattle.hub.specs.Desks.{reply_frame, DeskState, IsResponseOf}
-use Rattle.hub.specs.Events.{BySession, HubState}
-use Rattle.hub.specs.Events as events
+use Rattle.hub.specs.Events.{at_session, BySession, HubState}
 use Rattle.wire.specs.Streams.{Remainder, Rest}
 use Rattle.auditor.specs.Chains.{chain_of}
 use Rattle.auditor.specs.InOrder.{ObservesAll}
 use Rattle.client.specs.Clients.{Client}
 use Rattle.monitor.specs.Monitors.{Monitor}
-use Rattle.play.specs.Parties.{book_of, chain_under, provider_of, AreAt, AreBehind, HasAsked, HaveTaken, HoldBytes, IsWatcher, KeepsNothing, NeverFails, Parties}
+use Rattle.play.specs.Parties.{book_of, chain_under, provider_of, AreAt, AreBehind, HasAsked, HaveTaken, HoldBytes, IsWatcher, Parties}
 use Rattle.play.specs.Played.{Stand}
 use Rattle.play.specs.Taking.{AllTake, MonitorTakes}
 use Rattle.play.specs.Wanting.{IsOffered}
@@ -208,7 +208,7 @@ module _ {R : Type 0} (digest_of : List ℕ → List ℕ) (value_of signature_of
   looks-kept before between after requested text items a t = ap (λ (c : Client). c.looks) t.client.2 ∙ ap (λ (p : Parties R). p.client.looks) a.others
 
   pub same-provider : (before after : Parties R) → HasKeysOf before.hub.service.directory after.hub.service.directory → P after ≡ P before
-  same-provider before after keys = ap₂ (λ (vuf_key key : List ℕ). fresh.provider_of digest_of value_of vuf_key signature_of key) keys.0 keys.1
+  same-provider before after keys = ap₂ (λ (vuf_key key : List ℕ). keyed_provider digest_of value_of vuf_key signature_of key) keys.0 keys.1
 
   -- what a list of roots says that was asked for behind the head
   pub record IsNextList (before between : Parties R) (stand : Stand) (body : List ℕ) (b : Behind before stand) : Type 0 where
@@ -260,7 +260,7 @@ module _ {R : Type 0} (digest_of : List ℕ → List ℕ) (value_of signature_of
           book = ap (λ (hub : HubState (DeskState R NoKeeper)). book stream hub.service.directory) t.hub ∙ next-list.stays ∙ b.hub.book;
           sessions = sessions_same ∙ b.hub.sessions;
           ready = record {
-            idle = subst (λ (sessions : BySession Remainder). events.at sessions 0 ≡ Some (Rest [])) (sym sessions_same) b.hub.ready.idle;
+            idle = subst (λ (sessions : BySession Remainder). at_session sessions 0 ≡ Some (Rest [])) (sym sessions_same) b.hub.ready.idle;
             bytes = subst HoldBytes (sym sessions_same) b.hub.ready.bytes;
             token = ap (λ (hub : HubState (DeskState R NoKeeper)). hub.service.token) t.hub ∙ a.token ∙ b.hub.ready.token;
             key = keys_same.1 ∙ b.hub.ready.key ∙ sym key_same;

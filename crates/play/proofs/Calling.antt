@@ -19,8 +19,8 @@ use Rattle.rootchain.proofs.Places.{one-first}
 use Rattle.proofs.specs.Accepts.{stated, Accepts, States}
 use Rattle.proofs.specs.BrokenPromises.{IsBrokenPromise}
 use Rattle.proofs.specs.Comparisons.{IsAcceptedReply, Refuses}
-use Rattle.proofs.specs.Refusals.{IsFirst, Passes, ReadsReply}
-use Rattle.proofs.specs.Replies.{Reply as Spelled, Spells}
+use Rattle.proofs.specs.Refusals.{IsFirstToFail, Passes, ReadsReply}
+use Rattle.proofs.specs.Replies.{Reply as Spelled, SpellsReply}
 use Rattle.proofs.specs.Watches.{expected}
 use Rattle.proofs.specs.declared.broken_promise.BrokenPromise.{BrokenPromise}
 use Rattle.proofs.specs.declared.refusal.Refusal.{Refusal as ProofRefusal}
@@ -31,7 +31,7 @@ use Rattle.commands.specs.Operations.{Operation, Query, Lookup}
 use Rattle.book.specs.declared.reply.Reply.{Reply}
 use Rattle.book.specs.declared.reply.Reply.TheVariants as reply_of
 use Rattle.book.specs.Books.{Binding, Book, Page, pages}
-use Rattle.book.specs.Honest.{key_at, AreConsecutive, IsAnswer, IsDouble, IsHonest, IsSaid}
+use Rattle.book.specs.Honest.{key_at, AreConsecutive, IsAnswer, IsDouble, IsHonestRun, IsSaid}
 use Rattle.book.specs.Shows.{Provider, SignedPage, roots, sealed_behind, sealed_pages, IsRootOf}
 use Rattle.book.proofs.Members.{first-or-later, mapped-there, none-there}
 use Rattle.book.proofs.Running.{said-at}
@@ -43,10 +43,10 @@ use Rattle.auditor.specs.declared.auditor.Observed.{Observed}
 use Rattle.auditor.specs.declared.evidence.Evidence.{Evidence}
 use Rattle.auditor.specs.declared.evidence.Evidence.TheVariants as evidence
 use Rattle.auditor.proofs.InOrder.{followed}
-use Rattle.client.specs.Clients.{Client, with_promise, HasRootOf, IsSound}
+use Rattle.client.specs.Clients.{Client, with_promise, HasRootOf, IsSoundClient}
 use Rattle.client.specs.Dues.{IsTested, Tests}
-use Rattle.client.specs.Looking.{IsAnswered, IsAsked, Looks}
-use Rattle.client.specs.Promising.{Keeps, ReadsPromise}
+use Rattle.client.specs.Looking.{IsAnswered, IsLookRoot, Looks}
+use Rattle.client.specs.Promising.{KeepsPromise, ReadsPromise}
 use Rattle.client.specs.declared.due.Due.{Due}
 use Rattle.client.specs.declared.due.Due.TheVariants as due_of
 use Rattle.client.specs.declared.refusal.Refusal.{Refusal}
@@ -55,12 +55,12 @@ use Rattle.client.proofs.Breaking.{all-at, due-holds, next-names}
 use Rattle.client.proofs.Keeping.{head-at}
 use Rattle.monitor.specs.Expecting.{Expects, MayExpect}
 use Rattle.monitor.specs.Monitors.{Monitor, with_change, IsNext}
-use Rattle.monitor.specs.Stepping.{IsFound, Steps, Tells}
+use Rattle.monitor.specs.Stepping.{IsFound, StepTells, Steps}
 use Rattle.monitor.specs.declared.refusal.Refusal.{Refusal as MonitorRefusal}
 use Rattle.monitor.specs.declared.refusal.Refusal.TheVariants as monitor
 use Rattle.monitor.specs.declared.step.Step.{Step}
 use Rattle.monitor.specs.declared.step.Step.TheVariants as step_of
-use Rattle.play.specs.Calls.{CallsAreHonest, ExpectsRight, IsFollowed, IsGiven, IsIssued, IsShown, IsDoubleIn, KeepsRight, LooksRight, MayRefuse, StepsRight}
+use Rattle.play.specs.Calls.{CallsAreHonest, ExpectsRight, IsFollowed, IsIssued, IsShown, WasPromised, IsDoubleIn, KeepsRight, LooksRight, MayRefuse, StepsRight}
 use Rattle.play.proofs.Following.{updated}
 
 -- ---- replies
@@ -71,10 +71,10 @@ module _ (hash : List ℕ → List ℕ) (accepted : List ℕ → List ℕ → Li
   accepts-stated text reply accepts = (reply, accepts.0, subst (λ (b : Body). States hash accepted b name reply (stated reply.end)) accepts.1 accepts.2)
 
 -- bytes that spell a reply are refused by no reading
-pub spelled-read : (bytes : List ℕ) (reply : Spelled) → Spells bytes reply → (refusal : ProofRefusal) → ¬ ReadsReply bytes (Err refusal)
+pub spelled-read : (bytes : List ℕ) (reply : Spelled) → SpellsReply bytes reply → (refusal : ProofRefusal) → ¬ ReadsReply bytes (Err refusal)
 spelled-read bytes reply spelled proof.Malformed reads = reads.0 reply spelled
 spelled-read bytes reply spelled proof.Trailing reads =
-    reads.4 (nothing_left reads.1 reads.2 reads.0 reply reads.5 (subst (λ (all : List ℕ). Spells all reply) reads.3 spelled))
+    reads.4 (nothing_left reads.1 reads.2 reads.0 reply reads.5 (subst (λ (all : List ℕ). SpellsReply all reply) reads.3 spelled))
 spelled-read bytes reply spelled proof.OtherRoot reads = reads
 spelled-read bytes reply spelled proof.BadVuf reads = reads
 spelled-read bytes reply spelled proof.SameIndex reads = reads
@@ -99,11 +99,11 @@ module _ (provider : Provider) where
 
 -- ---- what is asked of a chain
 
-asked-at : (chain : KeyedRoots) (asked : ℕ) (root : SignedRoot) → IsAsked chain asked root → IsAt chain root.body.epoch root
+asked-at : (chain : KeyedRoots) (asked : ℕ) (root : SignedRoot) → IsLookRoot chain asked root → IsAt chain root.body.epoch root
 asked-at chain zero root is = head-at chain root is
 asked-at chain (suc n) root is = (is.0, refl)
 
-pub one-asked : (chain : KeyedRoots) → Ascend chain.roots → (asked : ℕ) (one other : SignedRoot) → IsAsked chain asked one → IsAsked chain asked other → one ≡ other
+pub one-asked : (chain : KeyedRoots) → Ascend chain.roots → (asked : ℕ) (one other : SignedRoot) → IsLookRoot chain asked one → IsLookRoot chain asked other → one ≡ other
 one-asked chain up zero one other is also = one-first one other _ is also
 one-asked chain up (suc n) one other is also = unique chain up (suc n) one other is also
 
@@ -122,7 +122,7 @@ one-promise bytes one other is also =
 -- ---- a double index
 
 pub same-index : (why : ProofRefusal) → (hash : List ℕ → List ℕ) (accepted : List ℕ → List ℕ → List ℕ → Type 0) (body : Body) (name : List ℕ) (reply : Spelled)
-    → IsFirst (Passes hash accepted body name reply) why → IsFirst (Passes hash accepted body name reply) proof.SameIndex → why ≡ proof.SameIndex
+    → IsFirstToFail (Passes hash accepted body name reply) why → IsFirstToFail (Passes hash accepted body name reply) proof.SameIndex → why ≡ proof.SameIndex
 same-index proof.Malformed hash accepted body name reply is also = absurd (is.fails tt)
 same-index proof.Trailing hash accepted body name reply is also = absurd (is.fails tt)
 same-index proof.OtherRoot hash accepted body name reply is also = absurd (is.fails (also.before proof.OtherRoot (omega arith)))
@@ -132,7 +132,7 @@ same-index proof.OtherPrefix hash accepted body name reply is also = absurd (als
 same-index proof.PathMismatch hash accepted body name reply is also = absurd (also.fails (is.before proof.SameIndex (omega arith)))
 
 module _ (provider : Provider) (accepted verified : List ℕ → List ℕ → List ℕ → Type 0) (key : List ℕ) (before after : Book) (commands : List Operation) (replies : List Reply)
-    (h : IsHonest provider accepted verified key before after commands replies) where
+    (h : IsHonestRun provider accepted verified key before after commands replies) where
   -- the text, read under the page's root, states what the page has, or is refused as it may be
   pub record IsOf (page : Page) (root : SignedRoot) (name text : List ℕ) : Type 0 where
     pub rooted : IsRootOf provider after page root
@@ -180,7 +180,7 @@ module _ (provider : Provider) (accepted verified : List ℕ → List ℕ → Li
       only why (inr (reply, spelled, first)) =
           let same : reply ≡ d.reply = one_reply text reply d.reply spelled d.spelled in
           same-index why provider.hash accepted d.root.body name d.reply
-          (subst (λ (r : Spelled). IsFirst (Passes provider.hash accepted d.root.body name r) why) same first) d.refused
+          (subst (λ (r : Spelled). IsFirstToFail (Passes provider.hash accepted d.root.body name r) why) same first) d.refused
 
   -- what was shown for the epoch of a root is of the page of that root
   pub shown : (name : List ℕ) (text : List ℕ) (root : SignedRoot) → Contains (roots provider after) root → IsShown before commands replies name root.body.epoch text
@@ -197,7 +197,7 @@ module _ (provider : Provider) (accepted verified : List ℕ → List ℕ → Li
   -- ---- looks
 
   pub looked : (holder later : Client) (name : List ℕ) (text : List ℕ) (asked : ℕ) (root : SignedRoot) (result : Result Statement Refusal)
-      → IsFollowed provider key after holder.chain → IsAsked holder.chain asked root → IsShown before commands replies name root.body.epoch text
+      → IsFollowed provider key after holder.chain → IsLookRoot holder.chain asked root → IsShown before commands replies name root.body.epoch text
       → Looks provider.hash accepted holder name asked text result later
       → (page : Page) × IsRootOf provider after page root × LooksRight provider page name result
   unfolding IsAnswered
@@ -232,7 +232,7 @@ module _ (provider : Provider) (accepted verified : List ℕ → List ℕ → Li
       own-next own is = one-next watching.client.chain (chain-ascends watching.client.chain f) watching.watched own root is next
 
       told : (page : Page) → IsOf page root watching.name text → (own : SignedRoot) (reply : Spelled) → IsFound provider.hash accepted watching text own reply
-          → (step : Step) → Tells watching.watch own.body.epoch (stated reply.end) step
+          → (step : Step) → StepTells watching.watch own.body.epoch (stated reply.end) step
           → (step ≡ step_of.Kept) ↔ (key_at page watching.name ≡ expected watching.watch page.epoch)
       told page o own reply found step tells = by step tells
         where
@@ -245,7 +245,7 @@ module _ (provider : Provider) (accepted verified : List ℕ → List ℕ → Li
           states : stated reply.end ≡ key_at page watching.name
           states = o.states reply (subst (λ (r : SignedRoot). IsAcceptedReply provider.hash accepted r.body watching.name text reply) one found.1)
 
-          by : (step : Step) → Tells watching.watch own.body.epoch (stated reply.end) step → (step ≡ step_of.Kept) ↔ (key_at page watching.name ≡ expected watching.watch page.epoch)
+          by : (step : Step) → StepTells watching.watch own.body.epoch (stated reply.end) step → (step ≡ step_of.Kept) ↔ (key_at page watching.name ≡ expected watching.watch page.epoch)
           by step_of.Kept tells = ((λ e. sym states ∙ tells ∙ ap (expected watching.watch) epoch), (λ e. refl))
           by (step_of.Alarm at_epoch key_found) tells = ((λ e. absurd cc), (λ e. absurd (tells.0 (states ∙ e ∙ sym (ap (expected watching.watch) epoch)))))
 
@@ -299,15 +299,15 @@ module _ (provider : Provider) (accepted verified : List ℕ → List ℕ → Li
         by client.NoPromise reads = reads
 
   pub promised : (holder later : Client) (given : SignedPromise) (root : SignedRoot) (result : Result (Unit {0}) Refusal)
-      → IsFollowed provider key after holder.chain → IsAt holder.chain given.promise.epoch root → IsGiven commands replies given
-      → Keeps provider.hash verified holder (signed_promise_bytes given) result later
+      → IsFollowed provider key after holder.chain → IsAt holder.chain given.promise.epoch root → WasPromised commands replies given
+      → KeepsPromise provider.hash verified holder (signed_promise_bytes given) result later
       → KeepsRight holder given result later
   promised holder later given root result f is (command, said) keeps = by result keeps
     where
       never-read : (why : Refusal) → ¬ ReadsPromise provider.hash verified holder (signed_promise_bytes given) (Err why)
       never-read = reads-it holder.chain f command given said root is holder refl
 
-      by : (result : Result (Unit {0}) Refusal) → Keeps provider.hash verified holder (signed_promise_bytes given) result later → KeepsRight holder given result later
+      by : (result : Result (Unit {0}) Refusal) → KeepsPromise provider.hash verified holder (signed_promise_bytes given) result later → KeepsRight holder given result later
       by (Ok done) (signed, is_given, grown) = grown ∙ ap (with_promise holder) (sym (same-promise holder.chain f command given said root is signed is_given.0.0))
       by (Err client.Memory) keeps = tt
       by (Err (client.Root why)) keeps = absurd (never-read (client.Root why) keeps.0)
@@ -317,7 +317,7 @@ module _ (provider : Provider) (accepted verified : List ℕ → List ℕ → Li
       by (Err client.NoPromise) keeps = absurd keeps
 
   pub expected-change : (watching later : Monitor) (given : SignedPromise) (root : SignedRoot) (result : Result (Unit {0}) MonitorRefusal)
-      → IsFollowed provider key after watching.client.chain → IsAt watching.client.chain given.promise.epoch root → IsGiven commands replies given
+      → IsFollowed provider key after watching.client.chain → IsAt watching.client.chain given.promise.epoch root → WasPromised commands replies given
       → MayExpect watching given.promise.key given.promise
       → Expects provider.hash verified watching given.promise.key (signed_promise_bytes given) result later
       → ExpectsRight watching given result later
@@ -349,7 +349,7 @@ module _ (provider : Provider) (accepted verified : List ℕ → List ℕ → Li
       absurd cc
 
   pub due : (holder : Client) (place : ℕ) (given : SignedPromise) (text : List ℕ) (root : SignedRoot) (result : Result Due Refusal)
-      → IsFollowed provider key after holder.chain → IsSound provider.hash accepted verified holder → IsTested holder.promises given.promise.name place given → IsGiven commands replies given
+      → IsFollowed provider key after holder.chain → IsSoundClient provider.hash accepted verified holder → IsTested holder.promises given.promise.name place given → WasPromised commands replies given
       → IsNextAfter holder.chain given.promise.epoch root → IsShown before commands replies given.promise.name root.body.epoch text
       → Tests provider.hash accepted holder.chain given.promise.name text given result
       → result ≡ Ok due_of.Kept

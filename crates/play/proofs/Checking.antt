@@ -15,7 +15,7 @@ use Rattle.rootchain.specs.declared.signed_root.SignedRoot.{SignedRoot}
 use Rattle.rootchain.proofs.Chains.{ascend-linked}
 use Rattle.proofs.specs.Accepts.{stated}
 use Rattle.proofs.specs.Comparisons.{IsAcceptedReply, Refuses}
-use Rattle.proofs.specs.Refusals.{refusal_number, IsFirst, Passes}
+use Rattle.proofs.specs.Refusals.{reply_refusal_number, IsFirstToFail, Passes}
 use Rattle.proofs.specs.Replies.{Reply as Spelled}
 use Rattle.proofs.specs.Watches.{Watch, expected}
 use Rattle.proofs.specs.declared.refusal.Refusal.{Refusal as ProofRefusal}
@@ -37,11 +37,11 @@ use Rattle.book.proofs.Members.{first-there, later-there}
 use Rattle.book.proofs.Placed.{Alone}
 use Rattle.book.proofs.Sealing.{IsSealed, all-sealed, sealed-page}
 use Rattle.client.specs.Clients.{Client}
-use Rattle.client.specs.Looking.{IsAnswered, IsAsked, Looks}
+use Rattle.client.specs.Looking.{IsAnswered, IsLookRoot, Looks}
 use Rattle.client.specs.declared.refusal.Refusal.{Refusal}
 use Rattle.client.specs.declared.refusal.Refusal.TheVariants as client
 use Rattle.monitor.specs.Monitors.{Monitor, IsNext}
-use Rattle.monitor.specs.Stepping.{IsFound, Steps, Tells}
+use Rattle.monitor.specs.Stepping.{IsFound, StepTells, Steps}
 use Rattle.monitor.specs.declared.refusal.Refusal.{Refusal as MonitorRefusal}
 use Rattle.monitor.specs.declared.refusal.Refusal.TheVariants as monitor
 use Rattle.monitor.specs.declared.step.Step.{Step}
@@ -156,13 +156,13 @@ module _ (provider : Provider) (accepted verified : List ℕ → List ℕ → Li
       only d why (inl reads) = absurd (spelled-read text d.reply d.spells why reads)
       only d why (inr (reply, spelled, first)) =
           let same : reply ≡ d.reply = one_reply text reply d.reply spelled d.spells in
-          same-index why provider.hash accepted root.body name d.reply (subst (λ (r : Spelled). IsFirst (Passes provider.hash accepted root.body name r) why) same first) d.refused
+          same-index why provider.hash accepted root.body name d.reply (subst (λ (r : Spelled). IsFirstToFail (Passes provider.hash accepted root.body name r) why) same first) d.refused
 
-  five : (why : ProofRefusal) → why ≡ proof.SameIndex → refused_proof ≡ codes "client refuses proof " ++ decimal (refusal_number why)
+  five : (why : ProofRefusal) → why ≡ proof.SameIndex → refused_proof ≡ codes "client refuses proof " ++ decimal (reply_refusal_number why)
   unfolding digits
-  five why is = ap (λ (w : ProofRefusal). codes "client refuses proof " ++ decimal (refusal_number w)) (sym is)
+  five why is = ap (λ (w : ProofRefusal). codes "client refuses proof " ++ decimal (reply_refusal_number w)) (sym is)
 
-  pub looks-told : (holder later : Client) (asked : ℕ) (result : Result Statement Refusal) → IsChain provider.hash verified holder.chain → IsAsked holder.chain asked root
+  pub looks-told : (holder later : Client) (asked : ℕ) (result : Result Statement Refusal) → IsChain provider.hash verified holder.chain → IsLookRoot holder.chain asked root
       → Looks provider.hash accepted holder name asked text result later
       → TellsLook page.epoch result (if is_double (index_of provider) page name then refused_proof else statement_text page.epoch (key_at page name))
   unfolding IsAnswered
@@ -171,10 +171,10 @@ module _ (provider : Provider) (accepted verified : List ℕ → List ℕ → Li
       up : Ascend holder.chain.roots
       up = ascend-linked provider.hash holder.chain.roots chain.linked
 
-      answered : (own : SignedRoot) (reply : Spelled) → IsAsked holder.chain asked own → IsAcceptedReply provider.hash accepted own.body name text reply → IsAcceptedReply provider.hash accepted root.body name text reply
+      answered : (own : SignedRoot) (reply : Spelled) → IsLookRoot holder.chain asked own → IsAcceptedReply provider.hash accepted own.body name text reply → IsAcceptedReply provider.hash accepted root.body name text reply
       answered own reply is_own accepts = subst (λ (r : SignedRoot). IsAcceptedReply provider.hash accepted r.body name text reply) (one-asked holder.chain up asked own root is_own is) accepts
 
-      refused : (own : SignedRoot) (why : ProofRefusal) → IsAsked holder.chain asked own → Refuses provider.hash accepted own.body name text why → Refuses provider.hash accepted root.body name text why
+      refused : (own : SignedRoot) (why : ProofRefusal) → IsLookRoot holder.chain asked own → Refuses provider.hash accepted own.body name text why → Refuses provider.hash accepted root.body name text why
       refused own why is_own refuses = subst (λ (r : SignedRoot). Refuses provider.hash accepted r.body name text why) (one-asked holder.chain up asked own root is_own is) refuses
 
       by : (b : Bool) → is_double (index_of provider) page name ≡ b → (result : Result Statement Refusal) → Looks provider.hash accepted holder name asked text result later
@@ -225,7 +225,7 @@ module _ (provider : Provider) (accepted verified : List ℕ → List ℕ → Li
       wanted : (root_next : SignedRoot) → IsNext watching root_next → expected watching.watch root_next.body.epoch ≡ expected watcher.watch page.epoch
       wanted root_next is = ap (expected watching.watch) (at-page root_next is) ∙ ap (λ (w : Watch). expected w page.epoch) same
 
-      told : (step : Step) (statement : Option (List ℕ)) (root_next : SignedRoot) → IsNext watching root_next → statement ≡ key_at page name → Tells watching.watch root_next.body.epoch statement step
+      told : (step : Step) (statement : Option (List ℕ)) (root_next : SignedRoot) → IsNext watching root_next → statement ≡ key_at page name → StepTells watching.watch root_next.body.epoch statement step
           → (test : Bool) → same_key (key_at page name) (expected watcher.watch page.epoch) ≡ test
           → TellsStep name page (Ok step) (verdict_text test (place_text name page) (key_at page name))
       told step_of.Kept statement root_next is states tells true e = refl

@@ -9,14 +9,14 @@ use Rattle.book.specs.declared.reply.Reply.{Reply}
 use Rattle.book.specs.declared.reply.Reply.TheVariants as reply
 use Rattle.book.specs.Answers.{Answer}
 use Rattle.book.specs.Books.{Book}
-use Rattle.book.specs.Refusals.{refusal_number}
+use Rattle.book.specs.Keeps.{KeepsNothing, NeverFails}
+use Rattle.book.specs.Refusals.{book_refusal_number}
 use Rattle.book.specs.Shows.{Provider, index_of}
 use Rattle.book.specs.Steps.{Outcome, Answers, Refuses, step}
 use Rattle.book.specs.Turns.{Declines, Shows, Turn, kept_of}
 use Rattle.book.proofs.Stepping.{Does, due_steps, refused_due, stepped}
 use Rattle.play.specs.Messages as message
 use Rattle.play.specs.Messages.{comes_of, numbered}
-use Rattle.play.specs.Parties.{KeepsNothing, NeverFails}
 
 -- ---- what comes of a command
 
@@ -24,7 +24,7 @@ module _ (provider : Provider) (book after : Book) (asked : Operation) where
   -- the reply shows the answer that the book does, or it is the refusal
   abbrev pub Comes : Reply → message.Numbered → Type 0
   Comes said (Ok answer) = Does book asked answer after × Shows provider after answer said
-  Comes said (Err code) = (why : Refusal) × (said ≡ reply.Refused why) × (code ≡ refusal_number why)
+  Comes said (Err code) = (why : Refusal) × (said ≡ reply.Refused why) × (code ≡ book_refusal_number why)
 
   pub record HasCome (said : Reply) : Type 0 where
     pub told : message.Numbered
@@ -41,7 +41,7 @@ module _ (provider : Provider) (book after : Book) (asked : Operation) where
   refused : (why : Refusal) (keeper later : NoKeeper) → after ≡ book → why ≢ Memory
       → (outcome : Outcome) → (step (index_of provider) book asked).0 ≡ outcome → (lost : Option Record) → Declines provider KeepsNothing NeverFails outcome lost keeper why later → HasCome (reply.Refused why)
   refused why keeper later stays fine (Refuses due) is lost (same, kept) = record {
-    told = Err (refusal_number why);
+    told = Err (book_refusal_number why);
     is = ap comes_to (due_steps (index_of provider) book asked due (refused_due (index_of provider) book asked due is)) ∙ ap (λ (w : Refusal). comes_to (Refuses w, book)) (sym same) ∙ ap (λ (b : Book). comes_to (Refuses why, b)) (sym stays);
     comes = (why, refl, refl);
   }

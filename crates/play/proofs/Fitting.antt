@@ -10,22 +10,22 @@ use Rattle.textio.specs.Digits.{hex32}
 use Rattle.commands.specs.declared.edit.Verb.TheVariants.{Register, Change}
 use Rattle.commands.specs.Operations.{Promise, Lookup, History, Head}
 use Rattle.wire.specs.Requests.{RequestContent, Query, Put, Turn, request_frame}
-use Rattle.book.specs.Answers.{is_within}
-use Rattle.play.specs.Scripts.{Line, Pass, Ask, Watch, Piece, End, asking, count_word, epoch_word, hex_word, key_or_none, line_of, line_of_words, said_among, session_word, token, verbs, watching, with_none, with_one, with_two, words}
-use Rattle.play.specs.Spoken.{Fits}
+use Rattle.book.specs.Answers.{has_length_within}
+use Rattle.play.specs.Scripts.{ScriptLine, Pass, Ask, Watch, Piece, End, asking, count_word, epoch_word, hex_word, key_or_none, line_of, line_of_words, said_among, session_word, token, verbs, watching, with_no_word, with_one_word, with_two_words, words}
+use Rattle.play.specs.Spoken.{LineFits}
 
 some_same : {X : Type 0} (x y : X) → Some x ≡ Some y → x ≡ y
 some_same x y e = cc
 
 -- what is said, if something is, fits
-abbrev SaysFitting : Option Line → Type 0
-SaysFitting said = (line : Line) → said ≡ Some line → Fits line
+abbrev SaysFitting : Option ScriptLine → Type 0
+SaysFitting said = (line : ScriptLine) → said ≡ Some line → LineFits line
 
 none_fits : SaysFitting None
 none_fits line e = absurd cc
 
-own_fits : (line : Line) → Fits line → SaysFitting (Some line)
-own_fits line fits other e = subst Fits (some_same line other e) fits
+own_fits : (line : ScriptLine) → LineFits line → SaysFitting (Some line)
+own_fits line fits other e = subst LineFits (some_same line other e) fits
 
 asking_fits : (requested : RequestContent) → SaysFitting (asking requested)
 asking_fits requested = by (nat_le (frame_size (request_frame requested)) MAX_FRAME_LEN) refl
@@ -35,35 +35,35 @@ asking_fits requested = by (nat_le (frame_size (request_frame requested)) MAX_FR
     by false is = none_fits
 
 watching_fits : (name key : List ℕ) → SaysFitting (watching name key)
-watching_fits name key = by (is_within 1 255 name && is_within 0 2048 key)
+watching_fits name key = by (has_length_within 1 255 name && has_length_within 0 2048 key)
   where
     by : (b : Bool) → SaysFitting (cond b (Some (Watch name (key_or_none key))) None)
     by true = own_fits (Watch name (key_or_none key)) tt
     by false = none_fits
 
-then_fits : {A : Type 0} (said : A → Option Line) → ((a : A) → SaysFitting (said a)) → (found : Option A) → SaysFitting (option_and_then said found)
+then_fits : {A : Type 0} (said : A → Option ScriptLine) → ((a : A) → SaysFitting (said a)) → (found : Option A) → SaysFitting (option_and_then said found)
 then_fits said fits None = none_fits
 then_fits said fits (Some a) = fits a
 
-abbrev AllFit : (List (List ℕ) → Option Line) → Type 0
+abbrev AllFit : (List (List ℕ) → Option ScriptLine) → Type 0
 AllFit says = (behind : List (List ℕ)) → SaysFitting (says behind)
 
-none_all : (said : Option Line) → SaysFitting said → AllFit (with_none said)
+none_all : (said : Option ScriptLine) → SaysFitting said → AllFit (with_no_word said)
 none_all said fits [] = fits
 none_all said fits (_ ∷ _) = none_fits
 
-one_all : {A : Type 0} (word : List ℕ → Option A) (said : A → Option Line) → ((a : A) → SaysFitting (said a)) → AllFit (with_one word said)
+one_all : {A : Type 0} (word : List ℕ → Option A) (said : A → Option ScriptLine) → ((a : A) → SaysFitting (said a)) → AllFit (with_one_word word said)
 one_all word said fits [] = none_fits
 one_all word said fits (one ∷ []) = then_fits said fits (word one)
 one_all word said fits (_ ∷ _ ∷ _) = none_fits
 
-two_all : {A B : Type 0} (word : List ℕ → Option A) (other_word : List ℕ → Option B) (said : A → B → Option Line) → ((a : A) (b : B) → SaysFitting (said a b)) → AllFit (with_two word other_word said)
+two_all : {A B : Type 0} (word : List ℕ → Option A) (other_word : List ℕ → Option B) (said : A → B → Option ScriptLine) → ((a : A) (b : B) → SaysFitting (said a b)) → AllFit (with_two_words word other_word said)
 two_all word other_word said fits [] = none_fits
 two_all word other_word said fits (_ ∷ []) = none_fits
 two_all word other_word said fits (one ∷ other ∷ []) = then_fits (λ a. option_and_then (said a) (other_word other)) (λ a. then_fits (said a) (fits a) (other_word other)) (word one)
 two_all word other_word said fits (_ ∷ _ ∷ _ ∷ _) = none_fits
 
-abbrev AreFitting : List (List ℕ × (List (List ℕ) → Option Line)) → Type 0
+abbrev AreFitting : List (List ℕ × (List (List ℕ) → Option ScriptLine)) → Type 0
 AreFitting = AllByRecursion (λ command. AllFit command.1)
 
 verbs_fit : AreFitting verbs
@@ -102,7 +102,7 @@ verbs_fit = (
   ),
 )
 
-among_fits : (all : List (List ℕ × (List (List ℕ) → Option Line))) (verb : List ℕ) → AreFitting all → AllFit (said_among all verb)
+among_fits : (all : List (List ℕ × (List (List ℕ) → Option ScriptLine))) (verb : List ℕ) → AreFitting all → AllFit (said_among all verb)
 among_fits [] verb are behind = none_fits
 among_fits (command ∷ more) verb are behind = by (bytes_eq verb command.0) (among_fits more verb are.1 behind)
   where
@@ -115,7 +115,7 @@ words_fit [] = none_fits
 words_fit (verb ∷ behind) = among_fits verbs verb verbs_fit behind
 
 -- what a line says fits
-pub line_fits : (bytes : List ℕ) (line : Line) → line_of bytes ≡ Some line → Fits line
+pub line_fits : (bytes : List ℕ) (line : ScriptLine) → line_of bytes ≡ Some line → LineFits line
 line_fits [] line e = own_fits Pass tt line e
 line_fits (byte ∷ bytes) line e = by (nat_eq byte 35) line e
   where

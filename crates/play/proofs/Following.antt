@@ -16,7 +16,7 @@ use Rattle.rootchain.proofs.TakingLists.{grows-nothing}
 use Rattle.commands.specs.Operations.{Operation}
 use Rattle.book.specs.declared.reply.Reply.{Reply}
 use Rattle.book.specs.Books.{Book}
-use Rattle.book.specs.Honest.{AreConsecutive, IsHonest}
+use Rattle.book.specs.Honest.{AreConsecutive, IsHonestRun}
 use Rattle.book.specs.Shows.{Provider, roots}
 use Rattle.book.proofs.Stretches.{consecutive-there}
 use Rattle.client.specs.Clients.{Client}
@@ -38,7 +38,7 @@ front-consecutive : (all some more : List SignedRoot) → AreConsecutive all (so
 front-consecutive all some more (front, back, is) = (front, more ++ back, is ∙ ap (λ (rest : List SignedRoot). front ++ rest) (append_assoc some more back))
 
 module _ (provider : Provider) (accepted verified : List ℕ → List ℕ → List ℕ → Type 0) (key : List ℕ) (before after : Book) (commands : List Operation) (replies : List Reply)
-    (h : IsHonest provider accepted verified key before after commands replies) where
+    (h : IsHonestRun provider accepted verified key before after commands replies) where
   -- a root that stands behind those of a chain
   record IsNextOf (chain : KeyedRoots) (root : SignedRoot) : Type 0 where
     pub head : SignedRoot

@@ -13,7 +13,8 @@ use Rattle.book.specs.declared.refusal.Refusal.TheVariants.{EpochNotLater}
 use Rattle.book.specs.declared.reply.Reply.{Reply}
 use Rattle.book.specs.Answers.{Answer, refusal}
 use Rattle.book.specs.Books.{Binding, Book, Page, pages}
-use Rattle.book.specs.Maps.{Map, at, put}
+use Rattle.book.specs.Keeps.{KeepsNothing, NeverFails}
+use Rattle.book.specs.Maps.{Map, at, put_name}
 use Rattle.book.specs.Shows.{Provider, SignedPage, body_behind, index_of, roots, sealed_behind, sealed_pages, signed}
 use Rattle.book.specs.Turns.{Run}
 use Rattle.book.proofs.Carried.{carried}
@@ -22,7 +23,7 @@ use Rattle.book.proofs.Growing.{HasGrown}
 use Rattle.book.proofs.Stepping.{Does}
 use Rattle.book.proofs.Turning.{above-last, passed}
 use Rattle.monitor.specs.Monitors.{Monitor}
-use Rattle.play.specs.Parties.{ArePromised, IsWatcher, KeepsNothing, NeverFails}
+use Rattle.play.specs.Parties.{ArePromised, IsWatcher}
 use Rattle.play.specs.Watchers.{Watcher}
 use Rattle.encoding.specs.Bytes.{bytes_cmp}
 
@@ -96,11 +97,11 @@ abbrev pub StillWaits : Book → Book → Type 0
 StillWaits before book = (before.last.epoch < book.last.epoch)
     ⊎ ((book.last.epoch ≡ before.last.epoch) × ((name : List ℕ) → IsSome (at before.pending name) → IsSome (at book.pending name)))
 
-put_waits : (pending : Map Binding) (name other : List ℕ) (binding : Binding) → IsSome (at pending other) → IsSome (at (put pending name binding) other)
+put_waits : (pending : Map Binding) (name other : List ℕ) (binding : Binding) → IsSome (at pending other) → IsSome (at (put_name pending name binding) other)
 put_waits pending name other binding some = by (is_at (bytes_cmp name) other) refl
   where
-    by : (b : Bool) → is_at (bytes_cmp name) other ≡ b → IsSome (at (put pending name binding) other)
-    by true is = subst IsSome (sym (ap (at (put pending name binding)) (is_name name other is) ∙ at_put_same name binding pending)) refl
+    by : (b : Bool) → is_at (bytes_cmp name) other ≡ b → IsSome (at (put_name pending name binding) other)
+    by true is = subst IsSome (sym (ap (at (put_name pending name binding)) (is_name name other is) ∙ at_put_same name binding pending)) refl
     by false is = subst IsSome (sym (at_put_other name binding pending other (is_no_name name other is))) some
 
 waits_after : (index : List ℕ → List ℕ) (before book after : Book) (asked : Operation) (answer : Answer) → StillWaits before book → refusal index book asked ≡ None → Does book asked answer after → StillWaits before after

@@ -29,7 +29,8 @@ use Rattle.book.specs.declared.refusal.Refusal.{Refusal}
 use Rattle.book.specs.Answers.{Answer, Promised, Found, Told, Last, with_pending}
 use Rattle.book.specs.Books.{Binding, Book, Page}
 use Rattle.book.specs.Honest.{IsKept}
-use Rattle.book.specs.Maps.{Map, at, put}
+use Rattle.book.specs.Keeps.{KeepsNothing, NeverFails}
+use Rattle.book.specs.Maps.{Map, at, put_name}
 use Rattle.book.specs.Shows.{Provider, index_of, roots}
 use Rattle.book.specs.Turns.{Shows, Turn}
 use Rattle.book.proofs.Entries.{at_put_other, at_put_same, is_name, is_no_name}
@@ -40,7 +41,7 @@ use Rattle.monitor.specs.Monitors.{Monitor, with_change}
 use Rattle.play.specs.Handed.{HasHanded, IsHanded, MayBeHanded, MayHand}
 use Rattle.play.specs.Messages as message
 use Rattle.play.specs.Messages.{comes_of, request_asks}
-use Rattle.play.specs.Parties.{Parties, KeepsNothing, NeverFails, book_of, chain_under, provider_of, IsWatcher}
+use Rattle.play.specs.Parties.{Parties, book_of, chain_under, provider_of, IsWatcher}
 use Rattle.play.specs.Played.{after_promise}
 use Rattle.play.specs.Watchers.{Watcher, expecting, handed}
 use Rattle.play.proofs.Added.{EndsWith, ends-with}
@@ -51,11 +52,11 @@ use Rattle.play.proofs.Taken.{below-all}
 use Rattle.encoding.specs.Bytes.{bytes_cmp}
 
 -- what waits goes on to wait
-still-waits : (pending : Map Binding) (name other : List ℕ) (binding : Binding) → IsSome (at pending other) → IsSome (at (put pending name binding) other)
+still-waits : (pending : Map Binding) (name other : List ℕ) (binding : Binding) → IsSome (at pending other) → IsSome (at (put_name pending name binding) other)
 still-waits pending name other binding waits = by (is_at (bytes_cmp name) other) refl
   where
-    by : (t : Bool) → is_at (bytes_cmp name) other ≡ t → IsSome (at (put pending name binding) other)
-    by true is = subst (λ (n : List ℕ). IsSome (at (put pending name binding) n)) (sym (is_name name other is)) (ap is_some (at_put_same name binding pending))
+    by : (t : Bool) → is_at (bytes_cmp name) other ≡ t → IsSome (at (put_name pending name binding) other)
+    by true is = subst (λ (n : List ℕ). IsSome (at (put_name pending name binding) n)) (sym (is_name name other is)) (ap is_some (at_put_same name binding pending))
     by false is = ap is_some (at_put_other name binding pending other (is_no_name name other is)) ∙ waits
 
 -- a watcher after a promise, by whether it is one of the name

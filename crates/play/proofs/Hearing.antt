@@ -4,7 +4,7 @@ use Rattle.std.specs.Prelude.{◌==◌, if◌then◌else◌, codes, decimal}
 use Rattle.std.specs.List.{AllByRecursion, AllZip, flat_map}
 use Rattle.rootchain.specs.declared.body.Body.{Body}
 use Rattle.rootchain.specs.declared.signed_root.SignedRoot.{SignedRoot}
-use Rattle.proofs.specs.Replies.{Reply as Spelled, Spells}
+use Rattle.proofs.specs.Replies.{Reply as Spelled, SpellsReply}
 use Rattle.proofs.specs.declared.refusal.Refusal.TheVariants.{OtherRoot}
 use Rattle.proofs.proofs.Passing.{one_reply}
 use Rattle.commands.specs.Operations as ask
@@ -24,8 +24,8 @@ use Rattle.book.specs.declared.reply.Reply.{Reply}
 use Rattle.book.specs.declared.reply.Reply.TheVariants as reply_of
 use Rattle.book.specs.Answers.{Answer, Found, Last}
 use Rattle.book.specs.Books.{Binding, Book, Page, pages}
-use Rattle.book.specs.Honest.{key_at, latest_after, IsAskedBy, IsHonest, IsSaidAt}
-use Rattle.book.specs.Refusals.{refusal_number}
+use Rattle.book.specs.Honest.{key_at, latest_after, IsAskedBy, IsHonestRun, IsSaidAt}
+use Rattle.book.specs.Refusals.{book_refusal_number}
 use Rattle.book.specs.Replies.{Refused}
 use Rattle.book.specs.Shows.{Provider, index_of, sealed_behind, IsRootOf}
 use Rattle.book.specs.Steps.{Outcome, Answers, Refuses, step}
@@ -36,10 +36,10 @@ use Rattle.book.proofs.OneRoot.{one-root}
 use Rattle.book.proofs.Soundness.{IsBefore}
 use Rattle.book.proofs.Stepping.{Does, due_steps, finds, refused_due, stepped}
 use Rattle.book.proofs.Turning.{asked-page}
-use Rattle.hub.specs.DeskRuns.{AreRead, IsTurnedAway, Reaches, ShowReplies}
+use Rattle.hub.specs.DeskRuns.{AreResponses, IsTurnedAway, Reaches, ShowReplies}
 use Rattle.hub.specs.Desks.{reply_frame, IsRead, IsResponseOf}
-use Rattle.hub.specs.Runs.{Line, asked as asked_of}
-use Rattle.play.specs.Hearing.{response_text, HasBytes, IsGranted, IsHeard, IsOfBytes, RunsAreHeard}
+use Rattle.hub.specs.Runs.{Line, asked_by}
+use Rattle.play.specs.Hearing.{response_text, HasFrameBytes, IsGranted, IsHeardAs, IsOfBytes, RunsAreHeard}
 use Rattle.play.specs.Lines.{answer_text, last_epoch, numbered_text}
 use Rattle.play.specs.Messages.{Numbered, asks, comes_of, numbered, reading_asks, request_asks}
 use Rattle.play.specs.Played.{answered}
@@ -48,7 +48,7 @@ use Rattle.play.proofs.Calling.{rooted-epoch}
 
 -- ---- what messages ask
 
-pub reached-asks : (message : Message) (asked : Operation) → HasBytes message → Reaches token message asked → asks message ≡ Ok asked
+pub reached-asks : (message : Message) (asked : Operation) → HasFrameBytes message → Reaches token message asked → asks message ≡ Ok asked
 reached-asks BadFrame asked small reaches = absurd reaches
 reached-asks (Whole frame) asked small (requested, read, is) = by (read_request frame.kind frame.body) refl
   where
@@ -60,7 +60,7 @@ reached-asks (Whole frame) asked small (requested, read, is) = by (read_request 
     by (Err BadKind) e = absurd (is_unknown frame.kind frame.body e (requested, read.0))
     by (Err BadBody) e = absurd ((reads_none frame.kind frame.body e).1 requested read)
 
-pub away-asks : (message : Message) (code : ℕ) → HasBytes message → IsTurnedAway token message code → asks message ≡ Err code
+pub away-asks : (message : Message) (code : ℕ) → HasFrameBytes message → IsTurnedAway token message code → asks message ≡ Err code
 away-asks BadFrame code small is = ap Err (sym is)
 away-asks (Whole frame) code small (inl (refusal, read, is)) = by refusal read is (read_request frame.kind frame.body) refl
   where
@@ -85,7 +85,7 @@ away-asks (Whole frame) code small (inr (requested, read, none, is)) = by (read_
     by (Err BadBody) e = absurd ((reads_none frame.kind frame.body e).1 requested read)
 
 -- the frame of a request asks what the request does
-pub frame-asks : (requested : RequestContent) → IsAsked requested → HasBytes (Whole (request_frame requested)) → asks (Whole (request_frame requested)) ≡ request_asks requested
+pub frame-asks : (requested : RequestContent) → IsAsked requested → HasFrameBytes (Whole (request_frame requested)) → asks (Whole (request_frame requested)) ≡ request_asks requested
 frame-asks requested is small = by (read_request (request_kind requested) (request_body requested)) refl
   where
     own : Asks (request_kind requested) (request_body requested) requested
@@ -99,7 +99,7 @@ frame-asks requested is small = by (read_request (request_kind requested) (reque
 
 -- ---- runs of a hub
 
-messages-asked : (lines : List Line) → map (λ (line : Line). line.message) lines ≡ map (λ (one : ℕ × Message). one.1) (map asked_of lines)
+messages-asked : (lines : List Line) → map (λ (line : Line). line.message) lines ≡ map (λ (one : ℕ × Message). one.1) (map asked_by lines)
 messages-asked [] = refl
 messages-asked (line ∷ more) = ap (λ (rest : List Message). line.message ∷ rest) (messages-asked more)
 
@@ -146,7 +146,7 @@ module _ (provider : Provider) where
   -- the replies to look-ups that are told are of the pages that were asked for
   abbrev pub AreOfPages : ℕ → List Operation → List Reply → Type 0
   AreOfPages now commands replies = (latest : ℕ) (name : List ℕ) (epoch : ℕ) (text : List ℕ) → IsSaidAt now commands replies latest (Query (Lookup name epoch)) (reply_of.Found text)
-      → (read : Spelled) → Spells text read → read.body.epoch ≡ (if epoch == 0 then latest else epoch)
+      → (read : Spelled) → SpellsReply text read → read.body.epoch ≡ (if epoch == 0 then latest else epoch)
 
   -- what comes of a command, and the book after it
   abbrev Comes : Book → Operation → Numbered × Book
@@ -244,7 +244,7 @@ module _ (provider : Provider) where
 
     turned-refusal : (book after : Book) (keeper later : K) (asked : Operation) (why : Refusal) (responded : ResponseContent) → after ≡ book
         → Declines provider kept failed (step (index_of provider) book asked).0 (kept_of book asked) keeper why later → IsGranted (reply_of.Refused why)
-        → responded ≡ response.Refused (refusal_number why) → IsTurned book asked (reply_of.Refused why) after responded
+        → responded ≡ response.Refused (book_refusal_number why) → IsTurned book asked (reply_of.Refused why) after responded
     turned-refusal book after keeper later asked why responded stays declines granted responds = by (step (index_of provider) book asked).0 refl declines
       where
         by : (outcome : Outcome) → (step (index_of provider) book asked).0 ≡ outcome → Declines provider kept failed outcome (kept_of book asked) keeper why later
@@ -252,10 +252,10 @@ module _ (provider : Provider) where
         by (Answers answer) is d = absurd (given-up keeper later why answer (kept_of book asked) granted d)
         by (Refuses due) is d =
             let all : step (index_of provider) book asked ≡ (Refuses due, book) = due_steps (index_of provider) book asked due (refused_due (index_of provider) book asked due is) in
-            let comes : Comes book asked ≡ (Err (refusal_number due), book) = ap (λ (now : Outcome × Book). (numbered now.0, now.1)) all in
+            let comes : Comes book asked ≡ (Err (book_refusal_number due), book) = ap (λ (now : Outcome × Book). (numbered now.0, now.1)) all in
             record {
               book_after = ap (λ (now : Numbered × Book). now.1) comes ∙ sym stays;
-              line = rw responds (ap (λ (w : Refusal). codes "refused " ++ decimal (refusal_number w)) d.0) ∙ ap (λ (now : Numbered × Book). numbered_text (answer_text after) now.0) (sym comes);
+              line = rw responds (ap (λ (w : Refusal). codes "refused " ++ decimal (book_refusal_number w)) d.0) ∙ ap (λ (now : Numbered × Book). numbered_text (answer_text after) now.0) (sym comes);
               latest = refused-latest book.last.epoch asked why ∙ ap (λ (b : Book). b.last.epoch) (sym stays);
             }
 
@@ -275,12 +275,12 @@ module _ (provider : Provider) where
 
     -- what the definition says of messages, from a book on
     abbrev Heard : List Line → Book → Book → Type 0
-    Heard lines book after = ((answered (index_of provider) book (messages_of lines)).1 ≡ after) × AllZip IsHeard lines (answered (index_of provider) book (messages_of lines)).0
+    Heard lines book after = ((answered (index_of provider) book (messages_of lines)).1 ≡ after) × AllZip IsHeardAs lines (answered (index_of provider) book (messages_of lines)).0
 
     -- a line and those behind it, by what comes of its message
     abbrev HeardFrom : Line → List Line → Book → Numbered × Book → Type 0
     HeardFrom line more after now = ((answered (index_of provider) now.1 (messages_of more)).1 ≡ after)
-        × AllZip IsHeard (line ∷ more) (numbered_text (answer_text now.1) now.0 ∷ (answered (index_of provider) now.1 (messages_of more)).0)
+        × AllZip IsHeardAs (line ∷ more) (numbered_text (answer_text now.1) now.0 ∷ (answered (index_of provider) now.1 (messages_of more)).0)
 
     nothing-run : (commands : List Operation) (replies : List Reply) (book after : Book) (keeper later : K) → commands ≡ [] → replies ≡ [] → Run provider kept failed book keeper commands replies after later → book ≡ after
     nothing-run [] [] book after keeper later e f run = sym run.0
@@ -288,7 +288,7 @@ module _ (provider : Provider) where
     nothing-run (asked ∷ commands) replies book after keeper later e f run = absurd cc
 
     pub hears : (lines : List Line) (commands : List Operation) (replies : List Reply) (shown : ShowReplies token lines commands replies) (book after : Book) (keeper later : K)
-        → AllPairs IsBefore (pages book) → AllByRecursion IsOfBytes lines → Run provider kept failed book keeper commands replies after later → AreRead token lines commands replies shown
+        → AllPairs IsBefore (pages book) → AllByRecursion IsOfBytes lines → Run provider kept failed book keeper commands replies after later → AreResponses token lines commands replies shown
         → AreOfPages book.last.epoch commands replies → AllByRecursion IsGranted replies → Heard lines book after
     hears [] commands replies (none, said) book after keeper later up small run read of_pages granted = (nothing-run commands replies book after keeper later none said run, tt)
     hears (line ∷ more) commands replies (inl (code, away, says, shown)) book after keeper later up small run (read, reads) of_pages granted =
@@ -315,7 +315,7 @@ module _ (provider : Provider) where
 
   -- the replies of an honest run are of the pages that were asked for
   pub of-pages : (accepted verified : List ℕ → List ℕ → List ℕ → Type 0) (key : List ℕ) (before after : Book) (commands : List Operation) (replies : List Reply)
-      → IsHonest provider accepted verified key before after commands replies → AreOfPages before.last.epoch commands replies
+      → IsHonestRun provider accepted verified key before after commands replies → AreOfPages before.last.epoch commands replies
   of-pages accepted verified key before after commands replies h latest name epoch text said read spelled = elim (h.found latest name epoch text said) [
     | inl a ↦
         let accepts = (a.states (key_at a.page name)).1 refl in

@@ -14,29 +14,28 @@ use Rattle.book.specs.declared.refusal.Refusal.{Refusal}
 use Rattle.book.specs.declared.refusal.Refusal.TheVariants.{EpochNotLater}
 use Rattle.book.specs.Answers.{refusal}
 use Rattle.book.specs.Books.{Binding, Book, Page, pages}
-use Rattle.book.specs.Maps.{Map, at, put}
+use Rattle.book.specs.Maps.{Map, at, put_name}
 use Rattle.book.specs.Steps.{done, step, unless_refused}
 use Rattle.book.proofs.Entries.{at_put_other, at_put_same, is_name, is_no_name}
 use Rattle.book.proofs.Stepping.{put_passed}
 use Rattle.book.proofs.Turning.{above-last, passed}
 use Rattle.play.specs.InTime.{AreInTime, IsInTime, MonitorsAreInTime, PromisesAreLater}
-use Rattle.play.specs.Laws as laws
-use Rattle.play.specs.Laws.{after_lines}
+use Rattle.play.specs.Laws.{after_lines, script_after_line}
 use Rattle.play.specs.Lines.{is_double, refused_proof}
 use Rattle.play.specs.Messages.{asks, comes_of, heard, numbered, request_asks}
 use Rattle.play.specs.Played as played
 use Rattle.play.specs.Played.{Stand, answered, line_played, opening, piece_events, watch_on, watcher_of}
-use Rattle.play.specs.Scripts.{Line, Pass, Ask, Watch as Watching, Piece, End, line_of}
+use Rattle.play.specs.Scripts.{ScriptLine, Pass, Ask, Watch as Watching, Piece, End, line_of}
 use Rattle.play.specs.Watchers.{Watcher, ahead, all_through, expecting, handed, onto_line, through, watched_text}
 use Rattle.play.proofs.Lists.{both, each-so}
 use Rattle.encoding.specs.Bytes.{bytes_cmp}
 
 -- what waits stays when more is put
-some-put : (map : Map Binding) (name own : List ℕ) (x : Binding) → is_some (at map name) ≡ true → is_some (at (put map own x) name) ≡ true
+some-put : (map : Map Binding) (name own : List ℕ) (x : Binding) → is_some (at map name) ≡ true → is_some (at (put_name map own x) name) ≡ true
 some-put map name own x some = by (is_at (bytes_cmp own) name) refl
   where
-    by : (t : Bool) → is_at (bytes_cmp own) name ≡ t → is_some (at (put map own x) name) ≡ true
-    by true is = let e = is_name own name is in subst (λ (n : List ℕ). is_some (at (put map own x) n) ≡ true) (sym e) (ap is_some (at_put_same own x map))
+    by : (t : Bool) → is_at (bytes_cmp own) name ≡ t → is_some (at (put_name map own x) name) ≡ true
+    by true is = let e = is_name own name is in subst (λ (n : List ℕ). is_some (at (put_name map own x) n) ≡ true) (sym e) (ap is_some (at_put_same own x map))
     by false is = ap is_some (at_put_other own x map name (is_no_name own name is)) ∙ some
 
 module _ (index_of : List ℕ → List ℕ) where
@@ -118,7 +117,7 @@ module _ (index_of : List ℕ → List ℕ) where
           both (IsInTime book watcher.name) watcher.watch.changes ((epoch, key) ∷ []) are.0 (inr (now, subst (λ (n : List ℕ). is_some (at book.pending n) ≡ true) (sym own) waits), tt)
       by false e = are.0
 
-  line-in-time : (stand : Stand) (line : Line) → AreInTime stand.book stand.watchers → AreInTime (line_played index_of stand line).1.book (line_played index_of stand line).1.watchers
+  line-in-time : (stand : Stand) (line : ScriptLine) → AreInTime stand.book stand.watchers → AreInTime (line_played index_of stand line).1.book (line_played index_of stand line).1.watchers
   line-in-time stand Pass are = are
   line-in-time stand (Ask (request.Query question)) are =
       let now = comes_of index_of stand.book (request_asks (request.Query question)) in
@@ -150,8 +149,8 @@ module _ (index_of : List ℕ → List ℕ) where
   lines-in-time [] stand are = are
   lines-in-time (line ∷ more) stand are = by (line_of line) (lines-in-time more)
     where
-      by : (said : Option Line) → ((later : Stand) → AreInTime later.book later.watchers → AreInTime (after_lines index_of later more).book (after_lines index_of later more).watchers)
-          → AreInTime (laws.after_line index_of stand said (λ later. after_lines index_of later more)).book (laws.after_line index_of stand said (λ later. after_lines index_of later more)).watchers
+      by : (said : Option ScriptLine) → ((later : Stand) → AreInTime later.book later.watchers → AreInTime (after_lines index_of later more).book (after_lines index_of later more).watchers)
+          → AreInTime (script_after_line index_of stand said (λ later. after_lines index_of later more)).book (script_after_line index_of stand said (λ later. after_lines index_of later more)).watchers
       by None next = are
       by (Some said) next = next (line_played index_of stand said).1 (line-in-time stand said are)
 

@@ -11,13 +11,13 @@ use Rattle.commands.specs.Operations as asks
 use Rattle.wire.specs.Requests.{RequestContent}
 use Rattle.wire.specs.Requests as request
 use Rattle.wire.specs.Streams.{Remainder}
-use Rattle.hub.specs.Events.{BySession, HubState}
-use Rattle.hub.specs.Events as events
+use Rattle.hub.specs.Events.{at_session, BySession, HubState}
 use Rattle.hub.specs.Desks.{command, DeskState}
 use Rattle.auditor.specs.Chains.{chain_of}
 use Rattle.monitor.specs.Monitors.{Monitor}
 use Rattle.book.specs.declared.keeper.NoKeeper.{NoKeeper}
 use Rattle.book.specs.Books.{Book, pages}
+use Rattle.book.specs.Keeps.{KeepsNothing, NeverFails}
 use Rattle.book.specs.Shows.{Provider, index_of, roots}
 use Rattle.book.proofs.Growing.{run-grows, HasGrown}
 use Rattle.book.proofs.Stepping.{Does}
@@ -27,7 +27,7 @@ use Rattle.play.specs.Checked.{line_of_reply, HasAskedKnowing}
 use Rattle.play.specs.Handed.{HasHanded, MayHand}
 use Rattle.play.specs.Lines.{as_lines, checked_text, numbered_text}
 use Rattle.play.specs.Messages.{comes_of, request_asks, Numbered}
-use Rattle.play.specs.Parties.{book_of, chain_under, provider_of, AreAt, AreBehind, HasAsked, HaveDone, HaveTaken, HoldBytes, IsHub, IsWatcher, KeepsNothing, NeverFails, Parties}
+use Rattle.play.specs.Parties.{book_of, chain_under, provider_of, AreAt, AreBehind, HasAsked, HaveDone, HaveTaken, HoldBytes, IsHub, IsWatcher, Parties}
 use Rattle.play.specs.Played.{after_promise, Stand}
 use Rattle.play.specs.Played as played
 use Rattle.play.specs.declared.ask.Ask.{Ask}
@@ -141,7 +141,7 @@ module _ {R : Type 0} (digest_of : List ℕ → List ℕ) (value_of signature_of
           book = book_is;
           sessions = sessions_are ∙ are.hub.sessions;
           ready = record {
-            idle = ap (λ (sessions : BySession Remainder). events.at sessions 0) sessions_are ∙ are.hub.ready.idle;
+            idle = ap (λ (sessions : BySession Remainder). at_session sessions 0) sessions_are ∙ are.hub.ready.idle;
             bytes = subst HoldBytes (sym sessions_are) are.hub.ready.bytes;
             token = ap (λ (hub : HubState (DeskState R NoKeeper)). hub.service.token) hub_is ∙ a.token ∙ are.hub.ready.token;
             key = keys.1 ∙ are.hub.ready.key ∙ sym key_is;

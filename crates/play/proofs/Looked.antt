@@ -15,7 +15,7 @@ use Rattle.rootchain.specs.declared.body.Body.{Body}
 use Rattle.rootchain.specs.declared.signed_root.SignedRoot.{SignedRoot}
 use Rattle.proofs.specs.Accepts.{stated}
 use Rattle.proofs.specs.Comparisons.{IsAcceptedReply}
-use Rattle.proofs.specs.Refusals.{refusal_number}
+use Rattle.proofs.specs.Refusals.{reply_refusal_number}
 use Rattle.proofs.specs.Replies.{Reply as Spelled}
 use Rattle.proofs.specs.Views.{key_stated}
 use Rattle.proofs.specs.declared.refusal.Refusal.{Refusal as ProofRefusal}
@@ -41,7 +41,7 @@ use Rattle.book.proofs.OneRoot.{one-root}
 use Rattle.book.proofs.Sealing.{IsSealed, all-sealed, sealed-page}
 use Rattle.book.proofs.Turning.{asked-page}
 use Rattle.client.specs.Clients.{Client}
-use Rattle.client.specs.Looking.{IsAnswered, IsAsked, Looks}
+use Rattle.client.specs.Looking.{IsAnswered, IsLookRoot, Looks}
 use Rattle.client.specs.declared.refusal.Refusal.{Refusal}
 use Rattle.client.specs.declared.refusal.Refusal.TheVariants as client
 use Rattle.play.specs.Answering.{IsUnchecked}
@@ -155,7 +155,7 @@ module _ (provider : Provider) where
 
   module _ (book : Book) (ascend : Ascends (pages book)) where
     -- who has all roots has the one of the page that is asked for
-    asked_root : (key : List ℕ) (epoch : ℕ) (page : Page) (root : SignedRoot) → page_at book epoch ≡ Some page → IsRootOf provider book page root → IsAsked (chain_under key (roots provider book)) epoch root
+    asked_root : (key : List ℕ) (epoch : ℕ) (page : Page) (root : SignedRoot) → page_at book epoch ≡ Some page → IsRootOf provider book page root → IsLookRoot (chain_under key (roots provider book)) epoch root
     asked_root key zero page root is rooted =
         let same : page ≡ book.last = let e : Some book.last ≡ Some page = is in cc in
         head_of book ascend root (subst (λ (p : Page). IsRootOf provider book p root) same rooted)
@@ -211,7 +211,7 @@ module _ (provider : Provider) (accepted verified : List ℕ → List ℕ → Li
   looks_so page root name text epoch holder later result calls asked named rooted shown chain looks =
       let ascend = sound.ascend in
       let followed : IsFollowed provider key book holder.chain = subst (IsFollowed provider key book) (sym chain) (record { keyed = refl; some = some_root provider book; are = ([], [], sym (append-nil (roots provider book))) }) in
-      let at_root : IsAsked holder.chain epoch root = subst (λ (c : KeyedRoots). IsAsked c epoch root) (sym chain) (asked_root provider book ascend key epoch page root asked rooted) in
+      let at_root : IsLookRoot holder.chain epoch root = subst (λ (c : KeyedRoots). IsLookRoot c epoch root) (sym chain) (asked_root provider book ascend key epoch page root asked rooted) in
       let said : IsShown book (Query (Lookup name epoch) ∷ []) (reply.Found text ∷ []) name root.body.epoch text
       = (book.last.epoch, epoch, rooted-epoch provider book page root rooted ∙ asked-page book epoch page asked, inl (refl, refl, refl)) in
       let (own, is, right) = calls.looked holder later name text epoch root result followed at_root said looks in
@@ -257,12 +257,12 @@ module _ (provider : Provider) (page : Page) (name before after : List ℕ) wher
       in
       wrote ∙ ap (λ (l : List ℕ). before ++ l ++ 10 ∷ []) (sym line)
 
-  pub told_refused : (why : ProofRefusal) → LooksSo provider page name (Err (client.Proof why)) → after ≡ before ++ codes "client refuses proof " ++ decimal (refusal_number why) ++ 10 ∷ []
+  pub told_refused : (why : ProofRefusal) → LooksSo provider page name (Err (client.Proof why)) → after ≡ before ++ codes "client refuses proof " ++ decimal (reply_refusal_number why) ++ 10 ∷ []
       → after ≡ before ++ found_text (index_of provider) page name ++ 10 ∷ []
   unfolding digits
   told_refused why (double, is) wrote =
       let line : found_text (index_of provider) page name ≡ refused_proof = ap (λ (d : Bool). if d then refused_proof else statement_text page.epoch (key_at page name)) double in
-      wrote ∙ ap (λ (w : ProofRefusal). before ++ codes "client refuses proof " ++ decimal (refusal_number w) ++ 10 ∷ []) is
+      wrote ∙ ap (λ (w : ProofRefusal). before ++ codes "client refuses proof " ++ decimal (reply_refusal_number w) ++ 10 ∷ []) is
       ∙ ap (λ (l : List ℕ). l ++ 10 ∷ []) (append_assoc before (codes "client refuses proof ") (decimal 5))
       ∙ ap (λ (l : List ℕ). before ++ l ++ 10 ∷ []) (sym line)
 

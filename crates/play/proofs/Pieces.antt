@@ -7,30 +7,31 @@ use Rattle.std.proofs.lemmas.List.Concat.{flat_map-append}
 use Rattle.rand_core.specs.Stream.{Stream}
 use Rattle.rootchain.specs.declared.signed_root.SignedRoot.{SignedRoot}
 use Rattle.book.specs.Books.{Book, pages}
+use Rattle.book.specs.Keeps.{KeepsNothing, NeverFails}
 use Rattle.book.specs.Shows.{Provider, index_of, roots}
 use Rattle.book.proofs.Growing.{run-grows, HasGrown}
 use Rattle.epochs.specs.DirectoryStates.{book as book_kept, provider as provider_kept}
 use Rattle.epochs.proofs.Running.{same_provider}
 use Rattle.wire.specs.Streams.{Remainder, Message}
-use Rattle.hub.specs.DeskRuns.{AreRead, ShowReplies}
-use Rattle.hub.specs.Events.{BySession, Happening, at}
-use Rattle.hub.specs.Runs.{Line, asked}
+use Rattle.hub.specs.DeskRuns.{AreResponses, ShowReplies}
+use Rattle.hub.specs.Events.{BySession, Happening, at_session}
+use Rattle.hub.specs.Runs.{Line, asked_by}
 use Rattle.auditor.specs.Chains.{chain_of}
 use Rattle.monitor.specs.Monitors.{Monitor}
 use Rattle.play.specs.Lines.{as_lines, of_session}
 use Rattle.play.specs.Hearing.{response_text}
 use Rattle.play.specs.Messages.{held_after}
 use Rattle.play.specs.Messages as message
-use Rattle.play.specs.Parties.{chain_under, KeepsNothing, NeverFails, AreAt, AreBehind, HasHeard, HaveDone, HaveTaken, IsHub, IsReady, IsWatcher, Parties}
+use Rattle.play.specs.Parties.{chain_under, AreAt, AreBehind, HasHeard, HaveDone, HaveTaken, IsHub, IsReady, IsWatcher, Parties}
 use Rattle.play.specs.Played.{answered, hear, piece_events, Stand}
 use Rattle.play.specs.Scripts.{token}
-use Rattle.play.specs.Telling.{session_lines, AreFramesOf, HaveMemory, Heard}
+use Rattle.play.specs.Telling.{session_lines, AreFramesOf, HaveMemory, HeardFrame}
 use Rattle.play.specs.Watchers.{all_through}
 use Rattle.play.proofs.Grown.{grows_or_stays, roots_grow, roots_stay, run_waits, watchers_still, GrowsOrStays, StillWaits}
 use Rattle.play.proofs.Sessions.{held_stays, AreOfOthers}
 use Rattle.play.proofs.Turns.{lines_told, messages_of, AreTold}
 
-asked_messages : (lines : List Line) → map (λ (one : ℕ × Message). one.1) (map asked lines) ≡ messages_of lines
+asked_messages : (lines : List Line) → map (λ (one : ℕ × Message). one.1) (map asked_by lines) ≡ messages_of lines
 asked_messages [] = refl
 asked_messages (line ∷ more) = ap (λ (rest : List Message). line.message ∷ rest) (asked_messages more)
 
@@ -93,7 +94,7 @@ module _ {R : Type 0} (digest_of : List ℕ → List ℕ) (value_of signature_of
 
   -- what is told, and how the parties stand then
   pub record IsPast (before : Parties R) (stand : Stand) (events : List Happening) (output : List ℕ) (after : Parties R) : Type 0 where
-    pub heard : List Heard
+    pub heard : List HeardFrame
     pub frames : AreFramesOf output heard
     pub told : HaveMemory heard → answered (index_of (P before)) stand.book (message.heard stand.sessions events) ≡ (map (λ one. response_text one.1) heard, B after)
     pub behind : Behind after (stand_after stand events (B after))
@@ -120,8 +121,8 @@ module _ {R : Type 0} (digest_of : List ℕ → List ℕ) (value_of signature_of
       ready = are.hub.ready
 
       -- by the token of a script
-      shown : (all : ShowReplies token h.lines h.shown.commands h.shown.replies) × AreRead token h.lines h.shown.commands h.shown.replies all
-      shown = subst (λ (t : List ℕ). (all : ShowReplies t h.lines h.shown.commands h.shown.replies) × AreRead t h.lines h.shown.commands h.shown.replies all) ready.token (h.shown.shown, h.shown.read)
+      shown : (all : ShowReplies token h.lines h.shown.commands h.shown.replies) × AreResponses token h.lines h.shown.commands h.shown.replies all
+      shown = subst (λ (t : List ℕ). (all : ShowReplies t h.lines h.shown.commands h.shown.replies) × AreResponses t h.lines h.shown.commands h.shown.replies all) ready.token (h.shown.shown, h.shown.read)
 
       t : AreTold (P before) h.lines (B before) (B after)
       t = lines_told (P before) h.lines h.shown.commands h.shown.replies shown.0 (B before) (B after) before.hub.service.keeper after.hub.service.keeper
@@ -147,7 +148,7 @@ module _ {R : Type 0} (digest_of : List ℕ → List ℕ) (value_of signature_of
         book = refl;
         sessions = h.runs.left ∙ ap (λ (all : BySession Remainder). held_after all events) are.hub.sessions;
         ready = record {
-          idle = ap (λ (all : BySession Remainder). at all 0) h.runs.left ∙ held_stays before.hub.sessions events 0 others ∙ ready.idle;
+          idle = ap (λ (all : BySession Remainder). at_session all 0) h.runs.left ∙ held_stays before.hub.sessions events 0 others ∙ ready.idle;
           bytes = h.bytes;
           token = h.shown.token ∙ ready.token;
           key = h.shown.keys.1 ∙ ready.key ∙ sym key;
@@ -182,12 +183,12 @@ module _ {R : Type 0} (digest_of : List ℕ → List ℕ) (value_of signature_of
 
   module _ (before : Parties R) (stand : Stand) (session : ℕ) (piece output text0 text1 : List ℕ) (middle : Parties R)
       (p : IsPast before stand (piece_events session piece) output middle)
-      (tells : (heard : List Heard) → AreFramesOf output heard → (text1 ≡ text0 ++ as_lines (session_lines session heard)) × HaveMemory heard) where
+      (tells : (heard : List HeardFrame) → AreFramesOf output heard → (text1 ≡ text0 ++ as_lines (session_lines session heard)) × HaveMemory heard) where
     abbrev events : List Happening
     events = piece_events session piece
 
     abbrev texts : List (List ℕ)
-    texts = map (λ (one : Heard). response_text one.1) p.heard
+    texts = map (λ (one : HeardFrame). response_text one.1) p.heard
 
     abbrev index : List ℕ → List ℕ
     index = index_of (P before)

@@ -20,17 +20,16 @@ use Rattle.book.specs.Answers.{has_its_index, next_page, refusal, page_range as 
 use Rattle.book.specs.Books.{Binding, Book, Page, page_at, pages}
 use Rattle.book.specs.Honest.{key_at}
 use Rattle.book.specs.Maps.{at, Map}
-use Rattle.book.specs.Refusals.{refusal_number}
-use Rattle.book.specs.Steps.{Outcome, done, found_in, promise_of, step, unless_refused}
+use Rattle.book.specs.Refusals.{book_refusal_number}
+use Rattle.book.specs.Steps.{Outcome, done, found_in, promise_outcome, step, unless_refused}
 use Rattle.book.proofs.Members.{first-there, later-there}
-use Rattle.play.specs.Laws as laws
-use Rattle.play.specs.Laws.{after_lines, is_plain, IsChecked, IsCheckedIn, IsPlain, IsQuestioned, IsRequested, LinesArePlain, NothingIsRefused}
+use Rattle.play.specs.Laws.{after_lines, is_plain, script_after_line, IsChecked, IsCheckedIn, IsPlain, IsQuestioned, IsRequested, LinesArePlain, NothingIsRefused}
 use Rattle.play.specs.Lines.{checked_text, is_double, of_session, refused_proof, root_text, roots_text, statement_text, numbered_text}
 use Rattle.play.specs.Messages.{Numbered, asks, comes_of, heard, numbered, or_not_operator, request_asks}
 use Rattle.play.specs.Played.{Stand, after_promise, answered, line_played, opening, piece_events, watch_on, watcher_of}
 use Rattle.play.specs.Printing as printing
 use Rattle.play.specs.Printing.{played_from}
-use Rattle.play.specs.Scripts.{Line, Pass, Ask, Watch as Watching, Piece, End, line_of, token}
+use Rattle.play.specs.Scripts.{ScriptLine, Pass, Ask, Watch as Watching, Piece, End, line_of, token}
 use Rattle.play.specs.Watchers.{Watcher, ahead, all_through, expecting, handed, onto_line, place_text, same_key, through, verdict_text, watched_text}
 use Rattle.play.proofs.Lists.{all-in, both, filtered}
 
@@ -134,7 +133,7 @@ module _ (index_of : List ℕ → List ℕ) where
   answered-keeps [] book page there = there
   answered-keeps (message ∷ more) book page there = answered-keeps more (comes_of index_of book (asks message)).1 page (comes-keeps book (asks message) page there)
 
-  line-keeps : (stand : Stand) (line : Line) (page : Page) → Contains (pages stand.book) page → Contains (pages (line_played index_of stand line).1.book) page
+  line-keeps : (stand : Stand) (line : ScriptLine) (page : Page) → Contains (pages stand.book) page → Contains (pages (line_played index_of stand line).1.book) page
   line-keeps stand Pass page there = there
   line-keeps stand (Ask requested) page there = comes-keeps stand.book (request_asks requested) page there
   line-keeps stand (Watching name start) page there = there
@@ -145,8 +144,8 @@ module _ (index_of : List ℕ → List ℕ) where
   after-keeps [] stand page there = there
   after-keeps (line ∷ more) stand page there = by (line_of line) (after-keeps more)
     where
-      by : (said : Option Line) → ((later : Stand) (p : Page) → Contains (pages later.book) p → Contains (pages (after_lines index_of later more).book) p)
-          → Contains (pages (laws.after_line index_of stand said (λ later. after_lines index_of later more)).book) page
+      by : (said : Option ScriptLine) → ((later : Stand) (p : Page) → Contains (pages later.book) p → Contains (pages (after_lines index_of later more).book) p)
+          → Contains (pages (script_after_line index_of stand said (λ later. after_lines index_of later more)).book) page
       by None next = there
       by (Some said) next = next (line_played index_of stand said).1 page (line-keeps stand said page there)
 
@@ -197,7 +196,7 @@ module _ (index_of : List ℕ → List ℕ) (after : Book) (P Q : List ℕ → T
   done-line : (book : Book) (asked : Operation) → Within book → ((name : List ℕ) → Asks asked name → P name) → Said (done book asked)
   done-line book (Query (Promise name)) within named = by (at book.pending name)
     where
-      by : (found : Option Binding) → Said (promise_of name found, book)
+      by : (found : Option Binding) → Said (promise_outcome name found, book)
       by None = plain (codes "refused " ++ decimal 13) refl
       by (Some binding) = plain (codes "promise " ++ decimal book.last.epoch) refl
   done-line book (Query (Lookup name epoch)) within named = by (page_at book epoch) refl
@@ -214,7 +213,7 @@ module _ (index_of : List ℕ → List ℕ) (after : Book) (P Q : List ℕ → T
   step-line book asked within named = by (refusal index_of book asked)
     where
       by : (why : Option Refusal) → Said (unless_refused why book asked)
-      by (Some why) = plain (codes "refused " ++ decimal (refusal_number why)) refl
+      by (Some why) = plain (codes "refused " ++ decimal (book_refusal_number why)) refl
       by None = done-line book asked within named
 
   comes-line : (book : Book) (asked : Result Operation ℕ) → Within book → ((asks_this : Operation) → asked ≡ Ok asks_this → (name : List ℕ) → Asks asks_this name → P name)
@@ -279,7 +278,7 @@ module _ (index_of : List ℕ → List ℕ) (after : Book) (P Q : List ℕ → T
   of-session session [] = tt
   of-session session (text ∷ more) = (plain (of_session session text) (session-plain session text), of-session session more)
 
-  line-lines : (stand : Stand) (line : Line) → AreNamed stand.watchers → Within (line_played index_of stand line).1.book → ((name : List ℕ) → IsChecked (Some line) name → P name)
+  line-lines : (stand : Stand) (line : ScriptLine) → AreNamed stand.watchers → Within (line_played index_of stand line).1.book → ((name : List ℕ) → IsChecked (Some line) name → P name)
       → AllByRecursion Q (line_played index_of stand line).0 × AreNamed (line_played index_of stand line).1.watchers
   line-lines stand Pass named within checked = (tt, named)
   line-lines stand (Ask requested) named within checked =
@@ -307,7 +306,7 @@ module _ (index_of : List ℕ → List ℕ) (after : Book) (P Q : List ℕ → T
   from-lines (line ∷ more) place stand named within checked =
       by (line_of line) within (λ name is. checked name (inl is)) (λ later own rest. from-lines more (place + 1) later own rest (λ name is. checked name (inr is)))
     where
-      by : (said : Option Line) → Within (laws.after_line index_of stand said (λ later. after_lines index_of later more)).book → ((name : List ℕ) → IsChecked said name → P name)
+      by : (said : Option ScriptLine) → Within (script_after_line index_of stand said (λ later. after_lines index_of later more)).book → ((name : List ℕ) → IsChecked said name → P name)
           → ((later : Stand) → AreNamed later.watchers → Within (after_lines index_of later more).book → AllByRecursion Q (played_from index_of (place + 1) later more).lines)
           → AllByRecursion Q (printing.by_line index_of place stand said (λ later. played_from index_of (place + 1) later more)).lines
       by None inside own next = tt

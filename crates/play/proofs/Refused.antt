@@ -19,7 +19,7 @@ use Rattle.client.specs.Clients.{HasRootOf}
 use Rattle.client.specs.Starting.{Starts}
 use Rattle.client.specs.declared.refusal.Refusal.{Refusal}
 use Rattle.client.specs.declared.refusal.Refusal.TheVariants as client
-use Rattle.monitor.specs.Expecting.{Expects, IsNew, MayExpect}
+use Rattle.monitor.specs.Expecting.{Expects, IsNewPromise, MayExpect}
 use Rattle.monitor.specs.Monitors.{Monitor, IsNext}
 use Rattle.monitor.specs.Stepping.{Steps}
 use Rattle.monitor.specs.declared.refusal.Refusal.{Refusal as MonitorRefusal}
@@ -106,7 +106,7 @@ steps-well hash accepted before after bytes root next client.NoPromise steps = a
 
 -- ---- a promise that a monitor may expect
 
-module _ (hash : List ℕ → List ℕ) (verified : List ℕ → List ℕ → List ℕ → Type 0) (before after : Monitor) (key bytes : List ℕ) (promised : SignedPromise) (new : IsNew hash verified before key bytes promised) where
+module _ (hash : List ℕ → List ℕ) (verified : List ℕ → List ℕ → List ℕ → Type 0) (before after : Monitor) (key bytes : List ℕ) (promised : SignedPromise) (new : IsNewPromise hash verified before key bytes promised) where
   pub expects-well : (result : Result (Unit {0}) MonitorRefusal) → Expects hash verified before key bytes result after → (why : MonitorRefusal) → result ≡ Err why → why ≡ monitor.Client client.Memory
   expects-well (Ok done) expects why is = absurd cc
   expects-well (Err (monitor.Client client.Memory)) expects why is = cc

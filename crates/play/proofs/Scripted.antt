@@ -11,18 +11,19 @@ use Rattle.textio.specs.declared.program_fault.ProgramFault.TheVariants as fault
 use Rattle.textio.specs.Faults.{IsDeviceFault}
 use Rattle.textio.specs.Lines.{lines_of}
 use Rattle.textio.specs.Output.{WritesBeginning}
+use Rattle.book.specs.Keeps.{KeepsNothing, NeverFails}
 use Rattle.book.specs.Shows.{Provider, index_of}
 use Rattle.epochs.specs.DirectoryStates.{provider}
 use Rattle.epochs.proofs.Running.{same_provider}
 use Rattle.play.specs.Ends.{CannotRead, CannotWrite, Done, OutOfMemory, Plays, WritesSome}
 use Rattle.play.specs.Lines.{as_lines}
-use Rattle.play.specs.Parties.{AreAt, KeepsNothing, NeverFails, Parties}
+use Rattle.play.specs.Parties.{AreAt, Parties}
 use Rattle.play.specs.Played.{line_played, Stand}
 use Rattle.play.specs.PlayedLines.{PlaysLine}
 use Rattle.play.specs.Plays.{PlaysTo}
 use Rattle.play.specs.Printing.{by_line, onto, played_from, text, Printout}
-use Rattle.play.specs.Reading.{TakesLine}
-use Rattle.play.specs.Scripts.{Line, line_of}
+use Rattle.play.specs.Reading.{TakesWholeLine}
+use Rattle.play.specs.Scripts.{ScriptLine, line_of}
 
 lines_append : (one other : List (List ℕ)) → as_lines (one ++ other) ≡ as_lines one ++ as_lines other
 lines_append = flat_map-append (λ (line : List ℕ). line ++ 10 ∷ [])
@@ -80,11 +81,11 @@ module _ (index : List ℕ → List ℕ) (begin : Stand) where
   device_ends input old place now left new fault.CannotListen is so = absurd is
 
   -- no line is left
-  pub all_played : (input old : Option (List ℕ)) (place : ℕ) (now : Stand) (left after new : Option (List ℕ)) (line : List ℕ) → SoFar input old place now left new → TakesLine left after false line
+  pub all_played : (input old : Option (List ℕ)) (place : ℕ) (now : Stand) (left after new : Option (List ℕ)) (line : List ℕ) → SoFar input old place now left new → TakesWholeLine left after false line
       → Plays whole input old new Done
   all_played None old place now left after new line so takes = tt
   all_played (Some script) old place now left after new line so takes =
-      let none : so.rest ≡ [] = subst (λ (l : Option (List ℕ)). TakesLine l after false line) so.is takes in
+      let none : so.rest ≡ [] = subst (λ (l : Option (List ℕ)). TakesWholeLine l after false line) so.is takes in
       let prints : whole script ≡ onto so.front (record { lines = []; stopped = None }) = so.prints ∙ ap (λ (rest : List ℕ). onto so.front (played_from index place now (lines_of rest))) none in (
         ap (λ (p : Printout). p.stopped) prints,
         subst (Appends old new) (sym (ap text prints ∙ ap as_lines (append-nil so.front))) so.wrote,
@@ -100,27 +101,27 @@ module _ (index : List ℕ → List ℕ) (begin : Stand) where
     pub wrote : Appends old new (as_lines front)
     pub prints : whole script ≡ onto front (by_line index place now (line_of line) (λ then_stand. played_from index (place + 1) then_stand (lines_of rest)))
 
-  next_of : (script : List ℕ) (old : Option (List ℕ)) (place : ℕ) (now : Stand) (left after new : Option (List ℕ)) (line : List ℕ) → IsMidway script old place now left new → TakesLine left after true line
+  next_of : (script : List ℕ) (old : Option (List ℕ)) (place : ℕ) (now : Stand) (left after new : Option (List ℕ)) (line : List ℕ) → IsMidway script old place now left new → TakesWholeLine left after true line
       → IsNext script old place now line after new
-  next_of script old place now left after new line m takes = by after (subst (λ (l : Option (List ℕ)). TakesLine l after true line) m.is takes)
+  next_of script old place now left after new line m takes = by after (subst (λ (l : Option (List ℕ)). TakesWholeLine l after true line) m.is takes)
     where
-      by : (after : Option (List ℕ)) → TakesLine (Some m.rest) after true line → IsNext script old place now line after new
+      by : (after : Option (List ℕ)) → TakesWholeLine (Some m.rest) after true line → IsNext script old place now line after new
       by None is = absurd is
       by (Some rest) is = record { rest = rest; is = refl; front = m.front; wrote = m.wrote; prints = m.prints ∙ ap (λ (lines : List (List ℕ)). onto m.front (played_from index place now lines)) is }
 
   -- it is no command
-  pub refused : (input old : Option (List ℕ)) (place : ℕ) (now : Stand) (left after new : Option (List ℕ)) (line : List ℕ) (other : ℕ) → SoFar input old place now left new → TakesLine left after true line
+  pub refused : (input old : Option (List ℕ)) (place : ℕ) (now : Stand) (left after new : Option (List ℕ)) (line : List ℕ) (other : ℕ) → SoFar input old place now left new → TakesWholeLine left after true line
       → other ≡ place → line_of line ≡ None → PlaysTo whole input old new (Err (fault.NotACommand other))
   refused None old place now left after new line other so takes same none = tt
   refused (Some script) old place now left after new line other so takes same none =
       let n = next_of script old place now left after new line so takes in
       let prints : whole script ≡ onto n.front (record { lines = []; stopped = Some place }) =
-      n.prints ∙ ap (λ (said : Option Line). onto n.front (by_line index place now said (λ then_stand. played_from index (place + 1) then_stand (lines_of n.rest)))) none in (
+      n.prints ∙ ap (λ (said : Option ScriptLine). onto n.front (by_line index place now said (λ then_stand. played_from index (place + 1) then_stand (lines_of n.rest)))) none in (
         ap (λ (p : Printout). p.stopped) prints ∙ ap (λ (k : ℕ). Some k) (sym same),
         subst (Appends old new) (sym (ap text prints ∙ ap as_lines (append-nil n.front))) n.wrote,
       )
 
-  module _ (place : ℕ) (now : Stand) (line : List ℕ) (said : Line) (is_said : line_of line ≡ Some said) where
+  module _ (place : ℕ) (now : Stand) (line : List ℕ) (said : ScriptLine) (is_said : line_of line ≡ Some said) where
     own : List (List ℕ)
     own = (line_played index now said).0
 
@@ -132,11 +133,11 @@ module _ (index : List ℕ → List ℕ) (begin : Stand) where
     unfolding own then_stand
     prints_more script old after new n =
         let later = played_from index (place + 1) (line_played index now said).1 (lines_of n.rest) in
-        n.prints ∙ ap (λ (it : Option Line). onto n.front (by_line index place now it (λ stand. played_from index (place + 1) stand (lines_of n.rest)))) is_said
+        n.prints ∙ ap (λ (it : Option ScriptLine). onto n.front (by_line index place now it (λ stand. played_from index (place + 1) stand (lines_of n.rest)))) is_said
         ∙ ap (λ (lines : List (List ℕ)). record { lines = lines; stopped = later.stopped }) (sym (append_assoc n.front (line_played index now said).0 later.lines))
 
     -- it was played, and its text was written
-    pub one_more : (input old : Option (List ℕ)) (left after new newer : Option (List ℕ)) (wrote : List ℕ) → SoFar input old place now left new → TakesLine left after true line
+    pub one_more : (input old : Option (List ℕ)) (left after new newer : Option (List ℕ)) (wrote : List ℕ) → SoFar input old place now left new → TakesWholeLine left after true line
         → wrote ≡ as_lines (line_played index now said).0 → Appends new newer wrote → SoFar input old (place + 1) (line_played index now said).1 after newer
     unfolding own then_stand
     one_more None old left after new newer wrote so takes same writes = tt
@@ -151,7 +152,7 @@ module _ (index : List ℕ → List ℕ) (begin : Stand) where
         }
 
     -- less of it was written
-    pub cannot_write : (input old : Option (List ℕ)) (left after new newer : Option (List ℕ)) (wrote : List ℕ) → SoFar input old place now left new → TakesLine left after true line
+    pub cannot_write : (input old : Option (List ℕ)) (left after new newer : Option (List ℕ)) (wrote : List ℕ) → SoFar input old place now left new → TakesWholeLine left after true line
         → wrote ≡ as_lines (line_played index now said).0 → WritesBeginning new newer wrote → Plays whole input old newer CannotWrite
     unfolding own then_stand
     cannot_write None old left after new newer wrote so takes same writes = tt
@@ -185,7 +186,7 @@ module _ {R : Type 0} (digest_of : List ℕ → List ℕ) (value_of signature_of
 
   -- a line that is not played
   pub line_ends : (first : Parties R) (begin : Stand) (input old : Option (List ℕ)) (place : ℕ) (now after : Parties R) (left later new : Option (List ℕ)) (line before grown : List ℕ) (why : ProgramFault)
-      → (g : GoesOn first begin input old place now left new) → TakesLine left later true line
+      → (g : GoesOn first begin input old place now left new) → TakesWholeLine left later true line
       → PlaysLine digest_of value_of signature_of stream accepted verified now g.stand place line before (Err why) grown after → PlaysTo (Whole first begin) input old new (Err why)
   line_ends first begin input old place now after left later new line before grown (fault.NotACommand other) g takes (same, none) =
       refused (index_of (P first)) begin input old place g.stand left later new line other g.so takes same none
@@ -202,7 +203,7 @@ module _ {R : Type 0} (digest_of : List ℕ → List ℕ) (value_of signature_of
   line_ends first begin input old place now after left later new line before grown fault.CannotListen g takes plays = absurd plays
 
   module _ (first : Parties R) (begin : Stand) (input old : Option (List ℕ)) (place : ℕ) (now after : Parties R) (left later new newer : Option (List ℕ)) (line before grown wrote : List ℕ)
-      (g : GoesOn first begin input old place now left new) (takes : TakesLine left later true line) (none : before ≡ []) (same : wrote ≡ grown)
+      (g : GoesOn first begin input old place now left new) (takes : TakesWholeLine left later true line) (none : before ≡ []) (same : wrote ≡ grown)
       (plays : PlaysLine digest_of value_of signature_of stream accepted verified now g.stand place line before (Ok tt) grown after) where
     is_text : wrote ≡ as_lines (line_played (index_of (P first)) g.stand plays.0).0
     is_text = same ∙ plays.2.text ∙ ap (λ (t : List ℕ). t ++ as_lines (line_played (index_of (P now)) g.stand plays.0).0) none

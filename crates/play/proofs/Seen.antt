@@ -22,7 +22,7 @@ use Rattle.book.specs.declared.reply.Reply.TheVariants as reply
 use Rattle.book.specs.Answers.{has_its_index}
 use Rattle.book.specs.Books.{Binding, Book, Page, pages}
 use Rattle.book.specs.Fresh.{KeepsLaws}
-use Rattle.book.specs.Honest.{key_at, IsHonest}
+use Rattle.book.specs.Honest.{key_at, IsHonestRun}
 use Rattle.book.specs.Maps.{at}
 use Rattle.book.specs.Shows.{Provider, SignedPage, index_of, roots, sealed_behind, IsReplyOf, IsRootOf}
 use Rattle.book.specs.Sound.{IsSound}
@@ -133,7 +133,7 @@ module _ (provider : Provider) where
               d.refused.fails ((accepts-passed provider.hash accepted root.body name text d.reply d.spells (stated spelled.end) (accepts-stated provider.hash accepted root.body name text spelled accepts)).1 proof.SameIndex)
 
     module _ {K : Type 0} (kept failed : K → Record → K → Type 0) (laws : KeepsLaws accepted verified key provider) (book after : Book) (before later : K) (name : List ℕ) (epoch : ℕ) (text : List ℕ) where
-      pub seen : IsSound (index_of provider) book → IsHonest provider accepted verified key book after (Query (Lookup name epoch) ∷ []) (reply.Found text ∷ [])
+      pub seen : IsSound (index_of provider) book → IsHonestRun provider accepted verified key book after (Query (Lookup name epoch) ∷ []) (reply.Found text ∷ [])
           → Turn provider kept failed book before (Query (Lookup name epoch)) (reply.Found text) after later → IsBytes name
           → after ≡ book
           → (root : SignedRoot) → Contains (roots provider book) root → root.body.epoch ≡ (if epoch == 0 then book.last.epoch else epoch)

@@ -12,24 +12,25 @@ use Rattle.encoding.specs.Bytes.{IsBytes}
 use Rattle.encoding.proofs.ByteLists.{IsBytes-append, IsBytes-back}
 use Rattle.epochs.specs.DirectoryStates.{HasKeysOf}
 use Rattle.wire.specs.Frames.{Frame, frame_bytes}
-use Rattle.wire.specs.Streams.{Remainder, Message, Rest, Failed, Whole, BadFrame, with_more, AreBytes, Takes}
+use Rattle.wire.specs.Streams.{Remainder, Message, Rest, Failed, Whole, BadFrame, with_more, AreBytes, TakesMessage}
 use Rattle.wire.proofs.Frames.{frame_field}
 use Rattle.book.specs.declared.keeper.NoKeeper.{NoKeeper}
+use Rattle.book.specs.Keeps.{KeepsNothing, NeverFails}
 use Rattle.hub.specs.declared.hub_refusal.HubRefusal.{HubRefusal}
 use Rattle.hub.specs.declared.hub_refusal.HubRefusal.TheVariants.{TooManySessions, SessionOpen, NoSession, Memory}
 use Rattle.hub.specs.Desks.{DeskState, DeskAnswers}
-use Rattle.hub.specs.Events.{BySession, Happening, Open, Bytes, End, HubState, at, due, number}
-use Rattle.hub.specs.DeskRuns.{IsWell, ShowHonestRun}
+use Rattle.hub.specs.Events.{BySession, Happening, Open, Bytes, End, HubState, at_session, due, number}
+use Rattle.hub.specs.DeskRuns.{IsSoundDesk, ShowHonestRun}
 use Rattle.hub.specs.Exchanges.{replies, Exchange, Exchanges}
-use Rattle.hub.specs.Happenings.{Does, Happens, Passes}
-use Rattle.hub.specs.Runs.{Line, Streams, after_event, after_events, each, fresh, rest_of, AllAnswered, Runs}
+use Rattle.hub.specs.Happenings.{Does, DoesUnlessRefused, Happens}
+use Rattle.hub.specs.Runs.{Line, Streams, after_event, after_events, each, rest_of, unanswered, AllAnswered, Runs}
 use Rattle.hub.proofs.Entries.{all_found, all_inserted, all_removed, all_set, lookup_each, AllAt}
 use Rattle.hub.proofs.Outputting.{other_stays}
 use Rattle.hub.proofs.Running.{nothing_run, run_more}
 use Rattle.hub.proofs.Steps.{each_fresh, lines}
-use Rattle.play.specs.Hearing.{HasBytes, IsOfBytes}
+use Rattle.play.specs.Hearing.{HasFrameBytes, IsOfBytes}
 use Rattle.play.specs.Messages.{held_after}
-use Rattle.play.specs.Parties.{KeepsNothing, NeverFails, AreAt, HasHappened, HasHeard, HoldBytes, Parties}
+use Rattle.play.specs.Parties.{AreAt, HasHappened, HasHeard, HoldBytes, Parties}
 use Rattle.play.specs.Played.{piece_events, Stand}
 
 -- ---- session 0
@@ -38,25 +39,25 @@ use Rattle.play.specs.Played.{piece_events, Stand}
 abbrev pub AreOfOthers : ℕ → List Happening → Type 0
 AreOfOthers session = AllByRecursion (λ it. number it ≢ session)
 
-event_stays : (streams : Streams) (it : Happening) (n : ℕ) → number it ≢ n → at (after_event streams it) n ≡ at streams n
+event_stays : (streams : Streams) (it : Happening) (n : ℕ) → number it ≢ n → at_session (after_event streams it) n ≡ at_session streams n
 event_stays streams it n other = by_refusal (due streams it) refl
   where
-    by_refusal : (refused : Option HubRefusal) → due streams it ≡ refused → at (after_event streams it) n ≡ at streams n
+    by_refusal : (refused : Option HubRefusal) → due streams it ≡ refused → at_session (after_event streams it) n ≡ at_session streams n
     by_refusal None e = rw e (other_stays streams it n other)
     by_refusal (Some why) e = rw e refl
 
-events_stay : (streams : Streams) (events : List Happening) (n : ℕ) → AreOfOthers n events → at (after_events streams events) n ≡ at streams n
+events_stay : (streams : Streams) (events : List Happening) (n : ℕ) → AreOfOthers n events → at_session (after_events streams events) n ≡ at_session streams n
 events_stay streams [] n others = refl
 events_stay streams (it ∷ more) n others = events_stay (after_event streams it) more n others.1 ∙ event_stays streams it n others.0
 
 -- a session holds what it held
-pub held_stays : (sessions : BySession Remainder) (events : List Happening) (n : ℕ) → AreOfOthers n events → at (held_after sessions events) n ≡ at sessions n
+pub held_stays : (sessions : BySession Remainder) (events : List Happening) (n : ℕ) → AreOfOthers n events → at_session (held_after sessions events) n ≡ at_session sessions n
 held_stays sessions events n others =
-    let streams : Streams = each fresh sessions in
+    let streams : Streams = each unanswered sessions in
     lookup_each rest_of (is_at (nat_cmp n)) (after_events streams events)
     ∙ ap (option_map rest_of) (events_stay streams events n others)
     ∙ sym (lookup_each rest_of (is_at (nat_cmp n)) streams)
-    ∙ ap (λ (all : BySession Remainder). at all n) (sym (each_fresh sessions))
+    ∙ ap (λ (all : BySession Remainder). at_session all n) (sym (each_fresh sessions))
 
 pub above_none : (session : ℕ) → 0 < session → session ≢ 0
 above_none session above same = omega (arith, above, same)
@@ -66,7 +67,7 @@ above_none session above same = omega (arith, above, same)
 module _ {S : Type 0} (answers : S → Frame → List ℕ → S → Type 0) where
   -- an end takes no memory: what it does is that of one event of a run
   end_passes : (before after : HubState S) (session : ℕ) (output grown : List ℕ) (result : Result (Unit {0}) HubRefusal)
-      → Happens answers before (End session) output result after grown → (exchanges : List Exchange) × Passes answers before (End session) exchanges after
+      → Happens answers before (End session) output result after grown → (exchanges : List Exchange) × DoesUnlessRefused answers before (End session) exchanges after
   end_passes before after session output grown (Ok done) (fine, exchanges, does, wrote) = (exchanges, inr (fine, does))
   end_passes before after session output grown (Err (Memory false)) happens = absurd happens.0
   end_passes before after session output grown (Err (Memory true)) (other, piece, exchanges, is, answered, wrote) = absurd cc
@@ -75,12 +76,12 @@ module _ {S : Type 0} (answers : S → Frame → List ℕ → S → Type 0) wher
   end_passes before after session output grown (Err NoSession) (why, same, wrote) = ([], inl (NoSession, why, refl, same))
 
   -- one event is a run
-  pub one_runs : (before after : HubState S) (it : Happening) (exchanges : List Exchange) → Passes answers before it exchanges after
+  pub one_runs : (before after : HubState S) (it : Happening) (exchanges : List Exchange) → DoesUnlessRefused answers before it exchanges after
       → Runs answers before (it ∷ []) (lines (number it) exchanges) after
   one_runs before after it exchanges passes = (run_more answers before [] [] before it exchanges after (nothing_run answers before) passes).0
 
   -- and so are two
-  pub two_run : (before middle after : HubState S) (one other : Happening) (first later : List Exchange) → Passes answers before one first middle → Passes answers middle other later after
+  pub two_run : (before middle after : HubState S) (one other : Happening) (first later : List Exchange) → DoesUnlessRefused answers before one first middle → DoesUnlessRefused answers middle other later after
       → Runs answers before (one ∷ other ∷ []) (lines (number one) first ++ lines (number other) later) after
   two_run before middle after one other first later passes then_passes =
       (run_more answers before (one ∷ []) (lines (number one) first) middle other later after
@@ -106,7 +107,7 @@ more_bytes : (held : Remainder) (piece : List ℕ) → AreBytes held → IsBytes
 more_bytes (Rest bytes) piece are small = IsBytes-append bytes piece are small
 more_bytes Failed piece are small = tt
 
-takes_bytes : (held : Remainder) (message : Message) (after : Remainder) → AreBytes held → Takes held message after → AreBytes after × HasBytes message
+takes_bytes : (held : Remainder) (message : Message) (after : Remainder) → AreBytes held → TakesMessage held message after → AreBytes after × HasFrameBytes message
 takes_bytes (Rest bytes) (Whole frame) after are (left, read, same) =
     let spelled = frame_field.spelled bytes (frame, left) are read in
     (subst AreBytes (sym same) (IsBytes-back (frame_bytes frame) left (subst IsBytes spelled.0 are)), spelled.1.2)
@@ -120,7 +121,7 @@ BringsBytes (Bytes session piece) = IsBytes piece
 BringsBytes (End session) = ⊤
 
 abbrev pub AreOfBytes : List Exchange → Type 0
-AreOfBytes = AllByRecursion (λ exchange. HasBytes exchange.message)
+AreOfBytes = AllByRecursion (λ exchange. HasFrameBytes exchange.message)
 
 module _ {S : Type 0} (answers : S → Frame → List ℕ → S → Type 0) where
   exchanges_bytes : (s : S) (held : Remainder) (exchanges : List Exchange) (t : S) (left : Remainder) → AreBytes held → Exchanges answers s held exchanges t left → AreBytes left × AreOfBytes exchanges
@@ -147,7 +148,7 @@ module _ {S : Type 0} (answers : S → Frame → List ℕ → S → Type 0) wher
   )
 
   -- the sessions still hold bytes, and the messages are frames
-  pub passes_bytes : (before after : HubState S) (it : Happening) (exchanges : List Exchange) → HoldBytes before.sessions → BringsBytes it → Passes answers before it exchanges after
+  pub passes_bytes : (before after : HubState S) (it : Happening) (exchanges : List Exchange) → HoldBytes before.sessions → BringsBytes it → DoesUnlessRefused answers before it exchanges after
       → HoldBytes after.sessions × AreOfBytes exchanges
   passes_bytes before after it exchanges are small (inl (why, refused, none, same)) =
       (subst (λ (h : HubState S). HoldBytes h.sessions) (sym same) are, subst AreOfBytes (sym none) tt)
@@ -163,7 +164,7 @@ HasMemory (Err (Memory taken)) = ⊥
 
 -- ---- an end
 
-end_leaves : {S : Type 0} (answers : S → Frame → List ℕ → S → Type 0) (before after : HubState S) (session : ℕ) (exchanges : List Exchange) → Passes answers before (End session) exchanges after
+end_leaves : {S : Type 0} (answers : S → Frame → List ℕ → S → Type 0) (before after : HubState S) (session : ℕ) (exchanges : List Exchange) → DoesUnlessRefused answers before (End session) exchanges after
     → after ≡ record before { sessions = after.sessions }
 end_leaves answers before after session exchanges (inl (why, refused, none, same)) = subst (λ (h : HubState _). h ≡ record before { sessions = h.sessions }) (sym same) refl
 end_leaves answers before after session exchanges (inr (fine, does)) = subst (λ (h : HubState _). h ≡ record before { sessions = h.sessions }) (sym does.1) refl
@@ -183,7 +184,7 @@ module _ {R : Type 0} (digest_of : List ℕ → List ℕ) (value_of signature_of
       book = are.hub.book;
       sessions = is ∙ ap (λ (all : BySession Remainder). held_after all (End session ∷ [])) are.hub.sessions;
       ready = record {
-        idle = ap (λ (all : BySession Remainder). at all 0) is ∙ held_stays before.hub.sessions (End session ∷ []) 0 (other, tt) ∙ are.hub.ready.idle;
+        idle = ap (λ (all : BySession Remainder). at_session all 0) is ∙ held_stays before.hub.sessions (End session ∷ []) 0 (other, tt) ∙ are.hub.ready.idle;
         bytes = bytes;
         token = are.hub.ready.token;
         key = are.hub.ready.key;
@@ -249,7 +250,7 @@ module _ {R : Type 0} (digest_of : List ℕ → List ℕ) (value_of signature_of
   pub heard : (before middle after : Parties R) (session : ℕ) (piece output first grown : List ℕ) → IsBytes piece → HoldBytes before.hub.sessions → output ≡ []
       → HasHappened digest_of value_of signature_of stream accepted verified before (Open session) output first middle
       → HasHappened digest_of value_of signature_of stream accepted verified middle (Bytes session piece) first grown after
-      → IsWell digest_of value_of signature_of stream accepted verified before.hub.service → IsWell digest_of value_of signature_of stream accepted verified after.hub.service
+      → IsSoundDesk digest_of value_of signature_of stream accepted verified before.hub.service → IsSoundDesk digest_of value_of signature_of stream accepted verified after.hub.service
       → ((lines : List Line) → AllAnswered Answer before.hub.service lines after.hub.service
       → ShowHonestRun digest_of value_of signature_of stream KeepsNothing NeverFails accepted verified before.hub.service lines after.hub.service)
       → HasHeard digest_of value_of signature_of stream accepted verified before (piece_events session piece) grown after

@@ -4,11 +4,10 @@ use Rattle.std.specs.List.{AllZip}
 use Rattle.rand_core.specs.Stream.{Stream}
 use Rattle.wire.specs.Requests.{RequestContent}
 use Rattle.wire.specs.Streams.{Remainder}
-use Rattle.book.specs.Fresh as fresh
+use Rattle.book.specs.Fresh.{keyed_provider}
 use Rattle.book.specs.Shows.{Provider, roots}
 use Rattle.epochs.specs.DirectoryStates.{HasKeysOf}
-use Rattle.hub.specs.Events.{BySession}
-use Rattle.hub.specs.Events as events
+use Rattle.hub.specs.Events.{at_session, BySession}
 use Rattle.monitor.specs.Monitors.{Monitor}
 use Rattle.play.specs.Parties.{book_of, provider_of, AreAt, HasAsked, HaveTaken, HoldBytes, IsWatcher, Parties}
 use Rattle.play.specs.Played.{Stand}
@@ -32,7 +31,7 @@ module _ {R : Type 0} (digest_of : List ℕ → List ℕ) (value_of signature_of
       book = stays;
       sessions = asked.sessions ∙ all.hub.sessions;
       ready = record {
-        idle = ap (λ (sessions : BySession Remainder). events.at sessions 0) asked.sessions ∙ all.hub.ready.idle;
+        idle = ap (λ (sessions : BySession Remainder). at_session sessions 0) asked.sessions ∙ all.hub.ready.idle;
         bytes = subst HoldBytes (sym asked.sessions) all.hub.ready.bytes;
         token = asked.token ∙ all.hub.ready.token;
         key = asked.keys.1 ∙ all.hub.ready.key;
@@ -52,4 +51,4 @@ module _ {R : Type 0} (digest_of : List ℕ → List ℕ) (value_of signature_of
       same = ends ∙ ap (λ (m : Parties R). record m { monitors = monitors }) asked.others
 
       provider_is : provider_of digest_of value_of signature_of stream accepted verified parties ≡ by
-      provider_is = ap₂ (λ (vuf_key key : List ℕ). fresh.provider_of digest_of value_of vuf_key signature_of key) asked.keys.0 asked.keys.1
+      provider_is = ap₂ (λ (vuf_key key : List ℕ). keyed_provider digest_of value_of vuf_key signature_of key) asked.keys.0 asked.keys.1

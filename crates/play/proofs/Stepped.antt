@@ -13,7 +13,7 @@ use Rattle.encoding.specs.Limits.{IsName}
 use Rattle.rootchain.specs.Chains.{KeyedRoots}
 use Rattle.rootchain.specs.declared.signed_root.SignedRoot.{SignedRoot}
 use Rattle.proofs.specs.Accepts.{stated}
-use Rattle.proofs.specs.Refusals.{refusal_number}
+use Rattle.proofs.specs.Refusals.{reply_refusal_number}
 use Rattle.proofs.specs.Views.{key_stated}
 use Rattle.proofs.specs.Watches.{Watch, expected}
 use Rattle.proofs.specs.declared.refusal.Refusal.{Refusal as ProofRefusal}
@@ -25,9 +25,10 @@ use Rattle.book.specs.declared.keeper.NoKeeper.{NoKeeper}
 use Rattle.book.specs.declared.refusal.Refusal.TheVariants.{BadName, NoSuchEpoch}
 use Rattle.book.specs.declared.reply.Reply.{Reply}
 use Rattle.book.specs.declared.reply.Reply.TheVariants as reply
-use Rattle.book.specs.Answers.{Answer, Promised, Found, Told, Last, first, is_within, refusal}
+use Rattle.book.specs.Answers.{Answer, Promised, Found, Told, Last, first, has_length_within, refusal}
 use Rattle.book.specs.Books.{Binding, Book, Page, page_at, pages}
-use Rattle.book.specs.Honest.{key_at, IsHonest}
+use Rattle.book.specs.Honest.{key_at, IsHonestRun}
+use Rattle.book.specs.Keeps.{KeepsNothing, NeverFails}
 use Rattle.book.specs.Maps.{at}
 use Rattle.book.specs.Shows.{Provider, SignedPage, index_of, roots, sealed_pages, IsRootOf}
 use Rattle.book.specs.Sound.{IsSound}
@@ -41,11 +42,11 @@ use Rattle.book.proofs.Stepping.{none_steps}
 use Rattle.epochs.specs.DirectoryStates.{book, HasKeysOf}
 use Rattle.hub.specs.Desks.{reply_frame}
 use Rattle.monitor.specs.Monitors.{Monitor, with_watched, IsNext}
-use Rattle.monitor.specs.Stepping.{IsNextEpoch, Tells}
+use Rattle.monitor.specs.Stepping.{IsNextEpoch, StepTells}
 use Rattle.monitor.specs.declared.step.Step.{Step}
 use Rattle.monitor.specs.declared.step.Step.TheVariants.{Kept, Alarm}
 use Rattle.play.specs.Lines.{as_lines, is_double, refused_proof}
-use Rattle.play.specs.Parties.{Parties, KeepsNothing, NeverFails, book_of, provider_of, AreAt, HasAsked, IsWatcher}
+use Rattle.play.specs.Parties.{Parties, book_of, provider_of, AreAt, HasAsked, IsWatcher}
 use Rattle.play.specs.Played.{Stand}
 use Rattle.play.specs.Steps.{HasStepped, Watches}
 use Rattle.play.specs.Telling.{place_text, step_text}
@@ -99,7 +100,7 @@ place-of watcher page = encode_lower watcher.name ++ codes " " ++ decimal page.e
 abbrev by-test : Watcher → Page → Bool → List ℕ
 by-test watcher page t = verdict_text t (place-of watcher page) (key_at page watcher.name)
 
-told-text : (watcher : Watcher) (page : Page) (epoch : ℕ) (told : Step) → epoch ≡ page.epoch → Tells watcher.watch page.epoch (key_at page watcher.name) told
+told-text : (watcher : Watcher) (page : Page) (epoch : ℕ) (told : Step) → epoch ≡ page.epoch → StepTells watcher.watch page.epoch (key_at page watcher.name) told
     → step_text watcher.name epoch told ≡ watched_text watcher page
 told-text watcher page epoch Kept is tells =
     ap (λ (e : ℕ). step_text watcher.name e Kept) is
@@ -109,9 +110,9 @@ told-text watcher page epoch (Alarm at found) is (differs, of, states) =
     ∙ ap (λ (key : Option (List ℕ)). place_text (codes "alarm ") watcher.name page.epoch ++ codes " " ++ alarm_key key) states
     ∙ sym (ap (by-test watcher page) (false_from_ne_true (same_key (key_at page watcher.name) (expected watcher.watch page.epoch)) (λ e. differs (keys-same (key_at page watcher.name) (expected watcher.watch page.epoch) e))))
 
-refused-text : (why : ProofRefusal) → why ≡ proof.SameIndex → codes "client refuses proof " ++ decimal (refusal_number why) ≡ refused_proof
+refused-text : (why : ProofRefusal) → why ≡ proof.SameIndex → codes "client refuses proof " ++ decimal (reply_refusal_number why) ≡ refused_proof
 unfolding digits
-refused-text why is = ap (λ (w : ProofRefusal). codes "client refuses proof " ++ decimal (refusal_number w)) is ∙ refl
+refused-text why is = ap (λ (w : ProofRefusal). codes "client refuses proof " ++ decimal (reply_refusal_number w)) is ∙ refl
 
 -- ---- what is found
 
@@ -129,7 +130,7 @@ look-steps index book name epoch page named found =
     none_steps index book (Query (Lookup name epoch)) none
     ∙ ap (λ (found : Option Page). (found_in name found, book)) found
   where
-    within : is_within 1 255 name ≡ true
+    within : has_length_within 1 255 name ≡ true
     within = and_from (nat_le 1 (length name)) (nat_le (length name) 255) (le-leb 1 (length name) named.0) (le-leb (length name) 255 named.1)
 
     none : refusal index book (Query (Lookup name epoch)) ≡ None
@@ -280,9 +281,9 @@ module _ {R : Type 0} (digest_of : List ℕ → List ℕ) (value_of signature_of
   saw : (root : SignedRoot) → IsNext watching root → root.body.epoch ≡ epoch → (page : Page) × IsSeen by accepted verified before.key stand.book watching.name page root body
   saw root nearest of =
       seen by accepted verified before.key KeepsNothing NeverFails asked.laws stand.book (now_book mid) before.hub.service.keeper mid.hub.service.keeper watching.name epoch body sound
-      (subst (λ (said : Reply). IsHonest by accepted verified before.key stand.book (now_book mid) (look ∷ []) (said ∷ [])) said
-      (subst (λ (command : Operation). IsHonest by accepted verified before.key stand.book (now_book mid) (command ∷ []) (asked.said ∷ [])) is_look
-      (subst (λ (b : Book). IsHonest by accepted verified before.key b (now_book mid) (asked.asked ∷ []) (asked.said ∷ [])) all.hub.book asked.honest)))
+      (subst (λ (said : Reply). IsHonestRun by accepted verified before.key stand.book (now_book mid) (look ∷ []) (said ∷ [])) said
+      (subst (λ (command : Operation). IsHonestRun by accepted verified before.key stand.book (now_book mid) (command ∷ []) (asked.said ∷ [])) is_look
+      (subst (λ (b : Book). IsHonestRun by accepted verified before.key b (now_book mid) (asked.asked ∷ []) (asked.said ∷ [])) all.hub.book asked.honest)))
       (subst (λ (said : Reply). Turn by KeepsNothing NeverFails stand.book before.hub.service.keeper look said (now_book mid) mid.hub.service.keeper) said turn)
       named.2 found.stays root (in-taken by before.key stand.book climb watching watcher is root nearest)
       (of ∙ sym (ap (λ (t : Bool). if t then stand.book.last.epoch else epoch) (ne_eqb epoch 0 (λ e. omega (arith, e, positive)))))
@@ -320,11 +321,11 @@ module _ {R : Type 0} (digest_of : List ℕ → List ℕ) (value_of signature_of
       let s = saw root nearest (of-epoch root nearest) in
       let states = s.1.states spelled accepts in
       let of : root.body.epoch ≡ s.0.epoch = rooted-epoch by stand.book s.0 root s.1.rooted in
-      let tells_page : Tells watcher.watch s.0.epoch (key_at s.0 watcher.name) told
-      = subst (λ (w : Watch). Tells w s.0.epoch (key_at s.0 watcher.name) told) is.watch
-      (subst (λ (name : List ℕ). Tells watching.watch s.0.epoch (key_at s.0 name) told) is.name
-      (subst (λ (key : Option (List ℕ)). Tells watching.watch s.0.epoch key told) states.0
-      (subst (λ (e : ℕ). Tells watching.watch e (stated spelled.end) told) of tells))) in
+      let tells_page : StepTells watcher.watch s.0.epoch (key_at s.0 watcher.name) told
+      = subst (λ (w : Watch). StepTells w s.0.epoch (key_at s.0 watcher.name) told) is.watch
+      (subst (λ (name : List ℕ). StepTells watching.watch s.0.epoch (key_at s.0 name) told) is.name
+      (subst (λ (key : Option (List ℕ)). StepTells watching.watch s.0.epoch key told) states.0
+      (subst (λ (e : ℕ). StepTells watching.watch e (stated spelled.end) told) of tells))) in
       let line : step_text watching.name epoch told ≡ watched_text watcher s.0
       = ap (λ (name : List ℕ). step_text name epoch told) is.name ∙ told-text watcher s.0 epoch told (sym (of-epoch root nearest) ∙ of) tells_page in
       record {
@@ -358,7 +359,7 @@ module _ {R : Type 0} (digest_of : List ℕ → List ℕ) (value_of signature_of
         keys = keys;
         looks = looks-stay;
         done = record {
-          text = told_so ∙ ap (λ (front : List ℕ). front ++ 10 ∷ []) (append_assoc printed (codes "client refuses proof ") (decimal (refusal_number why))) ∙ ap (λ (l : List ℕ). printed ++ l ++ 10 ∷ []) (refused-text why refused.0) ∙ one-line printed refused_proof;
+          text = told_so ∙ ap (λ (front : List ℕ). front ++ 10 ∷ []) (append_assoc printed (codes "client refuses proof ") (decimal (reply_refusal_number why))) ∙ ap (λ (l : List ℕ). printed ++ l ++ 10 ∷ []) (refused-text why refused.0) ∙ one-line printed refused_proof;
           stands = stands watcher (subst (λ (m : Monitor). IsWatcher before.key (roots by stand.book) stand.book m watcher) (sym after) is);
         };
       }

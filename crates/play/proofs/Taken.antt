@@ -18,7 +18,7 @@ use Rattle.rootchain.proofs.Chains.{ascend-linked}
 use Rattle.commands.specs.Operations.{Operation}
 use Rattle.book.specs.declared.reply.Reply.{Reply}
 use Rattle.book.specs.Books.{Book}
-use Rattle.book.specs.Honest.{AreConsecutive, IsHonest}
+use Rattle.book.specs.Honest.{AreConsecutive, IsHonestRun}
 use Rattle.book.specs.Shows.{Provider, roots}
 use Rattle.auditor.specs.Chains.{Chains, chain_of}
 use Rattle.auditor.specs.InOrder.{ObservesAll}
@@ -138,7 +138,7 @@ below-all xs ys up one other (i, low, is) (j, high, also) =
 -- ---- all took roots of a book, and take the next ones
 
 module _ (provider : Provider) (accepted verified : List ℕ → List ℕ → List ℕ → Type 0) (key : List ℕ) (before after : Book) (commands : List Operation) (replies : List Reply)
-    (h : IsHonest provider accepted verified key before after commands replies) where
+    (h : IsHonestRun provider accepted verified key before after commands replies) where
   one-chain : (one other : KeyedRoots) → Some one ≡ Some other → one ≡ other
   one-chain one other same = cc
 

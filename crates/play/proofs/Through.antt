@@ -9,7 +9,7 @@ use Rattle.rand_core.specs.Stream.{Stream}
 use Rattle.rootchain.specs.Chains.{KeyedRoots}
 use Rattle.rootchain.specs.declared.signed_root.SignedRoot.{SignedRoot}
 use Rattle.book.specs.Books.{Book, Page, pages}
-use Rattle.book.specs.Fresh as fresh
+use Rattle.book.specs.Fresh.{keyed_provider}
 use Rattle.book.specs.Shows.{Provider, index_of, roots}
 use Rattle.book.proofs.Members.{first-or-later, first-there, later-there, none-there}
 use Rattle.epochs.specs.DirectoryStates.{HasKeysOf}
@@ -203,7 +203,7 @@ module _ {R : Type 0} (digest_of : List ℕ → List ℕ) (value_of signature_of
           gone.done.stands.taken.monitors now-there
 
       index_same : index_at parties ≡ index_at before
-      index_same = ap₂ (λ (vuf_key key : List ℕ). index_of (fresh.provider_of digest_of value_of vuf_key signature_of key)) gone.keys.0 gone.keys.1
+      index_same = ap₂ (λ (vuf_key key : List ℕ). index_of (keyed_provider digest_of value_of vuf_key signature_of key)) gone.keys.0 gone.keys.1
 
       abbrev pub HasNext : Bool → List ℕ → Parties R → Type 0
       HasNext went later after = HasStepped digest_of value_of signature_of stream accepted verified parties (with_watcher stand place gone.now) place gone.now text went later after

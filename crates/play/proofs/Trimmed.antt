@@ -4,7 +4,7 @@ use Rattle.std.proofs.lemmas.Bool.{eqb-true, eqb-false}
 use Rattle.std.specs.Prelude.{IfSome}
 use Rattle.std.specs.Io.BufRead.{drop_through, take_through, DropsThrough}
 use Rattle.textio.specs.Lines.{lines_of, onto_first}
-use Rattle.play.specs.Reading.{IsTrimmed, TakesLine}
+use Rattle.play.specs.Reading.{IsTrimmed, TakesWholeLine}
 
 heads : (x y : ℕ) (xs ys : List ℕ) → x ∷ xs ≡ y ∷ ys → (x ≡ y) × (xs ≡ ys)
 heads x y xs ys e = (cc, cc)
@@ -49,14 +49,14 @@ last (x ∷ xs) some not = by_test (eqb x 10) refl not (last xs)
             (ap (onto_first x) t.0, t.1)
 
 -- what was read, without its LF, is the first line
-pub taken : (input left : Option (List ℕ)) (read line : List ℕ) → IfSome input (λ xs. read ≡ take_through 10 xs) → DropsThrough input left 10 → 0 < length read → IsTrimmed read line → TakesLine input left true line
+pub taken : (input left : Option (List ℕ)) (read line : List ℕ) → IfSome input (λ xs. read ≡ take_through 10 xs) → DropsThrough input left 10 → 0 < length read → IsTrimmed read line → TakesWholeLine input left true line
 taken None left read line is drops some trimmed = tt
 taken (Some xs) left read line is drops some (inl ends) =
-    subst (λ (l : Option (List ℕ)). TakesLine (Some xs) l true line) (sym drops) (ended xs line (sym is ∙ ends))
+    subst (λ (l : Option (List ℕ)). TakesWholeLine (Some xs) l true line) (sym drops) (ended xs line (sym is ∙ ends))
 taken (Some []) left read line is drops some (inr whole) = absurd (omega (arith, some, ap length is))
 taken (Some (x ∷ xs)) left read line is drops some (inr (same, not)) =
     let t = last (x ∷ xs) (omega arith) (λ front e. not front (is ∙ e)) in
-    subst (λ (l : Option (List ℕ)). TakesLine (Some (x ∷ xs)) l true line) (sym drops)
+    subst (λ (l : Option (List ℕ)). TakesWholeLine (Some (x ∷ xs)) l true line) (sym drops)
     (t.0 ∙ ap₂ (λ (l : List ℕ) (rest : List ℕ). l ∷ lines_of rest) (sym is ∙ sym same) (sym t.1))
 
 -- appended to nothing

@@ -10,7 +10,7 @@ use Rattle.rootchain.specs.Bodies.{body_bytes}
 use Rattle.rootchain.specs.declared.body.Body.{Body}
 use Rattle.rootchain.specs.declared.signed_promise.SignedPromise.{SignedPromise}
 use Rattle.rootchain.specs.declared.signed_root.SignedRoot.{SignedRoot}
-use Rattle.proofs.specs.Replies.{Reply as Spelled, Spells}
+use Rattle.proofs.specs.Replies.{Reply as Spelled, SpellsReply}
 use Rattle.commands.specs.Operations.{Operation, Question, Query, Edit, Put, Promise, Lookup, History, Head}
 use Rattle.commands.specs.Operations as ask
 use Rattle.book.specs.declared.keeper.NoKeeper.{NoKeeper}
@@ -20,7 +20,8 @@ use Rattle.book.specs.declared.reply.Reply.{Reply}
 use Rattle.book.specs.declared.reply.Reply.TheVariants as reply
 use Rattle.book.specs.Answers.{Answer, Promised, Found, Last}
 use Rattle.book.specs.Books.{Binding, Book, Page, pages}
-use Rattle.book.specs.Refusals.{refusal_number}
+use Rattle.book.specs.Keeps.{KeepsNothing, NeverFails}
+use Rattle.book.specs.Refusals.{book_refusal_number}
 use Rattle.book.specs.Shows.{Provider, body_behind, index_of, promise, sealed_behind, signed, signed_promise, IsReplyOf, IsRootOf}
 use Rattle.book.specs.Sound.{IsPage}
 use Rattle.book.specs.Steps.{Outcome, Answers, Refuses, step}
@@ -36,17 +37,16 @@ use Rattle.wire.specs.Laws.{IsReadAs}
 use Rattle.wire.specs.Responses as response
 use Rattle.wire.specs.Responses.{ResponseContent, response_frame}
 use Rattle.wire.specs.Streams.{Message}
-use Rattle.hub.specs.DeskRuns.{AreRead, ShowReplies}
+use Rattle.hub.specs.DeskRuns.{AreResponses, ShowReplies}
 use Rattle.hub.specs.Desks.{reply_frame, IsResponseOf}
 use Rattle.hub.specs.Runs.{Line}
 use Rattle.play.specs.Answering.{IsUnchecked}
 use Rattle.play.specs.Lines.{answer_text, last_epoch, numbered_text}
 use Rattle.play.specs.Messages.{asks, comes_of, numbered, Numbered}
-use Rattle.play.specs.Parties.{KeepsNothing, NeverFails}
 use Rattle.play.specs.Hearing.{response_text, IsOfBytes}
 use Rattle.play.specs.Played.{answered}
 use Rattle.play.specs.Scripts.{token}
-use Rattle.play.specs.Telling.{AreFramesOf, HaveMemory, Heard}
+use Rattle.play.specs.Telling.{AreFramesOf, HaveMemory, HeardFrame}
 use Rattle.play.proofs.Calling.{rooted-epoch}
 use Rattle.play.proofs.Hearing.{away-asks, reached-asks}
 
@@ -99,14 +99,14 @@ module _ (provider : Provider) where
 
   -- what a client reads in a reply of a page is of the page's epoch
   pub found_epoch : (after : Book) (text : List ℕ) (page : Page) (name : List ℕ) (found : Option Binding) (root : SignedRoot) (spelled : Spelled) → All IsPage (pages after)
-      → IsRootOf provider after page root → IsReplyOf provider page root.body name found text → Spells text spelled → spelled.body.epoch ≡ page.epoch
+      → IsRootOf provider after page root → IsReplyOf provider page root.body name found text → SpellsReply text spelled → spelled.body.epoch ≡ page.epoch
   found_epoch after text page name found root spelled sound rooted shows spells =
       let of_page : root.body.epoch ≡ page.epoch = rooted-epoch provider after page root rooted in
       let fits : page.epoch < 2 ^ 64 = (All-contains IsPage (pages after) page sound (sealed-page provider 0 (replicate 32 0) (pages after) (record { page = page; root = root }) rooted)).in_eight_bytes in
       sym (same_epoch root.body spelled.body _ _ (omega (arith, of_page, fits)) spells.1.0.1 (sym shows.spelled ∙ spells.0)) ∙ of_page
 
   found_text : (after : Book) (answer : Answer) (text : List ℕ) (page : Page) (name : List ℕ) (found : Option Binding) (root : SignedRoot) (spelled : Spelled) → answer ≡ Found page name found → All IsPage (pages after)
-      → IsRootOf provider after page root → IsReplyOf provider page root.body name found text → Spells text spelled → answer_text after answer ≡ response_text (response.Proof spelled)
+      → IsRootOf provider after page root → IsReplyOf provider page root.body name found text → SpellsReply text spelled → answer_text after answer ≡ response_text (response.Proof spelled)
   found_text after answer text page name found root spelled is sound rooted shows spells =
       ap (answer_text after) is ∙ ap (λ (n : ℕ). codes "proof " ++ decimal n) (sym (found_epoch after text page name found root spelled sound rooted shows spells))
 
@@ -150,21 +150,21 @@ module _ (provider : Provider) where
       → IsTold book asked after responded
   answers book after asked responded answer steps text = record { now = Ok answer; comes = ap (λ (s : Outcome × Book). (numbered s.0, s.1)) steps; text = text }
 
-  refuses : (book after : Book) (asked : Operation) (responded : ResponseContent) (why : Refusal) → (step (index_of provider) book asked).0 ≡ Refuses why → after ≡ book → responded ≡ response.Refused (refusal_number why)
+  refuses : (book after : Book) (asked : Operation) (responded : ResponseContent) (why : Refusal) → (step (index_of provider) book asked).0 ≡ Refuses why → after ≡ book → responded ≡ response.Refused (book_refusal_number why)
       → IsTold book asked after responded
   refuses book after asked responded why refused same is =
       let steps = due_steps (index_of provider) book asked why (refused_due (index_of provider) book asked why refused) in
       record {
-        now = Err (refusal_number why);
+        now = Err (book_refusal_number why);
         comes = ap (λ (s : Outcome × Book). (numbered s.0, s.1)) steps ∙ ap (λ (b : Book). (numbered (Refuses why), b)) (sym same);
         text = ap response_text (sym is);
       }
 
-  declined : (book : Book) (asked : Operation) (outcome : Outcome) (lost : Option Record) (keeper keeper_after : NoKeeper) (why : Refusal) → refusal_number why ≢ 14
+  declined : (book : Book) (asked : Operation) (outcome : Outcome) (lost : Option Record) (keeper keeper_after : NoKeeper) (why : Refusal) → book_refusal_number why ≢ 14
       → Declines provider KeepsNothing NeverFails outcome lost keeper why keeper_after → outcome ≡ Refuses why
   declined book asked (Refuses due) lost keeper keeper_after why some (same, kept) = ap Refuses (sym same)
   declined book asked (Answers answer) None keeper keeper_after why some declines = absurd declines
-  declined book asked (Answers answer) (Some lost) keeper keeper_after why some (inl (memory, kept)) = absurd (some (ap refusal_number memory))
+  declined book asked (Answers answer) (Some lost) keeper keeper_after why some (inl (memory, kept)) = absurd (some (ap book_refusal_number memory))
   declined book asked (Answers answer) (Some lost) keeper keeper_after why some (inr (failed, never)) = absurd never
 
   -- a reply that no client checks
@@ -181,7 +181,7 @@ module _ (provider : Provider) where
       let last = does_last book after asked page (stepped (index_of provider) book asked (Last page) after so).does in
       answers book after asked responded answer steps (last_text after answer page root is ascend last rooted ∙ ap response_text (sym says))
   unchecked_told book after keeper keeper_after asked (reply.Refused why) responded ascend unchecked (same, declines) says some =
-      let other : refusal_number why ≢ 14 = λ e. some (says ∙ ap response.Refused e) in
+      let other : book_refusal_number why ≢ 14 = λ e. some (says ∙ ap response.Refused e) in
       refuses book after asked responded why (declined book asked (step (index_of provider) book asked).0 (kept_of book asked) keeper keeper_after why other declines) same says
 
   pub turn_told : (book after : Book) (keeper keeper_after : NoKeeper) (asked : Operation) (said : Reply) (responded : ResponseContent) → AllPairs IsBefore (pages after) → All IsPage (pages after)
@@ -214,7 +214,7 @@ module _ (provider : Provider) where
   -- The replies are frames with their responses. If none says that memory ran out, the definition tells these,
   -- and leads from the book to the one after them.
   pub record AreTold (lines : List Line) (book after : Book) : Type 0 where
-    pub heard : List Heard
+    pub heard : List HeardFrame
     pub are : AreFramesOf (line_replies lines) heard
     pub told : HaveMemory heard → answered (index_of provider) book (messages_of lines) ≡ (map (λ one. response_text one.1) heard, after)
 
@@ -232,12 +232,12 @@ module _ (provider : Provider) where
         let (is, text) = comes memory.0 in
         ap (told_from (messages_of lines)) is
         ∙ ap (λ (later : List (List ℕ) × Book). (numbered_text (answer_text middle) now ∷ later.0, later.1)) (more.told memory.1)
-        ∙ ap (λ (t : List ℕ). (t ∷ map (λ (one : Heard). response_text one.1) more.heard, after)) text;
+        ∙ ap (λ (t : List ℕ). (t ∷ map (λ (one : HeardFrame). response_text one.1) more.heard, after)) text;
   }
 
   pub lines_told : (lines : List Line) (commands : List Operation) (replies : List Reply) (shown : ShowReplies token lines commands replies) (book after : Book) (keeper later : NoKeeper)
       → AllPairs IsBefore (pages book) → All IsPage (pages after) → AllByRecursion IsOfBytes lines → Run provider KeepsNothing NeverFails book keeper commands replies after later
-      → AreRead token lines commands replies shown → AreTold lines book after
+      → AreResponses token lines commands replies shown → AreTold lines book after
   lines_told [] commands replies (none, said) book after keeper later ascend sound small run read = record {
     heard = [];
     are = (refl, tt);

@@ -3,7 +3,7 @@ use Rattle.std.proofs.Common.{◌≡◌, ◌≢◌, ℕ, zero, suc, ◌<◌, Lis
 use Rattle.std.specs.List.{onto_first}
 use Rattle.std.proofs.lemmas.Bool.{ne_eqb}
 use Rattle.std.proofs.lemmas.List.Splits.{slice_split-cons_yes, slice_split-cons_no}
-use Rattle.play.specs.Scripts.{with_none, words, Line}
+use Rattle.play.specs.Scripts.{with_no_word, words, ScriptLine}
 use Rattle.play.specs.Spoken.{one_of}
 
 abbrev is_space : ℕ → Bool
@@ -35,5 +35,5 @@ is_some_word (byte ∷ text) = by (is_some_word text) (byte == 32) refl
 pub none_alone : (word text : List ℕ) → one_of (word ∷ words text) ≡ None
 none_alone word text = let rest = is_some_word text in ap (λ list. one_of (word ∷ list)) rest.2
 
-pub with_none_some : (said : Option Line) (text : List ℕ) → with_none said (words text) ≡ None
-with_none_some said text = let rest = is_some_word text in ap (with_none said) rest.2
+pub with_none_some : (said : Option ScriptLine) (text : List ℕ) → with_no_word said (words text) ≡ None
+with_none_some said text = let rest = is_some_word text in ap (with_no_word said) rest.2

@@ -20,15 +20,15 @@ abbrev pub script_index : List ℕ → List ℕ
 script_index name = sha256 (keyed_value vuf_key name)
 
 -- the salts that a generator will give
-abbrev pub salts : ChaCha → Stream
-salts = stream_of (steps_u32 (next_word 10))
+abbrev pub chacha_salts : ChaCha → Stream
+chacha_salts = stream_of (steps_u32 (next_word 10))
 
 -- salts by ChaCha20 under a key of zeros
 abbrev pub script_salts : Stream
-script_salts = salts (of_seed (replicate 32 0))
+script_salts = chacha_salts (of_seed (replicate 32 0))
 
 -- the directory at its first page, which is of epoch 1 and has a nonce of zeros
-pub record IsFirst (directory : DirectoryState ChaCha) : Type 0 where
-  pub page : book salts directory ≡ fresh 1 (replicate 32 0) script_salts
+pub record IsScriptStart (directory : DirectoryState ChaCha) : Type 0 where
+  pub page : book chacha_salts directory ≡ fresh 1 (replicate 32 0) script_salts
   pub values : directory.vuf_key ≡ vuf_key
   pub signatures : directory.signing_key ≡ signing_key

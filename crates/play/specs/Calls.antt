@@ -26,10 +26,10 @@ use Rattle.auditor.specs.InOrder.{AreFollowed, ComeInOrder, ObservesAll}
 use Rattle.auditor.specs.declared.auditor.Observed.{Observed}
 use Rattle.auditor.specs.declared.evidence.Evidence.{Evidence}
 use Rattle.auditor.specs.declared.evidence.Evidence.TheVariants as evidence
-use Rattle.client.specs.Clients.{Client, IsSound, with_promise}
+use Rattle.client.specs.Clients.{Client, IsSoundClient, with_promise}
 use Rattle.client.specs.Dues.{IsTested, Tests}
-use Rattle.client.specs.Looking.{IsAsked, Looks}
-use Rattle.client.specs.Promising.{Keeps}
+use Rattle.client.specs.Looking.{IsLookRoot, Looks}
+use Rattle.client.specs.Promising.{KeepsPromise}
 use Rattle.client.specs.Updating.{Updates}
 use Rattle.client.specs.declared.due.Due.{Due}
 use Rattle.client.specs.declared.due.Due.TheVariants as due
@@ -96,13 +96,13 @@ IsShown before commands replies name of_page text = (latest : ℕ) × (epoch : �
     × IsSaidAt before.last.epoch commands replies latest (Query (Lookup name epoch)) (reply.Found text)
 
 -- a command was answered with this promise
-abbrev pub IsGiven : List Operation → List Reply → SignedPromise → Type 0
-IsGiven commands replies promised = (command : Operation) × IsSaid commands replies command (reply.Promised promised)
+abbrev pub WasPromised : List Operation → List Reply → SignedPromise → Type 0
+WasPromised commands replies promised = (command : Operation) × IsSaid commands replies command (reply.Promised promised)
 
 -- two roots that were issued; or a promise and the reply to a look-up that were, with whatever root
 abbrev pub IsIssued : Provider → Book → List Operation → List Reply → Evidence → Type 0
 IsIssued provider after commands replies (evidence.Root both) = BothAre (Contains (roots provider after)) both
-IsIssued provider after commands replies (evidence.Broken broken) = IsGiven commands replies broken.promise
+IsIssued provider after commands replies (evidence.Broken broken) = WasPromised commands replies broken.promise
     × ((name : List ℕ) × (epoch : ℕ) × IsSaid commands replies (Query (Lookup name epoch)) (reply.Found broken.proof))
 
 module _ (provider : Provider) (accepted verified : List ℕ → List ℕ → List ℕ → Type 0) (key : List ℕ) (before after : Book) (commands : List Operation) (replies : List Reply) where
@@ -114,24 +114,24 @@ module _ (provider : Provider) (accepted verified : List ℕ → List ℕ → Li
         → UpdatesRight holder next result later
     -- if it has the root of a page, it accepts the reply to a look-up there, with what the page has
     pub looked : (holder later : Client) (name : List ℕ) (text : List ℕ) (asked : ℕ) (root : SignedRoot) (result : Result Statement Refusal)
-        → IsFollowed provider key after holder.chain → IsAsked holder.chain asked root → IsShown before commands replies name root.body.epoch text
+        → IsFollowed provider key after holder.chain → IsLookRoot holder.chain asked root → IsShown before commands replies name root.body.epoch text
         → Looks provider.hash accepted holder name asked text result later
         → (page : Page) × IsRootOf provider after page root × LooksRight provider page name result
     -- it keeps each promise over a root that it has
     pub promised : (holder later : Client) (given : SignedPromise) (root : SignedRoot) (result : Result (Unit {0}) Refusal)
-        → IsFollowed provider key after holder.chain → IsAt holder.chain given.promise.epoch root → IsGiven commands replies given
-        → Keeps provider.hash verified holder (signed_promise_bytes given) result later
+        → IsFollowed provider key after holder.chain → IsAt holder.chain given.promise.epoch root → WasPromised commands replies given
+        → KeepsPromise provider.hash verified holder (signed_promise_bytes given) result later
         → KeepsRight holder given result later
     -- and finds it kept, by the reply to the look-up of its name under the next root
     pub due : (holder : Client) (place : ℕ) (given : SignedPromise) (text : List ℕ) (root : SignedRoot) (result : Result Due Refusal)
-        → IsFollowed provider key after holder.chain → IsSound provider.hash accepted verified holder → IsTested holder.promises given.promise.name place given → IsGiven commands replies given
+        → IsFollowed provider key after holder.chain → IsSoundClient provider.hash accepted verified holder → IsTested holder.promises given.promise.name place given → WasPromised commands replies given
         → IsNextAfter holder.chain given.promise.epoch root → IsShown before commands replies given.promise.name root.body.epoch text
         → Tests provider.hash accepted holder.chain given.promise.name text given result
         → result ≡ Ok due.Kept
     -- a monitor of its name expects its key, unless it expects that of a later promise or has watched an epoch
     -- above the promise's
     pub expected : (watching later : Monitor) (given : SignedPromise) (root : SignedRoot) (result : Result (Unit {0}) monitors.Refusal)
-        → IsFollowed provider key after watching.client.chain → IsAt watching.client.chain given.promise.epoch root → IsGiven commands replies given
+        → IsFollowed provider key after watching.client.chain → IsAt watching.client.chain given.promise.epoch root → WasPromised commands replies given
         → MayExpect watching given.promise.key given.promise
         → Expects provider.hash verified watching given.promise.key (signed_promise_bytes given) result later
         → ExpectsRight watching given result later

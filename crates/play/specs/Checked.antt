@@ -11,7 +11,7 @@ use Rattle.book.specs.declared.reply.Reply.{Reply}
 use Rattle.book.specs.declared.reply.Reply.TheVariants as replies
 use Rattle.book.specs.Books.{Page, page_at}
 use Rattle.book.specs.Fresh.{KeepsLaws}
-use Rattle.book.specs.Honest.{IsHonest}
+use Rattle.book.specs.Honest.{IsHonestRun}
 use Rattle.book.specs.Maps.{at}
 use Rattle.book.specs.Shows.{index_of, roots, IsReplyOf, IsRootOf}
 use Rattle.book.specs.Sound.{IsSound}
@@ -21,7 +21,7 @@ use Rattle.client.specs.declared.refusal.Refusal.TheVariants as client
 use Rattle.play.specs.Lines.{checked_text, numbered_text}
 use Rattle.play.specs.Messages.{comes_of, request_asks}
 use Rattle.play.specs.Parties.{book_of, chain_under, provider_of, HasAsked, Parties}
-use Rattle.play.specs.Scripts.{Line, Pass, Ask, Watch, Piece, End}
+use Rattle.play.specs.Scripts.{ScriptLine, Pass, Ask, Watch, Piece, End}
 
 module _ {R : Type 0} (hash : List ℕ → List ℕ) (accepted : List ℕ → List ℕ → List ℕ → Type 0) where
   -- The client looked, at a reply to the look-up of a name at an epoch, and memory did not run out. Nothing but
@@ -43,13 +43,13 @@ module _ {R : Type 0} (hash : List ℕ → List ℕ) (accepted : List ℕ → Li
 module _ {R : Type 0} (digest_of : List ℕ → List ℕ) (value_of signature_of : List ℕ → List ℕ → List ℕ) (stream : R → Stream) (accepted verified : List ℕ → List ℕ → List ℕ → Type 0) where
   -- The look-up of a name at an epoch found what this page has, and this is the reply. The client has the roots
   -- of all pages.
-  pub record IsFound (parties : Parties R) (name : List ℕ) (epoch : ℕ) (text : List ℕ) (page : Page) : Type 0 where
+  pub record HasLookedUp (parties : Parties R) (name : List ℕ) (epoch : ℕ) (text : List ℕ) (page : Page) : Type 0 where
     pub named : IsName name
     pub asked : page_at (book_of digest_of value_of signature_of stream accepted verified parties) epoch ≡ Some page
     pub root : SignedRoot
     pub rooted : IsRootOf (provider_of digest_of value_of signature_of stream accepted verified parties) (book_of digest_of value_of signature_of stream accepted verified parties) page root
     pub reply : IsReplyOf (provider_of digest_of value_of signature_of stream accepted verified parties) page root.body name (at page.bindings name) text
-    pub honest : IsHonest (provider_of digest_of value_of signature_of stream accepted verified parties) accepted verified parties.key (book_of digest_of value_of signature_of stream accepted verified parties) (book_of digest_of value_of signature_of stream accepted verified parties) (Query (Lookup name epoch) ∷ []) (replies.Found text ∷ [])
+    pub honest : IsHonestRun (provider_of digest_of value_of signature_of stream accepted verified parties) accepted verified parties.key (book_of digest_of value_of signature_of stream accepted verified parties) (book_of digest_of value_of signature_of stream accepted verified parties) (Query (Lookup name epoch) ∷ []) (replies.Found text ∷ [])
     pub laws : KeepsLaws accepted verified parties.key (provider_of digest_of value_of signature_of stream accepted verified parties)
     pub sound : IsSound (index_of (provider_of digest_of value_of signature_of stream accepted verified parties)) (book_of digest_of value_of signature_of stream accepted verified parties)
     pub chain : parties.client.chain ≡ chain_under parties.key (roots (provider_of digest_of value_of signature_of stream accepted verified parties) (book_of digest_of value_of signature_of stream accepted verified parties))
@@ -75,9 +75,9 @@ module _ {R : Type 0} (digest_of : List ℕ → List ℕ) (value_of signature_of
     pub looks : after.client.looks ≡ checked.client.looks
 
   -- so was that of a line that asks
-  abbrev pub AnswersLine : Parties R → Line → Parties R → Type 0
-  AnswersLine before Pass after = ⊤
-  AnswersLine before (Ask requested) after = HasAnswered before requested after
-  AnswersLine before (Watch name start) after = ⊤
-  AnswersLine before (Piece session piece) after = ⊤
-  AnswersLine before (End session) after = ⊤
+  abbrev pub HasAnsweredLine : Parties R → ScriptLine → Parties R → Type 0
+  HasAnsweredLine before Pass after = ⊤
+  HasAnsweredLine before (Ask requested) after = HasAnswered before requested after
+  HasAnsweredLine before (Watch name start) after = ⊤
+  HasAnsweredLine before (Piece session piece) after = ⊤
+  HasAnsweredLine before (End session) after = ⊤

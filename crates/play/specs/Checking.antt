@@ -3,7 +3,7 @@ use Rattle.std.specs.Prelude.{◌≡◌, ℕ, List, ◌++◌, if◌then◌else�
 use Rattle.encoding.specs.Limits.{IsName}
 use Rattle.rootchain.specs.Chains.{IsChain}
 use Rattle.rootchain.specs.declared.signed_root.SignedRoot.{SignedRoot}
-use Rattle.proofs.specs.Refusals.{refusal_number}
+use Rattle.proofs.specs.Refusals.{reply_refusal_number}
 use Rattle.proofs.specs.Views.{key_stated}
 use Rattle.proofs.specs.declared.statement.Statement.{Statement}
 use Rattle.book.specs.Answers.{Found}
@@ -12,7 +12,7 @@ use Rattle.book.specs.Maps.{at}
 use Rattle.book.specs.Shows.{Provider, index_of, IsReplyOf, IsRootOf}
 use Rattle.book.specs.Sound.{IsSound}
 use Rattle.client.specs.Clients.{Client}
-use Rattle.client.specs.Looking.{IsAsked, Looks}
+use Rattle.client.specs.Looking.{IsLookRoot, Looks}
 use Rattle.client.specs.declared.refusal.Refusal.{Refusal}
 use Rattle.client.specs.declared.refusal.Refusal.TheVariants.{Root, Proof, UnknownRoot, RootDiffers, Memory, NoPromise}
 use Rattle.monitor.specs.Monitors.{Monitor, IsNext}
@@ -26,7 +26,7 @@ use Rattle.play.specs.Watchers.{Watcher, alarm_key, place_text, watched_text}
 
 -- the line of a refusal of a look or a step; want of memory has none, and no other refusal comes
 abbrev pub TellsRefusal : Refusal → List ℕ → Type 0
-TellsRefusal (Proof why) line = line ≡ codes "client refuses proof " ++ decimal (refusal_number why)
+TellsRefusal (Proof why) line = line ≡ codes "client refuses proof " ++ decimal (reply_refusal_number why)
 TellsRefusal Memory line = ⊤
 TellsRefusal (Root why) line = ⊥
 TellsRefusal UnknownRoot line = ⊥
@@ -62,7 +62,7 @@ module _ (provider : Provider) (accepted verified : List ℕ → List ℕ → Li
   -- what a client that has the root makes of it is the line of its answer
   abbrev pub LooksAreTold : Type 0
   LooksAreTold = (book : Book) (page : Page) (root : SignedRoot) (name text : List ℕ) → IsShownIn provider book page root name text
-      → (holder later : Client) (asked : ℕ) (result : Result Statement Refusal) → IsChain provider.hash verified holder.chain → IsAsked holder.chain asked root
+      → (holder later : Client) (asked : ℕ) (result : Result Statement Refusal) → IsChain provider.hash verified holder.chain → IsLookRoot holder.chain asked root
       → Looks provider.hash accepted holder name asked text result later
       → TellsLook page.epoch result (checked_text (index_of provider) book (Found page name (at page.bindings name)))
 

@@ -5,7 +5,7 @@ use Rattle.rand_core.specs.Stream.{Stream}
 use Rattle.rootchain.specs.declared.signed_promise.SignedPromise.{SignedPromise}
 use Rattle.wire.specs.Requests.{RequestContent}
 use Rattle.book.specs.Shows.{index_of, roots}
-use Rattle.monitor.specs.Expecting.{IsNew}
+use Rattle.monitor.specs.Expecting.{IsNewPromise}
 use Rattle.monitor.specs.Monitors.{Monitor, with_change}
 use Rattle.play.specs.Messages.{comes_of, request_asks}
 use Rattle.play.specs.Parties.{book_of, provider_of, HasAsked, IsWatcher, Parties}
@@ -18,7 +18,7 @@ IsHanded name promised before after = ((before.name ≡ name) × (after ≡ with
 
 -- if the monitor is one of the name, the bytes spell a promise of the key that it may expect
 abbrev pub MayBeHanded : (List ℕ → List ℕ) → (List ℕ → List ℕ → List ℕ → Type 0) → List ℕ → List ℕ → List ℕ → Monitor → Type 0
-MayBeHanded hash verified name key bytes monitor = monitor.name ≡ name → (promised : SignedPromise) × IsNew hash verified monitor key bytes promised
+MayBeHanded hash verified name key bytes monitor = monitor.name ≡ name → (promised : SignedPromise) × IsNewPromise hash verified monitor key bytes promised
 
 module _ {R : Type 0} (digest_of : List ℕ → List ℕ) (value_of signature_of : List ℕ → List ℕ → List ℕ) (stream : R → Stream) (accepted verified : List ℕ → List ℕ → List ℕ → Type 0) where
   -- This was asked for, and answered with this text. The monitors are these watchers, as they were before.

@@ -10,7 +10,7 @@ use Rattle.wire.specs.Responses.{ResponseContent, Promise, Proof, Roots, Root, R
 use Rattle.wire.specs.Streams.{Message, Whole, BadFrame}
 use Rattle.book.specs.declared.refusal.Refusal.TheVariants.{Memory, KeepFailed}
 use Rattle.book.specs.declared.reply.Reply.{Reply}
-use Rattle.book.specs.Replies.{seen, Refused}
+use Rattle.book.specs.Replies.{reply_content, Refused}
 use Rattle.commands.specs.Operations.{Operation}
 use Rattle.book.specs.Books.{Book}
 use Rattle.hub.specs.DeskRuns.{IsTurnedAway, Reaches}
@@ -29,36 +29,36 @@ response_text (Root root) = codes "root " ++ decimal root.body.epoch ++ codes " 
 response_text (Refusing code) = codes "refused " ++ decimal code
 
 -- the frame of a line of a hub is read as one response, which this line of a script tells
-abbrev pub IsHeard : Line → List ℕ → Type 0
-IsHeard line text = (frame : Frame) × (responded : ResponseContent) × (line.reply ≡ frame_bytes frame) × IsReadAs frame responded × (text ≡ response_text responded)
+abbrev pub IsHeardAs : Line → List ℕ → Type 0
+IsHeardAs line text = (frame : Frame) × (responded : ResponseContent) × (line.reply ≡ frame_bytes frame) × IsReadAs frame responded × (text ≡ response_text responded)
 
 -- the frame of a message has bytes
-abbrev pub HasBytes : Message → Type 0
-HasBytes (Whole frame) = IsBytes frame.body
-HasBytes BadFrame = ⊤
+abbrev pub HasFrameBytes : Message → Type 0
+HasFrameBytes (Whole frame) = IsBytes frame.body
+HasFrameBytes BadFrame = ⊤
 
 abbrev pub IsOfBytes : Line → Type 0
-IsOfBytes line = HasBytes line.message
+IsOfBytes line = HasFrameBytes line.message
 
 -- memory did not run out, and what was to be kept was
 abbrev pub IsGranted : Reply → Type 0
-IsGranted reply = (seen reply ≢ Refused Memory) × (seen reply ≢ Refused KeepFailed)
+IsGranted reply = (reply_content reply ≢ Refused Memory) × (reply_content reply ≢ Refused KeepFailed)
 
 -- what a message asks of the directory is what reaches it, and what does not reach it has the number of its
 -- refusal
 abbrev pub AsksWhatReaches : Type 0
-AsksWhatReaches = (message : Message) → HasBytes message
+AsksWhatReaches = (message : Message) → HasFrameBytes message
     → ((asked : Operation) → Reaches token message asked → asks message ≡ Ok asked) × ((code : ℕ) → IsTurnedAway token message code → asks message ≡ Err code)
 
 -- the frame of a request asks what the request does
 abbrev pub FramesAsk : Type 0
-FramesAsk = (requested : RequestContent) → IsAsked requested → HasBytes (Whole (request_frame requested)) → asks (Whole (request_frame requested)) ≡ request_asks requested
+FramesAsk = (requested : RequestContent) → IsAsked requested → HasFrameBytes (Whole (request_frame requested)) → asks (Whole (request_frame requested)) ≡ request_asks requested
 
 -- the definition leads from a book to another by the messages of these lines, and tells what their frames say
-abbrev pub AreHeard : (List ℕ → List ℕ) → Book → List Line → Book → Type 0
-AreHeard index_of before lines after =
+abbrev pub AreHeardAs : (List ℕ → List ℕ) → Book → List Line → Book → Type 0
+AreHeardAs index_of before lines after =
     let told = answered index_of before (map (λ (line : Line). line.message) lines) in
-    (told.1 ≡ after) × AllZip IsHeard lines told.0
+    (told.1 ≡ after) × AllZip IsHeardAs lines told.0
 
 -- the messages of a run of a hub are those that the definition hears, and the sessions then hold what it says
 abbrev pub RunsAreHeard : {S : Type 0} → (S → Frame → List ℕ → S → Type 0) → Type 0

@@ -11,7 +11,7 @@ use Rattle.book.specs.Sound.{IsSound}
 use Rattle.play.specs.Lines.{refused_proof}
 use Rattle.play.specs.Played.{Stand, line_played, opening}
 use Rattle.play.specs.Printing.{printed}
-use Rattle.play.specs.Scripts.{Line, Pass, Ask, Watch, Piece, End, line_of}
+use Rattle.play.specs.Scripts.{ScriptLine, Pass, Ask, Watch, Piece, End, line_of}
 use Rattle.play.specs.Watchers.{Watcher, ahead}
 
 -- the line begins neither with `{`, as evidence does, nor with `c`, as what a client refuses does
@@ -42,7 +42,7 @@ IsRequested (Query question) other = IsQuestioned question other
 IsRequested (Put verb name key) other = ⊥
 IsRequested (Turn token epoch _) other = ⊥
 
-abbrev pub IsChecked : Option Line → List ℕ → Type 0
+abbrev pub IsChecked : Option ScriptLine → List ℕ → Type 0
 IsChecked (Some (Ask requested)) other = IsRequested requested other
 IsChecked (Some (Watch name start)) other = name ≡ other
 IsChecked (Some Pass) other = ⊥
@@ -61,14 +61,14 @@ IsOnPage book name = (page : Page) × (entry : List ℕ × Binding) × Contains 
 
 module _ (index_of : List ℕ → List ℕ) where
   -- how a script stands after a line, unless it is no command
-  abbrev pub after_line : Stand → Option Line → (Stand → Stand) → Stand
-  after_line stand None next = stand
-  after_line stand (Some line) next = next (line_played index_of stand line).1
+  abbrev pub script_after_line : Stand → Option ScriptLine → (Stand → Stand) → Stand
+  script_after_line stand None next = stand
+  script_after_line stand (Some line) next = next (line_played index_of stand line).1
 
   -- how it stands after lines, up to the first that is no command
   abbrev pub after_lines : Stand → List (List ℕ) → Stand
   after_lines stand [] = stand
-  after_lines stand (line ∷ more) = after_line stand (line_of line) (λ after. after_lines after more)
+  after_lines stand (line ∷ more) = script_after_line stand (line_of line) (λ after. after_lines after more)
 
   -- a name whose proof is checked, and a name of a page, are one name if they have one index
   abbrev pub NamesDiffer : Stream → List ℕ → Type 0

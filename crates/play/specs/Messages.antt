@@ -9,11 +9,11 @@ use Rattle.wire.specs.Requests.{RequestContent, read_request}
 use Rattle.wire.specs.Streams.{Remainder, Message, Whole, BadFrame}
 use Rattle.book.specs.Answers.{Answer}
 use Rattle.book.specs.Books.{Book}
-use Rattle.book.specs.Refusals.{refusal_number}
+use Rattle.book.specs.Refusals.{book_refusal_number}
 use Rattle.book.specs.Steps.{Outcome, Answers, Refuses, step}
 use Rattle.hub.specs.Desks.{command}
 use Rattle.hub.specs.Events.{BySession, Happening}
-use Rattle.hub.specs.Runs.{after_events, commands, each, fresh, rest_of}
+use Rattle.hub.specs.Runs.{after_events, commands, each, rest_of, unanswered}
 use Rattle.play.specs.Scripts.{token}
 
 -- ---- what is asked
@@ -46,7 +46,7 @@ Numbered = Result Answer ℕ
 
 abbrev pub numbered : Outcome → Numbered
 numbered (Answers answer) = Ok answer
-numbered (Refuses why) = Err (refusal_number why)
+numbered (Refuses why) = Err (book_refusal_number why)
 
 -- what comes of it, and the book after it
 abbrev pub comes_of : (List ℕ → List ℕ) → Book → Result Operation ℕ → Numbered × Book
@@ -57,8 +57,8 @@ comes_of index_of book (Err code) = (Err code, book)
 
 -- the messages that events bring, of whichever session, where the sessions hold this
 abbrev pub heard : BySession Remainder → List Happening → List Message
-heard sessions events = map (λ one. one.1) (commands (each fresh sessions) events)
+heard sessions events = map (λ one. one.1) (commands (each unanswered sessions) events)
 
 -- what the sessions hold after events
 abbrev pub held_after : BySession Remainder → List Happening → BySession Remainder
-held_after sessions events = each rest_of (after_events (each fresh sessions) events)
+held_after sessions events = each rest_of (after_events (each unanswered sessions) events)

@@ -11,24 +11,23 @@ use Rattle.wire.specs.Requests.{RequestContent, IsAsked}
 use Rattle.wire.specs.Responses.{ResponseContent}
 use Rattle.wire.specs.Streams.{Remainder, Rest, AreBytes}
 use Rattle.book.specs.declared.keeper.NoKeeper.{NoKeeper}
-use Rattle.book.specs.declared.record.Record.{Record}
 use Rattle.book.specs.declared.refusal.Refusal.TheVariants.{Memory}
 use Rattle.book.specs.declared.reply.Reply.{Reply}
 use Rattle.book.specs.declared.reply.Reply.TheVariants as reply
 use Rattle.book.specs.Books.{Book}
 use Rattle.book.specs.Fresh.{KeepsLaws}
-use Rattle.book.specs.Honest.{IsHonest}
+use Rattle.book.specs.Honest.{IsHonestRun}
+use Rattle.book.specs.Keeps.{KeepsNothing, NeverFails}
 use Rattle.book.specs.Maps.{at}
 use Rattle.book.specs.Shows.{Provider, index_of, roots}
 use Rattle.book.specs.Sound.{IsSound}
 use Rattle.book.specs.Turns.{Turn}
 use Rattle.epochs.specs.DirectoryStates.{book, provider, HasKeysOf}
 use Rattle.hub.specs.Desks.{command, reply_frame, DeskState, DeskAnswers, IsResponseOf}
-use Rattle.hub.specs.DeskRuns.{IsWell, ShowHonestRun}
-use Rattle.hub.specs.Events.{BySession, Happening, HubState}
-use Rattle.hub.specs.Events as events
+use Rattle.hub.specs.DeskRuns.{IsSoundDesk, ShowHonestRun}
+use Rattle.hub.specs.Events.{at_session, BySession, Happening, HubState}
 use Rattle.hub.specs.Exchanges.{Exchange, replies}
-use Rattle.hub.specs.Happenings.{Passes}
+use Rattle.hub.specs.Happenings.{DoesUnlessRefused}
 use Rattle.hub.specs.Runs.{Line, Runs}
 use Rattle.auditor.specs.Chains.{Chains, chain_of}
 use Rattle.client.specs.Clients.{Client}
@@ -47,13 +46,6 @@ pub record Parties (R : Type 0) : Type 0 where
   pub client : Client
   pub auditor : Chains
   pub monitors : List Monitor
-
--- nothing is kept, and that never fails
-abbrev pub KeepsNothing : NoKeeper → Record → NoKeeper → Type 0
-KeepsNothing before what after = ⊤
-
-abbrev pub NeverFails : NoKeeper → Record → NoKeeper → Type 0
-NeverFails before what after = ⊥
 
 -- ---- what sessions hold and hear
 
@@ -99,7 +91,7 @@ module _ {R : Type 0} (digest_of : List ℕ → List ℕ) (value_of signature_of
 
   -- session 0 is open and holds nothing, the others hold bytes, and the operator's token is a script's
   pub record IsReady (parties : Parties R) : Type 0 where
-    pub idle : events.at parties.hub.sessions 0 ≡ Some (Rest [])
+    pub idle : at_session parties.hub.sessions 0 ≡ Some (Rest [])
     pub bytes : HoldBytes parties.hub.sessions
     pub token : parties.hub.service.token ≡ token
     pub key : parties.hub.service.directory.signing_key ≡ parties.key
@@ -144,7 +136,7 @@ module _ {R : Type 0} (digest_of : List ℕ → List ℕ) (value_of signature_of
     pub read : IsReadAs (reply_frame said) responded
     pub turn : Turn (provider_of before) KeepsNothing NeverFails (book_of before) before.hub.service.keeper asked said (book_of after) after.hub.service.keeper
     pub memory : said ≢ reply.Refused Memory
-    pub honest : IsHonest (provider_of before) accepted verified before.key (book_of before) (book_of after) (asked ∷ []) (said ∷ [])
+    pub honest : IsHonestRun (provider_of before) accepted verified before.key (book_of before) (book_of after) (asked ∷ []) (said ∷ [])
     pub laws : KeepsLaws accepted verified before.key (provider_of before)
     pub sound : IsSound (index_of (provider_of before)) (book_of before)
     pub sessions : after.hub.sessions ≡ before.hub.sessions
@@ -157,7 +149,7 @@ module _ {R : Type 0} (digest_of : List ℕ → List ℕ) (value_of signature_of
   -- an event was refused, or did what it does, and these replies are appended
   pub record HasHappened (before : Parties R) (it : Happening) (output grown : List ℕ) (after : Parties R) : Type 0 where
     pub exchanges : List Exchange
-    pub passes : Passes (DeskAnswers digest_of value_of signature_of stream KeepsNothing NeverFails) before.hub it exchanges after.hub
+    pub passes : DoesUnlessRefused (DeskAnswers digest_of value_of signature_of stream KeepsNothing NeverFails) before.hub it exchanges after.hub
     pub grows : grown ≡ output ++ replies exchanges
     pub others : after ≡ record before { hub = after.hub }
 
@@ -169,8 +161,8 @@ module _ {R : Type 0} (digest_of : List ℕ → List ℕ) (value_of signature_of
     pub bodies : AllByRecursion IsOfBytes lines
     pub replies : output ≡ flat_map (λ line. line.reply) lines
     pub shown : ShowHonestRun digest_of value_of signature_of stream KeepsNothing NeverFails accepted verified before.hub.service lines after.hub.service
-    pub well : IsWell digest_of value_of signature_of stream accepted verified after.hub.service
-    pub well_before : IsWell digest_of value_of signature_of stream accepted verified before.hub.service
+    pub well : IsSoundDesk digest_of value_of signature_of stream accepted verified after.hub.service
+    pub well_before : IsSoundDesk digest_of value_of signature_of stream accepted verified before.hub.service
     pub bytes : HoldBytes after.hub.sessions
     pub others : after ≡ record before { hub = after.hub }
 

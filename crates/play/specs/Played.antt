@@ -10,7 +10,7 @@ use Rattle.hub.specs.Events.{BySession, Happening, Open, Bytes}
 use Rattle.hub.specs.Events as event
 use Rattle.play.specs.Lines.{answer_text, checked_text, last_epoch, of_session, numbered_text}
 use Rattle.play.specs.Messages.{Numbered, asks, comes_of, heard, held_after, request_asks}
-use Rattle.play.specs.Scripts.{Line, Pass, Ask, Watch as Watching, Piece, End}
+use Rattle.play.specs.Scripts.{ScriptLine, Pass, Ask, Watch as Watching, Piece, End}
 use Rattle.play.specs.Watchers.{Watcher, all_through, handed, through}
 
 -- how a script stands: the book, what each session holds, and the monitors in the order of their lines
@@ -78,7 +78,7 @@ module _ (index_of : List ℕ → List ℕ) where
       (now.0, record stand { watchers = stand.watchers ++ now.1 ∷ [] })
 
   -- the lines that a line prints, and how the script stands after it
-  abbrev pub line_played : Stand → Line → List (List ℕ) × Stand
+  abbrev pub line_played : Stand → ScriptLine → List (List ℕ) × Stand
   line_played stand Pass = ([], stand)
   line_played stand (Ask requested) = ask stand requested
   line_played stand (Watching name start) = watch stand name start

@@ -7,12 +7,12 @@ use Rattle.book.specs.Shows.{index_of}
 use Rattle.epochs.specs.DirectoryStates.{HasKeysOf}
 use Rattle.play.specs.Parties.{provider_of, HaveDone, Parties}
 use Rattle.play.specs.Played.{line_played, Stand}
-use Rattle.play.specs.Scripts.{Line, line_of}
+use Rattle.play.specs.Scripts.{ScriptLine, line_of}
 
 module _ {R : Type 0} (digest_of : List ℕ → List ℕ) (value_of signature_of : List ℕ → List ℕ → List ℕ) (stream : R → Stream) (accepted verified : List ℕ → List ℕ → List ℕ → Type 0) where
   -- the line of this number was played, or is no command, or memory ran out
   abbrev pub PlaysLine : Parties R → Stand → ℕ → List ℕ → List ℕ → Result (Unit {0}) ProgramFault → List ℕ → Parties R → Type 0
-  PlaysLine before stand place line text (Ok done) grown after = (said : Line) × (line_of line ≡ Some said)
+  PlaysLine before stand place line text (Ok done) grown after = (said : ScriptLine) × (line_of line ≡ Some said)
       × (let now = line_played (index_of (provider_of digest_of value_of signature_of stream accepted verified before)) stand said in
       HaveDone digest_of value_of signature_of stream accepted verified text now.0 now.1 grown after)
       × HasKeysOf before.hub.service.directory after.hub.service.directory

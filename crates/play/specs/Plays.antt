@@ -6,20 +6,20 @@ use Rattle.play.specs.Ends.{Ending, Done, NotACommand, CannotRead, CannotWrite, 
 use Rattle.play.specs.Printing.{Printout}
 
 -- the ending that was returned, if it is one
-abbrev pub ending_of : Result (Unit {0}) ProgramFault → Option Ending
-ending_of (Ok done) = Some Done
-ending_of (Err (fault.NotACommand place)) = Some (NotACommand place)
-ending_of (Err fault.CannotRead) = Some CannotRead
-ending_of (Err fault.CannotWrite) = Some CannotWrite
-ending_of (Err fault.OutOfMemory) = Some OutOfMemory
-ending_of (Err fault.BadHex) = None
-ending_of (Err (fault.BadItem place)) = None
-ending_of (Err (fault.IndexRepeated place)) = None
-ending_of (Err fault.NotEvidence) = None
-ending_of (Err fault.BadRecord) = None
-ending_of (Err fault.OtherKeys) = None
-ending_of (Err fault.CannotListen) = None
+abbrev pub ending_returned : Result (Unit {0}) ProgramFault → Option Ending
+ending_returned (Ok done) = Some Done
+ending_returned (Err (fault.NotACommand place)) = Some (NotACommand place)
+ending_returned (Err fault.CannotRead) = Some CannotRead
+ending_returned (Err fault.CannotWrite) = Some CannotWrite
+ending_returned (Err fault.OutOfMemory) = Some OutOfMemory
+ending_returned (Err fault.BadHex) = None
+ending_returned (Err (fault.BadItem place)) = None
+ending_returned (Err (fault.IndexRepeated place)) = None
+ending_returned (Err fault.NotEvidence) = None
+ending_returned (Err fault.BadRecord) = None
+ending_returned (Err fault.OtherKeys) = None
+ending_returned (Err fault.CannotListen) = None
 
 -- it ended so
 abbrev pub PlaysTo : (List ℕ → Printout) → Option (List ℕ) → Option (List ℕ) → Option (List ℕ) → Result (Unit {0}) ProgramFault → Type 0
-PlaysTo printed input old new result = IsSomeAnd (ending_of result) (Plays printed input old new)
+PlaysTo printed input old new result = IsSomeAnd (ending_returned result) (Plays printed input old new)

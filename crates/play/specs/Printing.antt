@@ -4,7 +4,7 @@ use Rattle.rand_core.specs.Stream.{Stream}
 use Rattle.textio.specs.Lines.{lines_of}
 use Rattle.play.specs.Lines.{as_lines}
 use Rattle.play.specs.Played.{Stand, line_played, opening}
-use Rattle.play.specs.Scripts.{Line, line_of}
+use Rattle.play.specs.Scripts.{ScriptLine, line_of}
 
 -- what its lines print, up to the first that is no command, and the number of that one, from 1 on
 pub record Printout : Type 0 where
@@ -20,7 +20,7 @@ onto lines later = record { lines = lines ++ later.lines; stopped = later.stoppe
 
 module _ (index_of : List ℕ → List ℕ) where
   -- a line of this number, and then those after it, or none where it is no command
-  abbrev pub by_line : ℕ → Stand → Option Line → (Stand → Printout) → Printout
+  abbrev pub by_line : ℕ → Stand → Option ScriptLine → (Stand → Printout) → Printout
   by_line place stand None next = record { lines = []; stopped = Some place }
   by_line place stand (Some line) next = let now = line_played index_of stand line in onto now.0 (next now.1)
 

@@ -4,10 +4,10 @@ use Rattle.textio.specs.Lines.{lines_of}
 
 -- known bytes lose their first line, which is this one without its LF, if there is one; at their end there is
 -- none
-abbrev pub TakesLine : Option (List ℕ) → Option (List ℕ) → Bool → List ℕ → Type 0
-TakesLine None left more line = ⊤
-TakesLine (Some input) left false line = input ≡ []
-TakesLine (Some input) left true line = IsSomeAnd left (λ rest. lines_of input ≡ line ∷ lines_of rest)
+abbrev pub TakesWholeLine : Option (List ℕ) → Option (List ℕ) → Bool → List ℕ → Type 0
+TakesWholeLine None left more line = ⊤
+TakesWholeLine (Some input) left false line = input ≡ []
+TakesWholeLine (Some input) left true line = IsSomeAnd left (λ rest. lines_of input ≡ line ∷ lines_of rest)
 
 -- without the LF at the end, if one is there
 abbrev pub IsTrimmed : List ℕ → List ℕ → Type 0

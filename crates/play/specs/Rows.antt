@@ -38,8 +38,8 @@ abbrev pub PrintRowsTogether : List Row → Type 0
 PrintRowsTogether rows = PrintsUnder (λ name. []) (script_of rows) (lines_beside rows)
 
 -- the line of this number is the first that is no command, and those before it print this
-abbrev pub StopsAt : ℕ → List ℕ → List (List ℕ) → Type 0
-StopsAt place script lines = (index_of : List ℕ → List ℕ) (salts : Stream) → printed index_of salts script ≡ record { lines = lines; stopped = Some place }
+abbrev pub StopsAtLine : ℕ → List ℕ → List (List ℕ) → Type 0
+StopsAtLine place script lines = (index_of : List ℕ → List ℕ) (salts : Stream) → printed index_of salts script ≡ record { lines = lines; stopped = Some place }
 
 -- none of these lines is a command
 abbrev pub AreNoCommands : List (List ℕ) → Type 0

@@ -14,19 +14,19 @@ use Rattle.encoding.specs.declared.name.TheConstants.{MAX_NAME_LEN}
 use Rattle.wire.specs.declared.frame.TheConstants.{MAX_FRAME_LEN}
 use Rattle.wire.specs.Frames.{frame_size}
 use Rattle.wire.specs.Requests.{RequestContent, Query, Put, Turn, request_frame}
-use Rattle.book.specs.Answers.{is_within}
+use Rattle.book.specs.Answers.{has_length_within}
 
-pub data Line : Type 0 where
+pub data ScriptLine : Type 0 where
   -- nothing: the line is empty, or a note
-  Pass : Line
+  Pass : ScriptLine
   -- ask the directory, through session 0
-  Ask : RequestContent → Line
+  Ask : RequestContent → ScriptLine
   -- a monitor of this name, whose owner expects this key, or none
-  Watch : List ℕ → Option (List ℕ) → Line
+  Watch : List ℕ → Option (List ℕ) → ScriptLine
   -- a piece of this session's stream
-  Piece : ℕ → List ℕ → Line
+  Piece : ℕ → List ℕ → ScriptLine
   -- this session ends
-  End : ℕ → Line
+  End : ℕ → ScriptLine
 
 -- the token of the operator
 abbrev pub token : List ℕ
@@ -59,23 +59,23 @@ session_word word = option_and_then (λ session. if session == 0 then None else 
 
 -- ---- what the words behind a command say
 
-abbrev pub with_none : Option Line → List (List ℕ) → Option Line
-with_none said [] = said
-with_none said (_ ∷ _) = None
+abbrev pub with_no_word : Option ScriptLine → List (List ℕ) → Option ScriptLine
+with_no_word said [] = said
+with_no_word said (_ ∷ _) = None
 
-abbrev pub with_one : {A : Type 0} → (List ℕ → Option A) → (A → Option Line) → List (List ℕ) → Option Line
-with_one word said [] = None
-with_one word said (one ∷ []) = option_and_then said (word one)
-with_one word said (_ ∷ _ ∷ _) = None
+abbrev pub with_one_word : {A : Type 0} → (List ℕ → Option A) → (A → Option ScriptLine) → List (List ℕ) → Option ScriptLine
+with_one_word word said [] = None
+with_one_word word said (one ∷ []) = option_and_then said (word one)
+with_one_word word said (_ ∷ _ ∷ _) = None
 
-abbrev pub with_two : {A B : Type 0} → (List ℕ → Option A) → (List ℕ → Option B) → (A → B → Option Line) → List (List ℕ) → Option Line
-with_two word other_word said [] = None
-with_two word other_word said (_ ∷ []) = None
-with_two word other_word said (one ∷ other ∷ []) = option_and_then (λ a. option_and_then (said a) (other_word other)) (word one)
-with_two word other_word said (_ ∷ _ ∷ _ ∷ _) = None
+abbrev pub with_two_words : {A B : Type 0} → (List ℕ → Option A) → (List ℕ → Option B) → (A → B → Option ScriptLine) → List (List ℕ) → Option ScriptLine
+with_two_words word other_word said [] = None
+with_two_words word other_word said (_ ∷ []) = None
+with_two_words word other_word said (one ∷ other ∷ []) = option_and_then (λ a. option_and_then (said a) (other_word other)) (word one)
+with_two_words word other_word said (_ ∷ _ ∷ _ ∷ _) = None
 
 -- a request that a frame can hold
-abbrev pub asking : RequestContent → Option Line
+abbrev pub asking : RequestContent → Option ScriptLine
 asking requested = if nat_le (frame_size (request_frame requested)) MAX_FRAME_LEN then Some (Ask requested) else None
 
 abbrev pub key_or_none : List ℕ → Option (List ℕ)
@@ -83,37 +83,37 @@ key_or_none [] = None
 key_or_none (byte ∷ bytes) = Some (byte ∷ bytes)
 
 -- a name and a key of lengths that are allowed, or no key
-abbrev pub watching : List ℕ → List ℕ → Option Line
-watching name key = if is_within MIN_LEN MAX_NAME_LEN name && is_within 0 MAX_KEY_DATA_LEN key then Some (Watch name (key_or_none key)) else None
+abbrev pub watching : List ℕ → List ℕ → Option ScriptLine
+watching name key = if has_length_within MIN_LEN MAX_NAME_LEN name && has_length_within 0 MAX_KEY_DATA_LEN key then Some (Watch name (key_or_none key)) else None
 
 -- ---- lines
 
 -- the first word of each command, and what the words behind it say
-abbrev pub verbs : List (List ℕ × (List (List ℕ) → Option Line))
+abbrev pub verbs : List (List ℕ × (List (List ℕ) → Option ScriptLine))
 verbs =
-    (codes "register", with_two hex_word hex_word (λ name key. asking (Put Register name key)))
-    ∷ (codes "change", with_two hex_word hex_word (λ name key. asking (Put Change name key)))
-    ∷ (codes "promise", with_one hex_word (λ name. asking (Query (Promise name))))
-    ∷ (codes "close", with_one epoch_word (λ epoch. asking (Turn token epoch None)))
-    ∷ (codes "rotate", with_two epoch_word hex32 (λ epoch nonce. asking (Turn token epoch (Some nonce))))
-    ∷ (codes "head", with_none (asking (Query Head)))
-    ∷ (codes "lookup", with_two hex_word epoch_word (λ name epoch. asking (Query (Lookup name epoch))))
-    ∷ (codes "history", with_two epoch_word count_word (λ from count. asking (Query (History from count))))
-    ∷ (codes "watch", with_two hex_word hex_word watching)
-    ∷ (codes "bytes", with_two session_word hex_word (λ session piece. Some (Piece session piece)))
-    ∷ (codes "end", with_one session_word (λ session. Some (End session)))
+    (codes "register", with_two_words hex_word hex_word (λ name key. asking (Put Register name key)))
+    ∷ (codes "change", with_two_words hex_word hex_word (λ name key. asking (Put Change name key)))
+    ∷ (codes "promise", with_one_word hex_word (λ name. asking (Query (Promise name))))
+    ∷ (codes "close", with_one_word epoch_word (λ epoch. asking (Turn token epoch None)))
+    ∷ (codes "rotate", with_two_words epoch_word hex32 (λ epoch nonce. asking (Turn token epoch (Some nonce))))
+    ∷ (codes "head", with_no_word (asking (Query Head)))
+    ∷ (codes "lookup", with_two_words hex_word epoch_word (λ name epoch. asking (Query (Lookup name epoch))))
+    ∷ (codes "history", with_two_words epoch_word count_word (λ from count. asking (Query (History from count))))
+    ∷ (codes "watch", with_two_words hex_word hex_word watching)
+    ∷ (codes "bytes", with_two_words session_word hex_word (λ session piece. Some (Piece session piece)))
+    ∷ (codes "end", with_one_word session_word (λ session. Some (End session)))
     ∷ []
 
 -- the command of these that the verb names, with the words behind it
-abbrev pub said_among : List (List ℕ × (List (List ℕ) → Option Line)) → List ℕ → List (List ℕ) → Option Line
+abbrev pub said_among : List (List ℕ × (List (List ℕ) → Option ScriptLine)) → List ℕ → List (List ℕ) → Option ScriptLine
 said_among [] verb behind = None
 said_among (command ∷ more) verb behind = if bytes_eq verb command.0 then command.1 behind else said_among more verb behind
 
-abbrev pub line_of_words : List (List ℕ) → Option Line
+abbrev pub line_of_words : List (List ℕ) → Option ScriptLine
 line_of_words [] = None
 line_of_words (verb ∷ behind) = said_among verbs verb behind
 
 -- what a line says, or none where it is no command; `#` begins a note
-abbrev pub line_of : List ℕ → Option Line
+abbrev pub line_of : List ℕ → Option ScriptLine
 line_of [] = Some Pass
 line_of (byte ∷ bytes) = if byte == 35 then Some Pass else line_of_words (words (byte ∷ bytes))

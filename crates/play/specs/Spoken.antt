@@ -9,7 +9,7 @@ use Rattle.play.specs.declared.ask.Ask.{Ask as AskMade}
 use Rattle.play.specs.declared.ask.Ask.TheVariants as ask
 use Rattle.play.specs.declared.line.Line.{Line as LineMade}
 use Rattle.play.specs.declared.line.Line.TheVariants as line
-use Rattle.play.specs.Scripts.{token, words, Line, Pass, Ask, Watch, Piece, End}
+use Rattle.play.specs.Scripts.{token, words, ScriptLine, Pass, Ask, Watch, Piece, End}
 
 abbrev pub ask_seen : AskMade → RequestContent
 ask_seen (ask.Put verb name key) = Put verb name.items key.items
@@ -20,7 +20,7 @@ ask_seen ask.Head = Query Head
 ask_seen (ask.Close epoch) = Turn token epoch None
 ask_seen (ask.Rotate epoch nonce) = Turn token epoch (Some nonce)
 
-abbrev pub line_seen : LineMade → Line
+abbrev pub line_seen : LineMade → ScriptLine
 line_seen line.Pass = Pass
 line_seen (line.Ask asked) = Ask (ask_seen asked)
 line_seen (line.Watch name key) = Watch name key
@@ -28,16 +28,16 @@ line_seen (line.Piece session piece) = Piece (non_zero_u32_get session) piece.it
 line_seen (line.End session) = End (non_zero_u32_get session)
 
 -- a frame has room for the request
-abbrev pub HasRoom : RequestContent → Type 0
-HasRoom requested = frame_size (request_frame requested) ≤ MAX_FRAME_LEN
+abbrev pub RequestFits : RequestContent → Type 0
+RequestFits requested = frame_size (request_frame requested) ≤ MAX_FRAME_LEN
 
 -- and for what a line asks
-abbrev pub Fits : Line → Type 0
-Fits Pass = ⊤
-Fits (Ask requested) = HasRoom requested
-Fits (Watch name start) = ⊤
-Fits (Piece session piece) = ⊤
-Fits (End session) = ⊤
+abbrev pub LineFits : ScriptLine → Type 0
+LineFits Pass = ⊤
+LineFits (Ask requested) = RequestFits requested
+LineFits (Watch name start) = ⊤
+LineFits (Piece session piece) = ⊤
+LineFits (End session) = ⊤
 
 -- the words that are left of a line, in the text behind the words before them, if there is one
 abbrev pub words_behind : Option (List ℕ) → List (List ℕ)

@@ -1,7 +1,7 @@
 -- One step of a monitor of a script: what it appends, and how all stand after it.
 use Rattle.std.specs.Prelude.{◌≡◌, ℕ, Bool, true, false, List, [], ◌∷◌, ◌++◌, codes, decimal, slice_get, slice_set, Some, Ok, Err}
 use Rattle.rand_core.specs.Stream.{Stream}
-use Rattle.proofs.specs.Refusals.{refusal_number}
+use Rattle.proofs.specs.Refusals.{reply_refusal_number}
 use Rattle.proofs.specs.declared.refusal.Refusal.{Refusal}
 use Rattle.book.specs.Books.{Page, pages}
 use Rattle.book.specs.Shows.{index_of}
@@ -26,7 +26,7 @@ abbrev pub Watches : (List ℕ → List ℕ) → (List ℕ → List ℕ → List
 Watches hash accepted before epoch reply printed true text after =
     (told : Step) × Steps hash accepted before reply (Ok told) after × (text ≡ printed ++ step_text before.name epoch told ++ 10 ∷ [])
 Watches hash accepted before epoch reply printed false text after =
-    (why : Refusal) × Steps hash accepted before reply (Err (Client (Proof why))) after × (text ≡ printed ++ codes "client refuses proof " ++ decimal (refusal_number why) ++ 10 ∷ [])
+    (why : Refusal) × Steps hash accepted before reply (Err (Client (Proof why))) after × (text ≡ printed ++ codes "client refuses proof " ++ decimal (reply_refusal_number why) ++ 10 ∷ [])
 
 -- the line of a page, and the watcher after it
 abbrev pub IsStep : (List ℕ → List ℕ) → Watcher → Page → Bool → List ℕ → Watcher → Type 0

@@ -24,17 +24,17 @@ step_text name epoch (Alarm at found) = place_text (codes "alarm ") name at ++ c
 -- ---- what a session hears
 
 -- a frame, and the response that it is
-abbrev pub Heard : Type 0
-Heard = Frame × ResponseContent
+abbrev pub HeardFrame : Type 0
+HeardFrame = Frame × ResponseContent
 
 -- the bytes are these frames, one after another, and each is read as its response
-abbrev pub AreFramesOf : List ℕ → List Heard → Type 0
+abbrev pub AreFramesOf : List ℕ → List HeardFrame → Type 0
 AreFramesOf bytes heard = (bytes ≡ flat_map (λ one. frame_bytes one.0) heard) × AllByRecursion (λ one. IsReadAs one.0 one.1) heard
 
 -- no frame says that memory ran out
-abbrev pub HaveMemory : List Heard → Type 0
+abbrev pub HaveMemory : List HeardFrame → Type 0
 HaveMemory = AllByRecursion (λ one. one.1 ≢ Refused 14)
 
 -- the lines of a session
-abbrev pub session_lines : ℕ → List Heard → List (List ℕ)
+abbrev pub session_lines : ℕ → List HeardFrame → List (List ℕ)
 session_lines session heard = map (of_session session) (map (λ one. response_text one.1) heard)

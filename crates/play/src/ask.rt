@@ -2,7 +2,7 @@ ghost use Rattle.std.specs.Prelude.{◌≡◌, ◌↔◌, ◌++◌, IsTrue, OnOk
 ghost use Rattle.wire.specs.Frames.{frame_bytes, IsFrame};
 ghost use Rattle.wire.specs.Requests.{request_frame, IsAsked};
 ghost use Rattle.play.specs.Scripts as script;
-ghost use Rattle.play.specs.Spoken.{ask_seen, HasRoom};
+ghost use Rattle.play.specs.Spoken.{ask_seen, RequestFits};
 
 use commands::{Put, Query, Verb};
 use encoding::Hash32;
@@ -50,7 +50,7 @@ impl Ask {
 
     /// Whether a frame has room for the request that asks it.
     pub(crate) fn fits(&self) -> bool
-        ensures { IsTrue result ↔ HasRoom (ask_seen self.now) }
+        ensures { IsTrue result ↔ RequestFits (ask_seen self.now) }
     {
         match self {
             Ask::Put { verb, name, key } => Request::Put(Put {
@@ -77,7 +77,7 @@ impl Ask {
 
     /// Appends the frame of the request.
     pub(crate) fn write(&self, output: &mut Vec<u8>) -> Result<(), AllocError>
-        requires { HasRoom (ask_seen self.now) }
+        requires { RequestFits (ask_seen self.now) }
         ensures ok { OnOk result (output.new.items ≡ output.old.items ++ frame_bytes (request_frame (ask_seen self.now))) }
         ensures form { IsAsked (ask_seen self.now) × IsFrame (request_frame (ask_seen self.now)) }
     {

@@ -8,7 +8,7 @@ ghost use Rattle.book.specs.Shows.{index_of};
 ghost use Rattle.epochs.specs.Beginnings.{IsBeginRefusal};
 ghost use Rattle.epochs.specs.DirectoryStates.{provider};
 ghost use Rattle.play.specs.Beginnings as script;
-ghost use Rattle.play.specs.Beginnings.{salts, script_index, script_salts, IsFirst};
+ghost use Rattle.play.specs.Beginnings.{chacha_salts, script_index, script_salts, IsScriptStart};
 ghost use Rattle.play.specs.Parties.{AreAt};
 ghost use Rattle.play.specs.Played.{opening};
 
@@ -31,7 +31,7 @@ type ScriptEngine = Engine<Sha256Hash, KeyedVuf, KeyedSign, ChaCha20Rng>;
 
 /// The parties of a script, as its first line finds them.
 pub(crate) fn begin(alloc: Global) -> Result<ScriptEngine, AllocError>
-    ensures at { IfOk result (λ engine. AreAt sha256 keyed_value keyed_signature salts KeyedAccepts KeyedVerifies engine (opening script_salts)) }
+    ensures at { IfOk result (λ engine. AreAt sha256 keyed_value keyed_signature chacha_salts KeyedAccepts KeyedVerifies engine (opening script_salts)) }
     ensures index { IfOk result (λ engine. index_of (provider sha256 keyed_value keyed_signature engine.hub.service.directory) ≡ script_index) }
 {
     let checks = Checks {
@@ -44,7 +44,7 @@ pub(crate) fn begin(alloc: Global) -> Result<ScriptEngine, AllocError>
 
 /// The directory at its first page, which is of epoch 1.
 fn first_directory(alloc: Global) -> Result<ScriptDirectory, AllocError>
-    ensures { IfOk result IsFirst }
+    ensures { IfOk result IsScriptStart }
 {
     let directory = Directory::new(
         alloc,

@@ -12,11 +12,11 @@ ghost use Rattle.wire.specs.Streams.{Rest};
 ghost use Rattle.book.specs.Fresh.{fresh};
 ghost use Rattle.book.specs.Shows.{index_of};
 ghost use Rattle.epochs.specs.DirectoryStates.{book, provider, HasKeysOf};
-ghost use Rattle.hub.specs.DeskRuns.{IsWell};
-ghost use Rattle.play.specs.Checked.{AnswersLine};
+ghost use Rattle.hub.specs.DeskRuns.{IsSoundDesk};
+ghost use Rattle.play.specs.Checked.{HasAnsweredLine};
 ghost use Rattle.play.specs.Parties.{AreAt, HaveDone};
 ghost use Rattle.play.specs.Played.{line_played, Stand};
-ghost use Rattle.play.specs.Spoken.{line_seen, Fits};
+ghost use Rattle.play.specs.Spoken.{line_seen, LineFits};
 
 use self::wanting::{happen, observe, start};
 use crate::ask::token;
@@ -135,13 +135,13 @@ where
     ///
     /// `AllocError` if memory runs out, wherever it does.
     pub(crate) fn play_line(&mut self, line: &Line, text: &mut Vec<u8>) -> Result<(), AllocError>
-        requires fits { Fits (line_seen line.now) }
+        requires fits { LineFits (line_seen line.now) }
         requires at { (stand : Stand) × AreAt H.digest_of V.value_of S.signature_of R.stream V.accepted S.verified self.old stand }
         ensures done { (stand : Stand) → AreAt H.digest_of V.value_of S.signature_of R.stream V.accepted S.verified self.old stand
             → OnOk result (let now = line_played (index_of (provider H.digest_of V.value_of S.signature_of (self.old).hub.service.directory)) stand (line_seen line.now) in
             HaveDone H.digest_of V.value_of S.signature_of R.stream V.accepted S.verified text.old.items now.0 now.1 text.new.items self.new) }
         ensures keys { OnOk result (HasKeysOf (self.old).hub.service.directory (self.new).hub.service.directory) }
-        ensures checked { OnOk result (AnswersLine H.digest_of V.value_of S.signature_of R.stream V.accepted S.verified self.old (line_seen line.now) self.new) }
+        ensures checked { OnOk result (HasAnsweredLine H.digest_of V.value_of S.signature_of R.stream V.accepted S.verified self.old (line_seen line.now) self.new) }
     {
         match line {
             Line::Pass => Ok(()),
@@ -158,7 +158,7 @@ where
     /// The epoch of the directory's last page.
     fn latest(&self) -> u64
         ensures epoch { result ≡ (self.now).hub.service.directory.last.epoch }
-        ensures well { IsWell H.digest_of V.value_of S.signature_of R.stream V.accepted S.verified (self.now).hub.service }
+        ensures well { IsSoundDesk H.digest_of V.value_of S.signature_of R.stream V.accepted S.verified (self.now).hub.service }
     {
         self.hub.head().body.epoch
     }

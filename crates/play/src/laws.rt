@@ -4,16 +4,16 @@ ghost use Rattle.commands.specs.Operations.{Operation};
 ghost use Rattle.book.specs.declared.reply.Reply.{Reply};
 ghost use Rattle.book.specs.Books.{Book};
 ghost use Rattle.book.specs.Fresh.{KeepsLaws};
-ghost use Rattle.book.specs.Honest.{IsHonest};
+ghost use Rattle.book.specs.Honest.{IsHonestRun};
 ghost use Rattle.book.specs.Shows.{index_of, Provider};
 ghost use Rattle.book.specs.Sound.{IsSound};
 ghost use Rattle.book.specs.Turns.{Run};
-ghost use Rattle.hub.specs.DeskRuns.{AreRead, ShowReplies};
+ghost use Rattle.hub.specs.DeskRuns.{AreResponses, ShowReplies};
 ghost use Rattle.hub.specs.Runs.{Line};
 ghost use Rattle.play.specs.Answering.{AnswersAreTold, LookupsAreShown};
 ghost use Rattle.play.specs.Calls.{CallsAreHonest};
 ghost use Rattle.play.specs.Checking.{LooksAreTold, StepsAreTold};
-ghost use Rattle.play.specs.Hearing.{AreHeard, AsksWhatReaches, FramesAsk, IsGranted, IsOfBytes, RunsAreHeard};
+ghost use Rattle.play.specs.Hearing.{AreHeardAs, AsksWhatReaches, FramesAsk, IsGranted, IsOfBytes, RunsAreHeard};
 ghost use Rattle.play.specs.InTime.{MonitorsAreInTime, PromisesAreLater};
 ghost use Rattle.play.specs.Laws.{HistoryGoesOn, LinesArePlain, MonitorsGoOn, NothingIsRefused};
 ghost use Rattle.play.specs.Scripts.{token};
@@ -23,13 +23,13 @@ use hub::Service;
 use sigiface::Verifier;
 use vrfiface::VufCheck;
 
-/// What users see of an honest provider's run (`IsHonest`, which the runs of a directory and of a hub
+/// What users see of an honest provider's run (`IsHonestRun`, which the runs of a directory and of a hub
 /// ensure) decides what their own calls return, if memory does not run out: looks and promises are accepted
 /// (but for the look at a double index), promises are found kept, a monitor's step is `Kept` exactly where
 /// the page has what the owner expects, an auditor follows the roots, and nothing that was issued is evidence.
 pub fn honest<V: VufCheck, S: Verifier>()
     ensures { (provider : Provider) (key : List ℕ) (before after : Book) (commands : List Operation) (replies : List Reply)
-        → IsHonest provider V.accepted S.verified key before after commands replies
+        → IsHonestRun provider V.accepted S.verified key before after commands replies
         → CallsAreHonest provider V.accepted S.verified key before after commands replies }
 {}
 
@@ -52,9 +52,9 @@ pub fn sessions_are_heard<V: VufCheck, S: Verifier, K: Keeper>()
         → AllByRecursion IsOfBytes lines → AllByRecursion IsGranted replies
         → (shown : ShowReplies token lines commands replies)
         → Run provider K.kept K.failed before keeper commands replies after later
-        → AreRead token lines commands replies shown
-        → IsHonest provider V.accepted S.verified key before after commands replies
-        → AreHeard (index_of provider) before lines after }
+        → AreResponses token lines commands replies shown
+        → IsHonestRun provider V.accepted S.verified key before after commands replies
+        → AreHeardAs (index_of provider) before lines after }
 {}
 
 /// What a client makes of an honest provider's reply to a look-up, and a monitor of one for its name, is

@@ -7,7 +7,7 @@ ghost use Rattle.wire.specs.Requests as asks;
 ghost use Rattle.textio.specs.Digits.{hex32};
 ghost use Rattle.play.specs.AskedLines.{asked_line, other_verbs};
 ghost use Rattle.play.specs.Scripts as script;
-ghost use Rattle.play.specs.Scripts.{asking, count_word, epoch_word, hex_word, line_of, number_word, said_among, session_word, token, verbs, watching, with_none, with_one, with_two, words};
+ghost use Rattle.play.specs.Scripts.{asking, count_word, epoch_word, hex_word, line_of, number_word, said_among, session_word, token, verbs, watching, with_no_word, with_one_word, with_two_words, words};
 ghost use Rattle.play.specs.Spoken.{ask_seen, line_seen, one_of, two_of, words_behind};
 
 use crate::ask::Ask;
@@ -216,7 +216,7 @@ fn fitting(ask: Ask) -> Option<Ask>
 
 /// `head`
 fn read_head(behind: Option<&[u8]>) -> Option<Ask>
-    ensures { option_map asked_line result ≡ with_none (asking (asks.Query asked.Head)) (words_behind (option_map (λ text. text.now) behind.entry)) }
+    ensures { option_map asked_line result ≡ with_no_word (asking (asks.Query asked.Head)) (words_behind (option_map (λ text. text.now) behind.entry)) }
 {
     match behind {
         None => fitting(Ask::Head),
@@ -226,7 +226,7 @@ fn read_head(behind: Option<&[u8]>) -> Option<Ask>
 
 /// `promise NAME`
 fn read_promise(alloc: Global, behind: Option<&[u8]>) -> Result<Option<Ask>, AllocError>
-    ensures { IfOk result (λ read. option_map asked_line read ≡ with_one hex_word (λ name. asking (asks.Query (asked.Promise name))) (words_behind (option_map (λ text. text.now) behind.entry))) }
+    ensures { IfOk result (λ read. option_map asked_line read ≡ with_one_word hex_word (λ name. asking (asks.Query (asked.Promise name))) (words_behind (option_map (λ text. text.now) behind.entry))) }
 {
     let Some(name) = one_word(behind) else {
         return Ok(None);
@@ -239,7 +239,7 @@ fn read_promise(alloc: Global, behind: Option<&[u8]>) -> Result<Option<Ask>, All
 
 /// `close EPOCH`
 fn read_close(behind: Option<&[u8]>) -> Option<Ask>
-    ensures { option_map asked_line result ≡ with_one epoch_word (λ epoch. asking (asks.Turn token epoch None)) (words_behind (option_map (λ text. text.now) behind.entry)) }
+    ensures { option_map asked_line result ≡ with_one_word epoch_word (λ epoch. asking (asks.Turn token epoch None)) (words_behind (option_map (λ text. text.now) behind.entry)) }
 {
     let epoch = read_epoch(one_word(behind)?)?;
     fitting(Ask::Close { epoch })
@@ -247,7 +247,7 @@ fn read_close(behind: Option<&[u8]>) -> Option<Ask>
 
 /// `rotate EPOCH NONCE`
 fn read_rotate(behind: Option<&[u8]>) -> Option<Ask>
-    ensures { option_map asked_line result ≡ with_two epoch_word hex32 (λ epoch nonce. asking (asks.Turn token epoch (Some nonce))) (words_behind (option_map (λ text. text.now) behind.entry)) }
+    ensures { option_map asked_line result ≡ with_two_words epoch_word hex32 (λ epoch nonce. asking (asks.Turn token epoch (Some nonce))) (words_behind (option_map (λ text. text.now) behind.entry)) }
 {
     let (epoch, nonce) = two_words(behind)?;
     let epoch = read_epoch(epoch)?;
@@ -257,7 +257,7 @@ fn read_rotate(behind: Option<&[u8]>) -> Option<Ask>
 
 /// `end S`
 fn read_end(behind: Option<&[u8]>) -> Option<Line>
-    ensures { option_map line_seen result ≡ with_one session_word (λ session. Some (script.End session)) (words_behind (option_map (λ text. text.now) behind.entry)) }
+    ensures { option_map line_seen result ≡ with_one_word session_word (λ session. Some (script.End session)) (words_behind (option_map (λ text. text.now) behind.entry)) }
 {
     let session = read_session(one_word(behind)?)?;
     Some(Line::End { session })
@@ -265,7 +265,7 @@ fn read_end(behind: Option<&[u8]>) -> Option<Line>
 
 /// `register NAME KEY`, `change NAME KEY`
 fn read_put(alloc: Global, verb: Verb, behind: Option<&[u8]>) -> Result<Option<Ask>, AllocError>
-    ensures { IfOk result (λ read. option_map asked_line read ≡ with_two hex_word hex_word (λ name key. asking (asks.Put verb name key)) (words_behind (option_map (λ text. text.now) behind.entry))) }
+    ensures { IfOk result (λ read. option_map asked_line read ≡ with_two_words hex_word hex_word (λ name key. asking (asks.Put verb name key)) (words_behind (option_map (λ text. text.now) behind.entry))) }
 {
     let Some((name, key)) = two_words(behind) else {
         return Ok(None);
@@ -278,7 +278,7 @@ fn read_put(alloc: Global, verb: Verb, behind: Option<&[u8]>) -> Result<Option<A
 
 /// `lookup NAME EPOCH`
 fn read_lookup(alloc: Global, behind: Option<&[u8]>) -> Result<Option<Ask>, AllocError>
-    ensures { IfOk result (λ read. option_map asked_line read ≡ with_two hex_word epoch_word (λ name epoch. asking (asks.Query (asked.Lookup name epoch))) (words_behind (option_map (λ text. text.now) behind.entry))) }
+    ensures { IfOk result (λ read. option_map asked_line read ≡ with_two_words hex_word epoch_word (λ name epoch. asking (asks.Query (asked.Lookup name epoch))) (words_behind (option_map (λ text. text.now) behind.entry))) }
 {
     let Some((name, epoch)) = two_words(behind) else {
         return Ok(None);
@@ -291,7 +291,7 @@ fn read_lookup(alloc: Global, behind: Option<&[u8]>) -> Result<Option<Ask>, Allo
 
 /// `history FROM COUNT`
 fn read_history(behind: Option<&[u8]>) -> Option<Ask>
-    ensures { option_map asked_line result ≡ with_two epoch_word count_word (λ from count. asking (asks.Query (asked.History from count))) (words_behind (option_map (λ text. text.now) behind.entry)) }
+    ensures { option_map asked_line result ≡ with_two_words epoch_word count_word (λ from count. asking (asks.Query (asked.History from count))) (words_behind (option_map (λ text. text.now) behind.entry)) }
 {
     let (from, count) = two_words(behind)?;
     let from = read_epoch(from)?;
@@ -301,7 +301,7 @@ fn read_history(behind: Option<&[u8]>) -> Option<Ask>
 
 /// `watch NAME KEY`, or `-` as the key for none
 fn read_watch(alloc: Global, behind: Option<&[u8]>) -> Result<Option<Line>, AllocError>
-    ensures { IfOk result (λ read. option_map line_seen read ≡ with_two hex_word hex_word watching (words_behind (option_map (λ text. text.now) behind.entry))) }
+    ensures { IfOk result (λ read. option_map line_seen read ≡ with_two_words hex_word hex_word watching (words_behind (option_map (λ text. text.now) behind.entry))) }
 {
     let Some((name, key)) = two_words(behind) else {
         return Ok(None);
@@ -329,7 +329,7 @@ fn watch_of(name: &[u8], key: &[u8]) -> Option<Line>
 
 /// `bytes S HEX`
 fn read_piece(alloc: Global, behind: Option<&[u8]>) -> Result<Option<Line>, AllocError>
-    ensures { IfOk result (λ read. option_map line_seen read ≡ with_two session_word hex_word (λ session piece. Some (script.Piece session piece)) (words_behind (option_map (λ text. text.now) behind.entry))) }
+    ensures { IfOk result (λ read. option_map line_seen read ≡ with_two_words session_word hex_word (λ session piece. Some (script.Piece session piece)) (words_behind (option_map (λ text. text.now) behind.entry))) }
 {
     let Some((session, piece)) = two_words(behind) else {
         return Ok(None);

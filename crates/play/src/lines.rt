@@ -1,6 +1,6 @@
 ghost use Rattle.std.specs.Prelude.{IfErr, IfOk};
 ghost use Rattle.textio.specs.Faults.{IsDeviceFault};
-ghost use Rattle.play.specs.Reading.{IsTrimmed, TakesLine};
+ghost use Rattle.play.specs.Reading.{IsTrimmed, TakesWholeLine};
 
 use std::io::BufRead;
 use textio::ProgramFault;
@@ -11,7 +11,7 @@ use textio::ProgramFault;
 ///
 /// `CannotRead`, and `OutOfMemory` if memory runs out.
 pub fn next_line<R: BufRead>(reader: &mut R, line: &mut Vec<u8>) -> Result<bool, ProgramFault>
-    ensures ok { IfOk result (λ more. TakesLine (R.remaining reader.old) (R.remaining reader.new) more line.new.items) }
+    ensures ok { IfOk result (λ more. TakesWholeLine (R.remaining reader.old) (R.remaining reader.new) more line.new.items) }
     ensures err { IfErr result (λ fault. IsDeviceFault fault) }
 {
     line.clear();

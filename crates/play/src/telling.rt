@@ -3,7 +3,7 @@
 
 ghost use Rattle.std.specs.Prelude.{◌≡◌, ◌++◌, ◌∷◌, [], OnOk, codes, decimal};
 ghost use Rattle.hex.specs.Hex.{encode_lower};
-ghost use Rattle.proofs.specs.Refusals.{refusal_number};
+ghost use Rattle.proofs.specs.Refusals.{reply_refusal_number};
 ghost use Rattle.proofs.specs.Views.{key_stated};
 ghost use Rattle.proofs.specs.declared.refusal.Refusal.{Refusal as ProofRefusal};
 ghost use Rattle.wire.specs.Responses.{response_seen, Roots};
@@ -157,7 +157,7 @@ fn tell_place(text: &mut Vec<u8>, word: &[u8], name: &[u8], epoch: u64) -> Resul
 /// Appends the line of a refusal of a look, of which no other comes than that of a proof.
 pub(crate) fn tell_refusal(text: &mut Vec<u8>, why: client::Refusal) -> Result<(), AllocError>
     requires { IsOfLook why }
-    ensures { OnOk result ((refused : ProofRefusal) × (why ≡ clients.Proof refused) × (text.new.items ≡ text.old.items ++ codes "client refuses proof " ++ decimal (refusal_number refused) ++ 10 ∷ [])) }
+    ensures { OnOk result ((refused : ProofRefusal) × (why ≡ clients.Proof refused) × (text.new.items ≡ text.old.items ++ codes "client refuses proof " ++ decimal (reply_refusal_number refused) ++ 10 ∷ [])) }
 {
     match why {
         client::Refusal::Proof(refused) => tell_refused(text, refused),
@@ -171,7 +171,7 @@ pub(crate) fn tell_refusal(text: &mut Vec<u8>, why: client::Refusal) -> Result<(
 
 /// Appends the line of a proof that the client refuses.
 fn tell_refused(text: &mut Vec<u8>, why: proofs::Refusal) -> Result<(), AllocError>
-    ensures { OnOk result (text.new.items ≡ text.old.items ++ codes "client refuses proof " ++ decimal (refusal_number why) ++ 10 ∷ []) }
+    ensures { OnOk result (text.new.items ≡ text.old.items ++ codes "client refuses proof " ++ decimal (reply_refusal_number why) ++ 10 ∷ []) }
 {
     text.extend_from_slice(b"client refuses proof ")?;
     push_number(text, u64::from(why.number()))?;

@@ -4,7 +4,7 @@ ghost use Rattle.play.specs.LongNames.{limits_of_names_and_keys};
 ghost use Rattle.play.specs.MonitorScripts.{alarm, change_by_another_session, monitors, promise_of_another_session, several_closings_in_one_piece};
 ghost use Rattle.play.specs.NamesAndEpochs.{old_epochs, words_of_lines};
 ghost use Rattle.play.specs.Rotations.{rotations, rotations_in_frames};
-ghost use Rattle.play.specs.Rows.{AreNoCommands, PrintRows, PrintRowsApart, PrintRowsTogether, PrintsUnder, StopsAt};
+ghost use Rattle.play.specs.Rows.{AreNoCommands, PrintRows, PrintRowsApart, PrintRowsTogether, PrintsUnder, StopsAtLine};
 ghost use Rattle.play.specs.SessionScripts.{only_the_operator_closes, refusals_in_frames, two_sessions};
 ghost use Rattle.play.specs.Stops.{long_key_line, long_line, other_lines};
 ghost use Rattle.play.specs.WorkedScripts.{changes, failed_streams, half_messages, last_epoch, limits_of_histories, messages_byte_by_byte, messages_in_one_piece, promises, two_epochs};
@@ -66,6 +66,6 @@ pub fn lines_that_stop()
     ensures lines { AreNoCommands other_lines }
     ensures long_key { AreNoCommands (long_key_line ∷ []) }
     ensures long { AreNoCommands (long_line ∷ []) }
-    ensures place { StopsAt 4 (codes "head\n# a note\n\nhead \nhead\n") (codes "root 1 after 0" ∷ []) }
+    ensures place { StopsAtLine 4 (codes "head\n# a note\n\nhead \nhead\n") (codes "root 1 after 0" ∷ []) }
     ensures unfinished { PrintsUnder (λ name. name) (codes "head\nhead") (codes "root 1 after 0" ∷ codes "root 1 after 0" ∷ []) }
 {}

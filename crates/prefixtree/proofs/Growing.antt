@@ -16,7 +16,7 @@ use Rattle.prefixtree.specs.Node.{half, node_count}
 use Rattle.prefixtree.specs.Under.{IsUnder}
 use Rattle.prefixtree.specs.Changes.{made_count}
 use Rattle.prefixtree.specs.Built.{contents, IsBuilt}
-use Rattle.prefixtree.specs.Growth.{grown_count, standing, AreSides, Comes, IsAt}
+use Rattle.prefixtree.specs.Growth.{grown_count, standing, AreSides, Comes, MayGrow}
 use Rattle.prefixtree.specs.declared.node.Children.{Children}
 use Rattle.prefixtree.specs.declared.node.Node.{Node}
 use Rattle.prefixtree.specs.declared.node.Node.TheVariants.{Interior}
@@ -237,9 +237,9 @@ put_all-no items (c ∷ cs) h = absurd (omega arith)
 
 -- what becomes of a place, told of one outcome
 pub comes-as : (prefix : List ℕ) (level : ℕ) (before : Before) (changes : Items) (outcome wanted : Outcome)
-    → ((of : List ℕ → List ℕ) (nonce prefix : List ℕ) → IsAt of nonce prefix level before changes
+    → ((of : List ℕ → List ℕ) (nonce prefix : List ℕ) → MayGrow of nonce prefix level before changes
     → Comes of nonce prefix level (standing before) changes (grown_count (256 - level) before changes) outcome)
-    → outcome ≡ wanted → (of : List ℕ → List ℕ) (nonce : List ℕ) → IsAt of nonce prefix level before changes
+    → outcome ≡ wanted → (of : List ℕ → List ℕ) (nonce : List ℕ) → MayGrow of nonce prefix level before changes
     → Comes of nonce prefix level (standing before) changes (grown_count (256 - level) before changes) wanted
 comes-as prefix level before changes outcome wanted h e of nonce is =
     subst (λ (o : Outcome). Comes of nonce prefix level (standing before) changes (grown_count (256 - level) before changes) o) e (h of nonce prefix is)

@@ -4,8 +4,8 @@ use Rattle.std.proofs.lemmas.List.{drop-drop, take_at, drop_at, take-take, drop-
 use Rattle.encoding.specs.Bits.{with_one}
 use Rattle.prefixtree.specs.Placement.{Items}
 use Rattle.prefixtree.specs.Node.{half}
-use Rattle.prefixtree.specs.Growth.{grown, grown_count, standing, Comes, IsAt}
-use Rattle.prefixtree.specs.Rows.{changes_of, count_of, AreSplit, IsPlace}
+use Rattle.prefixtree.specs.Growth.{grown, grown_count, standing, Comes, MayGrow}
+use Rattle.prefixtree.specs.Rows.{changes_of, count_of, AreSplit, IsRowPlace}
 use Rattle.prefixtree.specs.declared.place.Outcome.{Outcome}
 use Rattle.prefixtree.specs.declared.place.Outcome.TheVariants.{Parted}
 use Rattle.prefixtree.specs.declared.row.Place.{Place}
@@ -14,12 +14,12 @@ use Rattle.prefixtree.specs.declared.row.Spot.TheVariants.{Joined}
 
 -- what becomes of a place, told of the changes below it
 pub comes-at : (all : Items) (level : ℕ) (place : Place) (here : Items) (outcome wanted : Outcome) → here ≡ changes_of all place
-    → ((of : List ℕ → List ℕ) (nonce prefix : List ℕ) → IsAt of nonce prefix level place.before here
+    → ((of : List ℕ → List ℕ) (nonce prefix : List ℕ) → MayGrow of nonce prefix level place.before here
     → Comes of nonce prefix level (standing place.before) here (grown_count (256 - level) place.before here) outcome)
-    → outcome ≡ wanted → (of : List ℕ → List ℕ) (nonce : List ℕ) → IsPlace of nonce all level place
+    → outcome ≡ wanted → (of : List ℕ → List ℕ) (nonce : List ℕ) → IsRowPlace of nonce all level place
     → Comes of nonce place.prefix level (standing place.before) (changes_of all place) (count_of level all place) wanted
 comes-at all level place here outcome wanted e h eo of nonce is =
-    let told = subst (λ (l : Items). IsAt of nonce place.prefix level place.before l
+    let told = subst (λ (l : Items). MayGrow of nonce place.prefix level place.before l
     → Comes of nonce place.prefix level (standing place.before) l (grown_count (256 - level) place.before l) outcome) e (h of nonce place.prefix) in
     subst (λ (o : Outcome). Comes of nonce place.prefix level (standing place.before) (changes_of all place) (count_of level all place) o) eo (told is.at)
 
@@ -41,7 +41,7 @@ parted-changes all here zeros ones start end middle order within is whole at =
 
 -- a place that is parted, and those of its sides
 pub split-joined : (of : List ℕ → List ℕ) (nonce : List ℕ) (all : Items) (level : ℕ) (place zero_place one_place : Place) (here zeros ones : Items)
-    → IsPlace of nonce all level place → here ≡ changes_of all place → zeros ≡ half 0 level here → ones ≡ half 1 level here → here ≡ zeros ++ ones
+    → IsRowPlace of nonce all level place → here ≡ changes_of all place → zeros ≡ half 0 level here → ones ≡ half 1 level here → here ≡ zeros ++ ones
     → zero_place.prefix ≡ place.prefix → zero_place.start ≡ place.start → zero_place.end ≡ place.start + length zeros
     → one_place.prefix ≡ with_one place.prefix level → one_place.start ≡ place.start + length zeros → one_place.end ≡ place.end
     → Comes of nonce place.prefix level (standing place.before) (changes_of all place) (count_of level all place) (Parted zero_place.before one_place.before)
@@ -53,14 +53,14 @@ split-joined of nonce all level place zero_place one_place here zeros ones is eh
     (λ i. take (ze i - zs i) (drop (zs i) all)) ∙ cut.1 ∙ ez ∙ ap (half 0 level) eh in
     let below_one : changes_of all one_place ≡ half 1 level (changes_of all place) =
     (λ i. take (oe i - os i) (drop (os i) all)) ∙ cut.2 ∙ eo ∙ ap (half 1 level) eh in
-    let zero_at : IsAt of nonce zero_place.prefix (level + 1) zero_place.before (changes_of all zero_place) =
-    subst (λ (p : List ℕ). IsAt of nonce p (level + 1) zero_place.before (changes_of all zero_place)) (sym zp)
-    (subst (λ (l : Items). IsAt of nonce place.prefix (level + 1) zero_place.before l) (sym below_zero) sides.zeros) in
-    let one_at : IsAt of nonce one_place.prefix (level + 1) one_place.before (changes_of all one_place) =
-    subst (λ (p : List ℕ). IsAt of nonce p (level + 1) one_place.before (changes_of all one_place)) (sym op)
-    (subst (λ (l : Items). IsAt of nonce (with_one place.prefix level) (level + 1) one_place.before l) (sym below_one) sides.ones) in
-    let zero_is : IsPlace of nonce all (level + 1) zero_place = record { order = omega arith; within = omega (arith, is.within, cut.0); at = zero_at } in
-    let one_is : IsPlace of nonce all (level + 1) one_place = record { order = omega (arith, cut.0); within = omega (arith, is.within); at = one_at } in (
+    let zero_at : MayGrow of nonce zero_place.prefix (level + 1) zero_place.before (changes_of all zero_place) =
+    subst (λ (p : List ℕ). MayGrow of nonce p (level + 1) zero_place.before (changes_of all zero_place)) (sym zp)
+    (subst (λ (l : Items). MayGrow of nonce place.prefix (level + 1) zero_place.before l) (sym below_zero) sides.zeros) in
+    let one_at : MayGrow of nonce one_place.prefix (level + 1) one_place.before (changes_of all one_place) =
+    subst (λ (p : List ℕ). MayGrow of nonce p (level + 1) one_place.before (changes_of all one_place)) (sym op)
+    (subst (λ (l : Items). MayGrow of nonce (with_one place.prefix level) (level + 1) one_place.before l) (sym below_one) sides.ones) in
+    let zero_is : IsRowPlace of nonce all (level + 1) zero_place = record { order = omega arith; within = omega (arith, is.within, cut.0); at = zero_at } in
+    let one_is : IsRowPlace of nonce all (level + 1) one_place = record { order = omega (arith, cut.0); within = omega (arith, is.within); at = one_at } in (
       sides.below_256,
       zp,
       op,

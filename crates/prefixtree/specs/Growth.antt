@@ -39,15 +39,15 @@ module _ (of : List ℕ → List ℕ) (nonce : List ℕ) where
   IsStanding prefix level (Stale node) = (was : List ℕ) × IsBuilt of was prefix level node
 
   -- what stands at a place, and changes that belong below it
-  pub record IsAt (prefix : List ℕ) (level : ℕ) (before : Before) (changes : Items) : Type 0 where
+  pub record MayGrow (prefix : List ℕ) (level : ℕ) (before : Before) (changes : Items) : Type 0 where
     pub under : IsUnder prefix level changes
     pub stands : IsStanding prefix level before
 
   -- two sides that have, between them, what becomes of these items and changes, and the nodes made for it
   pub record AreSides (prefix : List ℕ) (level : ℕ) (items changes : Items) (count : ℕ) (zero_side one_side : Before) : Type 0 where
     pub below_256 : level < 256
-    pub zeros : IsAt prefix (level + 1) zero_side (half 0 level changes)
-    pub ones : IsAt (with_one prefix level) (level + 1) one_side (half 1 level changes)
+    pub zeros : MayGrow prefix (level + 1) zero_side (half 0 level changes)
+    pub ones : MayGrow (with_one prefix level) (level + 1) one_side (half 1 level changes)
     pub two : 1 < length (put_all items changes)
     pub both : put_all items changes ≡ grown zero_side (half 0 level changes) ++ grown one_side (half 1 level changes)
     pub counted : count ≡ grown_count (256 - (level + 1)) zero_side (half 0 level changes) + grown_count (256 - (level + 1)) one_side (half 1 level changes) + 1

@@ -6,7 +6,7 @@ use Rattle.encoding.specs.Bytes.{Is32Bytes}
 use Rattle.nodehash.specs.NodeTexts.{empty_bytes, leaf_bytes, interior_bytes}
 use Rattle.prefixtree.specs.Placement.{Items}
 use Rattle.prefixtree.specs.Built.{contents, IsBuilt}
-use Rattle.prefixtree.specs.Growth.{grown, grown_count, IsAt}
+use Rattle.prefixtree.specs.Growth.{grown, grown_count, MayGrow}
 use Rattle.prefixtree.specs.declared.node.Node.{Node}
 use Rattle.prefixtree.specs.declared.node.Node.TheVariants.{Empty, Leaf, Interior'}
 use Rattle.prefixtree.specs.declared.row.Place.{Place}
@@ -76,13 +76,13 @@ AreMade spots digests lower nodes = ⊥
 
 module _ (of : List ℕ → List ℕ) (nonce : List ℕ) (all : Items) where
   -- a place of this level, whose changes are some of all
-  pub record IsPlace (level : ℕ) (place : Place) : Type 0 where
+  pub record IsRowPlace (level : ℕ) (place : Place) : Type 0 where
     pub order : place.start ≤ place.end
     pub within : place.end ≤ length all
-    pub at : IsAt of nonce place.prefix level place.before (changes_of all place)
+    pub at : MayGrow of nonce place.prefix level place.before (changes_of all place)
 
   abbrev pub ArePlaces : ℕ → List Place → Type 0
-  ArePlaces level places = AllByRecursion (IsPlace level) places
+  ArePlaces level places = AllByRecursion (IsRowPlace level) places
 
   -- what is made at each place of a row, and the places of their sides
   abbrev pub AreSplit : ℕ → List Place → List Spot → List Place → Type 0
@@ -98,7 +98,7 @@ module _ (of : List ℕ → List ℕ) (nonce : List ℕ) (all : Items) where
       × AreSplit level places spots lower
   AreSplit level (place ∷ places) (Joined ∷ spots) (zero_side ∷ one_side ∷ lower) =
       (level < 256) × (zero_side.prefix ≡ place.prefix) × (one_side.prefix ≡ with_one place.prefix level)
-      × IsPlace (level + 1) zero_side × IsPlace (level + 1) one_side
+      × IsRowPlace (level + 1) zero_side × IsRowPlace (level + 1) one_side
       × (1 < length (items_of all place)) × (items_of all place ≡ items_of all zero_side ++ items_of all one_side)
       × (count_of level all place ≡ count_of (level + 1) all zero_side + count_of (level + 1) all one_side + 1)
       × AreSplit level places spots lower

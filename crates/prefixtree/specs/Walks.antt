@@ -24,9 +24,9 @@ pub record IsOnWay (of : List ℕ → List ℕ) (tree : Contents) (index : List 
   pub more : (n : ℕ) → n < level → 1 < length (agreeing index n tree.items)
 
 -- a step goes down one level and gives the sibling there, or the walk is at its end and stays
-abbrev pub Steps : (List ℕ → List ℕ) → Waypoint → Option (List ℕ) → Waypoint → Type 0
-Steps of old (Some hash) new =
+abbrev pub StepsDown : (List ℕ → List ℕ) → Waypoint → Option (List ℕ) → Waypoint → Type 0
+StepsDown of old (Some hash) new =
     (old.level < 256)
     × (hash ≡ sibling of old.tree.nonce old.tree.items old.index old.level)
     × (new ≡ record old { level = old.level + 1 })
-Steps of old None new = (old.level ≤ 256) × EndsAt old.index old.tree.items old.level × (new ≡ old)
+StepsDown of old None new = (old.level ≤ 256) × EndsAt old.index old.tree.items old.level × (new ≡ old)

@@ -7,7 +7,7 @@ ghost use Rattle.nodehash.specs.Digests.{after_digests};
 ghost use Rattle.prefixtree.specs.Node.{half};
 ghost use Rattle.prefixtree.specs.Under.{IsUnder};
 ghost use Rattle.prefixtree.specs.Built.{contents, IsBuilt};
-ghost use Rattle.prefixtree.specs.Growth.{grown, grown_count, IsAt};
+ghost use Rattle.prefixtree.specs.Growth.{grown, grown_count, MayGrow};
 
 use crate::Item;
 use crate::node::{Children, Node, empty, interior, leaf};
@@ -78,7 +78,7 @@ pub(crate) fn grow<H: NodeHash>(
     most: usize,
 ) -> Result<Node, AllocError>
     requires level { level ≤ 256 }
-    requires place { IsAt H.digest_of nonce.now prefix.now level before changes.now }
+    requires place { MayGrow H.digest_of nonce.now prefix.now level before changes.now }
     ensures built { IfOk result (λ node. IsBuilt H.digest_of nonce.now prefix.now level node) }
     ensures items { IfOk result (λ node. contents node ≡ grown before changes.now) }
     ensures work { H.digests hash.new ≤ H.digests hash.old + grown_count (256 - level) before changes.now }

@@ -14,7 +14,7 @@ ghost use Rattle.prefixtree.specs.Built.{contents, IsBuilt};
 ghost use Rattle.prefixtree.specs.Under.{IsUnder};
 ghost use Rattle.prefixtree.specs.declared.place.Before.TheVariants.{Moved, Nothing};
 ghost use Rattle.prefixtree.specs.declared.place.Outcome.TheVariants.{Parted};
-ghost use Rattle.prefixtree.specs.Growth.{grown_count, standing, Comes, IsAt};
+ghost use Rattle.prefixtree.specs.Growth.{grown_count, standing, Comes, MayGrow};
 
 use crate::Item;
 use crate::node::Node;
@@ -157,8 +157,8 @@ impl Before {
         changes: &[Item],
     ) -> Result<Outcome, AllocError>
         requires level { level ≤ 256 }
-        requires place { (of : List ℕ → List ℕ) × (nonce : List ℕ) × (prefix : List ℕ) × IsAt of nonce prefix level self.now changes.now }
-        ensures { IfOk result (λ outcome. (of : List ℕ → List ℕ) (nonce prefix : List ℕ) → IsAt of nonce prefix level self.now changes.now
+        requires place { (of : List ℕ → List ℕ) × (nonce : List ℕ) × (prefix : List ℕ) × MayGrow of nonce prefix level self.now changes.now }
+        ensures { IfOk result (λ outcome. (of : List ℕ → List ℕ) (nonce prefix : List ℕ) → MayGrow of nonce prefix level self.now changes.now
             → Comes of nonce prefix level (standing self.now) changes.now (grown_count (256 - level) self.now changes.now) outcome) }
     {
         match self {
@@ -177,8 +177,8 @@ impl Before {
         changes: &[Item],
     ) -> Result<Outcome, AllocError>
         requires level { level ≤ 256 }
-        requires place { (of : List ℕ → List ℕ) × (nonce : List ℕ) × (prefix : List ℕ) × IsAt of nonce prefix level self changes.now }
-        ensures { IfOk result (λ outcome. (of : List ℕ → List ℕ) (nonce prefix : List ℕ) → IsAt of nonce prefix level self changes.now
+        requires place { (of : List ℕ → List ℕ) × (nonce : List ℕ) × (prefix : List ℕ) × MayGrow of nonce prefix level self changes.now }
+        ensures { IfOk result (λ outcome. (of : List ℕ → List ℕ) (nonce prefix : List ℕ) → MayGrow of nonce prefix level self changes.now
             → Comes of nonce prefix level (standing self) changes.now (grown_count (256 - level) self changes.now) outcome) }
     {
         self.becomes(alloc, level, changes)

@@ -5,11 +5,11 @@ ghost use Rattle.std.specs.Prelude.{◌≡◌, ℕ, List, [], ◌∷◌, ◌++�
 ghost use Rattle.std.specs.Vec.Iter.{into_iter_items};
 ghost use Rattle.nodehash.specs.Digests.{after_digests};
 ghost use Rattle.prefixtree.specs.Built.{contents, kept, IsBuilt};
-ghost use Rattle.prefixtree.specs.Growth.{grown, grown_count, IsAt};
+ghost use Rattle.prefixtree.specs.Growth.{grown, grown_count, MayGrow};
 ghost use Rattle.prefixtree.specs.declared.row.Place.{Place};
 ghost use Rattle.prefixtree.specs.declared.row.Spot.{Spot};
 ghost use Rattle.prefixtree.specs.declared.node.Node.{Node};
-ghost use Rattle.prefixtree.specs.Rows.{changes_of, digests_of, row_count, row_digests, row_sides, row_texts, sides_of, spot_texts, AreBuilt, AreMade, ArePlaces, AreSplit, IsPlace};
+ghost use Rattle.prefixtree.specs.Rows.{changes_of, digests_of, row_count, row_digests, row_sides, row_texts, sides_of, spot_texts, AreBuilt, AreMade, ArePlaces, AreSplit, IsRowPlace};
 
 use crate::Item;
 use crate::build::halves;
@@ -61,10 +61,10 @@ fn split_place(
     lower: &mut Vec<Place>,
 ) -> Result<Spot, AllocError>
     requires level { level ≤ 256 }
-    requires place { (of : List ℕ → List ℕ) × (nonce : List ℕ) × IsPlace of nonce changes.now level place.now }
+    requires place { (of : List ℕ → List ℕ) × (nonce : List ℕ) × IsRowPlace of nonce changes.now level place.now }
     ensures { IfOk result (λ spot. (below : List Place) × (lower.new.items ≡ lower.old.items ++ below)
         × ((of : List ℕ → List ℕ) (nonce : List ℕ) (places : List Place) (spots : List Spot) (rest : List Place)
-        → IsPlace of nonce changes.now level place.now → AreSplit of nonce changes.now level places spots rest
+        → IsRowPlace of nonce changes.now level place.now → AreSplit of nonce changes.now level places spots rest
         → AreSplit of nonce changes.now level (place.now ∷ places) (spot ∷ spots) (below ++ rest))) }
 {
     let here = part(changes, place);
@@ -313,7 +313,7 @@ pub(crate) fn grow_together<H: NodeHash>(
     changes: &[Item],
 ) -> Result<Node, AllocError>
     requires level { level ≤ 256 }
-    requires place { IsAt H.digest_of nonce.now prefix.now level before changes.now }
+    requires place { MayGrow H.digest_of nonce.now prefix.now level before changes.now }
     ensures built { IfOk result (λ node. IsBuilt H.digest_of nonce.now prefix.now level node) }
     ensures items { IfOk result (λ node. contents node ≡ grown before changes.now) }
     ensures work { H.digests hash.new ≤ H.digests hash.old + grown_count (256 - level) before changes.now }

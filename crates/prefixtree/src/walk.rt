@@ -3,7 +3,7 @@
 ghost use Rattle.std.specs.Prelude.{◌≡◌, replicate};
 ghost use Rattle.prefixtree.specs.Built.{contents, IsBuilt};
 ghost use Rattle.prefixtree.specs.Paths.{agreeing, end_of, EndsAt};
-ghost use Rattle.prefixtree.specs.Walks.{Steps};
+ghost use Rattle.prefixtree.specs.Walks.{StepsDown};
 
 use crate::node::{Node, sides};
 use crate::{End, Tree};
@@ -59,7 +59,7 @@ impl<'a, H: NodeHash> Walk<'a, H> {
     /// Goes down one level and returns the hash of the node on the other side, or `None` at the end.
     #[inline]
     pub(crate) fn step(&mut self) -> Option<Hash32>
-        ensures { Steps H.digest_of self.old result self.new }
+        ensures { StepsDown H.digest_of self.old result self.new }
     {
         let Node::Interior { children, .. } = self.node else {
             return None;

@@ -1,7 +1,7 @@
 //! The climb along a way: from the text at its end, one digest and one sibling give the text of the
 //! node above, until the root's. `leads` compares the digest of that last text with a root.
 ghost use Rattle.std.specs.Prelude.{◌≡◌, ◌≢◌, ◌↔◌, ◌+◌, ◌≤◌, drop, length, IsTrue};
-ghost use Rattle.prefixtree.specs.Paths.{end_bytes, joined, node_text, Way};
+ghost use Rattle.prefixtree.specs.Paths.{end_bytes, node_text, parent_text, Way};
 
 use crate::node::by_side;
 use crate::{End, way_is_fold};
@@ -26,7 +26,7 @@ pub fn end_text(nonce: &Hash32, index: &Index, level: usize, end: End) -> NodeTe
 /// and the sibling.
 pub fn joined_text(index: &Index, level: usize, below: &Hash32, sibling: &Hash32) -> NodeText
     requires { level ≤ 255 }
-    ensures value { result ≡ joined index.now level below.now sibling.now }
+    ensures value { result ≡ parent_text index.now level below.now sibling.now }
     ensures len { length result ≡ 64 }
 {
     let (zero_side, one_side) = by_side(index, level, below, sibling);

@@ -10,7 +10,7 @@ use Rattle.nodehash.specs.Collisions.{IsCollision}
 use Rattle.nodehash.specs.NodeTexts.{leaf_bytes, level_bytes}
 use Rattle.commit.specs.Commitments.{commitment_bytes}
 use Rattle.commit.proofs.Openings.{equal_texts_open_alike}
-use Rattle.prefixtree.specs.Paths.{joined}
+use Rattle.prefixtree.specs.Paths.{parent_text}
 use Rattle.proofs.specs.Accepts.{stated}
 use Rattle.proofs.specs.Comparisons.{opened}
 use Rattle.proofs.specs.PathEnds.{end_text}
@@ -35,7 +35,7 @@ some_is x y e = cc
 
 -- an interior text has one child on the side of the index
 child_is : (index : List ℕ) (k : ℕ) (below beside other_below other_beside : List ℕ) → length below ≡ 32 → length beside ≡ 32 → length other_below ≡ 32 → length other_beside ≡ 32
-    → joined index k below beside ≡ joined index k other_below other_beside → below ≡ other_below
+    → parent_text index k below beside ≡ parent_text index k other_below other_beside → below ≡ other_below
 child_is index k below beside other_below other_beside p q r t e = by (bit index k == 0) e
   where
     by : (b : Bool) → cond b (below ++ beside) (beside ++ below) ≡ cond b (other_below ++ other_beside) (other_beside ++ other_below) → below ≡ other_below

@@ -6,7 +6,7 @@ use Rattle.std.proofs.lemmas.Bool.{cases_lt}
 use Rattle.std.proofs.lemmas.List.{drop_more, length-append}
 use Rattle.encoding.specs.Bits.{bit}
 use Rattle.encoding.specs.Bytes.{Is32Bytes}
-use Rattle.prefixtree.specs.Paths.{joined}
+use Rattle.prefixtree.specs.Paths.{parent_text}
 use Rattle.prefixtree.specs.Paths.{node_text}
 use Rattle.proofs.specs.WayTexts.{way_texts, AreFirstToDiffer}
 use Rattle.prefixtree.proofs.Climbs.{climbed, text_below}
@@ -48,8 +48,8 @@ nothing_left (suc k) [] le = refl
 nothing_left (suc k) (hash ∷ hashes) le = nothing_left k hashes (omega (arith, le))
 
 -- the text of an interior node has 64 bytes
-pub length-joined : (index : List ℕ) (k : ℕ) (below beside : List ℕ) → length below ≡ 32 → length beside ≡ 32 → length (joined index k below beside) ≡ 64
-length-joined index k below beside p q = by (bit index k == 0)
+pub length-parent_text : (index : List ℕ) (k : ℕ) (below beside : List ℕ) → length below ≡ 32 → length beside ≡ 32 → length (parent_text index k below beside) ≡ 64
+length-parent_text index k below beside p q = by (bit index k == 0)
   where
     by : (b : Bool) → length (cond b (below ++ beside) (beside ++ below)) ≡ 64
     by true = omega (arith, length-append below beside, p, q)
@@ -70,9 +70,9 @@ module _ (hash : List ℕ → List ℕ) (size : (text : List ℕ) → Is32Bytes 
       → length text ≢ 64 → length other ≢ 64 → node_text hash index k siblings text ≡ node_text hash index k others other → way_texts hash index k siblings text ≡ way_texts hash index k others other
   end_alike k [] [] text other ended p q no_text no_other e = ap (λ (t : List ℕ). t ∷ []) e
   end_alike k [] (u ∷ us) text other ended p q no_text no_other e =
-      absurd (no_text (ap length e ∙ length-joined index k (hash (node_text hash index (k + 1) us other)) u (size (node_text hash index (k + 1) us other)).0 q.0.0))
+      absurd (no_text (ap length e ∙ length-parent_text index k (hash (node_text hash index (k + 1) us other)) u (size (node_text hash index (k + 1) us other)).0 q.0.0))
   end_alike k (s ∷ ss) [] text other ended p q no_text no_other e =
-      absurd (no_other (ap length (sym e) ∙ length-joined index k (hash (node_text hash index (k + 1) ss text)) s (size (node_text hash index (k + 1) ss text)).0 p.0.0))
+      absurd (no_other (ap length (sym e) ∙ length-parent_text index k (hash (node_text hash index (k + 1) ss text)) s (size (node_text hash index (k + 1) ss text)).0 p.0.0))
   end_alike k (s ∷ ss) (u ∷ us) text other (inl ended) p q no_text no_other e = absurd cc
   end_alike k (s ∷ ss) (u ∷ us) text other (inr ended) p q no_text no_other e = absurd cc
 
@@ -85,17 +85,17 @@ module _ (hash : List ℕ → List ℕ) (size : (text : List ℕ) → Is32Bytes 
     pub found_is : Found (way_texts hash index k (drop k siblings) end) (way_texts hash index k (drop k others) other_end) found
 
   text_up : (siblings : List (List ℕ)) (end text above : List ℕ) (j k : ℕ) → k ≡ j + 1 → j < length siblings → text ≡ node_text hash index k (drop k siblings) end
-      → above ≡ joined index j (hash text) (get_or siblings j [])
+      → above ≡ parent_text index j (hash text) (get_or siblings j [])
       → way_texts hash index j (drop j siblings) end ≡ above ∷ way_texts hash index (j + 1) (drop (j + 1) siblings) end
   text_up siblings end text above j k next inside is now =
-      let made : above ≡ joined index j (hash (node_text hash index (j + 1) (drop (j + 1) siblings) end)) (get_or siblings j []) =
-      now ∙ ap (λ (t : List ℕ). joined index j (hash t) (get_or siblings j [])) (text_below hash index siblings end text j k next is) in
+      let made : above ≡ parent_text index j (hash (node_text hash index (j + 1) (drop (j + 1) siblings) end)) (get_or siblings j []) =
+      now ∙ ap (λ (t : List ℕ). parent_text index j (hash t) (get_or siblings j [])) (text_below hash index siblings end text j k next is) in
       ap (λ (s : List (List ℕ)). way_texts hash index j s end) (drop_more siblings j [] inside)
       ∙ ap (λ (t : List ℕ). t ∷ way_texts hash index (j + 1) (drop (j + 1) siblings) end) (sym made)
 
   pub goes_up : (siblings others : List (List ℕ)) (end other_end text other above other_above : List ℕ) (before after : Option Pair) (j k : ℕ)
       → k ≡ j + 1 → j < length siblings → j < length others → Compared siblings others end other_end k text other before
-      → above ≡ joined index j (hash text) (get_or siblings j []) → other_above ≡ joined index j (hash other) (get_or others j [])
+      → above ≡ parent_text index j (hash text) (get_or siblings j []) → other_above ≡ parent_text index j (hash other) (get_or others j [])
       → Chosen above other_above before after → Compared siblings others end other_end j above other_above after
   goes_up siblings others end other_end text other above other_above before after j k next inside other_inside so_far first second chosen =
       record {

@@ -10,18 +10,18 @@ use Rattle.proofs.specs.Accepts.{stated, Accepts, EndStates, IsAccepted, States}
 use Rattle.proofs.specs.Comparisons.{Refuses}
 use Rattle.proofs.specs.Reading.{read_reply}
 use Rattle.proofs.specs.PathEnds.{end_text}
-use Rattle.proofs.specs.Refusals.{IsFirst, AbsenceIsByAnother, AbsenceIsOnWay, Passes, ReadsReply}
-use Rattle.proofs.specs.Replies.{End, Present, Empty, Other, Reply, reply_bytes, IsReply, Spells}
+use Rattle.proofs.specs.Refusals.{IsFirstToFail, AbsenceIsByAnother, AbsenceIsOnWay, Passes, ReadsReply}
+use Rattle.proofs.specs.Replies.{End, Present, Empty, Other, Reply, reply_bytes, IsReply, SpellsReply}
 use Rattle.proofs.proofs.Replies.{reply_field}
 
 -- bytes spell at most one reply
-pub one_reply : (bytes : List ℕ) (first second : Reply) → Spells bytes first → Spells bytes second → first ≡ second
+pub one_reply : (bytes : List ℕ) (first second : Reply) → SpellsReply bytes first → SpellsReply bytes second → first ≡ second
 one_reply bytes first second one two =
     (one_spelling read_reply reply_bytes IsReply reply_field first second [] [] one.1 two.1
     (append-nil (reply_bytes first) ∙ sym one.0 ∙ two.0 ∙ sym (append-nil (reply_bytes second)))).0
 
 -- no spelling begins another
-pub nothing_left : (front rest : List ℕ) (first second : Reply) → Spells front first → Spells (front ++ rest) second → rest ≡ []
+pub nothing_left : (front rest : List ℕ) (first second : Reply) → SpellsReply front first → SpellsReply (front ++ rest) second → rest ≡ []
 nothing_left front rest first second one two =
     (one_spelling read_reply reply_bytes IsReply reply_field first second rest [] one.1 two.1
     (ap (λ (bytes : List ℕ). bytes ++ rest) (sym one.0) ∙ two.0 ∙ sym (append-nil (reply_bytes second)))).1
@@ -73,12 +73,12 @@ module _ (hash : List ℕ → List ℕ) (accepted : List ℕ → List ℕ → Li
       passed PathMismatch = subst (Way hash body.root (hash reply.value) reply.siblings) tested.2 states.way
 
   -- what passes is accepted, with the statement of its end
-  pub passed-accepts : (bytes : List ℕ) (reply : Reply) → Spells bytes reply → ((refusal : Refusal) → Passes hash accepted body name reply refusal)
+  pub passed-accepts : (bytes : List ℕ) (reply : Reply) → SpellsReply bytes reply → ((refusal : Refusal) → Passes hash accepted body name reply refusal)
       → (statement : Option (List ℕ)) → stated reply.end ≡ statement → Accepts hash accepted body name bytes statement
   passed-accepts bytes reply spelled passed statement e = (reply, spelled, subst (States hash accepted body name reply) e (passed-states reply passed))
 
   -- what is accepted passes, and has no other statement
-  pub accepts-passed : (bytes : List ℕ) (reply : Reply) → Spells bytes reply → (statement : Option (List ℕ)) → Accepts hash accepted body name bytes statement
+  pub accepts-passed : (bytes : List ℕ) (reply : Reply) → SpellsReply bytes reply → (statement : Option (List ℕ)) → Accepts hash accepted body name bytes statement
       → (stated reply.end ≡ statement) × ((refusal : Refusal) → Passes hash accepted body name reply refusal)
   accepts-passed bytes reply spelled statement accepts =
       let same : accepts.0 ≡ reply = one_reply bytes accepts.0 reply accepts.1 spelled in
@@ -91,22 +91,22 @@ module _ (hash : List ℕ → List ℕ) (accepted : List ℕ → List ℕ → Li
 
   -- an answer is Ok with a statement exactly where the bytes are accepted with it, where it is Ok for a
   -- reply that passes
-  pub ok-exact : (bytes : List ℕ) (reply : Reply) → Spells bytes reply → ((refusal : Refusal) → Passes hash accepted body name reply refusal)
+  pub ok-exact : (bytes : List ℕ) (reply : Reply) → SpellsReply bytes reply → ((refusal : Refusal) → Passes hash accepted body name reply refusal)
       → (statement : Option (List ℕ)) → (stated reply.end ≡ statement) ↔ Accepts hash accepted body name bytes statement
   ok-exact bytes reply spelled passed statement = (passed-accepts bytes reply spelled passed statement, λ accepts. (accepts-passed bytes reply spelled statement accepts).0)
 
   -- and where it is refused for one that does not
-  pub refused-exact : {X : Type 0} (reply : Reply) (result : Result X Refusal) (P : X → Type 0) → IsErr result → (refusal : Refusal) → IsFirst (Passes hash accepted body name reply) refusal
-      → (bytes : List ℕ) → Spells bytes reply → (statement : Option (List ℕ)) → IsOkAnd result P ↔ Accepts hash accepted body name bytes statement
+  pub refused-exact : {X : Type 0} (reply : Reply) (result : Result X Refusal) (P : X → Type 0) → IsErr result → (refusal : Refusal) → IsFirstToFail (Passes hash accepted body name reply) refusal
+      → (bytes : List ℕ) → SpellsReply bytes reply → (statement : Option (List ℕ)) → IsOkAnd result P ↔ Accepts hash accepted body name bytes statement
   refused-exact reply (Ok x) P err refusal first bytes spelled statement = absurd cc
   refused-exact reply (Err other) P err refusal first bytes spelled statement =
       (λ ok. absurd ok, λ accepts. absurd (first.fails ((accepts-passed bytes reply spelled statement accepts).1 refusal)))
 
   -- bytes that spell a reply are refused by no reading
-  spelled-read : (bytes : List ℕ) (reply : Reply) → Spells bytes reply → (refusal : Refusal) → ¬ ReadsReply bytes (Err refusal)
+  spelled-read : (bytes : List ℕ) (reply : Reply) → SpellsReply bytes reply → (refusal : Refusal) → ¬ ReadsReply bytes (Err refusal)
   spelled-read bytes reply spelled Malformed reads = reads.0 reply spelled
   spelled-read bytes reply spelled Trailing reads =
-      reads.4 (nothing_left reads.1 reads.2 reads.0 reply reads.5 (subst (λ (all : List ℕ). Spells all reply) reads.3 spelled))
+      reads.4 (nothing_left reads.1 reads.2 reads.0 reply reads.5 (subst (λ (all : List ℕ). SpellsReply all reply) reads.3 spelled))
   spelled-read bytes reply spelled OtherRoot reads = reads
   spelled-read bytes reply spelled BadVuf reads = reads
   spelled-read bytes reply spelled SameIndex reads = reads

@@ -15,7 +15,7 @@ use Rattle.encoding.proofs.Fields.{whole-read, whole-refused, allowed_field, byt
 use Rattle.encoding.proofs.FieldsOf.{both}
 use Rattle.rootchain.specs.declared.body.Body.{Body}
 use Rattle.rootchain.specs.Readable.{body_field}
-use Rattle.proofs.specs.Replies.{End, Present, Empty, Other, Reply, reply_end_bytes, end_kind, end_parts, joined_bytes, reply_bytes, sibling_bytes, AreSiblings, IsEnd, IsReply, Spells}
+use Rattle.proofs.specs.Replies.{End, Present, Empty, Other, Reply, reply_end_bytes, end_kind, end_parts, joined_bytes, reply_bytes, sibling_bytes, AreSiblings, IsEnd, IsReply, SpellsReply}
 use Rattle.proofs.specs.Refusals.{BeginsWithReply}
 use Rattle.proofs.specs.Reading.{read_end, read_end_of, read_other, read_present, read_reply, read_siblings, reply_of}
 use Rattle.proofs.proofs.Chunks.{chunks-hashes, chunks-joined, joined-chunks, joined-hashes, length-chunks}
@@ -189,7 +189,7 @@ reply_field =
 -- ---- whole bytes
 
 -- bytes at which the reader refuses spell no reply, and none of their beginnings does
-pub is_malformed : (bytes : List ℕ) (fault : Fault) → read_reply bytes ≡ Err fault → ((reply : Reply) → ¬ Spells bytes reply) × ¬ BeginsWithReply bytes
+pub is_malformed : (bytes : List ℕ) (fault : Fault) → read_reply bytes ≡ Err fault → ((reply : Reply) → ¬ SpellsReply bytes reply) × ¬ BeginsWithReply bytes
 is_malformed bytes fault e = (
   whole-refused read_reply reply_bytes IsReply reply_field bytes fault e,
   λ begins. refused_read fault (begins.0, begins.2) (sym e ∙ ap read_reply (begins.3 ∙ ap (λ (front : List ℕ). front ++ begins.2) begins.5.0) ∙ reply_field.again begins.0 begins.2 begins.5.1),
@@ -201,5 +201,5 @@ is_trailing bytes reply rest small e some =
     let t = reply_field.spelled bytes (reply, rest) small e in
     (reply, reply_bytes reply, rest, t.0, some, (refl, t.1))
 
-pub is_spelled : (bytes : List ℕ) (reply : Reply) → IsBytes bytes → read_reply bytes ≡ Ok (reply, []) → Spells bytes reply
+pub is_spelled : (bytes : List ℕ) (reply : Reply) → IsBytes bytes → read_reply bytes ≡ Ok (reply, []) → SpellsReply bytes reply
 is_spelled = whole-read read_reply reply_bytes IsReply reply_field

@@ -7,16 +7,16 @@ use Rattle.proofs.specs.declared.refusal.Refusal.{Refusal}
 use Rattle.proofs.specs.declared.refusal.Refusal.TheVariants.{Malformed, Trailing, OtherRoot, BadVuf, SameIndex, OtherPrefix, PathMismatch}
 use Rattle.proofs.specs.Accepts.{stated, Accepts, HasIndex, IsAccepted, NamedReply}
 use Rattle.proofs.specs.Comparisons.{Answers, IsAcceptedReply, IsOnceAccepted, IsOneBindingOr, Refuses}
-use Rattle.proofs.specs.Refusals.{IsFirst, Passes, ReadsReply}
-use Rattle.proofs.specs.Replies.{Reply, Spells}
+use Rattle.proofs.specs.Refusals.{IsFirstToFail, Passes, ReadsReply}
+use Rattle.proofs.specs.Replies.{Reply, SpellsReply}
 use Rattle.proofs.proofs.Passing.{accepts-passed, nothing_left, one_reply, passed-accepted}
 
 abbrev pub named : List ℕ → Reply → NamedReply
 named name reply = record { name = name; reply = reply }
 
-pub not_spelled : (bytes : List ℕ) (refusal : Refusal) → ReadsReply bytes (Err refusal) → (reply : Reply) → ¬ Spells bytes reply
+pub not_spelled : (bytes : List ℕ) (refusal : Refusal) → ReadsReply bytes (Err refusal) → (reply : Reply) → ¬ SpellsReply bytes reply
 not_spelled bytes Malformed reads reply = reads.0 reply
-not_spelled bytes Trailing (other, front, rest, parts, some, spells) reply = λ spelled. some (nothing_left front rest other reply spells (subst (λ (b : List ℕ). Spells b reply) parts spelled))
+not_spelled bytes Trailing (other, front, rest, parts, some, spells) reply = λ spelled. some (nothing_left front rest other reply spells (subst (λ (b : List ℕ). SpellsReply b reply) parts spelled))
 not_spelled bytes OtherRoot reads reply = absurd reads
 not_spelled bytes BadVuf reads reply = absurd reads
 not_spelled bytes SameIndex reads reply = absurd reads
@@ -30,13 +30,13 @@ module _ (hash : List ℕ → List ℕ) (accepted : List ℕ → List ℕ → Li
   refused_not bytes refusal (inr (reply, spelled, first)) statement = λ accepts. first.fails ((accepts-passed hash accepted body name bytes reply spelled statement accepts).1 refusal)
 
   -- what checking refuses is refused of the bytes
-  pub refuses_checked : {X : Type 0} (bytes : List ℕ) (reply : Reply) → Spells bytes reply → (result : Result X Refusal)
-      → IfErr result (IsFirst (Passes hash accepted body name reply)) → IfErr result (Refuses hash accepted body name bytes)
+  pub refuses_checked : {X : Type 0} (bytes : List ℕ) (reply : Reply) → SpellsReply bytes reply → (result : Result X Refusal)
+      → IfErr result (IsFirstToFail (Passes hash accepted body name reply)) → IfErr result (Refuses hash accepted body name bytes)
   refuses_checked bytes reply spelled (Ok kept) first = tt
   refuses_checked bytes reply spelled (Err refusal) first = inr (reply, spelled, first)
 
   -- what is answered to the reply that the bytes spell keeps a reply that is accepted
-  pub keeps_accepted : (bytes : List ℕ) (reply : Reply) → Spells bytes reply → (result : Result NamedReply Refusal)
+  pub keeps_accepted : (bytes : List ℕ) (reply : Reply) → SpellsReply bytes reply → (result : Result NamedReply Refusal)
       → ((statement : Option (List ℕ)) → IsOkAnd result (λ kept. stated kept.reply.end ≡ statement) ↔ Accepts hash accepted body name bytes statement)
       → IfOk result (λ kept. kept ≡ named name reply) → IfOk result (λ kept. IsAcceptedReply hash accepted body name bytes kept.reply)
   keeps_accepted bytes reply spelled (Ok kept) exact is =
@@ -72,6 +72,6 @@ module _ (hash : List ℕ → List ℕ) (accepted : List ℕ → List ℕ → Li
       subst (λ (n : NamedReply). Answers hash accepted n (named name second.reply) answer) one (subst (λ (n : NamedReply). Answers hash accepted first n answer) two answers)
 
 -- the reply that once accepted bytes spell is accepted
-pub still_accepted : (hash : List ℕ → List ℕ) (accepted : List ℕ → List ℕ → List ℕ → Type 0) (name bytes : List ℕ) (reply : Reply) → Spells bytes reply
+pub still_accepted : (hash : List ℕ → List ℕ) (accepted : List ℕ → List ℕ → List ℕ → Type 0) (name bytes : List ℕ) (reply : Reply) → SpellsReply bytes reply
     → IsOnceAccepted hash accepted name bytes → IsAccepted hash accepted (named name reply)
 still_accepted hash accepted name bytes reply spelled once = subst (λ (r : Reply). IsAccepted hash accepted (named name r)) (one_reply bytes once.1 reply once.2.0 spelled) once.2.2

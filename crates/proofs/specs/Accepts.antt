@@ -5,7 +5,7 @@ use Rattle.nodehash.specs.NodeTexts.{empty_bytes, leaf_bytes}
 use Rattle.commit.specs.Commitments.{commitment_bytes}
 use Rattle.prefixtree.specs.Paths.{Way}
 use Rattle.rootchain.specs.declared.body.Body.{Body}
-use Rattle.proofs.specs.Replies.{End, Present, Empty, Other, Reply, Spells}
+use Rattle.proofs.specs.Replies.{End, Present, Empty, Other, Reply, SpellsReply}
 
 -- the key that an end states, or none
 abbrev pub stated : End → Option (List ℕ)
@@ -36,11 +36,11 @@ module _ (hash : List ℕ → List ℕ) (accepted : List ℕ → List ℕ → Li
 
   -- the bytes are accepted for the name under this body, with a statement: a key, or none
   abbrev pub Accepts : Body → List ℕ → List ℕ → Option (List ℕ) → Type 0
-  Accepts body name bytes statement = (reply : Reply) × Spells bytes reply × States body name reply statement
+  Accepts body name bytes statement = (reply : Reply) × SpellsReply bytes reply × States body name reply statement
 
 -- the index of the reply that the bytes spell
 abbrev pub HasIndex : (List ℕ → List ℕ) → List ℕ → List ℕ → Type 0
-HasIndex hash bytes index = (reply : Reply) × Spells bytes reply × (hash reply.value ≡ index)
+HasIndex hash bytes index = (reply : Reply) × SpellsReply bytes reply × (hash reply.value ≡ index)
 
 -- a reply, and the name that it was asked for
 pub record NamedReply : Type 0 where

@@ -7,8 +7,8 @@ use Rattle.commit.specs.Commitments.{commitment_bytes}
 use Rattle.rootchain.specs.declared.body.Body.{Body}
 use Rattle.proofs.specs.Accepts.{stated, IsAccepted, NamedReply}
 use Rattle.proofs.specs.PathEnds.{end_text}
-use Rattle.proofs.specs.Refusals.{IsFirst, Passes, ReadsReply}
-use Rattle.proofs.specs.Replies.{End, Present, Empty, Other, Reply, IsReply, Spells}
+use Rattle.proofs.specs.Refusals.{IsFirstToFail, Passes, ReadsReply}
+use Rattle.proofs.specs.Replies.{End, Present, Empty, Other, Reply, IsReply, SpellsReply}
 use Rattle.proofs.specs.WayTexts.{way_texts, AreFirstToDiffer}
 use Rattle.proofs.specs.declared.refusal.Refusal.{Refusal}
 use Rattle.proofs.specs.declared.comparing.RefusedReply.{RefusedReply}
@@ -77,11 +77,11 @@ pub record AreOpposed (hash : List ℕ → List ℕ) (accepted : List ℕ → Li
 module _ (hash : List ℕ → List ℕ) (accepted : List ℕ → List ℕ → List ℕ → Type 0) (body : Body) (name : List ℕ) where
   -- the first refusal that applies to the bytes, of reading them or of checking the reply that they spell
   abbrev pub Refuses : List ℕ → Refusal → Type 0
-  Refuses bytes refusal = ReadsReply bytes (Err refusal) ⊎ ((reply : Reply) × Spells bytes reply × IsFirst (Passes hash accepted body name reply) refusal)
+  Refuses bytes refusal = ReadsReply bytes (Err refusal) ⊎ ((reply : Reply) × SpellsReply bytes reply × IsFirstToFail (Passes hash accepted body name reply) refusal)
 
   -- the bytes spell this reply, which is accepted
   abbrev pub IsAcceptedReply : List ℕ → Reply → Type 0
-  IsAcceptedReply bytes reply = Spells bytes reply × (reply.body ≡ body) × IsAccepted hash accepted (record { name = name; reply = reply })
+  IsAcceptedReply bytes reply = SpellsReply bytes reply × (reply.body ≡ body) × IsAccepted hash accepted (record { name = name; reply = reply })
 
   -- the refusal of the first reply that is refused; where both are accepted, the answer on them
   abbrev pub Compares : List ℕ → List ℕ → Result SameOr RefusedReply → Type 0

@@ -6,28 +6,28 @@ use Rattle.rootchain.specs.declared.body.Body.{Body}
 use Rattle.proofs.specs.declared.refusal.Refusal.{Refusal}
 use Rattle.proofs.specs.declared.refusal.Refusal.TheVariants.{Malformed, Trailing, OtherRoot, BadVuf, SameIndex, OtherPrefix, PathMismatch}
 use Rattle.proofs.specs.PathEnds.{end_text}
-use Rattle.proofs.specs.Replies.{End, Present, Empty, Other, Reply, Spells}
+use Rattle.proofs.specs.Replies.{End, Present, Empty, Other, Reply, SpellsReply}
 
 -- the number of a refusal
-abbrev pub refusal_number : Refusal → ℕ
-refusal_number Malformed = 1
-refusal_number Trailing = 2
-refusal_number OtherRoot = 3
-refusal_number BadVuf = 4
-refusal_number SameIndex = 5
-refusal_number OtherPrefix = 6
-refusal_number PathMismatch = 7
+abbrev pub reply_refusal_number : Refusal → ℕ
+reply_refusal_number Malformed = 1
+reply_refusal_number Trailing = 2
+reply_refusal_number OtherRoot = 3
+reply_refusal_number BadVuf = 4
+reply_refusal_number SameIndex = 5
+reply_refusal_number OtherPrefix = 6
+reply_refusal_number PathMismatch = 7
 
 -- ---- reading
 
 -- a proper beginning of the bytes spells a reply
 abbrev pub BeginsWithReply : List ℕ → Type 0
-BeginsWithReply bytes = (reply : Reply) × (front : List ℕ) × (rest : List ℕ) × (bytes ≡ front ++ rest) × (rest ≢ []) × Spells front reply
+BeginsWithReply bytes = (reply : Reply) × (front : List ℕ) × (rest : List ℕ) × (bytes ≡ front ++ rest) × (rest ≢ []) × SpellsReply front reply
 
 -- what reading all of the bytes answers
 abbrev pub ReadsReply : List ℕ → Result Reply Refusal → Type 0
-ReadsReply bytes (Ok reply) = Spells bytes reply
-ReadsReply bytes (Err Malformed) = ((reply : Reply) → ¬ Spells bytes reply) × ¬ BeginsWithReply bytes
+ReadsReply bytes (Ok reply) = SpellsReply bytes reply
+ReadsReply bytes (Err Malformed) = ((reply : Reply) → ¬ SpellsReply bytes reply) × ¬ BeginsWithReply bytes
 ReadsReply bytes (Err Trailing) = BeginsWithReply bytes
 ReadsReply bytes (Err OtherRoot) = ⊥
 ReadsReply bytes (Err BadVuf) = ⊥
@@ -63,6 +63,6 @@ module _ (hash : List ℕ → List ℕ) (accepted : List ℕ → List ℕ → Li
       Way hash body.root (hash reply.value) reply.siblings (end_text hash body.nonce name (hash reply.value) (length reply.siblings) reply.end)
 
 -- the test of this refusal is not passed, and each before it is
-pub record IsFirst (Passed : Refusal → Type 0) (refusal : Refusal) : Type 0 where
+pub record IsFirstToFail (Passed : Refusal → Type 0) (refusal : Refusal) : Type 0 where
   pub fails : ¬ Passed refusal
-  pub before : (other : Refusal) → refusal_number other < refusal_number refusal → Passed other
+  pub before : (other : Refusal) → reply_refusal_number other < reply_refusal_number refusal → Passed other

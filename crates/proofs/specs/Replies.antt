@@ -69,5 +69,5 @@ abbrev pub IsReply : Reply → Type 0
 IsReply reply = IsBody reply.body × IsSmall reply.value × IsEnd reply.end × AreSiblings reply.siblings
 
 -- the bytes spell this reply
-abbrev pub Spells : List ℕ → Reply → Type 0
-Spells bytes reply = (bytes ≡ reply_bytes reply) × IsReply reply
+abbrev pub SpellsReply : List ℕ → Reply → Type 0
+SpellsReply bytes reply = (bytes ≡ reply_bytes reply) × IsReply reply

@@ -2,7 +2,7 @@ ghost use Rattle.std.specs.Prelude.{◌≡◌, ◌≢◌, ◌+◌, ◌≤◌, le
 ghost use Rattle.proofs.specs.Accepts.{stated, Accepts, IsAccepted};
 ghost use Rattle.proofs.specs.Comparisons.{opened, IsOnceAccepted};
 ghost use Rattle.proofs.specs.PathEnds.{end_text};
-ghost use Rattle.proofs.specs.Replies.{reply_bytes, IsReply, Spells};
+ghost use Rattle.proofs.specs.Replies.{reply_bytes, IsReply, SpellsReply};
 ghost use Rattle.proofs.specs.Views.{end_seen, key_stated};
 
 use crate::checking::node_at_end;
@@ -56,7 +56,7 @@ impl<'a, H: NodeHash, V: VufCheck> Accepted<'a, H, V> {
     pub fn again(hash: &mut H, name: &Name, bytes: &'a [u8]) -> Self
         requires { IsOnceAccepted H.digest_of V.accepted name.now bytes.now }
         ensures named { result.name ≡ name.now }
-        ensures spelled { Spells bytes.entry.now result.reply }
+        ensures spelled { SpellsReply bytes.entry.now result.reply }
         ensures accepted { IsAccepted H.digest_of V.accepted result }
         ensures counted { H.digests hash.new ≤ H.digests hash.old + 1 }
     {

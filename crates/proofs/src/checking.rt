@@ -5,8 +5,8 @@ ghost use Rattle.prefixtree.specs.declared.path.TheConstants.{MAX_SIBLINGS};
 ghost use Rattle.proofs.specs.Accepts.{stated, Accepts};
 ghost use Rattle.proofs.specs.Comparisons.{IsAcceptedReply, Refuses};
 ghost use Rattle.proofs.specs.PathEnds.{end_of_path, end_text};
-ghost use Rattle.proofs.specs.Refusals.{IsFirst, AbsenceIsByAnother, AbsenceIsOnWay, Passes};
-ghost use Rattle.proofs.specs.Replies.{IsEnd, Spells};
+ghost use Rattle.proofs.specs.Refusals.{IsFirstToFail, AbsenceIsByAnother, AbsenceIsOnWay, Passes};
+ghost use Rattle.proofs.specs.Replies.{IsEnd, SpellsReply};
 ghost use Rattle.proofs.specs.Views.{end_seen};
 
 use crate::view::{EndView, key_data};
@@ -83,7 +83,7 @@ fn test_reply<H: NodeHash, V: VufCheck>(
 ) -> Result<Index, Refusal>
     ensures ok { IfOk result (λ _. (refusal : _) → Passes H.digest_of V.accepted body.now name.now view.now refusal) }
     ensures index { IfOk result (λ index. index ≡ H.digest_of view.now.value) }
-    ensures first { IfErr result (IsFirst (Passes H.digest_of V.accepted body.now name.now view.now)) }
+    ensures first { IfErr result (IsFirstToFail (Passes H.digest_of V.accepted body.now name.now view.now)) }
     ensures counted { H.digests hash.new ≤ H.digests hash.old + length view.now.siblings + 3 }
 {
     if view.body() != body {
@@ -120,10 +120,10 @@ pub fn check<'a, H: NodeHash, V: VufCheck>(
     name: &Name,
     view: &ReplyView<'a>,
 ) -> Result<Accepted<'a, H, V>, Refusal>
-    ensures exact { (bytes : List ℕ) → Spells bytes view.now → (statement : Option (List ℕ))
+    ensures exact { (bytes : List ℕ) → SpellsReply bytes view.now → (statement : Option (List ℕ))
         → IsOkAnd result (λ accepted. stated accepted.reply.end ≡ statement) ↔ Accepts H.digest_of V.accepted body.now name.now bytes statement }
     ensures kept { IfOk result (λ accepted. accepted ≡ record { name = name.now; reply = view.now }) }
-    ensures first { IfErr result (IsFirst (Passes H.digest_of V.accepted body.now name.now view.now)) }
+    ensures first { IfErr result (IsFirstToFail (Passes H.digest_of V.accepted body.now name.now view.now)) }
     ensures counted { H.digests hash.new ≤ H.digests hash.old + length view.now.siblings + 3 }
 {
     let index = test_reply(hash, vuf, body, name, view)?;

@@ -6,24 +6,24 @@ ghost use Rattle.proofs.specs.Comparisons.{Answers, Refuses};
 ghost use Rattle.proofs.specs.Honest.{IsHonest};
 ghost use Rattle.proofs.specs.declared.refusal.Refusal.{Refusal};
 ghost use Rattle.proofs.specs.declared.comparing.SameOr.TheVariants.{TwoValues};
-ghost use Rattle.proofs.specs.Replies.{reply_bytes, Reply, Spells};
+ghost use Rattle.proofs.specs.Replies.{reply_bytes, Reply, SpellsReply};
 
 use nodehash::NodeHash;
 use vrfiface::{UniqueVuf, VufCheck};
 
 /// Bytes spell at most one reply.
 pub fn bytes_spell_one_reply()
-    ensures { (bytes : List ℕ) (first second : Reply) → Spells bytes first → Spells bytes second → first ≡ second }
+    ensures { (bytes : List ℕ) (first second : Reply) → SpellsReply bytes first → SpellsReply bytes second → first ≡ second }
 {}
 
 /// A reply has one spelling.
 pub fn reply_has_one_spelling()
-    ensures { (first second : List ℕ) (reply : Reply) → Spells first reply → Spells second reply → first ≡ second }
+    ensures { (first second : List ℕ) (reply : Reply) → SpellsReply first reply → SpellsReply second reply → first ≡ second }
 {}
 
 /// No spelling of a reply begins another.
 pub fn no_spelling_begins_another()
-    ensures { (front rest : List ℕ) (first second : Reply) → Spells front first → Spells (front ++ rest) second → rest ≡ [] }
+    ensures { (front rest : List ℕ) (first second : Reply) → SpellsReply front first → SpellsReply (front ++ rest) second → rest ≡ [] }
 {}
 
 /// What `make` writes of a tree's own path is accepted, with the statement of its end.

@@ -24,11 +24,11 @@ pub enum Refusal {
 }
 
 impl Refusal {
-    ghost use Rattle.proofs.specs.Refusals.{refusal_number};
+    ghost use Rattle.proofs.specs.Refusals.{reply_refusal_number};
 
     /// The number of this refusal.
     pub fn number(self) -> u8
-        ensures { result ≡ refusal_number self }
+        ensures { result ≡ reply_refusal_number self }
     {
         match self {
             Refusal::Malformed => 1,

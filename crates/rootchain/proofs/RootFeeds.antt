@@ -21,7 +21,7 @@ use Rattle.rootchain.specs.declared.root_feed.Stage.TheVariants as stage
 use Rattle.rootchain.specs.FeedViews.{held_of, TellsNext}
 use Rattle.rootchain.specs.RootLists.{read_root_count, SpellsRoots}
 use Rattle.rootchain.specs.SignedRoots.{read_signed_root, signed_root_bytes, IsSignedRoot}
-use Rattle.rootchain.specs.RootFeeds.{front, front_read, front_sized, least_len, least_root_len, read_signature_len, told, told_by, told_counted, told_from, Front, FeedState, Bad, Counts, Done, Failed, IsHeld, Owes, Part, Whole}
+use Rattle.rootchain.specs.RootFeeds.{front, front_read, front_sized, least_len, least_root_len, read_signature_len, told, told_by, told_counted, told_from, Front, FeedState, Bad, Counts, Done, Failed, MayBeHeld, Owes, Part, Whole}
 use Rattle.rootchain.specs.Readable.{signed_root_field}
 use Rattle.rootchain.proofs.RootLists.{count_field}
 
@@ -455,8 +455,8 @@ least-part held piece part short = is (read_signature_len held) refl
         (front-part (held ++ piece) size (rest ++ piece) (len_more held size rest piece e) most (omega (arith, few, length-append held piece)), omega (arith, few, most))
 
 -- a piece that leaves less than is needed is held
-pub part-is-held : (stage : Stage) (held piece : List ℕ) → IsHeld (held_of stage held) → length held + length piece < least_len (held_of stage held)
-    → (told_from (held_of stage held) piece ≡ ([], held_of stage (held ++ piece))) × (held_of stage (held ++ piece) ≢ Failed) × IsHeld (held_of stage (held ++ piece)) × (length held + length piece ≤ 404)
+pub part-is-held : (stage : Stage) (held piece : List ℕ) → MayBeHeld (held_of stage held) → length held + length piece < least_len (held_of stage held)
+    → (told_from (held_of stage held) piece ≡ ([], held_of stage (held ++ piece))) × (held_of stage (held ++ piece) ≢ Failed) × MayBeHeld (held_of stage (held ++ piece)) × (length held + length piece ≤ 404)
 part-is-held stage.Count held piece is short =
     let few : length (held ++ piece) < 2 = omega (arith, short, length-append held piece) in
     (ap (λ (r : Reading ℕ). told_counted r (held ++ piece)) (count_short (held ++ piece) few), (λ e. cc), few, omega (arith, short))

@@ -11,7 +11,7 @@ use Rattle.rootchain.specs.declared.list_refusal.ListRefusal.{ListRefusal}
 use Rattle.rootchain.specs.declared.list_refusal.ListRefusal.TheVariants.{BadSignature, BeforeStart, Ahead, Evidence, Memory}
 use Rattle.rootchain.specs.Chains.{IsChain, KeyedRoots}
 use Rattle.rootchain.specs.SignedRoots.{IsSignedRoot}
-use Rattle.rootchain.specs.TakingLists.{with_roots, IsListRefusal, IsRefusedRoot, Passes, StopsAt, Takes, ListRefusalHolds, ListRefusalIsSpelled}
+use Rattle.rootchain.specs.TakingLists.{with_roots, IsListRefusal, IsRefusedRoot, PassesOrAdds, StopsAt, Takes, ListRefusalHolds, ListRefusalIsSpelled}
 use Rattle.rootchain.proofs.Places.{place_sound}
 use Rattle.rootchain.proofs.Spelled.{place-given}
 use Rattle.rootchain.proofs.Taking.{next_stays}
@@ -28,7 +28,7 @@ module _ (hash : List ℕ → List ℕ) (verified : List ℕ → List ℕ → Li
   leads-begin start all = record { taken = λ after t. t; stopped = λ why after s. s }
 
   pub leads-step : (start : KeyedRoots) (all : List SignedRoot) (now : KeyedRoots) (left : List SignedRoot) (root : SignedRoot) (rest : List SignedRoot) (next : KeyedRoots)
-      → left ≡ root ∷ rest → Passes hash verified now root next → Leads start all now left → Leads start all next rest
+      → left ≡ root ∷ rest → PassesOrAdds hash verified now root next → Leads start all now left → Leads start all next rest
   leads-step start all now left root rest next same passes leads = record {
     taken = λ after t. leads.taken after (rw same (next, passes, t));
     stopped = λ why after s. leads.stopped why after (root ∷ s.0, s.1, s.2, same ∙ ap (λ (rs : List SignedRoot). root ∷ rs) s.3, (next, passes, s.4), s.5);
@@ -43,7 +43,7 @@ module _ (hash : List ℕ → List ℕ) (verified : List ℕ → List ℕ → Li
 
   -- ---- what a chain is once it took roots
 
-  passes-chain : (chain : KeyedRoots) (root : SignedRoot) (after : KeyedRoots) → IsChain hash verified chain → Passes hash verified chain root after → IsChain hash verified after
+  passes-chain : (chain : KeyedRoots) (root : SignedRoot) (after : KeyedRoots) → IsChain hash verified chain → PassesOrAdds hash verified chain root after → IsChain hash verified after
   passes-chain chain root after is passes = elim passes.1 [
     | inl known ↦ rw known.1 is
     | inr next ↦ rw next.1 (next_stays hash verified chain.key chain.roots root is passes.0 next.0)

@@ -30,7 +30,7 @@ TakesPart held piece true after = (told_from held piece ≡ ([], after)) × (aft
 TakesPart held piece false after = after ≡ held
 
 -- a root that is told has a spelling
-abbrev pub IsRootOf : Next → Type 0
-IsRootOf (next.Root root rest) = IsSignedRoot root
-IsRootOf next.Wait = Unit
-IsRootOf next.Failed = Unit
+abbrev pub HasSpelledRoot : Next → Type 0
+HasSpelledRoot (next.Root root rest) = IsSignedRoot root
+HasSpelledRoot next.Wait = Unit
+HasSpelledRoot next.Failed = Unit

@@ -93,7 +93,7 @@ least_len (Owes (suc left) bytes) = least_root_len (read_signature_len bytes)
 least_len Failed = 0
 
 -- what may be held: less than the number, or less than a root
-abbrev pub IsHeld : FeedState → Type 0
-IsHeld (Counts bytes) = length bytes < 2
-IsHeld (Owes left bytes) = (left ≤ 64) × (front bytes ≡ Part) × (left ≡ 0 → bytes ≡ [])
-IsHeld Failed = Unit
+abbrev pub MayBeHeld : FeedState → Type 0
+MayBeHeld (Counts bytes) = length bytes < 2
+MayBeHeld (Owes left bytes) = (left ≤ 64) × (front bytes ≡ Part) × (left ≡ 0 → bytes ≡ [])
+MayBeHeld Failed = Unit

@@ -19,14 +19,14 @@ with_roots chain roots = record chain { roots = chain.roots ++ roots }
 
 module _ (hash : List ℕ → List ℕ) (verified : List ℕ → List ℕ → List ℕ → Type 0) where
   -- a root that the chain has is passed over, and one that follows the head is added
-  abbrev pub Passes : KeyedRoots → SignedRoot → KeyedRoots → Type 0
-  Passes chain root after = Verifies verified chain.key root
+  abbrev pub PassesOrAdds : KeyedRoots → SignedRoot → KeyedRoots → Type 0
+  PassesOrAdds chain root after = Verifies verified chain.key root
       × ((IsPlace hash chain root place.Known × (after ≡ chain)) ⊎ (IsPlace hash chain root place.Next × (after ≡ with_root chain root)))
 
   -- each root in order is passed over or added, to the chain as those before it left it
   abbrev pub Takes : KeyedRoots → List SignedRoot → KeyedRoots → Type 0
   Takes chain [] after = after ≡ chain
-  Takes chain (root ∷ roots) after = (middle : KeyedRoots) × Passes chain root middle × Takes middle roots after
+  Takes chain (root ∷ roots) after = (middle : KeyedRoots) × PassesOrAdds chain root middle × Takes middle roots after
 
   -- when a root of a list is refused in this way; memory is reserved before the first root, so `Memory` says nothing about a root
   abbrev pub IsRefusedRoot : KeyedRoots → SignedRoot → ListRefusal → Type 0
@@ -47,7 +47,7 @@ module _ (hash : List ℕ → List ℕ) (verified : List ℕ → List ℕ → Li
 
   -- what comes of a root of a list
   abbrev pub TakesOne : {A : Type 0} → KeyedRoots → SignedRoot → Result A ListRefusal → KeyedRoots → Type 0
-  TakesOne chain root (Ok _) after = Passes chain root after
+  TakesOne chain root (Ok _) after = PassesOrAdds chain root after
   TakesOne chain root (Err why) after = IsRefusedRoot chain root why × (after ≡ chain)
 
   -- the root names the epoch of the head, and not its hash

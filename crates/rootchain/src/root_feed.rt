@@ -4,8 +4,8 @@
 //! is only held: that is quick, since it makes no room for a root.
 ghost use Rattle.std.specs.Prelude.{◌≡◌, ◌⊎◌, ◌↔◌, ◌+◌, ◌≤◌, ◌++◌, [], length, IsTrue};
 ghost use Rattle.encoding.specs.Reading.{Gives};
-ghost use Rattle.rootchain.specs.FeedViews.{held_of, IsFront, IsRootOf, TakesPart, TellsNext};
-ghost use Rattle.rootchain.specs.RootFeeds.{front, least_len, owed_by, read_signature_len, Counts, Done, Failed, IsHeld, Owes, Part};
+ghost use Rattle.rootchain.specs.FeedViews.{held_of, HasSpelledRoot, IsFront, TakesPart, TellsNext};
+ghost use Rattle.rootchain.specs.RootFeeds.{front, least_len, owed_by, read_signature_len, Counts, Done, Failed, MayBeHeld, Owes, Part};
 ghost use Rattle.rootchain.specs.declared.signed_root.TheConstants.{MAX_SIGNED_ROOT_LEN};
 
 use crate::SignedRoot;
@@ -53,13 +53,13 @@ pub struct RootFeed {
 
 impl Model for RootFeed {
     ghost use Rattle.rootchain.specs.FeedViews.{held_of};
-    ghost use Rattle.rootchain.specs.RootFeeds.{FeedState, IsHeld};
+    ghost use Rattle.rootchain.specs.RootFeeds.{FeedState, MayBeHeld};
 
     ghost Value = { FeedState };
 
     ghost view = { λ feed. held_of feed.stage feed.held };
 
-    ghost invariant = { λ feed. IsHeld (held_of feed.stage feed.held) };
+    ghost invariant = { λ feed. MayBeHeld (held_of feed.stage feed.held) };
 }
 
 impl RootFeed {
@@ -129,7 +129,7 @@ impl RootFeed {
     /// Takes the first root that the piece makes whole. If there is none, the feed takes the piece.
     pub(crate) fn next<'a>(&mut self, piece: &'a [u8]) -> Next<'a>
         ensures tells { TellsNext self.old piece.entry.now result self.new }
-        ensures form { IsRootOf result }
+        ensures form { HasSpelledRoot result }
     {
         advance(&mut self.stage, &mut self.held, piece)
     }
@@ -138,9 +138,9 @@ impl RootFeed {
 /// `RootFeed::take_part` on the fields of a feed.
 #[inline(always)]
 fn add_part(stage: Stage, held: &mut SignedRootText, piece: &[u8]) -> bool
-    requires { IsHeld (held_of stage held.old) }
+    requires { MayBeHeld (held_of stage held.old) }
     ensures part { TakesPart (held_of stage held.old) piece.now result (held_of stage held.new) }
-    ensures held { IsHeld (held_of stage held.new) }
+    ensures held { MayBeHeld (held_of stage held.new) }
 {
     let missing = least_len(stage, held.bytes()).saturating_sub(held.bytes().len());
     if missing <= piece.len() {
@@ -157,7 +157,7 @@ fn add_part(stage: Stage, held: &mut SignedRootText, piece: &[u8]) -> bool
 /// How many bytes there are at least once the number of roots, or the first root, is whole. Where no root
 /// is to come, 0.
 fn least_len(stage: Stage, held: &[u8]) -> usize
-    requires { IsHeld (held_of stage held.now) }
+    requires { MayBeHeld (held_of stage held.now) }
     ensures { result ≡ least_len (held_of stage held.now) }
 {
     match stage {
@@ -173,10 +173,10 @@ fn least_len(stage: Stage, held: &[u8]) -> usize
 
 /// `RootFeed::next` on the fields of a feed.
 fn advance<'a>(stage: &mut Stage, held: &mut SignedRootText, piece: &'a [u8]) -> Next<'a>
-    requires { IsHeld (held_of stage.old held.old) }
+    requires { MayBeHeld (held_of stage.old held.old) }
     ensures tells { TellsNext (held_of stage.old held.old) piece.entry.now result (held_of stage.new held.new) }
-    ensures held { IsHeld (held_of stage.new held.new) }
-    ensures form { IsRootOf result }
+    ensures held { MayBeHeld (held_of stage.new held.new) }
+    ensures form { HasSpelledRoot result }
 {
     match *stage {
         Stage::Failed => Next::Failed,
@@ -207,10 +207,10 @@ fn next_of<'a>(
     held: &mut SignedRootText,
     piece: &'a [u8],
 ) -> Next<'a>
-    requires { IsHeld (Owes left held.old) }
+    requires { MayBeHeld (Owes left held.old) }
     ensures tells { TellsNext (Owes left held.old) piece.entry.now result (held_of stage.new held.new) }
-    ensures held { IsHeld (held_of stage.new held.new) }
-    ensures form { IsRootOf result }
+    ensures held { MayBeHeld (held_of stage.new held.new) }
+    ensures form { HasSpelledRoot result }
 {
     if left == 0 {
         if piece.is_empty() {
@@ -233,7 +233,7 @@ fn next_of<'a>(
 fn first_of<'a>(held: &mut SignedRootText, piece: &'a [u8]) -> Next<'a>
     requires { front held.old ≡ Part }
     ensures front { IsFront (held.old ++ piece.entry.now) result held.new }
-    ensures form { IsRootOf result }
+    ensures form { HasSpelledRoot result }
 {
     let rest = fill(held, FIXED_LEN, piece);
     let Ok(signature_len) = read_signature_len(&mut Cursor::new(held.bytes())) else {

@@ -9,7 +9,7 @@ use Rattle.std.proofs.lemmas.Map.Steps.{set_value_same}
 use Rattle.textio.specs.Output.{WritesBut}
 use Rattle.wire.specs.Frames.{Frame, read_frame}
 use Rattle.wire.specs.Streams.{Remainder, Message, Rest, messages_within, with_more, IsSpent}
-use Rattle.hub.specs.Events.{BySession, HubState, at}
+use Rattle.hub.specs.Events.{BySession, HubState, at_session}
 use Rattle.hub.specs.Exchanges.{Exchange, Exchanges, replies}
 use Rattle.hub.proofs.Joining.{exchanges_joined, replies_append}
 use Rattle.hub.proofs.Others.{set_found}
@@ -19,7 +19,7 @@ use Rattle.server.specs.declared.fault.ServeFault.{ServeFault}
 use Rattle.server.specs.declared.fault.ServeFault.TheVariants.{CannotRead, CannotWrite, OutOfMemory}
 use Rattle.server.specs.declared.serving.TheConstants.{PIECE_SIZE}
 use Rattle.server.specs.Pieces.{AnswersPiece}
-use Rattle.server.specs.Serving.{messages_of, AllReplied, Answers, AnswersFirst, Serves}
+use Rattle.server.specs.Serving.{exchange_messages, AllReplied, AnswersEach, AnswersFirst, Serves}
 use Rattle.server.proofs.Opened.{set_twice}
 
 spent-none : IsSpent (Rest [])
@@ -42,15 +42,15 @@ module _ {S : Type 0} (answers : S → Frame → List ℕ → S → Type 0) wher
   all_replied session s h [] t left (same, held) = same
   all_replied session s h (x ∷ xs) t left (middle, between, takes, replied, rest) = (middle, replied, all_replied session middle between xs t left rest)
 
-  whole : (session : ℕ) (s : S) (bytes : List ℕ) (xs : List Exchange) (t : S) (left : Remainder) → Exchanges answers s (Rest bytes) xs t left → IsSpent left → Answers (AllReplied answers session) s bytes xs t
+  whole : (session : ℕ) (s : S) (bytes : List ℕ) (xs : List Exchange) (t : S) (left : Remainder) → Exchanges answers s (Rest bytes) xs t left → IsSpent left → AnswersEach (AllReplied answers session) s bytes xs t
   whole session s bytes xs t left exchanged spent = (
-    ap (λ (m : List Message × Remainder). m.0) (told_all (Rest bytes) (messages_of xs) left (exchanges_tell answers s (Rest bytes) xs t left exchanged) spent),
+    ap (λ (m : List Message × Remainder). m.0) (told_all (Rest bytes) (exchange_messages xs) left (exchanges_tell answers s (Rest bytes) xs t left exchanged) spent),
     all_replied session s (Rest bytes) xs t left exchanged,
   )
 
   first : (session : ℕ) (s : S) (bytes : List ℕ) (xs : List Exchange) (t : S) (left : Remainder) → Exchanges answers s (Rest bytes) xs t left → AnswersFirst (AllReplied answers session) s bytes xs t
   first session s bytes xs t left exchanged =
-      let told = told_of (Rest bytes) (messages_of xs) left (exchanges_tell answers s (Rest bytes) xs t left exchanged) in (
+      let told = told_of (Rest bytes) (exchange_messages xs) left (exchanges_tell answers s (Rest bytes) xs t left exchanged) in (
         (messages_within told.0 left).0,
         ap (λ (m : List Message × Remainder). m.0) told.1,
         all_replied session s (Rest bytes) xs t left exchanged,
@@ -73,10 +73,10 @@ module _ {S : Type 0} (answers : S → Frame → List ℕ → S → Type 0) wher
   abbrev pub Midway : BySession Remainder → ℕ → S → Option (List ℕ) → Option (List ℕ) → HubState S → Option (List ℕ) → Option (List ℕ) → Type 0
   Midway opened session service input written now left text = (bytes : List ℕ) × (exchanges : List Exchange) × (held : Remainder)
       × Exchanges answers service (Rest bytes) exchanges now.service held × IsSpent held
-      × (at now.sessions session ≡ Some held) × (now.sessions ≡ set_value (is_at (nat_cmp session)) opened held)
+      × (at_session now.sessions session ≡ Some held) × (now.sessions ≡ set_value (is_at (nat_cmp session)) opened held)
       × Consumes input left bytes × Appends written text (replies exchanges)
 
-  pub begun : (session : ℕ) (now : HubState S) (input written : Option (List ℕ)) → at now.sessions session ≡ Some (Rest [])
+  pub begun : (session : ℕ) (now : HubState S) (input written : Option (List ℕ)) → at_session now.sessions session ≡ Some (Rest [])
       → Midway now.sessions session now.service input written now input written
   begun session now input written here =
       ([], [], Rest [], (refl, refl), spent-none, here, sym (set_value_same (is_at (nat_cmp session)) now.sessions (Rest []) here), Consumes-nil input, Appends-nil written)
@@ -92,7 +92,7 @@ module _ {S : Type 0} (answers : S → Frame → List ℕ → S → Type 0) wher
     pub ended : Midway opened session service input written before left text → (rest : Option (List ℕ)) → Consumes left rest [] → IsAtEnd rest
         → Serves (AllReplied answers session) service input written (Ok tt) before.service rest text
     ended (bytes, xs, held, exchanged, spent, here, set, eaten, wrote) rest none over =
-        (bytes ++ [], xs, Consumes-trans input left rest bytes [] eaten none, over, subst (λ (b : List ℕ). Answers (AllReplied answers session) service b xs before.service) (sym (append-nil bytes)) (whole session service bytes xs before.service held exchanged spent), wrote)
+        (bytes ++ [], xs, Consumes-trans input left rest bytes [] eaten none, over, subst (λ (b : List ℕ). AnswersEach (AllReplied answers session) service b xs before.service) (sym (append-nil bytes)) (whole session service bytes xs before.service held exchanged spent), wrote)
 
     pub unread : Midway opened session service input written before left text → (rest : Option (List ℕ)) → Keeps left rest
         → Serves (AllReplied answers session) service input written (Err CannotRead) before.service rest text
@@ -103,7 +103,7 @@ module _ {S : Type 0} (answers : S → Frame → List ℕ → S → Type 0) wher
 
     module _ (piece : List ℕ) (rest : Option (List ℕ)) (took : Consumes left rest piece) (after : HubState S) (told : Option (List ℕ)) where
       -- the messages of all bytes
-      joined : (midway : Midway opened session service input written before left text) (held : Remainder) (ys : List Exchange) (last : Remainder) → at before.sessions session ≡ Some held
+      joined : (midway : Midway opened session service input written before left text) (held : Remainder) (ys : List Exchange) (last : Remainder) → at_session before.sessions session ≡ Some held
           → Exchanges answers before.service (with_more held piece) ys after.service last
           → Exchanges answers service (Rest (midway.0 ++ piece)) (midway.1 ++ ys) after.service last
       joined (bytes, xs, now, exchanged, spent, here, set, eaten, wrote) held ys last there more =
@@ -124,7 +124,7 @@ module _ {S : Type 0} (answers : S → Frame → List ℕ → S → Type 0) wher
         last,
         joined midway held ys last there more,
         spent,
-        ap (λ (m : BySession Remainder). at m session) put ∙ set_found (is_at (nat_cmp session)) before.sessions last held there,
+        ap (λ (m : BySession Remainder). at_session m session) put ∙ set_found (is_at (nat_cmp session)) before.sessions last held there,
         kept_by midway last put,
         Consumes-trans input left rest midway.0 piece midway.7 took,
         subst (Appends written told) (sym (replies_append midway.1 ys)) (Appends-trans written text told (replies midway.1) (replies ys) midway.8 wrote),

@@ -5,12 +5,12 @@ use Rattle.hub.specs.Events.{Happening, Open, Bytes, End, HubState, number}
 use Rattle.hub.specs.Exchanges.{Exchange}
 use Rattle.hub.specs.declared.hub_refusal.HubRefusal.{HubRefusal}
 use Rattle.hub.specs.declared.hub_refusal.HubRefusal.TheVariants.{TooManySessions, SessionOpen, NoSession, Memory}
-use Rattle.hub.specs.Happenings.{Does, Happens, Passes}
+use Rattle.hub.specs.Happenings.{Does, DoesUnlessRefused, Happens}
 use Rattle.hub.specs.Runs.{lines, AllAnswered, Line}
 use Rattle.hub.proofs.Running.{answered_append}
 use Rattle.connections.specs.Histories.{At, Ordered, GoesOn, Syncs, NoneWaits, On, Comes, Opens, Refuses, Reads, IsOver, IsSilent, Hears, Misses, Lacks, Takes, TakesNone, Fails, Ends, Closes, History}
 use Rattle.connections.specs.declared.ending.SessionFault.TheVariants as fault
-use Rattle.server.specs.Sessions.{AreLines, Ended, HubLeads, IsRefused, Loses, Missed, Proceeds, Unopened, session_fault}
+use Rattle.server.specs.Sessions.{AreLines, Ended, HubLeads, IsEventRefused, Loses, Missed, Proceeds, Unopened, session_fault}
 use Rattle.server.proofs.Conversing.{all_replied}
 
 -- there are some bytes
@@ -28,7 +28,7 @@ module _ {S : Type 0} (answers : S → Frame → List ℕ → S → Type 0) wher
   does_answered before (End session) xs after (none, does) =
       subst (λ (ys : List Exchange). AllAnswered answers before.service (lines session ys) after.service) (sym none) (ap (λ (h : HubState S). h.service) does)
 
-  passes_answered : (before : HubState S) (it : Happening) (xs : List Exchange) (after : HubState S) → Passes answers before it xs after
+  passes_answered : (before : HubState S) (it : Happening) (xs : List Exchange) (after : HubState S) → DoesUnlessRefused answers before it xs after
       → AllAnswered answers before.service (lines (number it) xs) after.service
   passes_answered before it xs after (inl (refusal, is, none, stays)) =
       subst (λ (ys : List Exchange). AllAnswered answers before.service (lines (number it) ys) after.service) (sym none) (ap (λ (h : HubState S). h.service) stays)
@@ -47,7 +47,7 @@ module _ {S : Type 0} (answers : S → Frame → List ℕ → S → Type 0) wher
   opened before session output after grown (none, xs, does, same) = (none, (refl, does.1))
 
   pub ended : (before : HubState S) (session : ℕ) (output : List ℕ) (result : Result (Unit {0}) HubRefusal) (after : HubState S) (grown : List ℕ)
-      → Happens answers before (End session) output result after grown → Passes answers before (End session) [] after
+      → Happens answers before (End session) output result after grown → DoesUnlessRefused answers before (End session) [] after
   ended before session output (Ok done) after grown (none, xs, does, same) = inr (none, (refl, does.1))
   ended before session output (Err TooManySessions) after grown (is, same, kept) = inl (TooManySessions, is, refl, same)
   ended before session output (Err SessionOpen) after grown (is, same, kept) = inl (SessionOpen, is, refl, same)
@@ -129,7 +129,7 @@ module _ {S : Type 0} (answers : S → Frame → List ℕ → S → Type 0) wher
           earlier.0,
           (
             subst (λ (h : HubState S). AreLines answers (hub_of start) acts h earlier.0) (sym same) earlier.1,
-            subst (λ (h : HubState S). IsRefused h place (Bytes place part)) (sym same) is,
+            subst (λ (h : HubState S). IsEventRefused h place (Bytes place part)) (sym same) is,
           ),
           subst (λ (h : HubState S). AllAnswered answers (hub_of start).service earlier.0 h.service) (sym same) earlier.2,
         )

@@ -5,12 +5,12 @@ use Rattle.hub.specs.Events.{HubState}
 use Rattle.hub.specs.Runs.{lines, Line}
 use Rattle.connections.specs.declared.ending.SessionFault.TheVariants as fault
 use Rattle.connections.specs.Histories.{At, Ordered, GoesOn, Syncs, NoneWaits, On, Comes, Opens, Refuses, Reads, IsOver, IsSilent, Hears, Misses, Lacks, Takes, TakesNone, Fails, Ends, Closes, History, course}
-use Rattle.connections.specs.Soundness.{IsSound}
+use Rattle.connections.specs.Soundness.{IsSoundHistory}
 use Rattle.connections.proofs.Orderly.{in_order}
 use Rattle.server.specs.Sessions.{AlwaysAnswered, AlwaysInOrder, AreLines}
 use Rattle.server.proofs.Following.{all_follow, is_answered}
 
-sound_before : (idle : ℕ) (later earlier : History) → IsSound idle (later ++ earlier) → IsSound idle earlier
+sound_before : (idle : ℕ) (later earlier : History) → IsSoundHistory idle (later ++ earlier) → IsSoundHistory idle earlier
 sound_before idle [] earlier sound = sound
 sound_before idle (At now ∷ later) earlier sound = sound_before idle later earlier sound
 sound_before idle (Ordered ∷ later) earlier sound = sound_before idle later earlier sound
@@ -19,8 +19,8 @@ sound_before idle (GoesOn ∷ later) earlier sound = sound_before idle later ear
 sound_before idle (NoneWaits ∷ later) earlier sound = sound_before idle later earlier sound.2
 sound_before idle (On place deed ∷ later) earlier sound = sound_before idle later earlier sound.1
 
-pub always_in_order : (idle : ℕ) (acts : History) → IsSound idle acts → AlwaysInOrder acts
-always_in_order idle acts sound later earlier place split = in_order idle earlier place (sound_before idle later earlier (subst (IsSound idle) split sound))
+pub always_in_order : (idle : ℕ) (acts : History) → IsSoundHistory idle acts → AlwaysInOrder acts
+always_in_order idle acts sound later earlier place split = in_order idle earlier place (sound_before idle later earlier (subst (IsSoundHistory idle) split sound))
 
 module _ {S : Type 0} (answers : S → Frame → List ℕ → S → Type 0) where
   -- the lines of an earlier time are the first ones
@@ -54,8 +54,8 @@ module _ {S : Type 0} (answers : S → Frame → List ℕ → S → Type 0) wher
   lines_before start (On place Ends ∷ later) earlier after all (middle, are, ended) = lines_before start later earlier middle all are
   lines_before start (On place (Closes why) ∷ later) earlier after all are = lines_before start later earlier after all are
 
-  pub always_answered : (start : HubState S) (idle : ℕ) (acts : History) (after : HubState S) (all : List Line) → AreLines answers start acts after all → IsSound idle acts → AlwaysAnswered answers start acts all
+  pub always_answered : (start : HubState S) (idle : ℕ) (acts : History) (after : HubState S) (all : List Line) → AreLines answers start acts after all → IsSoundHistory idle acts → AlwaysAnswered answers start acts all
   always_answered start idle acts after all are sound later earlier split =
       let (now, first, rest, parts, lines_now) = lines_before start later earlier after all (subst (λ (a : History). AreLines answers start a after all) split are) in
-      let follow = all_follow answers start idle earlier now first lines_now (sound_before idle later earlier (subst (IsSound idle) split sound)) in
+      let follow = all_follow answers start idle earlier now first lines_now (sound_before idle later earlier (subst (IsSoundHistory idle) split sound)) in
       (now, first, rest, parts, lines_now, λ place. is_answered answers now first place (course earlier place) (follow place))

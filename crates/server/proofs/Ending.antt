@@ -8,7 +8,7 @@ use Rattle.wire.specs.Frames.{Frame}
 use Rattle.wire.specs.Streams.{Remainder, Rest}
 use Rattle.hub.specs.declared.hub_refusal.HubRefusal.{HubRefusal}
 use Rattle.hub.specs.declared.hub_refusal.HubRefusal.TheVariants.{TooManySessions, SessionOpen, NoSession, Memory}
-use Rattle.hub.specs.Events.{Bytes, End, Open, BySession, HubState, at, due}
+use Rattle.hub.specs.Events.{Bytes, End, Open, BySession, HubState, at_session, due}
 use Rattle.hub.specs.Happenings.{Happens}
 use Rattle.hub.proofs.Others.{set_found}
 use Rattle.hub.proofs.Outputting.{insert_found}
@@ -20,10 +20,10 @@ none_by true found fine = absurd cc
 none_by false None fine = refl
 none_by false (Some held) fine = absurd cc
 
-may_open : {X : Type 0} (sessions : BySession X) (session : ℕ) → due sessions (Open session) ≡ None → at sessions session ≡ None
-may_open sessions session fine = none_by (nat_le 1024 (length sessions)) (at sessions session) fine
+may_open : {X : Type 0} (sessions : BySession X) (session : ℕ) → due sessions (Open session) ≡ None → at_session sessions session ≡ None
+may_open sessions session fine = none_by (nat_le 1024 (length sessions)) (at_session sessions session) fine
 
-may_end : {X : Type 0} (sessions : BySession X) (session : ℕ) (held : X) → at sessions session ≡ Some held → due sessions (End session) ≡ None
+may_end : {X : Type 0} (sessions : BySession X) (session : ℕ) (held : X) → at_session sessions session ≡ Some held → due sessions (End session) ≡ None
 may_end {X} sessions session held here = ap (λ (found : Option X). cond (is_some found) None (Some NoSession)) here
 
 module _ {S : Type 0} (answers : S → Frame → List ℕ → S → Type 0) where
@@ -43,13 +43,13 @@ module _ {S : Type 0} (answers : S → Frame → List ℕ → S → Type 0) wher
   opened before session output grown (Err why) after happens good = absurd cc
 
   pub begins_empty : (before : HubState S) (session : ℕ) (output grown : List ℕ) (result : Result (Unit {0}) HubRefusal) (after : HubState S)
-      → Happens answers before (Open session) output result after grown → IsOk result → at after.sessions session ≡ Some (Rest [])
+      → Happens answers before (Open session) output result after grown → IsOk result → at_session after.sessions session ≡ Some (Rest [])
   begins_empty before session output grown result after happens good =
-      ap (λ (m : BySession Remainder). at m session) (opened before session output grown result after happens good).1 ∙ insert_found before.sessions session (Rest [])
+      ap (λ (m : BySession Remainder). at_session m session) (opened before session output grown result after happens good).1 ∙ insert_found before.sessions session (Rest [])
 
   -- a session that is open ends
   gone : (before : HubState S) (session : ℕ) (output grown : List ℕ) (result : Result (Unit {0}) HubRefusal) (after : HubState S) (held : Remainder)
-      → Happens answers before (End session) output result after grown → at before.sessions session ≡ Some held
+      → Happens answers before (End session) output result after grown → at_session before.sessions session ≡ Some held
       → (after.service ≡ before.service) × (after.sessions ≡ remove_entry (is_at (nat_cmp session)) before.sessions)
   gone before session output grown (Ok done) after held (fine, xs, (none, same), wrote) here = (ap (λ (h : HubState S). h.service) same, ap (λ (h : HubState S). h.sessions) same)
   gone before session output grown (Err (Memory true)) after held (number, piece, xs, is, answered, wrote) here = absurd (let wrong : End session ≡ Bytes number piece = is in cc)
@@ -64,8 +64,8 @@ module _ {S : Type 0} (answers : S → Frame → List ℕ → S → Type 0) wher
       → Happens answers last (End session) three ending after four → (after.service ≡ last.service) × (after.sessions ≡ before.sessions)
   ended_whole before session one two three four opening ending between last after fine opens good keeps ends =
       let p : ℕ → Bool = is_at (nat_cmp session) in
-      let here : at last.sessions session ≡ Some keeps.0 =
-      ap (λ (m : BySession Remainder). at m session) keeps.1 ∙ set_found p between.sessions keeps.0 (Rest []) (begins_empty before session one two opening between opens good) in
+      let here : at_session last.sessions session ≡ Some keeps.0 =
+      ap (λ (m : BySession Remainder). at_session m session) keeps.1 ∙ set_found p between.sessions keeps.0 (Rest []) (begins_empty before session one two opening between opens good) in
       let g = gone last session three four ending after keeps.0 ends here in (
         g.0,
         g.1 ∙ ap (remove_entry p) (keeps.1 ∙ ap (λ (m : BySession Remainder). set_value p m keeps.0) (opened before session one two opening between opens good).1)

@@ -7,13 +7,13 @@ use Rattle.std.specs.Prelude.{◌==◌, ⊤}
 use Rattle.std.specs.Ordering.{nat_cmp}
 use Rattle.std.specs.BTreeMap.{is_at, insert_entry}
 use Rattle.wire.specs.Frames.{Frame}
-use Rattle.wire.specs.Streams.{Remainder, Message, Rest, with_more, IsSpent, Tells}
+use Rattle.wire.specs.Streams.{Remainder, Message, Rest, with_more, IsSpent, TellsMessages}
 use Rattle.wire.proofs.Streams.{nothing_yet}
-use Rattle.hub.specs.Events.{BySession, Bytes, End, HubState, at}
+use Rattle.hub.specs.Events.{BySession, Bytes, End, HubState, at_session}
 use Rattle.hub.specs.Exchanges.{Exchange, replies}
-use Rattle.hub.specs.Happenings.{Answered, Passes}
-use Rattle.hub.specs.Laws.{lines_of}
-use Rattle.hub.specs.Runs.{lines, told, Line}
+use Rattle.hub.specs.Happenings.{Answered, DoesUnlessRefused}
+use Rattle.hub.specs.Laws.{lines_for}
+use Rattle.hub.specs.Runs.{lines, told_to, Line}
 use Rattle.hub.proofs.Others.{insert_other, remove_other, set_found, set_other}
 use Rattle.hub.proofs.Outputting.{apart, insert_found, not_here}
 use Rattle.hub.proofs.Owning.{same_is}
@@ -22,8 +22,8 @@ use Rattle.hub.proofs.Steps.{exchanges_tell}
 use Rattle.hub.proofs.Streaming.{tells_append, tells_more, told_all}
 use Rattle.connections.specs.declared.ending.SessionFault.TheVariants as fault
 use Rattle.connections.specs.Histories.{At, Ordered, GoesOn, Syncs, NoneWaits, On, Deed, Comes, Opens, Refuses, Reads, IsOver, IsSilent, Hears, Misses, Lacks, Takes, TakesNone, Fails, Ends, Closes, History, Course, clock, course, done_at}
-use Rattle.connections.specs.Soundness.{Here, IsNew, IsSound, MayHear}
-use Rattle.server.specs.Serving.{messages_of, spelled}
+use Rattle.connections.specs.Soundness.{Here, IsNew, IsSoundHistory, MayHear}
+use Rattle.server.specs.Serving.{exchange_messages, spelled}
 use Rattle.server.specs.Sessions.{AreLines, Ended, IsAnsweredBy, Loses, Opened, Proceeds}
 
 -- ---- lines of a session
@@ -32,24 +32,24 @@ lines_append : (k : ℕ) (xs ys : List Exchange) → lines k (xs ++ ys) ≡ line
 lines_append k [] ys = refl
 lines_append k (x ∷ xs) ys = ap (λ (t : List Line). record { session = k; message = x.message; reply = x.reply } ∷ t) (lines_append k xs ys)
 
-lines_among : (b : Bool) (n k : ℕ) (xs : List Exchange) → (k == n) ≡ b → lines_of n (lines k xs) ≡ cond b (lines k xs) []
+lines_among : (b : Bool) (n k : ℕ) (xs : List Exchange) → (k == n) ≡ b → lines_for n (lines k xs) ≡ cond b (lines k xs) []
 lines_among true n k [] e = refl
 lines_among false n k [] e = refl
 lines_among true n k (x ∷ xs) e = rw (e, lines_among true n k xs e) refl
 lines_among false n k (x ∷ xs) e = rw (e, lines_among false n k xs e) refl
 
-lines_more : (n k : ℕ) (ls : List Line) (xs : List Exchange) (b : Bool) → (k == n) ≡ b → lines_of n (ls ++ lines k xs) ≡ lines_of n ls ++ cond b (lines k xs) []
-lines_more n k ls xs b e = filter-append (λ (line : Line). line.session == n) ls (lines k xs) ∙ ap (λ (t : List Line). lines_of n ls ++ t) (lines_among b n k xs e)
+lines_more : (n k : ℕ) (ls : List Line) (xs : List Exchange) (b : Bool) → (k == n) ≡ b → lines_for n (ls ++ lines k xs) ≡ lines_for n ls ++ cond b (lines k xs) []
+lines_more n k ls xs b e = filter-append (λ (line : Line). line.session == n) ls (lines k xs) ∙ ap (λ (t : List Line). lines_for n ls ++ t) (lines_among b n k xs e)
 
-told_by : (n k : ℕ) (ls : List Line) (xs : List Exchange) (b : Bool) → (k == n) ≡ b → told n (ls ++ lines k xs) ≡ told n ls ++ cond b (replies xs) []
-told_by n k ls xs b e = told_more n k ls xs ∙ ap (λ (t : Bool). told n ls ++ cond t (replies xs) []) e
+told_by : (n k : ℕ) (ls : List Line) (xs : List Exchange) (b : Bool) → (k == n) ≡ b → told_to n (ls ++ lines k xs) ≡ told_to n ls ++ cond b (replies xs) []
+told_by n k ls xs b e = told_more n k ls xs ∙ ap (λ (t : Bool). told_to n ls ++ cond t (replies xs) []) e
 
 -- nothing is heard
 spelled_none : spelled [] ≡ []
 spelled_none = ap (λ (m : List Message × Remainder). m.0) (told_all (Rest []) [] (Rest []) refl nothing_yet)
 
-tells_none : Tells (Rest []) (spelled []) (Rest [])
-tells_none = subst (λ (told : List Message). Tells (Rest []) told (Rest [])) (sym spelled_none) refl
+tells_none : TellsMessages (Rest []) (spelled []) (Rest [])
+tells_none = subst (λ (told : List Message). TellsMessages (Rest []) told (Rest [])) (sym spelled_none) refl
 
 -- ---- what a session was answered
 
@@ -63,9 +63,9 @@ others_lines all other place xs (Some of) differ (past, own, ys, lost, split, is
       ys,
       lost,
       ap (λ (t : List Line). t ++ lines other xs) split ∙ append_assoc past own (lines other xs),
-      lines_more place other own xs false e ∙ append-nil (lines_of place own) ∙ is,
+      lines_more place other own xs false e ∙ append-nil (lines_for place own) ∙ is,
       spells,
-      told_by place other own xs false e ∙ append-nil (told place own) ∙ tells,
+      told_by place other own xs false e ∙ append-nil (told_to place own) ∙ tells,
       fine,
     )
   where
@@ -75,8 +75,8 @@ others_lines all other place xs (Some of) differ (past, own, ys, lost, split, is
 
 -- lines of the session, which stand behind those of what it heard
 own_lines : (all : List Line) (place : ℕ) (xs : List Exchange) (of : Course) → IsAnsweredBy all place (Some of) → of.is_wanting ≡ false
-    → (past own : List Line) × (ys : List Exchange) × (all ++ lines place xs ≡ past ++ own) × (lines_of place own ≡ lines place (ys ++ xs)) × (spelled of.heard ≡ messages_of ys)
-    × (told place own ≡ of.answered ++ replies xs)
+    → (past own : List Line) × (ys : List Exchange) × (all ++ lines place xs ≡ past ++ own) × (lines_for place own ≡ lines place (ys ++ xs)) × (spelled of.heard ≡ exchange_messages ys)
+    × (told_to place own ≡ of.answered ++ replies xs)
 own_lines all place xs of (past, own, ys, lost, split, is, spells, tells, none) fine = (
   past,
   own ++ lines place xs,
@@ -100,7 +100,7 @@ module _ {S : Type 0} (answers : S → Frame → List ℕ → S → Type 0) wher
   -- wanting
   abbrev Holds : HubState S → ℕ → Course → Type 0
   Holds hub place of = of.is_open ≡ true → of.is_wanting ≡ false
-      → (held : Remainder) × (at hub.sessions place ≡ Some held) × IsSpent held × Tells (Rest of.heard) (spelled of.heard) held
+      → (held : Remainder) × (at_session hub.sessions place ≡ Some held) × IsSpent held × TellsMessages (Rest of.heard) (spelled of.heard) held
 
   abbrev pub Follows : HubState S → List Line → ℕ → Option Course → Type 0
   Follows hub all place None = ⊤
@@ -121,14 +121,14 @@ module _ {S : Type 0} (answers : S → Frame → List ℕ → S → Type 0) wher
   at_place P deed acts other place false is same differs = rw is (differs (eqb-false other place is))
 
   -- a session that is not concerned, with lines of another one
-  elsewhere : (before after : HubState S) (all : List Line) (other place : ℕ) (xs : List Exchange) (there : Option Course) → other ≢ place → at after.sessions place ≡ at before.sessions place
+  elsewhere : (before after : HubState S) (all : List Line) (other place : ℕ) (xs : List Exchange) (there : Option Course) → other ≢ place → at_session after.sessions place ≡ at_session before.sessions place
       → Follows before all place there → Follows after (all ++ lines other xs) place there
   elsewhere before after all other place xs None differ same follows = tt
   elsewhere before after all other place xs (Some of) differ same (answered, holds) =
       (others_lines all other place xs (Some of) differ answered, λ opened fine. let kept = holds opened fine in (kept.0, same ∙ kept.1, kept.2, kept.3))
 
   -- the same, with no lines
-  aside : (before after : HubState S) (all : List Line) (other place : ℕ) (there : Option Course) → other ≢ place → at after.sessions place ≡ at before.sessions place
+  aside : (before after : HubState S) (all : List Line) (other place : ℕ) (there : Option Course) → other ≢ place → at_session after.sessions place ≡ at_session before.sessions place
       → Follows before all place there → Follows after all place there
   aside before after all other place there differ same follows =
       subst (λ (t : List Line). Follows after t place there) (append-nil all) (elsewhere before after all other place [] there differ same follows)
@@ -196,8 +196,8 @@ module _ {S : Type 0} (answers : S → Frame → List ℕ → S → Type 0) wher
       (λ differ. aside before after all other place (course acts place) differ
       (sessions place ∙ insert_other other (is_at (nat_cmp place)) (not_here other place differ) (apart other place differ) before.sessions (Rest [])) (follows place))
     where
-      sessions : (place : ℕ) → at after.sessions place ≡ at (insert_entry nat_cmp before.sessions other (Rest [])) place
-      sessions place = ap (λ (hub : HubState S). at hub.sessions place) does
+      sessions : (place : ℕ) → at_session after.sessions place ≡ at_session (insert_entry nat_cmp before.sessions other (Rest [])) place
+      sessions place = ap (λ (hub : HubState S). at_session hub.sessions place) does
 
       here : (there : Option Course) → Here there IsNew → Follows before all other there → Follows after all other (done_at Opens (clock acts) there)
       here None new follows = tt
@@ -207,15 +207,15 @@ module _ {S : Type 0} (answers : S → Frame → List ℕ → S → Type 0) wher
           Rest [],
           sessions other ∙ insert_found before.sessions other (Rest []),
           nothing_yet,
-          subst (λ (h : List ℕ). Tells (Rest h) (spelled h) (Rest [])) (sym (ap (λ (c : Course). c.heard) new)) tells_none,
+          subst (λ (h : List ℕ). TellsMessages (Rest h) (spelled h) (Rest [])) (sym (ap (λ (c : Course). c.heard) new)) tells_none,
         ),
       )
 
   -- a session that takes a piece leaves the others
   answered_other : (before after : HubState S) (other place : ℕ) (piece : List ℕ) (all : Bool) (xs : List Exchange) → other ≢ place → Answered answers before other piece all xs after
-      → at after.sessions place ≡ at before.sessions place
+      → at_session after.sessions place ≡ at_session before.sessions place
   answered_other before after other place piece all xs differ (held, left, there, set, exchanged, leaves) =
-      ap (λ (m : BySession Remainder). at m place) set ∙ set_other (is_at (nat_cmp other)) (is_at (nat_cmp place)) (apart other place differ) before.sessions left
+      ap (λ (m : BySession Remainder). at_session m place) set ∙ set_other (is_at (nat_cmp other)) (is_at (nat_cmp place)) (apart other place differ) before.sessions left
 
   heard_at : (before after : HubState S) (all : List Line) (acts : History) (other : ℕ) (part reply : List ℕ) (xs : List Exchange) (Time : Type 0) → Proceeds answers before (Bytes other part) xs after → reply ≡ replies xs
       → Here (course acts other) (λ of. MayHear of part × Time) → AllFollow before all acts → AllFollow after (all ++ lines other xs) (On other (Hears part reply) ∷ acts)
@@ -229,11 +229,11 @@ module _ {S : Type 0} (answers : S → Frame → List ℕ → S → Type 0) wher
       here (now, left, there, set, exchanged, spent_left) (Some of) ((well, room, some, next), time) (answered, holds) =
           let (held, held_there, spent, tells) = holds well.0 well.1.1 in
           let same : now ≡ held = (let e : Some now ≡ Some held = sym there ∙ held_there in cc) in
-          let more : Tells (with_more held part) (messages_of xs) left = subst (λ (h : Remainder). Tells (with_more h part) (messages_of xs) left) same (exchanges_tell answers before.service (with_more now part) xs after.service left exchanged) in
-          let all_told : Tells (Rest (of.heard ++ part)) (spelled of.heard ++ messages_of xs) left =
-          tells_append (Rest (of.heard ++ part)) (spelled of.heard) (with_more held part) (messages_of xs) left (tells_more (Rest of.heard) (spelled of.heard) held part tells) more in
-          let spells : spelled (of.heard ++ part) ≡ spelled of.heard ++ messages_of xs =
-          ap (λ (m : List Message × Remainder). m.0) (told_all (Rest (of.heard ++ part)) (spelled of.heard ++ messages_of xs) left all_told spent_left) in
+          let more : TellsMessages (with_more held part) (exchange_messages xs) left = subst (λ (h : Remainder). TellsMessages (with_more h part) (exchange_messages xs) left) same (exchanges_tell answers before.service (with_more now part) xs after.service left exchanged) in
+          let all_told : TellsMessages (Rest (of.heard ++ part)) (spelled of.heard ++ exchange_messages xs) left =
+          tells_append (Rest (of.heard ++ part)) (spelled of.heard) (with_more held part) (exchange_messages xs) left (tells_more (Rest of.heard) (spelled of.heard) held part tells) more in
+          let spells : spelled (of.heard ++ part) ≡ spelled of.heard ++ exchange_messages xs =
+          ap (λ (m : List Message × Remainder). m.0) (told_all (Rest (of.heard ++ part)) (spelled of.heard ++ exchange_messages xs) left all_told spent_left) in
           let (past, own, ys, split, lines_are, before_spells, told_are) = own_lines all other xs of answered well.1.1 in (
             (
               past,
@@ -242,15 +242,15 @@ module _ {S : Type 0} (answers : S → Frame → List ℕ → S → Type 0) wher
               [],
               split,
               lines_are ∙ ap (lines other) (sym (append-nil (ys ++ xs))),
-              spells ∙ ap (λ (t : List Message). t ++ messages_of xs) before_spells ∙ sym (map-append (λ (x : Exchange). x.message) ys xs),
+              spells ∙ ap (λ (t : List Message). t ++ exchange_messages xs) before_spells ∙ sym (map-append (λ (x : Exchange). x.message) ys xs),
               told_are ∙ ap (λ (t : List ℕ). of.answered ++ t) (sym is) ∙ sym (append-nil (of.answered ++ reply)),
               λ fine. refl,
             ),
             λ opened fine. (
               left,
-              ap (λ (m : BySession Remainder). at m other) set ∙ set_found (is_at (nat_cmp other)) before.sessions left now there,
+              ap (λ (m : BySession Remainder). at_session m other) set ∙ set_found (is_at (nat_cmp other)) before.sessions left now there,
               spent_left,
-              subst (λ (told : List Message). Tells (Rest (of.heard ++ part)) told left) (sym spells) all_told,
+              subst (λ (told : List Message). TellsMessages (Rest (of.heard ++ part)) told left) (sym spells) all_told,
             ),
           )
 
@@ -267,8 +267,8 @@ module _ {S : Type 0} (answers : S → Frame → List ℕ → S → Type 0) wher
           let (past, own, ys, split, lines_are, spells, told_are) = own_lines all other xs of answered well.1.1 in
           ((past, own, ys, xs, split, lines_are, spells, told_are, λ fine. absurd (false≢true (sym fine))), λ opened fine. absurd (false≢true (sym fine)))
 
-      others : (place : ℕ) → Loses answers before other part xs after → other ≢ place → at after.sessions place ≡ at before.sessions place
-      others place (inl (due, takes, none, same)) differ = ap (λ (hub : HubState S). at hub.sessions place) same
+      others : (place : ℕ) → Loses answers before other part xs after → other ≢ place → at_session after.sessions place ≡ at_session before.sessions place
+      others place (inl (due, takes, none, same)) differ = ap (λ (hub : HubState S). at_session hub.sessions place) same
       others place (inr answered) differ = answered_other before after other place part false xs differ answered
 
   ended_at : (before after : HubState S) (all : List Line) (acts : History) (other : ℕ) → Ended answers before other after → AllFollow before all acts → AllFollow after all (On other Ends ∷ acts)
@@ -279,18 +279,18 @@ module _ {S : Type 0} (answers : S → Frame → List ℕ → S → Type 0) wher
       here None follows = tt
       here (Some of) follows = (follows.0, λ opened fine. absurd (false≢true opened))
 
-      passed : (place : ℕ) → Passes answers before (End other) [] after → other ≢ place → at after.sessions place ≡ at before.sessions place
-      passed place (inl (refusal, due, none, same)) differ = ap (λ (hub : HubState S). at hub.sessions place) same
+      passed : (place : ℕ) → DoesUnlessRefused answers before (End other) [] after → other ≢ place → at_session after.sessions place ≡ at_session before.sessions place
+      passed place (inl (refusal, due, none, same)) differ = ap (λ (hub : HubState S). at_session hub.sessions place) same
       passed place (inr (due, (none, does))) differ =
-          ap (λ (hub : HubState S). at hub.sessions place) does ∙ remove_other (is_at (nat_cmp other)) (is_at (nat_cmp place)) (apart other place differ) before.sessions
+          ap (λ (hub : HubState S). at_session hub.sessions place) does ∙ remove_other (is_at (nat_cmp other)) (is_at (nat_cmp place)) (apart other place differ) before.sessions
 
-      others : (place : ℕ) → Ended answers before other after → other ≢ place → at after.sessions place ≡ at before.sessions place
+      others : (place : ℕ) → Ended answers before other after → other ≢ place → at_session after.sessions place ≡ at_session before.sessions place
       others place (inl passes) differ = passed place passes differ
-      others place (inr (much, same)) differ = ap (λ (hub : HubState S). at hub.sessions place) same
+      others place (inr (much, same)) differ = ap (λ (hub : HubState S). at_session hub.sessions place) same
 
   -- ---- a history
 
-  pub all_follow : (start : HubState S) (idle : ℕ) (acts : History) (after : HubState S) (all : List Line) → AreLines answers start acts after all → IsSound idle acts → AllFollow after all acts
+  pub all_follow : (start : HubState S) (idle : ℕ) (acts : History) (after : HubState S) (all : List Line) → AreLines answers start acts after all → IsSoundHistory idle acts → AllFollow after all acts
   all_follow start idle [] after all are sound = λ place. tt
   all_follow start idle (At now ∷ acts) after all are sound = all_follow start idle acts after all are sound
   all_follow start idle (Ordered ∷ acts) after all are sound = all_follow start idle acts after all are sound

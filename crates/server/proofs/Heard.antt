@@ -9,7 +9,7 @@ use Rattle.wire.specs.Frames.{Frame}
 use Rattle.wire.specs.Streams.{Remainder, with_more}
 use Rattle.hub.specs.declared.hub_refusal.HubRefusal.{HubRefusal}
 use Rattle.hub.specs.declared.hub_refusal.HubRefusal.TheVariants.{TooManySessions, SessionOpen, NoSession, Memory}
-use Rattle.hub.specs.Events.{Bytes, HubState, BySession, at, due}
+use Rattle.hub.specs.Events.{Bytes, HubState, BySession, at_session, due}
 use Rattle.hub.specs.Exchanges.{Exchange, Exchanges, replies}
 use Rattle.hub.specs.Happenings.{Happens}
 use Rattle.std.specs.Io.KnownBytes.{Appends}
@@ -24,14 +24,14 @@ open_if : {X : Type 0} (found : Option X) → cond (is_some found) None (Some No
 open_if None fine = absurd (let wrong : Some NoSession ≡ None = fine in cc)
 open_if (Some held) fine = (held, refl)
 
-open_of : {X : Type 0} (sessions : BySession X) (session : ℕ) (piece : List ℕ) → due sessions (Bytes session piece) ≡ None → (held : X) × (at sessions session ≡ Some held)
-open_of sessions session piece fine = open_if (at sessions session) fine
+open_of : {X : Type 0} (sessions : BySession X) (session : ℕ) (piece : List ℕ) → due sessions (Bytes session piece) ≡ None → (held : X) × (at_session sessions session ≡ Some held)
+open_of sessions session piece fine = open_if (at_session sessions session) fine
 
 module _ {S : Type 0} (answers : S → Frame → List ℕ → S → Type 0) where
   -- memory was wanting, and the first messages are answered
   abbrev pub IsBegun : HubState S → ℕ → List ℕ → HubState S → List ℕ → Type 0
   IsBegun before session piece after output = (held : Remainder) × (exchanges : List Exchange) × (left kept : Remainder)
-      × (at before.sessions session ≡ Some held) × (after.sessions ≡ set_value (is_at (nat_cmp session)) before.sessions kept)
+      × (at_session before.sessions session ≡ Some held) × (after.sessions ≡ set_value (is_at (nat_cmp session)) before.sessions kept)
       × Exchanges answers before.service (with_more held piece) exchanges after.service left × (output ≡ replies exchanges)
 
   pub heard_part : (before : HubState S) (session : ℕ) (piece output : List ℕ) (result : Result (Unit {0}) HubRefusal) (after : HubState S)

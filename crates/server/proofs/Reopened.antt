@@ -9,30 +9,30 @@ use Rattle.journal.specs.declared.opening.Opened.TheVariants.{Nothing, Directory
 use Rattle.journal.specs.declared.refusal.Refusal.{Refusal}
 use Rattle.journal.specs.declared.refusal.Refusal.TheVariants as refusal
 use Rattle.journal.specs.Counting.{Counts}
-use Rattle.journal.specs.Opened.{IsUnopened as IsRefusal, Opens}
+use Rattle.journal.specs.Opened.{IsOpenRefusal, Opens}
 use Rattle.journal.specs.Openings.{HasOtherKeys, IsCut, OpensTo}
 use Rattle.journal.specs.Records.{start_bytes, IsStart}
 use Rattle.textio.specs.declared.program_fault.ProgramFault.{ProgramFault}
 use Rattle.textio.specs.declared.program_fault.ProgramFault.TheVariants.{BadHex, BadItem, IndexRepeated, NotACommand, NotEvidence, BadRecord, OtherKeys, CannotRead, CannotWrite, CannotListen, OutOfMemory}
 use Rattle.server.specs.Directories.{salts, DirectoryKeys}
-use Rattle.server.specs.Reopening.{at_stream, beginning_of, index_by, of_refusal, Cuts, HasRead, HasReopened, HasStarted, Holds, IsUnopened, StartsLess, StaysAt, Turns}
+use Rattle.server.specs.Reopening.{at_stream, beginning_with, index_by, of_refusal, Cuts, FileBecomes, FileHolds, HasRead, HasReopened, HasStarted, IsUnopened, StartsLess, StaysAt}
 
-pub unopened : (keys : DirectoryKeys) (known : Option (List ℕ)) (bytes counted opened : List ℕ) (count : ℕ) (why : Refusal) (fault : ProgramFault) → fault ≡ of_refusal why → Holds known bytes → counted ≡ bytes → Counts counted count
-    → opened ≡ bytes → IsRefusal (index_by keys) keys.signing_key keys.vuf_key (salts (at_stream keys.salt_key count)) opened why → IsUnopened keys known fault
+pub unopened : (keys : DirectoryKeys) (known : Option (List ℕ)) (bytes counted opened : List ℕ) (count : ℕ) (why : Refusal) (fault : ProgramFault) → fault ≡ of_refusal why → FileHolds known bytes → counted ≡ bytes → Counts counted count
+    → opened ≡ bytes → IsOpenRefusal (index_by keys) keys.signing_key keys.vuf_key (salts (at_stream keys.salt_key count)) opened why → IsUnopened keys known fault
 unopened keys known bytes counted opened count refusal.BadRecord fault is holds same counts also bad = rw is (
   bytes,
   holds,
   (
     count,
     subst (λ (t : List ℕ). Counts t count) same counts,
-    subst (λ (t : List ℕ). IsRefusal (index_by keys) keys.signing_key keys.vuf_key (salts (at_stream keys.salt_key count)) t refusal.BadRecord) also bad,
+    subst (λ (t : List ℕ). IsOpenRefusal (index_by keys) keys.signing_key keys.vuf_key (salts (at_stream keys.salt_key count)) t refusal.BadRecord) also bad,
   ),
 )
 unopened keys known bytes counted opened count refusal.OtherKeys fault is holds same counts also other =
     rw is (bytes, holds, subst (λ (t : List ℕ). HasOtherKeys keys.signing_key keys.vuf_key t) also other)
 unopened keys known bytes counted opened count refusal.Memory fault is holds same counts also begun = rw is tt
 
-pub has_read : {H V S : Type 0} (keys : DirectoryKeys) (known : Option (List ℕ)) (bytes counted opened : List ℕ) (what : Opened H V S ChaCha) (records size : ℕ) → Holds known bytes → length bytes ≡ size → counted ≡ bytes → Counts counted records
+pub has_read : {H V S : Type 0} (keys : DirectoryKeys) (known : Option (List ℕ)) (bytes counted opened : List ℕ) (what : Opened H V S ChaCha) (records size : ℕ) → FileHolds known bytes → length bytes ≡ size → counted ≡ bytes → Counts counted records
     → opened ≡ bytes → Opens (index_by keys) keys.signing_key keys.vuf_key (salts (at_stream keys.salt_key records)) salts opened what → HasRead keys known what records size
 has_read keys known bytes counted opened what records size holds is same counts also opens = (
   bytes,
@@ -42,7 +42,7 @@ has_read keys known bytes counted opened what records size holds is same counts 
   subst (λ (t : List ℕ). Opens (index_by keys) keys.signing_key keys.vuf_key (salts (at_stream keys.salt_key records)) salts t what) also opens,
 )
 
-started : (known between after : Option (List ℕ)) (bytes start : List ℕ) → Holds known bytes → Keeps known between → IfSome between (λ all. after ≡ Some start) → Turns known bytes after start
+started : (known between after : Option (List ℕ)) (bytes start : List ℕ) → FileHolds known bytes → Keeps known between → IfSome between (λ all. after ≡ Some start) → FileBecomes known bytes after start
 started None between after bytes start holds keeps is = tt
 started (Some xs) None after bytes start holds keeps is = absurd keeps
 started (Some xs) (Some ys) after bytes start holds keeps is = (holds, is)
@@ -51,9 +51,9 @@ pub starts_anew : {H V S : Type 0} (keys : DirectoryKeys) (known between after :
     → HasStarted keys between directory after → HasReopened keys known directory after 0 size
 starts_anew keys known between after what directory records size (bytes, holds, is, counts, opens) nothing keeps (begins, start) =
     let short : IsCut start_bytes IsStart bytes = subst (λ o. Opens (index_by keys) keys.signing_key keys.vuf_key (salts (at_stream keys.salt_key records)) salts bytes o) nothing opens in
-    (bytes, start_bytes (beginning_of keys), started known between after bytes (start_bytes (beginning_of keys)) holds keeps start, inl (short, begins, refl, refl, sym is))
+    (bytes, start_bytes (beginning_with keys), started known between after bytes (start_bytes (beginning_with keys)) holds keeps start, inl (short, begins, refl, refl, sym is))
 
-turned : (known between after : Option (List ℕ)) (bytes : List ℕ) (size : ℕ) → Holds known bytes → Keeps known between → Cuts between size after → Turns known bytes after (take size bytes)
+turned : (known between after : Option (List ℕ)) (bytes : List ℕ) (size : ℕ) → FileHolds known bytes → Keeps known between → Cuts between size after → FileBecomes known bytes after (take size bytes)
 turned None between after bytes size holds keeps cuts = tt
 turned (Some xs) None after bytes size holds keeps cuts = absurd keeps
 turned (Some xs) (Some ys) after bytes size holds keeps cuts = (holds, cuts ∙ ap (λ (zs : List ℕ). Some (take size zs)) (keeps ∙ sym holds))
@@ -62,7 +62,7 @@ abbrev pub IsOpen : DirectoryKeys → ℕ → DirectoryState ChaCha → ℕ → 
 IsOpen keys records directory taken bytes = OpensTo (index_by keys) keys.signing_key keys.vuf_key (salts (at_stream keys.salt_key records)) bytes (book salts directory) taken
     × (directory.signing_key ≡ keys.signing_key) × (directory.vuf_key ≡ keys.vuf_key)
 
-reopens : (keys : DirectoryKeys) (known between after : Option (List ℕ)) (bytes : List ℕ) (directory : DirectoryState ChaCha) (records taken size cut : ℕ) → Holds known bytes → length bytes ≡ size → Counts bytes records → Keeps known between
+reopens : (keys : DirectoryKeys) (known between after : Option (List ℕ)) (bytes : List ℕ) (directory : DirectoryState ChaCha) (records taken size cut : ℕ) → FileHolds known bytes → length bytes ≡ size → Counts bytes records → Keeps known between
     → Cuts between taken after → cut ≡ size - taken → IsOpen keys records directory taken bytes → HasReopened keys known directory after records cut
 reopens keys known between after bytes directory records taken size cut holds is counts keeps cuts off ((rest, reaches, short, long), key, vuf_key) =
     let left : length bytes ≡ taken + cut = omega (arith, is, long, off) in

@@ -11,7 +11,7 @@ use Rattle.wire.specs.Laws.{IsReadAs}
 use Rattle.wire.specs.Responses.{ResponseContent, PromiseKind, ProofKind, RootsKind, RootKind, RefusedKind, ResponseKind, response_body, response_parts, response_row, IsResponse}
 use Rattle.wire.specs.Tables.{MessageParts, Of, Content, parts_frame, spelling, Allowed, IsCounted, MayHave}
 use Rattle.wire.proofs.Frames.{length-frame_bytes}
-use Rattle.hub.specs.DeskRuns.{AreRead, ShowReplies}
+use Rattle.hub.specs.DeskRuns.{AreResponses, ShowReplies}
 use Rattle.hub.specs.Runs.{Line}
 
 body_short : (kind : ResponseKind) (content : Content (response_row kind).form) → Allowed (response_row kind).form content → length (spelling (response_row kind).form content) ≤ 25858
@@ -35,7 +35,7 @@ frame_short frame responded (is_frame, (same_kind, (spelled, allowed)), read) =
 abbrev pub AreShort : List Line → Type 0
 AreShort = AllByRecursion (λ line. length line.reply ≤ MAX_ANSWER_LEN)
 
-pub lines_short : (token : List ℕ) (lines : List Line) (commands : List Operation) (replies : List Reply) (shown : ShowReplies token lines commands replies) → AreRead token lines commands replies shown → AreShort lines
+pub lines_short : (token : List ℕ) (lines : List Line) (commands : List Operation) (replies : List Reply) (shown : ShowReplies token lines commands replies) → AreResponses token lines commands replies shown → AreShort lines
 lines_short token [] commands replies shown read = tt
 lines_short token (line ∷ more) commands replies (inl (code, away, says, shown)) (one, read) =
     (subst (λ (bytes : List ℕ). length bytes ≤ MAX_ANSWER_LEN) (sym says) (frame_short _ _ one), lines_short token more commands replies shown read)

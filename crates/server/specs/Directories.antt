@@ -31,7 +31,7 @@ abbrev pub salts : ChaCha → Stream
 salts = stream_of (steps_u32 (next_word 10))
 
 -- the directory is at its first page, with these keys, and salts by ChaCha20 under the salt key
-pub record Begins (keys : DirectoryKeys) (directory : DirectoryState ChaCha) : Type 0 where
+pub record HasBegun (keys : DirectoryKeys) (directory : DirectoryState ChaCha) : Type 0 where
   pub book : book salts directory ≡ fresh keys.epoch keys.nonce (salts (of_seed keys.salt_key))
   pub vuf_key : directory.vuf_key ≡ keys.vuf_key
   pub signing_key : directory.signing_key ≡ keys.signing_key

@@ -14,8 +14,8 @@ pub record DirectoryOptions : Type 0 where
   pub nonce : Option (List ℕ)
   pub journal : Option (List ℕ)
 
-abbrev pub values_of : DirectoryOrder → DirectoryOptions
-values_of order = record {
+abbrev pub directory_values : DirectoryOrder → DirectoryOptions
+directory_values order = record {
   signing_key = order.signing_key.now;
   vuf_key = order.vuf_key.now;
   salt_key = order.salt_key.now;

@@ -7,9 +7,9 @@ use Rattle.textio.specs.declared.program_fault.ProgramFault.TheVariants as progr
 use Rattle.server.specs.declared.fault.ServeFault.{ServeFault}
 use Rattle.server.specs.declared.fault.ServeFault.TheVariants.{CannotRead, CannotWrite, OutOfMemory}
 
-abbrev pub of_stream : StreamFault → ServeFault
-of_stream stream.CannotRead = CannotRead
-of_stream stream.CannotWrite = CannotWrite
+abbrev pub serve_fault : StreamFault → ServeFault
+serve_fault stream.CannotRead = CannotRead
+serve_fault stream.CannotWrite = CannotWrite
 
 -- the program's fault for a session that could not be served to its end
 abbrev pub of_serving : ServeFault → ProgramFault

@@ -9,21 +9,22 @@ use Rattle.vrfiface.specs.StandIns.{keyed_value}
 use Rattle.sigiface.specs.StandIn.{keyed_signature}
 use Rattle.book.specs.declared.keeper.NoKeeper.{NoKeeper}
 use Rattle.book.specs.declared.record.Record.{Record}
+use Rattle.book.specs.Keeps.{KeepsNothing, NeverFails}
 use Rattle.rand_chacha.specs.ChaCha.{ChaCha}
 use Rattle.wire.specs.declared.answer.TheConstants.{MAX_ANSWER_LEN}
 use Rattle.connections.specs.Endings.{AreInside, AreWithin, HasEnded}
 use Rattle.connections.specs.Fairness.{IsFair, IsWhole}
 use Rattle.connections.specs.Histories.{History}
 use Rattle.connections.specs.Laws.{AlwaysWaitWithin}
-use Rattle.connections.specs.Soundness.{IsSound}
+use Rattle.connections.specs.Soundness.{IsSoundHistory}
 use Rattle.connections.specs.Telling.{TellsLosses}
 use Rattle.hub.specs.Desks.{DeskAnswers, DeskState}
 use Rattle.hub.specs.Events.{HubState}
 use Rattle.hub.specs.Runs.{Line}
 use Rattle.server.specs.ConnectionOptions.{ConnectionOptions, idle_limit, most_open}
 use Rattle.server.specs.DirectoryOptions.{DirectoryOptions}
-use Rattle.server.specs.Directories.{keys_of, salts, Begins, DirectoryKeys}
-use Rattle.server.specs.Programs.{AfterJournal, KeepsInFile, KeepsNothing, LosesInFile, NeverFails, ShownBy}
+use Rattle.server.specs.Directories.{keys_of, salts, DirectoryKeys, HasBegun}
+use Rattle.server.specs.Programs.{AfterJournal, KeepsInFile, LosesInFile, ShownBy}
 use Rattle.server.specs.Sessions.{AlwaysAnswered, AlwaysInOrder, AreLines}
 
 -- the line with an address
@@ -31,20 +32,20 @@ abbrev pub address_line : List ℕ → List ℕ
 address_line address = codes "listening on " ++ address ++ 10 ∷ []
 
 -- the line of an address is written, or less of it if a write failed; nothing at any other fault
-abbrev pub TellsLine : Option (List ℕ) → Result (Unit {0}) ProgramFault → Option (List ℕ) → Type 0
-TellsLine old (Ok done) new = (address : List ℕ) × Appends old new (address_line address)
-TellsLine old (Err CannotWrite) new = (address : List ℕ) × WritesBeginning old new (address_line address)
-TellsLine old (Err _) new = Keeps old new
+abbrev pub TellsAddressLine : Option (List ℕ) → Result (Unit {0}) ProgramFault → Option (List ℕ) → Type 0
+TellsAddressLine old (Ok done) new = (address : List ℕ) × Appends old new (address_line address)
+TellsAddressLine old (Err CannotWrite) new = (address : List ℕ) × WritesBeginning old new (address_line address)
+TellsAddressLine old (Err _) new = Keeps old new
 
 -- the line is written, and this is what comes behind it; or none comes
 abbrev pub TellsAddress : (Option (List ℕ) → Option (List ℕ) → Type 0) → Option (List ℕ) → Result (Unit {0}) ProgramFault → Option (List ℕ) → Type 0
 TellsAddress Next old (Ok done) new = (address : List ℕ) × (told : Option (List ℕ)) × Appends old told (address_line address) × Next told new
-TellsAddress Next old (Err fault) new = TellsLine old (Err fault) new
+TellsAddress Next old (Err fault) new = TellsAddressLine old (Err fault) new
 
 -- What happened to connections is within these limits. It is sound, where one may be idle for so long; no more were
 -- taken than may be, at so many places; each round gave each its turn; and nothing is left to be done.
 pub record KeepsLimits (idle count size : ℕ) (acts : History) : Type 0 where
-  pub sound : IsSound idle acts
+  pub sound : IsSoundHistory idle acts
   pub within : AreWithin count acts
   pub ended : HasEnded count acts
   pub fair : IsFair idle count size acts
@@ -76,7 +77,7 @@ TellsKept asked taken errors result new = ((result ≡ Err BadHex) × Keeps erro
 -- the directory of these keys is begun, and connections are answered from its desk
 abbrev pub ServesBegun : DirectoryOptions → ConnectionOptions → Option (List ℕ) → Option (List ℕ) → Type 0
 ServesBegun asked taken errors new = (keys : DirectoryKeys) × (begun : DeskState ChaCha NoKeeper)
-    × (keys_of asked ≡ Some keys) × Begins keys begun.directory × (begun.token ≡ keys.token) × AnswersConnections KeepsNothing NeverFails taken begun errors new
+    × (keys_of asked ≡ Some keys) × HasBegun keys begun.directory × (begun.token ≡ keys.token) × AnswersConnections KeepsNothing NeverFails taken begun errors new
 
 -- the same without a journal
 abbrev pub TellsUnkept : DirectoryOptions → ConnectionOptions → Option (List ℕ) → Result (Unit {0}) ProgramFault → Option (List ℕ) → Type 0

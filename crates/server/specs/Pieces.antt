@@ -7,7 +7,7 @@ use Rattle.std.specs.Io.KnownBytes.{Appends}
 use Rattle.textio.specs.Output.{WritesBeginning, WritesBut}
 use Rattle.wire.specs.Frames.{Frame}
 use Rattle.wire.specs.Streams.{Remainder, with_more, IsSpent}
-use Rattle.hub.specs.Events.{HubState, at}
+use Rattle.hub.specs.Events.{HubState, at_session}
 use Rattle.hub.specs.Exchanges.{Exchange, Exchanges, replies}
 use Rattle.server.specs.declared.fault.ServeFault.{ServeFault}
 use Rattle.server.specs.declared.fault.ServeFault.TheVariants.{CannotRead, CannotWrite, OutOfMemory}
@@ -15,7 +15,7 @@ use Rattle.server.specs.declared.fault.ServeFault.TheVariants.{CannotRead, Canno
 module _ {S : Type 0} (answers : S → Frame → List ℕ → S → Type 0) where
   -- the session, which held this, answers these messages of it and a piece, and then holds what is left
   abbrev pub Goes : HubState S → ℕ → Remainder → List ℕ → List Exchange → HubState S → Remainder → Type 0
-  Goes before session held piece exchanges after left = (at before.sessions session ≡ Some held)
+  Goes before session held piece exchanges after left = (at_session before.sessions session ≡ Some held)
       × (after.sessions ≡ set_value (is_at (nat_cmp session)) before.sessions left)
       × Exchanges answers before.service (with_more held piece) exchanges after.service left
 
@@ -26,6 +26,6 @@ module _ {S : Type 0} (answers : S → Frame → List ℕ → S → Type 0) wher
   AnswersPiece before session piece written (Err CannotWrite) after told = (held : Remainder) × (exchanges : List Exchange) × (left : Remainder)
       × Goes before session held piece exchanges after left × IsSpent left × WritesBeginning written told (replies exchanges)
   AnswersPiece before session piece written (Err OutOfMemory) after told = (held : Remainder) × (exchanges : List Exchange) × (left kept : Remainder) × (unwritten : List ℕ)
-      × (at before.sessions session ≡ Some held) × (after.sessions ≡ set_value (is_at (nat_cmp session)) before.sessions kept)
+      × (at_session before.sessions session ≡ Some held) × (after.sessions ≡ set_value (is_at (nat_cmp session)) before.sessions kept)
       × Exchanges answers before.service (with_more held piece) exchanges after.service left × WritesBut written told (replies exchanges) unwritten
   AnswersPiece before session piece written (Err CannotRead) after told = ⊥

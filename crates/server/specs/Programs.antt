@@ -1,5 +1,5 @@
 -- What the programs that serve do.
-use Rattle.std.specs.Prelude.{◌≡◌, ◌⊎◌, ℕ, false, List, Option, None, Some, Result, Ok, Err, ⊤}
+use Rattle.std.specs.Prelude.{◌≡◌, ◌⊎◌, ℕ, false, List, Option, None, Some, Result, Ok, Err}
 use Rattle.std.specs.Io.KnownBytes.{Appends, Keeps}
 use Rattle.rand_chacha.specs.ChaCha.{ChaCha}
 use Rattle.nodehash.specs.Sha256.{sha256}
@@ -7,6 +7,7 @@ use Rattle.vrfiface.specs.StandIns.{keyed_value, KeyedAccepts}
 use Rattle.sigiface.specs.StandIn.{keyed_signature, KeyedVerifies}
 use Rattle.book.specs.declared.keeper.NoKeeper.{NoKeeper}
 use Rattle.book.specs.declared.record.Record.{Record}
+use Rattle.book.specs.Keeps.{KeepsNothing, NeverFails}
 use Rattle.hub.specs.DeskRuns.{ShowHonestRun}
 use Rattle.hub.specs.Desks.{DeskState, DeskAnswers}
 use Rattle.hub.specs.Exchanges.{Exchange}
@@ -21,15 +22,8 @@ use Rattle.server.specs.declared.journal_file.DiskFile.{DiskFile}
 use Rattle.server.specs.Faults.{outcome_of}
 use Rattle.server.specs.Reopening.{journal_line, IsUnopened, Reopens}
 use Rattle.server.specs.DirectoryOptions.{DirectoryOptions}
-use Rattle.server.specs.Directories.{keys_of, salts, Begins, DirectoryKeys}
+use Rattle.server.specs.Directories.{keys_of, salts, DirectoryKeys, HasBegun}
 use Rattle.server.specs.Serving.{RepliedHonestly, Serves}
-
--- nothing is kept, and that never fails
-abbrev pub KeepsNothing : NoKeeper → Record → NoKeeper → Type 0
-KeepsNothing before what after = ⊤
-
-abbrev pub NeverFails : NoKeeper → Record → NoKeeper → Type 0
-NeverFails before what after = ⊥
 
 -- the checks of the stand-ins
 module _ {K : Type 0} (kept failed : K → Record → K → Type 0) where
@@ -45,7 +39,7 @@ module _ {K : Type 0} (kept failed : K → Record → K → Type 0) where
 -- the directory of these keys is begun, and one session is served
 abbrev pub ServesFrom : DirectoryOptions → Option (List ℕ) → Option (List ℕ) → Result (Unit {0}) ServeFault → Option (List ℕ) → Option (List ℕ) → Type 0
 ServesFrom asked input written result left told = (keys : DirectoryKeys) × (begun after : DeskState ChaCha NoKeeper)
-    × (keys_of asked ≡ Some keys) × Begins keys begun.directory × (begun.token ≡ keys.token)
+    × (keys_of asked ≡ Some keys) × HasBegun keys begun.directory × (begun.token ≡ keys.token)
     × Serves (ServedReplied KeepsNothing NeverFails) begun input written result after left told
 
 -- What comes of an order without a journal, and an input: the texts are no keys, and nothing is done; or a session is
@@ -89,11 +83,11 @@ module _ (keys : DirectoryKeys) (errors errors_new : Option (List ℕ)) (result 
   abbrev pub IsNotTold : ℕ → ℕ → Type 0
   IsNotTold records cut = (result ≡ Err CannotWrite) × WritesBeginning errors errors_new (journal_line records cut) × Undone
 
-  abbrev pub IsTold : KeptDesk → ℕ → ℕ → Type 0
-  IsTold desk records cut = (told : Option (List ℕ)) × Appends errors told (journal_line records cut) × Next desk told
+  abbrev pub TellsJournal : KeptDesk → ℕ → ℕ → Type 0
+  TellsJournal desk records cut = (told : Option (List ℕ)) × Appends errors told (journal_line records cut) × Next desk told
 
   abbrev pub AfterJournal : Type 0
-  AfterJournal = IsNotOpened ⊎ ((desk : KeptDesk) × (records cut : ℕ) × IsReopened keys desk records cut × (IsNotTold records cut ⊎ IsTold desk records cut))
+  AfterJournal = IsNotOpened ⊎ ((desk : KeptDesk) × (records cut : ℕ) × IsReopened keys desk records cut × (IsNotTold records cut ⊎ TellsJournal desk records cut))
 
 -- a session is served at a desk, to its end or to its fault
 abbrev pub ServesAt : Option (List ℕ) → Option (List ℕ) → Result (Unit {0}) ProgramFault → Option (List ℕ) → Option (List ℕ) → Option (List ℕ) → KeptDesk → Option (List ℕ) → Type 0

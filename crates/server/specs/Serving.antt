@@ -18,8 +18,8 @@ use Rattle.server.specs.declared.serving.TheConstants.{PIECE_SIZE}
 abbrev pub spelled : List ℕ → List Message
 spelled bytes = (messages (Rest bytes)).0
 
-abbrev pub messages_of : List Exchange → List Message
-messages_of = map (λ exchange. exchange.message)
+abbrev pub exchange_messages : List Exchange → List Message
+exchange_messages = map (λ exchange. exchange.message)
 
 -- each message is answered as the service stands after those before it
 abbrev pub AllReplied : {S : Type 0} → (S → Frame → List ℕ → S → Type 0) → ℕ → S → List Exchange → S → Type 0
@@ -44,12 +44,12 @@ all_lines = flat_map (λ one. lines one.0 one.1)
 -- what is served where messages are replied to so
 module _ {S : Type 0} (Replied : S → List Exchange → S → Type 0) where
   -- these are the messages of the bytes with their replies
-  abbrev pub Answers : S → List ℕ → List Exchange → S → Type 0
-  Answers service bytes exchanges after = (spelled bytes ≡ messages_of exchanges) × Replied service exchanges after
+  abbrev pub AnswersEach : S → List ℕ → List Exchange → S → Type 0
+  AnswersEach service bytes exchanges after = (spelled bytes ≡ exchange_messages exchanges) × Replied service exchanges after
 
   -- these are the first messages of the bytes with their replies
   abbrev pub AnswersFirst : S → List ℕ → List Exchange → S → Type 0
-  AnswersFirst service bytes exchanges after = (later : List Message) × (spelled bytes ≡ messages_of exchanges ++ later) × Replied service exchanges after
+  AnswersFirst service bytes exchanges after = (later : List Message) × (spelled bytes ≡ exchange_messages exchanges ++ later) × Replied service exchanges after
 
   -- What comes of the bytes that are read: all their messages are answered, and the replies written, up
   -- to the end of the input or to a failed read. Where a write fails, those to the last bytes, at most one
@@ -57,11 +57,11 @@ module _ {S : Type 0} (Replied : S → List Exchange → S → Type 0) where
   -- answered, and a beginning of their replies is written.
   abbrev pub Serves : S → Option (List ℕ) → Option (List ℕ) → Result (Unit {0}) ServeFault → S → Option (List ℕ) → Option (List ℕ) → Type 0
   Serves before input written (Ok done) after left told = (bytes : List ℕ) × (exchanges : List Exchange)
-      × Consumes input left bytes × IsAtEnd left × Answers before bytes exchanges after × Appends written told (replies exchanges)
+      × Consumes input left bytes × IsAtEnd left × AnswersEach before bytes exchanges after × Appends written told (replies exchanges)
   Serves before input written (Err CannotRead) after left told = (bytes : List ℕ) × (exchanges : List Exchange)
-      × Consumes input left bytes × Answers before bytes exchanges after × Appends written told (replies exchanges)
+      × Consumes input left bytes × AnswersEach before bytes exchanges after × Appends written told (replies exchanges)
   Serves before input written (Err CannotWrite) after left told = (front last : List ℕ) × (earlier later : List Exchange) × (between : Option (List ℕ))
-      × Consumes input left (front ++ last) × (length last ≤ PIECE_SIZE) × Answers before (front ++ last) (earlier ++ later) after × (spelled front ≡ messages_of earlier)
+      × Consumes input left (front ++ last) × (length last ≤ PIECE_SIZE) × AnswersEach before (front ++ last) (earlier ++ later) after × (spelled front ≡ exchange_messages earlier)
       × Appends written between (replies earlier) × WritesBeginning between told (replies later)
   Serves before input written (Err OutOfMemory) after left told = (bytes : List ℕ) × (exchanges : List Exchange) × (unwritten : List ℕ)
       × Consumes input left bytes × AnswersFirst before bytes exchanges after × WritesBut written told (replies exchanges) unwritten

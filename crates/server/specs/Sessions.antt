@@ -6,14 +6,14 @@ use Rattle.connections.specs.declared.ending.SessionFault.{SessionFault}
 use Rattle.connections.specs.declared.ending.SessionFault.TheVariants as fault
 use Rattle.hub.specs.declared.hub_refusal.HubRefusal.{HubRefusal}
 use Rattle.hub.specs.declared.hub_refusal.HubRefusal.TheVariants.{TooManySessions, SessionOpen, NoSession, Memory}
-use Rattle.hub.specs.Events.{Happening, Open, Bytes, End, HubState, at, due}
+use Rattle.hub.specs.Events.{Happening, Open, Bytes, End, HubState, at_session, due}
 use Rattle.hub.specs.Exchanges.{Exchange, replies}
-use Rattle.hub.specs.Happenings.{Answered, Does, Passes, TakesMemory}
-use Rattle.hub.specs.Laws.{lines_of}
-use Rattle.hub.specs.Runs.{lines, told, Line}
+use Rattle.hub.specs.Happenings.{Answered, Does, DoesUnlessRefused, TakesMemory}
+use Rattle.hub.specs.Laws.{lines_for}
+use Rattle.hub.specs.Runs.{lines, told_to, Line}
 use Rattle.connections.specs.Histories.{At, Ordered, GoesOn, Syncs, NoneWaits, On, Comes, Opens, Refuses, Reads, IsOver, IsSilent, Hears, Misses, Lacks, Takes, TakesNone, Fails, Ends, Closes, History, Course, Leads, course}
 use Rattle.connections.specs.Laws.{AreInOrder}
-use Rattle.server.specs.Serving.{messages_of, spelled}
+use Rattle.server.specs.Serving.{exchange_messages, spelled}
 
 -- only want of memory is told as such
 abbrev pub session_fault : HubRefusal → SessionFault
@@ -23,17 +23,17 @@ session_fault NoSession = fault.Refused
 session_fault (Memory taken) = fault.Memory
 
 -- why an event of a session is refused: the session's number has more than 32 bits, or the hub refuses the event
-abbrev pub IsRefused : {S : Type 0} → HubState S → ℕ → Happening → Type 0
-IsRefused before session it = (2 ^ 32 ≤ session) ⊎ (due before.sessions it ≢ None)
+abbrev pub IsEventRefused : {S : Type 0} → HubState S → ℕ → Happening → Type 0
+IsEventRefused before session it = (2 ^ 32 ≤ session) ⊎ (due before.sessions it ≢ None)
 
 -- why a session is not opened: that is refused; or it is not, and memory is wanting
 abbrev pub Unopened : {S : Type 0} → HubState S → ℕ → SessionFault → Type 0
 Unopened before session fault.Memory = due before.sessions (Open session) ≡ None
-Unopened before session fault.Refused = IsRefused before session (Open session)
+Unopened before session fault.Refused = IsEventRefused before session (Open session)
 
 -- a part ends at most one message of its stream
 abbrev pub EndsOneAt : {S : Type 0} → HubState S → ℕ → List ℕ → Type 0
-EndsOneAt before session part = (held : Remainder) → at before.sessions session ≡ Some held → EndsOne held part
+EndsOneAt before session part = (held : Remainder) → at_session before.sessions session ≡ Some held → EndsOne held part
 
 -- At each time of a history, each connection took a beginning of what its session was answered, and the session heard a
 -- beginning of what was read.
@@ -45,8 +45,8 @@ AlwaysInOrder acts = (later earlier : History) (place : ℕ) → acts ≡ later 
 abbrev pub IsAnsweredBy : List Line → ℕ → Option Course → Type 0
 IsAnsweredBy all place None = ⊤
 IsAnsweredBy all place (Some of) = (past own : List Line) × (exchanges lost : List Exchange) × (all ≡ past ++ own)
-    × (lines_of place own ≡ lines place (exchanges ++ lost)) × (spelled of.heard ≡ messages_of exchanges)
-    × (told place own ≡ of.answered ++ replies lost) × (of.is_wanting ≡ false → lost ≡ [])
+    × (lines_for place own ≡ lines place (exchanges ++ lost)) × (spelled of.heard ≡ exchange_messages exchanges)
+    × (told_to place own ≡ of.answered ++ replies lost) × (of.is_wanting ≡ false → lost ≡ [])
 
 module _ {S : Type 0} (answers : S → Frame → List ℕ → S → Type 0) where
   -- an event is not refused, and does what it does
@@ -70,11 +70,11 @@ module _ {S : Type 0} (answers : S → Frame → List ℕ → S → Type 0) wher
   -- why a part is not heard
   abbrev pub Missed : HubState S → ℕ → List ℕ → SessionFault → HubState S → Type 0
   Missed before session part fault.Memory after = (exchanges : List Exchange) × Loses before session part exchanges after
-  Missed before session part fault.Refused after = IsRefused before session (Bytes session part) × (after ≡ before)
+  Missed before session part fault.Refused after = IsEventRefused before session (Bytes session part) × (after ≡ before)
 
   -- that of an end passes; a session's number has 32 bits
   abbrev pub Ended : HubState S → ℕ → HubState S → Type 0
-  Ended before session after = Passes answers before (End session) [] after ⊎ ((2 ^ 32 ≤ session) × (after ≡ before))
+  Ended before session after = DoesUnlessRefused answers before (End session) [] after ⊎ ((2 ^ 32 ≤ session) × (after ≡ before))
 
   -- what happens to sessions leads from this hub to that one
   abbrev pub HubLeads : {X : Type 0} → (X → HubState S) → X → History → X → Type 0
@@ -103,7 +103,7 @@ module _ {S : Type 0} (answers : S → Frame → List ℕ → S → Type 0) wher
       × Proceeds middle (Bytes place part) exchanges after × (reply ≡ replies exchanges) × EndsOneAt middle place part × (all ≡ earlier ++ lines place exchanges)
   AreLines start (On place (Misses part fault.Memory) ∷ before) after all = (middle : HubState S) × (earlier : List Line) × (lost : List Exchange) × AreLines start before middle earlier
       × Loses middle place part lost after × (all ≡ earlier ++ lines place lost)
-  AreLines start (On place (Misses part fault.Refused) ∷ before) after all = AreLines start before after all × IsRefused after place (Bytes place part)
+  AreLines start (On place (Misses part fault.Refused) ∷ before) after all = AreLines start before after all × IsEventRefused after place (Bytes place part)
   AreLines start (On place Lacks ∷ before) after all = AreLines start before after all
   AreLines start (On place (Takes bytes) ∷ before) after all = AreLines start before after all
   AreLines start (On place TakesNone ∷ before) after all = AreLines start before after all

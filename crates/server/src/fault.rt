@@ -14,9 +14,9 @@ pub enum ServeFault {
 
 impl From<StreamFault> for ServeFault {
     ghost use Rattle.std.specs.Prelude.{◌≡◌};
-    ghost use Rattle.server.specs.Faults.{of_stream};
+    ghost use Rattle.server.specs.Faults.{serve_fault};
 
-    ghost from_gives = { λ given fault. fault ≡ of_stream given };
+    ghost from_gives = { λ given fault. fault ≡ serve_fault given };
 
     fn from(given: StreamFault) -> Self {
         match given {

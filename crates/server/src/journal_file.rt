@@ -2,7 +2,7 @@ ghost use Rattle.std.specs.Prelude.{◌≡◌, IfErr, IfOk, MatchResult};
 ghost use Rattle.std.specs.Io.KnownBytes.{Keeps};
 ghost use Rattle.textio.specs.Faults.{IsDeviceFault};
 ghost use Rattle.textio.specs.declared.program_fault.ProgramFault.TheVariants.{CannotWrite};
-ghost use Rattle.server.specs.Reopening.{Cuts, Holds};
+ghost use Rattle.server.specs.Reopening.{Cuts, FileHolds};
 
 use crate::disk::Disk;
 use std::alloc::Global;
@@ -17,7 +17,7 @@ pub trait JournalFile: Write {
     ///
     /// `CannotRead`; `OutOfMemory`.
     fn read_all(&mut self, alloc: Global) -> Result<Vec<u8>, ProgramFault>
-        ensures bytes { IfOk result (λ bytes. Holds (Self.contents self.old) bytes.items) }
+        ensures bytes { IfOk result (λ bytes. FileHolds (Self.contents self.old) bytes.items) }
         ensures kept { Keeps (Self.contents self.old) (Self.contents self.new) }
         ensures err { IfErr result IsDeviceFault };
 

@@ -1,7 +1,7 @@
 ghost use Rattle.std.specs.Prelude.{◌≡◌, IfOk, MatchResult, None, Some};
-ghost use Rattle.server.specs.DirectoryOptions.{values_of};
-ghost use Rattle.server.specs.Directories.{keys_of, Begins};
-ghost use Rattle.server.specs.Reopening.{at_stream, beginning_of};
+ghost use Rattle.server.specs.DirectoryOptions.{directory_values};
+ghost use Rattle.server.specs.Directories.{keys_of, HasBegun};
+ghost use Rattle.server.specs.Reopening.{at_stream, beginning_with};
 ghost use Rattle.journal.specs.Records.{start_of};
 ghost use Rattle.textio.specs.declared.program_fault.ProgramFault.TheVariants.{BadHex};
 
@@ -60,8 +60,8 @@ impl Keys {
     ///
     /// `BadHex` if one of the texts is not 64 hexadecimal digits.
     pub(crate) fn read(order: &DirectoryOrder<'_>) -> Result<Self, ProgramFault>
-        ensures { MatchResult result (λ keys. keys_of (values_of order.now) ≡ Some keys)
-            (λ fault. (fault ≡ BadHex) × (keys_of (values_of order.now) ≡ None)) }
+        ensures { MatchResult result (λ keys. keys_of (directory_values order.now) ≡ Some keys)
+            (λ fault. (fault ≡ BadHex) × (keys_of (directory_values order.now) ≡ None)) }
     {
         Ok(Keys {
             signing_key: Hash32::new(option_hex32(order.signing_key)?),
@@ -104,7 +104,7 @@ impl Keys {
 
     /// The start of the directory that begins with these keys.
     pub(crate) fn start(&self) -> Record
-        ensures { result ≡ start_of (beginning_of self.now) }
+        ensures { result ≡ start_of (beginning_with self.now) }
     {
         Record::Start {
             epoch: self.epoch.get(),
@@ -116,7 +116,7 @@ impl Keys {
 
     /// The directory that begins with these keys.
     pub(crate) fn begin(&self, alloc: Global) -> Result<ServedDirectory, AllocError>
-        ensures { IfOk result (Begins self.now) }
+        ensures { IfOk result (HasBegun self.now) }
     {
         let directory = Directory::new(
             alloc,

@@ -1,12 +1,12 @@
 ghost use Rattle.std.specs.Prelude.{ℕ, List};
-ghost use Rattle.hub.specs.DeskRuns.{IsWell, ShowHonestRun};
+ghost use Rattle.hub.specs.DeskRuns.{IsSoundDesk, ShowHonestRun};
 ghost use Rattle.hub.specs.Desks.{DeskState, DeskAnswers};
 ghost use Rattle.hub.specs.Exchanges.{Exchange};
 ghost use Rattle.hub.specs.Events.{HubState};
 ghost use Rattle.hub.specs.Runs.{Line};
 ghost use Rattle.connections.specs.Histories.{History};
 ghost use Rattle.connections.specs.Laws.{AlwaysWaitWithin};
-ghost use Rattle.connections.specs.Soundness.{IsSound};
+ghost use Rattle.connections.specs.Soundness.{IsSoundHistory};
 ghost use Rattle.server.specs.Serving.{all_lines, AllServed};
 ghost use Rattle.server.specs.Sessions.{AlwaysAnswered, AlwaysInOrder, AreLines, HubLeads};
 ghost use Rattle.wire.specs.declared.answer.TheConstants.{MAX_ANSWER_LEN};
@@ -22,8 +22,8 @@ use vrfiface::Vuf;
 /// provider see.
 pub fn sessions_show_one_run<H: NodeHash, V: Vuf, S: Signer, G: Rng, K: Keeper>()
     ensures { (before after : DeskState G K) (served : List (ℕ × List Exchange))
-        → IsWell H.digest_of V.value_of S.signature_of G.stream V.accepted S.verified before
-        → IsWell H.digest_of V.value_of S.signature_of G.stream V.accepted S.verified after
+        → IsSoundDesk H.digest_of V.value_of S.signature_of G.stream V.accepted S.verified before
+        → IsSoundDesk H.digest_of V.value_of S.signature_of G.stream V.accepted S.verified after
         → AllServed (DeskAnswers H.digest_of V.value_of S.signature_of G.stream K.kept K.failed) before served after
         → ShowHonestRun H.digest_of V.value_of S.signature_of G.stream K.kept K.failed V.accepted S.verified before (all_lines served) after }
 {}
@@ -35,10 +35,10 @@ pub fn sessions_show_one_run<H: NodeHash, V: Vuf, S: Signer, G: Rng, K: Keeper>(
 /// honest provider see.
 pub fn crowds_show_one_run<H: NodeHash, V: Vuf, S: Signer, G: Rng, K: Keeper>()
     ensures { (before after : HubState (DeskState G K)) (idle : ℕ) (acts : History)
-        → IsWell H.digest_of V.value_of S.signature_of G.stream V.accepted S.verified before.service
-        → IsWell H.digest_of V.value_of S.signature_of G.stream V.accepted S.verified after.service
+        → IsSoundDesk H.digest_of V.value_of S.signature_of G.stream V.accepted S.verified before.service
+        → IsSoundDesk H.digest_of V.value_of S.signature_of G.stream V.accepted S.verified after.service
         → HubLeads (DeskAnswers H.digest_of V.value_of S.signature_of G.stream K.kept K.failed) (λ hub. hub) before acts after
-        → IsSound idle acts
+        → IsSoundHistory idle acts
         → AlwaysInOrder acts
         × ((lines : List Line) × AreLines (DeskAnswers H.digest_of V.value_of S.signature_of G.stream K.kept K.failed) before acts after lines
         × AlwaysAnswered (DeskAnswers H.digest_of V.value_of S.signature_of G.stream K.kept K.failed) before acts lines
@@ -49,8 +49,8 @@ pub fn crowds_show_one_run<H: NodeHash, V: Vuf, S: Signer, G: Rng, K: Keeper>()
 /// connection.
 pub fn crowd_outputs_are_bounded<H: NodeHash, V: Vuf, S: Signer, G: Rng, K: Keeper>()
     ensures { (before after : HubState (DeskState G K)) (idle : ℕ) (acts : History)
-        → IsWell H.digest_of V.value_of S.signature_of G.stream V.accepted S.verified before.service
-        → IsWell H.digest_of V.value_of S.signature_of G.stream V.accepted S.verified after.service
+        → IsSoundDesk H.digest_of V.value_of S.signature_of G.stream V.accepted S.verified before.service
+        → IsSoundDesk H.digest_of V.value_of S.signature_of G.stream V.accepted S.verified after.service
         → HubLeads (DeskAnswers H.digest_of V.value_of S.signature_of G.stream K.kept K.failed) (λ hub. hub) before acts after
-        → IsSound idle acts → AlwaysWaitWithin MAX_ANSWER_LEN acts }
+        → IsSoundHistory idle acts → AlwaysWaitWithin MAX_ANSWER_LEN acts }
 {}

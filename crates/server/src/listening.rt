@@ -16,9 +16,9 @@ ghost use Rattle.vrfiface.specs.StandIns.{keyed_value};
 ghost use Rattle.textio.specs.declared.program_fault.ProgramFault.TheVariants.{BadHex};
 ghost use Rattle.wire.specs.declared.answer.TheConstants.{MAX_ANSWER_LEN};
 ghost use Rattle.server.specs.ConnectionOptions.{connections_of, idle_limit, most_open};
-ghost use Rattle.server.specs.DirectoryOptions.{values_of};
+ghost use Rattle.server.specs.DirectoryOptions.{directory_values};
 ghost use Rattle.server.specs.Directories.{keys_of, salts};
-ghost use Rattle.server.specs.Listening.{AnswersConnections, KeepsLimits, ListenTells, TellsAddress, TellsKept, TellsLine, TellsUnkept};
+ghost use Rattle.server.specs.Listening.{AnswersConnections, KeepsLimits, ListenTells, TellsAddress, TellsAddressLine, TellsKept, TellsUnkept};
 ghost use Rattle.server.specs.Programs.{ShownBy};
 ghost use Rattle.server.specs.Sessions.{AreLines};
 
@@ -47,7 +47,7 @@ fn tell_address<E: Write>(
     address: SocketAddr,
     errors: &mut E,
 ) -> Result<(), ProgramFault>
-    ensures tells { TellsLine (E.contents errors.old) result (E.contents errors.new) }
+    ensures tells { TellsAddressLine (E.contents errors.old) result (E.contents errors.new) }
     ensures good_hex { IfErr result (λ fault. fault ≢ BadHex) }
 {
     let address = format!(in alloc; "{address}")?;
@@ -158,8 +158,8 @@ where
     N: Net + Clock,
     R: BufRead,
     E: Write,
-    ensures bad_hex { (result ≡ Err BadHex) ↔ (keys_of (values_of order.entry.directory) ≡ None) }
-    ensures tells { TellsUnkept (values_of order.entry.directory) (connections_of order.entry) (E.contents errors.old) result (E.contents errors.new) }
+    ensures bad_hex { (result ≡ Err BadHex) ↔ (keys_of (directory_values order.entry.directory) ≡ None) }
+    ensures tells { TellsUnkept (directory_values order.entry.directory) (connections_of order.entry) (E.contents errors.old) result (E.contents errors.new) }
 {
     let keys = Keys::read(&order.directory)?;
     let directory = keys.begin(alloc)?;
@@ -180,8 +180,8 @@ where
     N: Net + Clock + Files<File = File>,
     R: BufRead,
     E: Write,
-    ensures bad_hex { (result ≡ Err BadHex) ↔ (keys_of (values_of order.entry.directory) ≡ None) }
-    ensures tells { TellsKept (values_of order.entry.directory) (connections_of order.entry) (E.contents errors.old) result (E.contents errors.new) }
+    ensures bad_hex { (result ≡ Err BadHex) ↔ (keys_of (directory_values order.entry.directory) ≡ None) }
+    ensures tells { TellsKept (directory_values order.entry.directory) (connections_of order.entry) (E.contents errors.old) result (E.contents errors.new) }
 {
     let keys = Keys::read(&order.directory)?;
     let disk = open_file(system, path)?;
@@ -215,8 +215,8 @@ where
     N: Net + Clock + Files<File = File>,
     R: BufRead,
     E: Write,
-    ensures bad_hex { (result ≡ Err BadHex) ↔ (keys_of (values_of order.entry.directory) ≡ None) }
-    ensures tells { ListenTells (values_of order.entry.directory) (connections_of order.entry) (E.contents errors.old) result (E.contents errors.new) }
+    ensures bad_hex { (result ≡ Err BadHex) ↔ (keys_of (directory_values order.entry.directory) ≡ None) }
+    ensures tells { ListenTells (directory_values order.entry.directory) (connections_of order.entry) (E.contents errors.old) result (E.contents errors.new) }
 {
     match order.directory.journal {
         None => listen_unkept(alloc, system, order, input, errors),

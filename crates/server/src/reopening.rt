@@ -2,10 +2,10 @@
 // that is refused stays as it was.
 ghost use Rattle.std.specs.Prelude.{◌≡◌, IfErr, IfSome, MatchResult, OnOk, Some};
 ghost use Rattle.std.specs.Io.KnownBytes.{Keeps};
-ghost use Rattle.journal.specs.Opened.{IsUnopened as IsRefusal, Opens};
+ghost use Rattle.journal.specs.Opened.{IsOpenRefusal, Opens};
 ghost use Rattle.journal.specs.Records.{start_bytes};
 ghost use Rattle.server.specs.Directories.{salts};
-ghost use Rattle.server.specs.Reopening.{at_stream, beginning_of, index_by, of_refusal, HasRead, HasReopened, HasStarted, IsSystemFault, IsUnopened, StartsLess, StaysAt};
+ghost use Rattle.server.specs.Reopening.{at_stream, beginning_with, index_by, of_refusal, HasRead, HasReopened, HasStarted, IsSystemFault, IsUnopened, StartsLess, StaysAt};
 
 use crate::JournalFile;
 use crate::keys::{Keys, ServedDirectory};
@@ -57,7 +57,7 @@ fn open_bytes(
 ) -> Result<Opened<Sha256Hash, KeyedVuf, KeyedSign, ChaCha20Rng>, Refusal>
     ensures { MatchResult result
         (Opens (index_by keys.now) (keys.now).signing_key (keys.now).vuf_key (salts (at_stream (keys.now).salt_key stream)) salts bytes.now)
-        (IsRefusal (index_by keys.now) (keys.now).signing_key (keys.now).vuf_key (salts (at_stream (keys.now).salt_key stream)) bytes.now) }
+        (IsOpenRefusal (index_by keys.now) (keys.now).signing_key (keys.now).vuf_key (salts (at_stream (keys.now).salt_key stream)) bytes.now) }
 {
     open(
         alloc,
@@ -110,7 +110,7 @@ fn start_anew<F: JournalFile>(
 
 /// Has the file hold the start of a new directory alone.
 fn write_start<F: JournalFile>(keys: &Keys, file: &mut F) -> Result<(), ProgramFault>
-    ensures starts { OnOk result (IfSome (F.contents file.old) (λ all. F.contents file.new ≡ Some (start_bytes (beginning_of keys.now)))) }
+    ensures starts { OnOk result (IfSome (F.contents file.old) (λ all. F.contents file.new ≡ Some (start_bytes (beginning_with keys.now)))) }
     ensures fault { IfErr result IsSystemFault }
     ensures stays { IfErr result (λ fault. StartsLess keys.now fault (F.contents file.old) (F.contents file.new)) }
 {

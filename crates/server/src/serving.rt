@@ -4,7 +4,7 @@ ghost use Rattle.std.specs.Prelude.{◌≡◌, [], Some, None};
 ghost use Rattle.std.specs.Ordering.{nat_cmp};
 ghost use Rattle.std.specs.BTreeMap.{is_at};
 ghost use Rattle.std.specs.Map.{set_value};
-ghost use Rattle.hub.specs.Events.{at, due, Bytes as AreBytes, Open as IsOpen};
+ghost use Rattle.hub.specs.Events.{at_session, due, Bytes as AreBytes, Open as IsOpen};
 ghost use Rattle.wire.specs.Streams.{Remainder, Rest};
 ghost use Rattle.server.specs.Pieces.{AnswersPiece};
 ghost use Rattle.server.specs.Serving.{AllReplied, RepliedHonestly, Serves};
@@ -56,7 +56,7 @@ fn converse<S: Service + Drop, R: Read, W: Write>(
     writer: &mut W,
     disk: Option<&Disk>,
 ) -> Result<(), ServeFault>
-    requires { at hub.old.sessions session ≡ Some (Rest []) }
+    requires { at_session hub.old.sessions session ≡ Some (Rest []) }
     ensures keeps { (kept : Remainder) × (hub.new.sessions ≡ set_value (is_at (nat_cmp session)) hub.old.sessions kept) }
     ensures serves { Serves (AllReplied S.answers session) hub.old.service (R.remaining reader.old) (W.contents writer.old) result
         hub.new.service (R.remaining reader.new) (W.contents writer.new) }

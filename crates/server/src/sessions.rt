@@ -1,7 +1,7 @@
 //! The sessions of a hub, for the loop over connections. Each hears its stream in parts that end no more than
 //! one message.
 ghost use Rattle.std.specs.Prelude.{◌≡◌};
-ghost use Rattle.hub.specs.DeskRuns.{IsWell};
+ghost use Rattle.hub.specs.DeskRuns.{IsSoundDesk};
 ghost use Rattle.server.specs.Sessions.{session_fault};
 
 use book::Keeper;
@@ -38,7 +38,7 @@ where
 {
     /// What the types keep of the desk: its clause leads from what is answered to a run of the directory.
     pub(crate) fn head(&self)
-        ensures well { IsWell H.digest_of V.value_of S.signature_of R.stream V.accepted S.verified self.now.hub.service }
+        ensures well { IsSoundDesk H.digest_of V.value_of S.signature_of R.stream V.accepted S.verified self.now.hub.service }
     {
         self.hub.head();
     }

@@ -1,6 +1,6 @@
 ghost use Rattle.std.specs.Prelude.{◌≡◌, Err, None};
 ghost use Rattle.textio.specs.declared.program_fault.ProgramFault.TheVariants.{BadHex};
-ghost use Rattle.server.specs.DirectoryOptions.{values_of};
+ghost use Rattle.server.specs.DirectoryOptions.{directory_values};
 ghost use Rattle.server.specs.Programs.{DirectoryServes, ServesKept, ServesUnkept};
 
 use crate::DirectoryOrder;
@@ -31,8 +31,8 @@ pub fn serve_unkept<R: Read, W: Write>(
     reader: &mut R,
     writer: &mut W,
 ) -> Result<(), ProgramFault>
-    requires { (values_of order).journal ≡ None }
-    ensures serves { ServesUnkept (values_of order.entry) (R.remaining reader.old) (W.contents writer.old) result (R.remaining reader.new) (W.contents writer.new) }
+    requires { (directory_values order).journal ≡ None }
+    ensures serves { ServesUnkept (directory_values order.entry) (R.remaining reader.old) (W.contents writer.old) result (R.remaining reader.new) (W.contents writer.new) }
     ensures unread { result ≡ Err BadHex → (reader.new ≡ reader.old) × (writer.new ≡ writer.old) }
 {
     let keys = Keys::read(&order)?;
@@ -52,7 +52,7 @@ fn serve_kept<F: Files<File = File>, R: Read, W: Write, E: Write>(
     writer: &mut W,
     errors: &mut E,
 ) -> Result<(), ProgramFault>
-    ensures serves { ServesKept (values_of order.entry) (R.remaining reader.old) (W.contents writer.old) (E.contents errors.old) result
+    ensures serves { ServesKept (directory_values order.entry) (R.remaining reader.old) (W.contents writer.old) (E.contents errors.old) result
         (R.remaining reader.new) (W.contents writer.new) (E.contents errors.new) }
     ensures unread { result ≡ Err BadHex → (reader.new ≡ reader.old) × (writer.new ≡ writer.old) }
 {
@@ -85,7 +85,7 @@ pub fn serve_directory<F: Files<File = File>, R: Read, W: Write, E: Write>(
     writer: &mut W,
     errors: &mut E,
 ) -> Result<(), ProgramFault>
-    ensures serves { DirectoryServes (values_of order.entry) (R.remaining reader.old) (W.contents writer.old) (E.contents errors.old) result
+    ensures serves { DirectoryServes (directory_values order.entry) (R.remaining reader.old) (W.contents writer.old) (E.contents errors.old) result
         (R.remaining reader.new) (W.contents writer.new) (E.contents errors.new) }
     ensures unread { result ≡ Err BadHex → (reader.new ≡ reader.old) × (writer.new ≡ writer.old) }
 {

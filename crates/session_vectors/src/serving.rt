@@ -1,6 +1,6 @@
 //! Of `server`: one session of a directory that is begun for it.
 ghost use Rattle.std.specs.Prelude.{◌≡◌, None};
-ghost use Rattle.server.specs.DirectoryOptions.{values_of};
+ghost use Rattle.server.specs.DirectoryOptions.{directory_values};
 
 use crate::telling::{say_fault, tells_of_memory};
 use questions::Case;
@@ -57,7 +57,7 @@ fn keys(case: &mut Case<'_>) {
 
 /// Serves the bytes of the next word.
 fn serve(case: &mut Case<'_>, order: DirectoryOrder<'_>)
-    requires { (values_of order).journal ≡ None }
+    requires { (directory_values order).journal ≡ None }
 {
     let mut reader = case.bytes();
     let mut output = Vec::new(case.alloc());

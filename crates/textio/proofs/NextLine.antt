@@ -4,7 +4,7 @@ use Rattle.std.specs.Io.KnownBytes.{Consumes}
 use Rattle.std.proofs.KnownBytes.{Consumes-trans}
 use Rattle.textio.specs.declared.line.Step.TheVariants.{Within, Past, End}
 use Rattle.textio.specs.Lines.{lines_of, TakesLine}
-use Rattle.textio.specs.Pieces.{IsInLine, TakesPiece, kept_with}
+use Rattle.textio.specs.Pieces.{IsInLine, LosesPiece, kept_with}
 use Rattle.textio.proofs.InLine.{IsInLine-append}
 
 take-more : (n : ℕ) (xs ys : List ℕ) → take n xs ++ take (n - length (take n xs)) ys ≡ take n (xs ++ ys)
@@ -37,7 +37,7 @@ lines_of-last (x ∷ y ∷ front) h some = rw (ne_eqb x 10 h.0, lines_of-last (y
 abbrev pub HasBegun : ℕ → Option (List ℕ) → Option (List ℕ) → List ℕ → Type 0
 HasBegun most input left line = (front : List ℕ) × IsInLine front × Consumes input left front × (line ≡ take most front)
 
-pub HasBegun-within : (most : ℕ) (input mid left : Option (List ℕ)) (old new : List ℕ) → HasBegun most input mid old → TakesPiece most Within mid left old new → HasBegun most input left new
+pub HasBegun-within : (most : ℕ) (input mid left : Option (List ℕ)) (old new : List ℕ) → HasBegun most input mid old → LosesPiece most Within mid left old new → HasBegun most input left new
 HasBegun-within most input mid left old new (front, in_line, taken, kept) (more, (more_in_line, grown), more_taken, end) = (
   front ++ more,
   IsInLine-append front more in_line more_in_line,
@@ -45,7 +45,7 @@ HasBegun-within most input mid left old new (front, in_line, taken, kept) (more,
   grown ∙ ap (λ line. kept_with most line more) kept ∙ take-more most front more,
 )
 
-pub TakesLine-past : (most : ℕ) (input mid left : Option (List ℕ)) (old new : List ℕ) → HasBegun most input mid old → TakesPiece most Past mid left old new → TakesLine most input left (Some new)
+pub TakesLine-past : (most : ℕ) (input mid left : Option (List ℕ)) (old new : List ℕ) → HasBegun most input mid old → LosesPiece most Past mid left old new → TakesLine most input left (Some new)
 TakesLine-past most None mid left old new begun piece = tt
 TakesLine-past most (Some xs) None left old new (front, in_line, taken, kept) piece = absurd taken
 TakesLine-past most (Some xs) (Some ys) None old new begun (more, is_piece, more_taken, end) = absurd more_taken
@@ -58,7 +58,7 @@ TakesLine-past most (Some xs) (Some ys) (Some zs) old new (front, in_line, taken
     )
 
 -- at the end of the input there is a line where a byte of it was kept
-pub TakesLine-last : (most : ℕ) (input mid left : Option (List ℕ)) (old new : List ℕ) → HasBegun most input mid old → TakesPiece most End mid left old new
+pub TakesLine-last : (most : ℕ) (input mid left : Option (List ℕ)) (old new : List ℕ) → HasBegun most input mid old → LosesPiece most End mid left old new
     → 0 < length new → TakesLine most input left (Some new)
 TakesLine-last most None mid left old new begun piece some = tt
 TakesLine-last most (Some xs) None left old new (front, in_line, taken, kept) piece some = absurd taken
@@ -73,7 +73,7 @@ TakesLine-last most (Some xs) (Some ys) (Some zs) old new (front, in_line, taken
       line,
     )
 
-pub TakesLine-none : (most : ℕ) (input mid left : Option (List ℕ)) (old new : List ℕ) → HasBegun most input mid old → TakesPiece most End mid left old new
+pub TakesLine-none : (most : ℕ) (input mid left : Option (List ℕ)) (old new : List ℕ) → HasBegun most input mid old → LosesPiece most End mid left old new
     → 0 < most → length new ≡ 0 → TakesLine most input left None
 TakesLine-none most None mid left old new begun piece room none = tt
 TakesLine-none most (Some xs) None left old new (front, in_line, taken, kept) piece room none = absurd taken

@@ -20,8 +20,8 @@ IsPiece most Past taken old new = (front : List ℕ) × IsInLine front × (taken
 IsPiece most End taken old new = (taken ≡ []) × (new ≡ old)
 
 -- known bytes lose the piece that a step took
-abbrev pub TakesPiece : ℕ → Step → Option (List ℕ) → Option (List ℕ) → List ℕ → List ℕ → Type 0
-TakesPiece most step input left old new = (taken : List ℕ) × IsPiece most step taken old new × Consumes input left taken
+abbrev pub LosesPiece : ℕ → Step → Option (List ℕ) → Option (List ℕ) → List ℕ → List ℕ → Type 0
+LosesPiece most step input left old new = (taken : List ℕ) × IsPiece most step taken old new × Consumes input left taken
     × (step ≡ End → IsAtEnd input)
 
 -- known bytes lose less than their first line

@@ -5,7 +5,7 @@
 ghost use Rattle.std.specs.Prelude.{◌≡◌, ◌↔◌, ◌-◌, ◌<◌, ◌≤◌, ◌++◌, length, take, IfOk, IfErr};
 ghost use Rattle.std.specs.Io.KnownBytes.{Keeps};
 ghost use Rattle.textio.specs.Lines.{TakesLine};
-ghost use Rattle.textio.specs.Pieces.{IsPiece, LosesPart, TakesPiece};
+ghost use Rattle.textio.specs.Pieces.{IsPiece, LosesPart, LosesPiece};
 
 use crate::stream_fault::{StreamFault, after_error};
 use encoding::FixedText;
@@ -61,7 +61,7 @@ fn take_step<const MOST: usize, R: BufRead>(
     reader: &mut R,
     line: &mut FixedText<MOST>,
 ) -> Result<Step, StreamFault>
-    ensures ok { IfOk result (λ step. TakesPiece MOST step (R.remaining reader.old) (R.remaining reader.new) line.old line.new) }
+    ensures ok { IfOk result (λ step. LosesPiece MOST step (R.remaining reader.old) (R.remaining reader.new) line.old line.new) }
     ensures err { IfErr result (λ fault. (fault ≡ StreamFault.CannotRead) × Keeps (R.remaining reader.old) (R.remaining reader.new)) }
 {
     let shown = match reader.fill_buf() {

@@ -9,8 +9,8 @@ use Rattle.proofs.specs.declared.comparing.SameOr.{SameOr}
 use Rattle.proofs.specs.declared.comparing.SameOr.TheVariants.{Collision}
 
 -- the answer on two replies for one name under one body
-abbrev pub Finds : Body → List ℕ → List ℕ → List ℕ → Result SameOr RefusedReply → Type 0
-Finds = Compares byte_sum (λ key name value. value ≡ plain_value key name)
+abbrev pub ComparesByStandIns : Body → List ℕ → List ℕ → List ℕ → Result SameOr RefusedReply → Type 0
+ComparesByStandIns = Compares byte_sum (λ key name value. value ≡ plain_value key name)
 
 -- the answer has no collision
 abbrev pub IsNoCollision : Result SameOr RefusedReply → Type 0

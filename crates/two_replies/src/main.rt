@@ -9,7 +9,7 @@ ghost use Rattle.std.specs.Prelude.{IfOk, Ok, OnErr};
 ghost use Rattle.nodehash.specs.Collisions.{IsCollision};
 ghost use Rattle.nodehash.specs.Digests.{byte_sum};
 ghost use Rattle.proofs.specs.declared.comparing.SameOr.TheVariants.{Collision};
-ghost use Rattle.two_replies.specs.Evidence.{Finds, IsNoCollision};
+ghost use Rattle.two_replies.specs.Evidence.{ComparesByStandIns, IsNoCollision};
 
 mod provider;
 
@@ -24,8 +24,8 @@ use vrfiface::PlainVuf;
 /// The evidence of two replies for one name: two different texts with one digest.
 fn evidence(body: &Body, name: &Name, first: &[u8], second: &[u8]) -> Result<(Text, Text)>
     ensures collision { IfOk result (λ texts. IsCollision byte_sum texts.0 texts.1) }
-    ensures found { IfOk result (λ texts. Finds body.now name.now first.now second.now (Ok (Collision texts.0 texts.1))) }
-    ensures none { OnErr result ((answer : _) × Finds body.now name.now first.now second.now answer × IsNoCollision answer) }
+    ensures found { IfOk result (λ texts. ComparesByStandIns body.now name.now first.now second.now (Ok (Collision texts.0 texts.1))) }
+    ensures none { OnErr result ((answer : _) × ComparesByStandIns body.now name.now first.now second.now answer × IsNoCollision answer) }
 {
     match compare_replies(&mut SumHash::new(), &PlainVuf, body, name, first, second)? {
         SameOr::Collision(x, y) => Ok((x, y)),

@@ -7,9 +7,10 @@ use Rattle.encoding.specs.Endian.{big_bytes, big_number}
 use Rattle.encoding.specs.Reading.{is_within, read_number}
 use Rattle.encoding.proofs.ByteLists.{IsBytes-append, IsBytes-back}
 use Rattle.encoding.proofs.Fields.{numbers_field, one_spelling, refused_read}
+use Rattle.rootchain.specs.TakingPieces.{joined}
 use Rattle.wire.specs.Frames.{Frame, frame_bytes, frame_of, read_frame, read_framed, IsFrame}
-use Rattle.wire.specs.Streams.{Remainder, Message, Rest, Failed, Whole, BadFrame, whole_messages, BeginsFrame, HasBadLength, IsFrameSize, IsSpent, Spells, Splits, Takes, Tells, TellsAll}
-use Rattle.wire.specs.Laws.{joined, Hears}
+use Rattle.wire.specs.Streams.{Remainder, Message, Rest, Failed, Whole, BadFrame, whole_messages, BeginsFrame, HasBadLength, IsFrameSize, IsSpent, SpellsMessages, Splits, TakesMessage, TellsAll, TellsMessages}
+use Rattle.wire.specs.Laws.{Hears}
 use Rattle.wire.proofs.Frames.{frame_field, size_limits, size_within}
 use Rattle.wire.proofs.Faults.{frame_faults, IsBadSize}
 use Rattle.wire.proofs.Streams.{hears-joined, none-bytes, nothing_yet}
@@ -121,7 +122,7 @@ split_once stream (f ∷ fs) (g ∷ gs) rest left one two =
 
 -- a frame in front, and what the rest of the stream spells
 frame_first : (stream left : List ℕ) (frame : Frame) (messages : List Message) (held : Remainder) → stream ≡ frame_bytes frame ++ left → IsFrame frame
-    → Spells left messages held → Spells stream (Whole frame ∷ messages) held
+    → SpellsMessages left messages held → SpellsMessages stream (Whole frame ∷ messages) held
 frame_first stream left frame messages held e is (frames, rest, splits, how) = (
   frame ∷ frames,
   rest,
@@ -134,19 +135,19 @@ frame_first stream left frame messages held e is (frames, rest, splits, how) = (
     ending (inl h) = inl (h.0, ap (λ (w : List Message). Whole frame ∷ w) h.1, h.2)
     ending (inr h) = inr (h.0, ap (λ (w : List Message). Whole frame ∷ w) h.1, h.2)
 
-pub tells_spells : (stream : List ℕ) (messages : List Message) (after : Remainder) → IsBytes stream → TellsAll (Rest stream) messages after → Spells stream messages after
+pub tells_spells : (stream : List ℕ) (messages : List Message) (after : Remainder) → IsBytes stream → TellsAll (Rest stream) messages after → SpellsMessages stream messages after
 tells_spells stream [] after small (same, spent) =
     let begins = short_begins stream small (subst IsSpent same spent) in
     ([], stream, (refl, tt, inl begins), inl (begins, refl, same))
 tells_spells stream (Whole frame ∷ more) after small ((between, (left, read, is), rest), spent) =
     let t = frame_field.spelled stream (frame, left) small read in
     frame_first stream left frame more after t.0 t.1
-    (tells_spells left more after (IsBytes-back (frame_bytes frame) left (subst IsBytes t.0 small)) (subst (λ (held : Remainder). Tells held more after) is rest, spent))
+    (tells_spells left more after (IsBytes-back (frame_bytes frame) left (subst IsBytes t.0 small)) (subst (λ (held : Remainder). TellsMessages held more after) is rest, spent))
 tells_spells stream (BadFrame ∷ []) after small ((between, (read, is), rest), spent) =
     let bad = bad_begins stream small read in
     ([], stream, (refl, tt, inr bad), inr (bad, refl, rest ∙ is))
 tells_spells stream (BadFrame ∷ message ∷ more) after small ((between, (read, is), (next, takes, rest)), spent) =
-    absurd (subst (λ (held : Remainder). Takes held message next) is takes)
+    absurd (subst (λ (held : Remainder). TakesMessage held message next) is takes)
 
 -- ---- pieces
 
@@ -155,6 +156,6 @@ pieces_bytes held [] messages after hears = none-bytes
 pieces_bytes held (piece ∷ more) messages after (now, later, between, split, p, told, rest) =
     IsBytes-append piece (joined more) p (pieces_bytes between more later after rest)
 
-pub pieces_spell : (pieces : List (List ℕ)) (messages : List Message) (after : Remainder) → Hears (Rest []) pieces messages after → Spells (joined pieces) messages after
+pub pieces_spell : (pieces : List (List ℕ)) (messages : List Message) (after : Remainder) → Hears (Rest []) pieces messages after → SpellsMessages (joined pieces) messages after
 pieces_spell pieces messages after hears =
     tells_spells (joined pieces) messages after (pieces_bytes (Rest []) pieces messages after hears) (hears-joined (Rest []) pieces messages after none-bytes nothing_yet hears)

@@ -48,7 +48,7 @@ impl Feed {
     ghost use Rattle.std.specs.Borrow.{sem, follows_so};
     ghost use mathlib.Core.Option.{none};
     ghost use Rattle.std.specs.Prelude.{⊤, []};
-    ghost use Rattle.wire.specs.Streams.{Gives};
+    ghost use Rattle.wire.specs.Streams.{GivesNext};
     ghost use Rattle.wire.specs.contracts.feed.Feed.{the_row};
 
     /// A stream of which nothing has come.
@@ -112,9 +112,9 @@ impl Feed {
     }
 
     /// Takes the next frame, if it is whole, and lends it.
-    // The clause says that the answer, and the feed once the loan has ended, are as `Gives` has them.
+    // The clause says that the answer, and the feed once the loan has ended, are as `GivesNext` has them.
     pub fn next(&mut self) -> Next<'_>
-        ensures* gives { sem 𝓛 (follows_so the_row the_row self.entry.ghost_name none (λ _ _. ⊤) (λ held. Gives self.old result held)) }
+        ensures* gives { sem 𝓛 (follows_so the_row the_row self.entry.ghost_name none (λ _ _. ⊤) (λ held. GivesNext self.old result held)) }
     {
         if self.failed {
             return Next::Failed;

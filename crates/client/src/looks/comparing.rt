@@ -6,7 +6,7 @@ ghost use Rattle.client.specs.Agreements.{AllState, AllStateBelow, AreBeside, Ar
 ghost use Rattle.client.specs.Clients.{Look};
 ghost use Rattle.std.specs.List.{AllByRecursion};
 ghost use Rattle.proofs.specs.Accepts.{stated};
-ghost use Rattle.proofs.specs.Replies.{Reply, Spells};
+ghost use Rattle.proofs.specs.Replies.{Reply, SpellsReply};
 ghost use Rattle.proofs.specs.Views.{key_stated};
 
 use super::{LookPlace, Looks};
@@ -25,7 +25,7 @@ pub(crate) struct Unlike<'a> {
 /// What a reply states that was accepted.
 fn statement(reply: &[u8]) -> Statement<'_>
     requires { SpellsOne reply.now }
-    ensures { (read : Reply) → Spells reply.entry.now read → key_stated result ≡ stated read.end }
+    ensures { (read : Reply) → SpellsReply reply.entry.now read → key_stated result ≡ stated read.end }
 {
     let Ok(view) = ReplyView::read(reply) else {
         unreachable!()
@@ -36,7 +36,7 @@ fn statement(reply: &[u8]) -> Statement<'_>
 /// Whether an accepted reply states this.
 fn states(reply: &[u8], told: &Statement<'_>) -> bool
     requires { SpellsOne reply.now }
-    ensures { (read : Reply) → Spells reply.entry.now read → IsTrue result ↔ (stated read.end ≡ key_stated told.entry.now) }
+    ensures { (read : Reply) → SpellsReply reply.entry.now read → IsTrue result ↔ (stated read.end ≡ key_stated told.entry.now) }
 {
     statement(reply) == *told
 }

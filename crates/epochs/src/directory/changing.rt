@@ -16,7 +16,7 @@ ghost use Rattle.book.specs.Answers.{next_page, with_page, with_pending, Last, P
 ghost use Rattle.book.specs.Maps.{at, overwritten};
 ghost use Rattle.book.specs.Replays.{put_refusal, with_bound};
 ghost use Rattle.book.specs.Shows.{index_of as index_by, placement};
-ghost use Rattle.book.specs.Sound.{IsHeld};
+ghost use Rattle.book.specs.Sound.{HoldsName};
 ghost use Rattle.book.specs.Turns.{Shows, Turn};
 ghost use Rattle.epochs.specs.Addresses.{address_of};
 ghost use Rattle.epochs.specs.DirectoryStates.{book, provider, HasKeysOf};
@@ -267,7 +267,7 @@ impl<H: NodeHash, V: Vuf, S: Signer, R: Rng> Directory<H, V, S, R> {
             result ≡ is_some (put_refusal by (book R.stream self.now) Register name.now) }
         ensures waits { result ≡ false → at self.now.pending name.now ≡ None }
         ensures free { let by = index_by (provider H.digest_of V.value_of S.signature_of self.now) in
-            result ≡ false → (other : List ℕ) → IsHeld (book R.stream self.now) other → by other ≡ by name.now → other ≡ name.now }
+            result ≡ false → (other : List ℕ) → HoldsName (book R.stream self.now) other → by other ≡ by name.now → other ≡ name.now }
     {
         self.trees[self.trees.len() - 1].get(index).is_some() || self.waiting.contains(index)
     }
@@ -295,7 +295,7 @@ impl<H: NodeHash, V: Vuf, S: Signer, R: Rng> Directory<H, V, S, R> {
             (λ address. (put_refusal by (book R.stream self.old) Register name.now ≡ None)
             × (address ≡ address_of (provider H.digest_of V.value_of S.signature_of self.old) name.now)
             × (at self.old.pending name.now ≡ None)
-            × ((other : List ℕ) → IsHeld (book R.stream self.old) other → by other ≡ by name.now → other ≡ name.now))
+            × ((other : List ℕ) → HoldsName (book R.stream self.old) other → by other ≡ by name.now → other ≡ name.now))
             (λ why. put_refusal by (book R.stream self.old) Register name.now ≡ Some why) }
         ensures stays { self.new ≡ record self.old { digests = self.new.digests } }
         ensures work { self.new.digests ≤ self.old.digests + 1 }
@@ -321,7 +321,7 @@ impl<H: NodeHash, V: Vuf, S: Signer, R: Rng> Directory<H, V, S, R> {
         requires waits { at self.old.pending name.now ≡ None }
         requires addressed { address.now ≡ address_of (provider H.digest_of V.value_of S.signature_of self.old) name.now }
         requires free { let by = index_by (provider H.digest_of V.value_of S.signature_of self.old) in
-            (other : List ℕ) → IsHeld (book R.stream self.old) other → by other ≡ by name.now → other ≡ name.now }
+            (other : List ℕ) → HoldsName (book R.stream self.old) other → by other ≡ by name.now → other ≡ name.now }
         ensures made { MatchResult result
             (λ _. K.kept keeper.old what.now keeper.new
             × (book R.stream self.new ≡ with_bound (book R.stream self.old) name.now (record { key = key.now; salt = salt })))
@@ -361,7 +361,7 @@ impl<H: NodeHash, V: Vuf, S: Signer, R: Rng> Directory<H, V, S, R> {
         requires waits { at self.old.pending name ≡ None }
         requires addressed { address.now ≡ address_of (provider H.digest_of V.value_of S.signature_of self.old) name }
         requires free { let by = index_by (provider H.digest_of V.value_of S.signature_of self.old) in
-            (other : List ℕ) → IsHeld (book R.stream self.old) other → by other ≡ by name → other ≡ name }
+            (other : List ℕ) → HoldsName (book R.stream self.old) other → by other ≡ by name → other ≡ name }
         ensures made { MatchResult result
             (λ promise. K.kept keeper.old what.now keeper.new
             × (book R.stream self.new ≡ with_pending (book R.stream self.old) name key)

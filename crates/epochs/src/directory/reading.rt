@@ -10,10 +10,10 @@ ghost use Rattle.book.specs.declared.refusal.Refusal.TheVariants.{NoSuchEpoch};
 ghost use Rattle.book.specs.Books.{Page, page_at, pages};
 ghost use Rattle.book.specs.Maps.{at};
 ghost use Rattle.book.specs.Shows.{index_of as index_by, reply_end, IsRootOf};
-ghost use Rattle.book.specs.Sound.{IsHeld};
-ghost use Rattle.book.specs.Turns.{IsRead, IsRefused, Reads};
+ghost use Rattle.book.specs.Sound.{HoldsName};
+ghost use Rattle.book.specs.Turns.{IsReadAnswer, IsRefused, ReadsOnly};
 ghost use Rattle.epochs.specs.DirectoryStates.{book, provider, HasKeysOf};
-ghost use Rattle.epochs.specs.Histories.{binding_at, opened};
+ghost use Rattle.epochs.specs.Histories.{binding_at, opened_binding};
 ghost use Rattle.epochs.specs.Replied.{found, promised};
 
 use super::Directory;
@@ -37,7 +37,7 @@ impl<H: NodeHash, V: Vuf, S: Signer, R: Rng> Directory<H, V, S, R> {
     ///
     /// `BadName`, `NoPromise`: the first that applies.
     pub fn promise(&mut self, name: &[u8]) -> Result<SignedPromise, Refusal>
-        ensures reads { Reads (provider H.digest_of V.value_of S.signature_of self.old) (book R.stream self.old) (Query (PromiseOf name.now)) (promised result) }
+        ensures reads { ReadsOnly (provider H.digest_of V.value_of S.signature_of self.old) (book R.stream self.old) (Query (PromiseOf name.now)) (promised result) }
         ensures stays { book R.stream self.new ≡ book R.stream self.old }
         ensures keys { HasKeysOf self.old self.new }
         ensures work { self.new.digests ≡ self.old.digests }
@@ -61,11 +61,11 @@ impl<H: NodeHash, V: Vuf, S: Signer, R: Rng> Directory<H, V, S, R> {
     ///
     /// `BadName`, `NoSuchEpoch`: the first that applies.
     pub fn lookup(&mut self, name: &[u8], epoch: u64) -> Result<ProofText, Refusal>
-        ensures reads { Reads (provider H.digest_of V.value_of S.signature_of self.old) (book R.stream self.old) (Query (Lookup name.now epoch)) (found result) }
+        ensures reads { ReadsOnly (provider H.digest_of V.value_of S.signature_of self.old) (book R.stream self.old) (Query (Lookup name.now epoch)) (found result) }
         ensures stays { book R.stream self.new ≡ book R.stream self.old }
         ensures keys { HasKeysOf self.old self.new }
         ensures work { self.new.digests ≤ self.old.digests + 1 }
-        ensures spared { IsHeld (book R.stream self.old) name.now → self.new.digests ≡ self.old.digests }
+        ensures spared { HoldsName (book R.stream self.old) name.now → self.new.digests ≡ self.old.digests }
     {
         let page = self.page(epoch);
         let sought = match seek(&mut self.hash, &self.vuf, &self.names, name, page) {
@@ -96,14 +96,14 @@ impl<H: NodeHash, V: Vuf, S: Signer, R: Rng> Directory<H, V, S, R> {
     ) -> Result<(), Refusal>
         requires { vec_len output.old + PROOF_TEXT_ROOM ≤ vec_capacity output.old }
         ensures reads { MatchResult result
-            (λ _. (text : List ℕ) × Reads (provider H.digest_of V.value_of S.signature_of self.old) (book R.stream self.old) (Query (Lookup name.now epoch)) (Found text)
+            (λ _. (text : List ℕ) × ReadsOnly (provider H.digest_of V.value_of S.signature_of self.old) (book R.stream self.old) (Query (Lookup name.now epoch)) (Found text)
             × (length text ≤ PROOF_TEXT_ROOM) × (output.new.items ≡ output.old.items ++ text))
             (λ why. IsRefused (provider H.digest_of V.value_of S.signature_of self.old) (book R.stream self.old) (Query (Lookup name.now epoch)) why
             × (output.new ≡ output.old)) }
         ensures stays { book R.stream self.new ≡ book R.stream self.old }
         ensures keys { HasKeysOf self.old self.new }
         ensures work { self.new.digests ≤ self.old.digests + 1 }
-        ensures spared { IsHeld (book R.stream self.old) name.now → self.new.digests ≡ self.old.digests }
+        ensures spared { HoldsName (book R.stream self.old) name.now → self.new.digests ≡ self.old.digests }
     {
         let page = self.page(epoch);
         let sought = match seek(&mut self.hash, &self.vuf, &self.names, name, page) {
@@ -132,7 +132,7 @@ impl<H: NodeHash, V: Vuf, S: Signer, R: Rng> Directory<H, V, S, R> {
     /// `BadRange` if `count` is 0 or above 64.
     pub fn history(&self, from: u64, count: u16) -> Result<&[SignedRoot], Refusal>
         ensures reads { MatchResult result
-            (λ roots. (pages : List Page) × IsRead (provider H.digest_of V.value_of S.signature_of self.now) (book R.stream self.now) (Query (History from count)) (Told pages)
+            (λ roots. (pages : List Page) × IsReadAnswer (provider H.digest_of V.value_of S.signature_of self.now) (book R.stream self.now) (Query (History from count)) (Told pages)
             × AllZip (IsRootOf (provider H.digest_of V.value_of S.signature_of self.now) (book R.stream self.now)) pages roots.now)
             (λ why. IsRefused (provider H.digest_of V.value_of S.signature_of self.now) (book R.stream self.now) (Query (History from count)) why) }
     {
@@ -195,7 +195,7 @@ struct Opening {
 impl Sought<'_> {
     /// What opens the leaf of the name, where the page has it.
     fn opening(&self) -> Option<Opening>
-        ensures { option_map opened result ≡ option_map (λ version. version.now.binding) self.now.shown }
+        ensures { option_map opened_binding result ≡ option_map (λ version. version.now.binding) self.now.shown }
     {
         match self.shown {
             Some(version) => Some(Opening {
@@ -241,7 +241,7 @@ fn seek<'a, H: NodeHash, V: Vuf>(
 
 /// The end of a path to this index. Without an opening, a leaf of the index is another name's.
 fn end_of<'a>(end: PathEnd, index: Index, opening: &'a Option<Opening>) -> End<'a>
-    ensures { end_given result ≡ reply_end index (option_map opened opening.entry.now) end }
+    ensures { end_given result ≡ reply_end index (option_map opened_binding opening.entry.now) end }
 {
     match opening {
         Some(opening) => match end {

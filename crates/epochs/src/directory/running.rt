@@ -2,10 +2,10 @@ ghost use Rattle.std.specs.Prelude.{◌≡◌, ◌<◌, ◌^◌, ℕ, List, IfOk
 ghost use Rattle.encoding.specs.Bytes.{Is32Bytes, IsBytes};
 ghost use Rattle.commands.specs.Operations.{asked, question, revision, IsAny, IsCommand, MayChange, MayRead, Edit as EditOf, Put as PutOf, Query as QueryOf};
 ghost use Rattle.book.specs.declared.reply.Reply.{Reply};
-ghost use Rattle.book.specs.Honest.{IsHonest};
-ghost use Rattle.book.specs.Turns.{Reads, Run, Turn};
+ghost use Rattle.book.specs.Honest.{IsHonestRun};
+ghost use Rattle.book.specs.Turns.{ReadsOnly, Run, Turn};
 ghost use Rattle.epochs.specs.DirectoryStates.{book, provider, HasKeysOf};
-ghost use Rattle.epochs.specs.Replied.{IsTold};
+ghost use Rattle.epochs.specs.Replied.{TellsRoots};
 ghost use Rattle.epochs.specs.Replied as replied;
 
 use super::Directory;
@@ -36,7 +36,7 @@ impl<H: NodeHash, V: Vuf, S: Signer, R: Rng> Directory<H, V, S, R> {
             (book R.stream self.old) keeper.old (map asked commands.now) replies.items (book R.stream self.new) keeper.new) }
         ensures err { OnErr result ((replies : List Reply) × (n : ℕ) × Run (provider H.digest_of V.value_of S.signature_of self.old) K.kept K.failed
             (book R.stream self.old) keeper.old (map asked (take n commands.now)) replies (book R.stream self.new) keeper.new) }
-        ensures honest { IfOk result (λ replies. IsHonest (provider H.digest_of V.value_of S.signature_of self.old) V.accepted S.verified (self.old).signing_key
+        ensures honest { IfOk result (λ replies. IsHonestRun (provider H.digest_of V.value_of S.signature_of self.old) V.accepted S.verified (self.old).signing_key
             (book R.stream self.old) (book R.stream self.new) (map asked commands.now) replies.items) }
         ensures keys { HasKeysOf self.old self.new }
     {
@@ -71,7 +71,7 @@ impl<H: NodeHash, V: Vuf, S: Signer, R: Rng> Directory<H, V, S, R> {
 
     /// Answers a query.
     fn read(&mut self, query: &Query<'_>) -> Result<Reply, AllocError>
-        ensures ok { IfOk result (Reads (provider H.digest_of V.value_of S.signature_of self.old) (book R.stream self.old) (QueryOf (question query.now))) }
+        ensures ok { IfOk result (ReadsOnly (provider H.digest_of V.value_of S.signature_of self.old) (book R.stream self.old) (QueryOf (question query.now))) }
         ensures stays { book R.stream self.new ≡ book R.stream self.old }
         ensures keys { HasKeysOf self.old self.new }
     {
@@ -197,7 +197,7 @@ fn last(answer: Result<SignedRoot, Refusal>) -> Reply
 
 /// The roots in a list of their own.
 fn told(alloc: Global, answer: Result<&[SignedRoot], Refusal>) -> Result<Reply, AllocError>
-    ensures { IfOk result (IsTold answer.entry) }
+    ensures { IfOk result (TellsRoots answer.entry) }
 {
     match answer {
         Ok(roots) => {

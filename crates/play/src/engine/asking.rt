@@ -9,14 +9,14 @@ ghost use Rattle.wire.specs.Responses.{response_seen, Proof, Refused, ResponseCo
 ghost use Rattle.book.specs.Books.{Page};
 ghost use Rattle.book.specs.Shows.{index_of};
 ghost use Rattle.epochs.specs.DirectoryStates.{provider, HasKeysOf};
-ghost use Rattle.play.specs.Checked.{line_of_reply, HasAnswered, HasAskedKnowing, HasChecked, HasLooked, IsFound};
+ghost use Rattle.play.specs.Checked.{line_of_reply, HasAnswered, HasAskedKnowing, HasChecked, HasLooked, HasLookedUp};
 ghost use Rattle.play.specs.Handed.{HasHanded, MayHand};
 ghost use Rattle.play.specs.Hearing.{response_text};
 ghost use Rattle.play.specs.Lines.{found_text};
 ghost use Rattle.play.specs.Parties.{AreAt, HasAsked, HaveDone, IsReady, Parties};
 ghost use Rattle.play.specs.Played as played;
 ghost use Rattle.play.specs.Played.{Stand};
-ghost use Rattle.play.specs.Spoken.{ask_seen, HasRoom};
+ghost use Rattle.play.specs.Spoken.{ask_seen, RequestFits};
 ghost use Rattle.play.specs.Watchers.{Watcher};
 
 use super::handing::hand_all;
@@ -131,7 +131,7 @@ where
     ///
     /// `AllocError` if memory runs out, here or in the directory.
     pub(super) fn ask(&mut self, ask: &Ask) -> Result<Vec<u8>, AllocError>
-        requires fits { HasRoom (ask_seen ask.now) }
+        requires fits { RequestFits (ask_seen ask.now) }
         requires ready { IsReady H.digest_of V.value_of S.signature_of R.stream V.accepted S.verified self.old }
         ensures { IfOk result (λ reply. HasAsked H.digest_of V.value_of S.signature_of R.stream V.accepted S.verified self.old (ask_seen ask.now) reply.items self.new) }
     {
@@ -154,7 +154,7 @@ where
     /// Asks what a line asks, and appends the line of what comes of it, which the client checks. What follows
     /// from it is then done.
     pub(super) fn answer(&mut self, ask: &Ask, text: &mut Vec<u8>) -> Result<(), AllocError>
-        requires fits { HasRoom (ask_seen ask.now) }
+        requires fits { RequestFits (ask_seen ask.now) }
         requires at { (stand : Stand) × AreAt H.digest_of V.value_of S.signature_of R.stream V.accepted S.verified self.old stand }
         ensures done { (stand : Stand) → AreAt H.digest_of V.value_of S.signature_of R.stream V.accepted S.verified self.old stand → OnOk result (let now = played.ask (index_of (provider H.digest_of V.value_of S.signature_of (self.old).hub.service.directory)) stand (ask_seen ask.now) in HaveDone H.digest_of V.value_of S.signature_of R.stream V.accepted S.verified text.old.items now.0 now.1 text.new.items self.new) }
         ensures keys { OnOk result (HasKeysOf (self.old).hub.service.directory (self.new).hub.service.directory) }
@@ -201,8 +201,8 @@ where
         reply: &[u8],
         text: &mut Vec<u8>,
     ) -> Result<(), AllocError>
-        requires found { (page : Page) × IsFound H.digest_of V.value_of S.signature_of R.stream V.accepted S.verified self.old name.now epoch reply.now page × (found_at ≡ page.epoch) }
-        ensures { (page : Page) → IsFound H.digest_of V.value_of S.signature_of R.stream V.accepted S.verified self.old name.now epoch reply.now page → found_at ≡ page.epoch
+        requires found { (page : Page) × HasLookedUp H.digest_of V.value_of S.signature_of R.stream V.accepted S.verified self.old name.now epoch reply.now page × (found_at ≡ page.epoch) }
+        ensures { (page : Page) → HasLookedUp H.digest_of V.value_of S.signature_of R.stream V.accepted S.verified self.old name.now epoch reply.now page → found_at ≡ page.epoch
             → OnOk result ((text.new.items ≡ text.old.items ++ found_text (index_of (provider H.digest_of V.value_of S.signature_of (self.old).hub.service.directory)) page name.now ++ 10 ∷ []) × HasLooked H.digest_of V.accepted self.old name.now epoch reply.now self.new) }
     {
         let Ok(name) = Name::new(name) else {

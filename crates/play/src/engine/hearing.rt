@@ -5,13 +5,13 @@ ghost use Rattle.wire.specs.Laws.{IsReadAs};
 ghost use Rattle.wire.specs.Responses.{Refused, ResponseContent};
 ghost use Rattle.book.specs.Shows.{index_of};
 ghost use Rattle.epochs.specs.DirectoryStates.{provider, HasKeysOf};
-ghost use Rattle.hub.specs.Events.{seen, End};
+ghost use Rattle.hub.specs.Events.{event_seen, End};
 ghost use Rattle.play.specs.Hearing.{response_text};
 ghost use Rattle.play.specs.Lines.{as_lines, of_session};
 ghost use Rattle.play.specs.Messages.{held_after};
 ghost use Rattle.play.specs.Parties.{AreAt, HasHappened, HasHeard, HaveDone, IsReady};
 ghost use Rattle.play.specs.Played.{hear, piece_events, Stand};
-ghost use Rattle.play.specs.Telling.{session_lines, AreFramesOf, HaveMemory, Heard};
+ghost use Rattle.play.specs.Telling.{session_lines, AreFramesOf, HaveMemory, HeardFrame};
 
 use super::Engine;
 use super::asking::response_of;
@@ -72,7 +72,7 @@ where
 
     /// Lets an event happen, and appends the replies to its messages. One that is refused does nothing.
     fn happen(&mut self, event: &Event<'_>, output: &mut Vec<u8>) -> Result<(), AllocError>
-        ensures { OnOk result (HasHappened H.digest_of V.value_of S.signature_of R.stream V.accepted S.verified self.old (seen event.now) output.old.items output.new.items self.new) }
+        ensures { OnOk result (HasHappened H.digest_of V.value_of S.signature_of R.stream V.accepted S.verified self.old (event_seen event.now) output.old.items output.new.items self.new) }
     {
         match self.hub.event(event, output) {
             Ok(()) => Ok(()),
@@ -96,8 +96,8 @@ where
 
 /// Appends the line of each frame that a session hears.
 fn tell_output(session: u32, output: &[u8], text: &mut Vec<u8>) -> Result<(), AllocError>
-    requires { (heard : List Heard) × AreFramesOf output.now heard }
-    ensures { (heard : List Heard) → AreFramesOf output.now heard → OnOk result ((text.new.items ≡ text.old.items ++ as_lines (session_lines session heard)) × HaveMemory heard) }
+    requires { (heard : List HeardFrame) × AreFramesOf output.now heard }
+    ensures { (heard : List HeardFrame) → AreFramesOf output.now heard → OnOk result ((text.new.items ≡ text.old.items ++ as_lines (session_lines session heard)) × HaveMemory heard) }
 {
     frames_are_read();
     let mut rest = output;

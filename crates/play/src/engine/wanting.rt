@@ -6,7 +6,7 @@ ghost use Rattle.rootchain.specs.Chains.{Verifies};
 ghost use Rattle.rootchain.specs.SignedRoots.{SpellsRoot};
 ghost use Rattle.rootchain.specs.declared.refusal.Refusal.TheVariants as roots;
 ghost use Rattle.rootchain.specs.declared.signed_root.SignedRoot.{SignedRoot};
-ghost use Rattle.hub.specs.Events.{due, seen};
+ghost use Rattle.hub.specs.Events.{due, event_seen};
 ghost use Rattle.hub.specs.Happenings.{Happens};
 ghost use Rattle.auditor.specs.Observing.{Observes};
 ghost use Rattle.auditor.specs.declared.auditor.Observed.{Observed};
@@ -63,8 +63,8 @@ pub(super) fn happen<D: Service + Drop>(
     event: &Event<'_>,
     output: &mut Vec<u8>,
 ) -> Result<(), AllocError>
-    requires { due hub.old.sessions (seen event.now) ≡ None }
-    ensures { OnOk result (Happens D.answers hub.old (seen event.now) output.old.items (Ok tt) hub.new output.new.items) }
+    requires { due hub.old.sessions (event_seen event.now) ≡ None }
+    ensures { OnOk result (Happens D.answers hub.old (event_seen event.now) output.old.items (Ok tt) hub.new output.new.items) }
 {
     match hub.event(event, output) {
         Ok(()) => Ok(()),

@@ -2,7 +2,7 @@ use Rattle.std.proofs.Common.{◌≡◌, ◌∙◌, Err, ap, subst, arith, get_o
 use Rattle.std.proofs.lemmas.List.{get_or_default}
 use Rattle.monitor.specs.Monitors.{Monitor}
 use Rattle.asking.specs.Following.{MonitorUpdates}
-use Rattle.asking.specs.Reports.{told_by}
+use Rattle.asking.specs.Reports.{report_of}
 use Rattle.asking.specs.declared.fault.AskFault.TheVariants.{Stopped}
 use Rattle.asking.proofs.Moved.{moved-begin, moved-end, moved-step}
 use Rattle.asking.proofs.Stopped.{one_refuses}
@@ -37,4 +37,4 @@ returns-in_err-update-clause-refused g c =
 pub returns-in_err-update-clause-halts : goal.returns-in_err-update-clause-halts
 returns-in_err-update-clause-halts g c =
     let passed : c.from_residual.result ≡ Err c.in_err-update.field-0.0 = search rules in
-    rw passed (λ unstopped. let halts = c.in_err-update.ensures.halts unstopped in (halts.0 ∙ ap told_by c.loop-monitor.invariant.1, halts.1))
+    rw passed (λ unstopped. let halts = c.in_err-update.ensures.halts unstopped in (halts.0 ∙ ap report_of c.loop-monitor.invariant.1, halts.1))

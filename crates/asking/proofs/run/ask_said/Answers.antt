@@ -1,6 +1,6 @@
 use Rattle.std.proofs.Common.{ℕ, List, Option, subst}
 use Rattle.std.specs.Prelude.{OnOk}
-use Rattle.asking.specs.Exchanges.{Exchanges}
+use Rattle.asking.specs.Exchanges.{ExchangesFrames}
 use Rattle.asking.specs.Joining.{BeginsWatch}
 use Rattle.asking.specs.Scenes.{scene}
 use Rattle.asking.proofs.Ran.{ok_then}
@@ -8,7 +8,7 @@ use Rattle.asking.proofs.run.ask_said.Goals as goal
 
 pub returns-in-Watch-clause-does : goal.returns-in-Watch-clause-does
 returns-in-Watch-clause-does g c =
-    rw c.in-Watch.is (subst (λ (given : Option (List ℕ)). OnOk c.watch.result (BeginsWatch g.H.NodeHash.digest_of g.V.VufCheck.accepted g.S.Verifier.verified (Exchanges g.T.Write.contents g.T.Read.remaining)
+    rw c.in-Watch.is (subst (λ (given : Option (List ℕ)). OnOk c.watch.result (BeginsWatch g.H.NodeHash.digest_of g.V.VufCheck.accepted g.S.Verifier.verified (ExchangesFrames g.T.Write.contents g.T.Read.remaining)
     c.args.asker.now.marks.items c.args.asker.now.key c.args.asker.now.earlier.items c.in-Watch.name given (scene c.args.asker.now c.args.said.now c.args.stream.now) (scene c.watch.new.self c.watch.new.said c.watch.new.stream)))
     c.as_ref.ensures.value c.watch.ensures.begins)
 

@@ -1,5 +1,5 @@
 use Rattle.std.proofs.Common.{Global, Vec, subst}
-use Rattle.asking.specs.Exchanges.{Exchanges}
+use Rattle.asking.specs.Exchanges.{ExchangesFrames}
 use Rattle.asking.specs.Scenes.{scene}
 use Rattle.asking.specs.Visiting.{TestsAll}
 use Rattle.asking.specs.declared.asker.Mark.{Mark}
@@ -14,5 +14,5 @@ returns-clause-prepares g c =
       follows.0,
       middle,
       follows.1,
-      subst (λ (m : Vec Mark Global). TestsAll g.H.NodeHash.digest_of g.V.VufCheck.accepted (Exchanges g.T.Write.contents g.T.Read.remaining) m.items middle (scene c.test_promises.new.self c.test_promises.new.said c.test_promises.new.stream)) c.in_ok-follow.ensures.stays.2 tests,
+      subst (λ (m : Vec Mark Global). TestsAll g.H.NodeHash.digest_of g.V.VufCheck.accepted (ExchangesFrames g.T.Write.contents g.T.Read.remaining) m.items middle (scene c.test_promises.new.self c.test_promises.new.said c.test_promises.new.stream)) c.in_ok-follow.ensures.stays.2 tests,
     ))

@@ -1,6 +1,6 @@
 use Rattle.std.proofs.Common.{rules, ◌≡◌, Err, refl, inl, inr}
 use Rattle.std.proofs.KnownBytes.{Keeps-refl}
-use Rattle.server.specs.DirectoryOptions.{values_of as directory_values}
+use Rattle.server.specs.DirectoryOptions.{directory_values}
 use Rattle.directoryd.specs.KeyFiles.{IsKeysFile}
 use Rattle.directoryd.proofs.keyed.serve_keyed.Goals as goal
 

@@ -9,7 +9,7 @@ use Rattle.clap.specs.Words.{App, Row, Text, HasKind, app_of, fault_of, found_of
 use Rattle.clap.specs.declared.builder.value_parser.ValueParser.{ValueParser}
 use Rattle.clap.specs.declared.error.kind.ErrorKind.TheVariants.{OutOfMemory}
 use Rattle.clap.proofs.OnLiterals.{clap_on_literals}
-use Rattle.directoryd.specs.CommandLine.{directory_app, IsHashNames, Refuses}
+use Rattle.directoryd.specs.CommandLine.{directory_app, IsHashNames, RefusesWords}
 use Rattle.directoryd.specs.Orders.{task_in}
 use Rattle.directoryd.proofs.order.order.Goals as goal
 
@@ -56,12 +56,12 @@ returns-clause-ok g c =
 refused : (names : ValueParser) (app : App) (words : List Text) (fault : Error) → IsHashNames names → app ≡ directory_app names
     → (takes app words ≡ true → kind_of fault ≡ OutOfMemory)
     → (is_simple_and_free app ≡ true → HasKind (fault_of app words) fault)
-    → (kind_of fault ≡ OutOfMemory) ⊎ Refuses words fault
+    → (kind_of fault ≡ OutOfMemory) ⊎ RefusesWords words fault
 refused names app words fault given app_is passes kinds =
     by (takes (directory_app names) words) refl (subst (λ a. HasKind (fault_of a words) fault) app_is (kinds (ap is_simple_and_free app_is ∙ is_simple_and_free-directory_app names)))
   where
     by : (b : Bool) → takes (directory_app names) words ≡ b → HasKind (fault_of (directory_app names) words) fault
-        → (kind_of fault ≡ OutOfMemory) ⊎ Refuses words fault
+        → (kind_of fault ≡ OutOfMemory) ⊎ RefusesWords words fault
     by true e kind = inl (passes (ap (λ a. takes a words) app_is ∙ e))
     by false e (inl memory) = inl memory
     by false e (inr kind) = inr (names, given, e, kind)

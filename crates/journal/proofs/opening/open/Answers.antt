@@ -1,10 +1,10 @@
 use Rattle.std.proofs.Common.{rules, ◌≡◌, ◌<◌, ◌^◌, length, ℕ, List, inl, sym, ap, subst, ◌∙◌, arith, Ok, Err}
 use Rattle.encoding.specs.declared.fault.Fault.TheVariants.{Trailing, OutOfRange}
 use Rattle.book.specs.Books.{Book}
-use Rattle.book.specs.Fresh.{provider_of}
+use Rattle.book.specs.Fresh.{keyed_provider}
 use Rattle.book.specs.Shows.{index_of}
 use Rattle.epochs.specs.DirectoryStates.{book}
-use Rattle.journal.specs.Opened.{StopsAt}
+use Rattle.journal.specs.Opened.{OpensUpTo}
 use Rattle.journal.specs.Reading.{read_start}
 use Rattle.journal.proofs.Counted.{start_is}
 use Rattle.journal.proofs.Replaying.{begun_index, not_begun, not_replayed, opened, start_cut, start_none, start_size}
@@ -26,7 +26,7 @@ returns-in_err-directory g c =
     let read = start_is c.args.bytes.now (Ok c.in-Ok.beginning) c.read_start.new.cursor (search rules) (ap read_start (sym c.new-cursor.ensures) ∙ c.in-Ok.ensures) in
     let passed : c.from_residual.result ≡ Err c.in_err-directory.field-0.0 = search rules in
     rw passed (record {
-      opens = not_begun (index_of (provider_of g.H.NodeHash.digest_of g.V.Vuf.value_of (g.V.Vuf.public_key c.args.vuf) g.S.Signer.signature_of (g.S.Signer.public_key c.args.signer)))
+      opens = not_begun (index_of (keyed_provider g.H.NodeHash.digest_of g.V.Vuf.value_of (g.V.Vuf.public_key c.args.vuf) g.S.Signer.signature_of (g.S.Signer.public_key c.args.signer)))
           (g.S.Signer.public_key c.args.signer) (g.V.Vuf.public_key c.args.vuf) (g.R.Rng.stream c.args.salts) c.in-Ok.beginning c.read_start.new.cursor read.0 read.1
           c.in_err-directory.field-0.0 c.in_err-directory.ensures.begins;
     })
@@ -41,8 +41,8 @@ returns-in_err-taken g c =
     let read = start_is c.args.bytes.now (Ok c.in-Ok.beginning) c.read_start.new.cursor (search rules) (ap read_start (sym c.new-cursor.ensures) ∙ c.in-Ok.ensures) in
     let begun = c.in_ok-directory.ensures.begins in
     let index = begun_index g.H.NodeHash.digest_of g.V.Vuf.value_of g.S.Signer.signature_of (g.V.Vuf.public_key c.args.vuf) (g.S.Signer.public_key c.args.signer) c.in_ok-directory.directory begun.2 begun.3 in
-    let by = index_of (provider_of g.H.NodeHash.digest_of g.V.Vuf.value_of (g.V.Vuf.public_key c.args.vuf) g.S.Signer.signature_of (g.S.Signer.public_key c.args.signer)) in
-    let Stops : (List ℕ → List ℕ) → Book → Type 0 = λ index first. StopsAt index first c.read_start.new.cursor (Err c.in_err-taken.field-0.0) (book g.R.Rng.stream c.replay_all.new.directory) c.replay_all.new.cursor in
+    let by = index_of (keyed_provider g.H.NodeHash.digest_of g.V.Vuf.value_of (g.V.Vuf.public_key c.args.vuf) g.S.Signer.signature_of (g.S.Signer.public_key c.args.signer)) in
+    let Stops : (List ℕ → List ℕ) → Book → Type 0 = λ index first. OpensUpTo index first c.read_start.new.cursor (Err c.in_err-taken.field-0.0) (book g.R.Rng.stream c.replay_all.new.directory) c.replay_all.new.cursor in
     let stops = subst (λ first. Stops by first) begun.1 (subst (λ i. Stops i (book g.R.Rng.stream c.in_ok-directory.directory)) index c.in_err-taken.ensures.replays) in
     let passed : c.from_residual-in_err-taken.result ≡ Err c.in_err-taken.field-0.0 = search rules in
     rw passed (record {
@@ -61,8 +61,8 @@ returns g c =
     let read = start_is c.args.bytes.now (Ok c.in-Ok.beginning) c.read_start.new.cursor (search rules) (ap read_start (sym c.new-cursor.ensures) ∙ c.in-Ok.ensures) in
     let begun = c.in_ok-directory.ensures.begins in
     let index = begun_index g.H.NodeHash.digest_of g.V.Vuf.value_of g.S.Signer.signature_of (g.V.Vuf.public_key c.args.vuf) (g.S.Signer.public_key c.args.signer) c.in_ok-directory.directory begun.2 begun.3 in
-    let by = index_of (provider_of g.H.NodeHash.digest_of g.V.Vuf.value_of (g.V.Vuf.public_key c.args.vuf) g.S.Signer.signature_of (g.S.Signer.public_key c.args.signer)) in
-    let Stops : (List ℕ → List ℕ) → Book → Type 0 = λ index first. StopsAt index first c.read_start.new.cursor (Ok c.in_ok-taken.taken) (book g.R.Rng.stream c.replay_all.new.directory) c.replay_all.new.cursor in
+    let by = index_of (keyed_provider g.H.NodeHash.digest_of g.V.Vuf.value_of (g.V.Vuf.public_key c.args.vuf) g.S.Signer.signature_of (g.S.Signer.public_key c.args.signer)) in
+    let Stops : (List ℕ → List ℕ) → Book → Type 0 = λ index first. OpensUpTo index first c.read_start.new.cursor (Ok c.in_ok-taken.taken) (book g.R.Rng.stream c.replay_all.new.directory) c.replay_all.new.cursor in
     let stops = subst (λ first. Stops by first) begun.1 (subst (λ i. Stops i (book g.R.Rng.stream c.in_ok-directory.directory)) index c.in_ok-taken.ensures.replays) in
     record {
       opens = (

@@ -8,7 +8,7 @@ use Rattle.wire.specs.Streams.{Rest}
 use Rattle.book.specs.Books.{Book}
 use Rattle.book.specs.Shows.{index_of}
 use Rattle.epochs.specs.DirectoryStates.{book, provider, DirectoryState}
-use Rattle.play.specs.Beginnings.{salts, script_index, script_salts}
+use Rattle.play.specs.Beginnings.{chacha_salts, script_index, script_salts}
 use Rattle.play.specs.Parties.{AreAt, Parties}
 use Rattle.play.specs.Played.{opening}
 use Rattle.play.proofs.beginning.begin.Goals as goal
@@ -19,8 +19,8 @@ open-requires-clause-fresh c = (1, replicate 32 0, script_salts, c.in_ok-first_d
 pub returns-clause-at : goal.returns-clause-at
 returns-clause-at c =
     let first = c.in_ok-first_directory.ensures in
-    let begun = λ (b : Book) (engine : Parties ChaCha). AreAt sha256 keyed_value keyed_signature salts KeyedAccepts KeyedVerifies engine (record { book = b; sessions = (0, Rest []) ∷ []; watchers = [] }) in
-    IfOk-weaker c.open.result (begun (book salts c.in_ok-first_directory.field-0)) (λ engine. AreAt sha256 keyed_value keyed_signature salts KeyedAccepts KeyedVerifies engine (opening script_salts))
+    let begun = λ (b : Book) (engine : Parties ChaCha). AreAt sha256 keyed_value keyed_signature chacha_salts KeyedAccepts KeyedVerifies engine (record { book = b; sessions = (0, Rest []) ∷ []; watchers = [] }) in
+    IfOk-weaker c.open.result (begun (book chacha_salts c.in_ok-first_directory.field-0)) (λ engine. AreAt sha256 keyed_value keyed_signature chacha_salts KeyedAccepts KeyedVerifies engine (opening script_salts))
     (λ engine at. subst (λ (b : Book). begun b engine) first.page at) c.open.ensures.at
 
 pub returns-clause-index : goal.returns-clause-index

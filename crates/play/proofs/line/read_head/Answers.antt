@@ -9,4 +9,4 @@ use Rattle.play.proofs.line.read_head.Goals as goal
 pub returns-in-Some : goal.returns-in-Some
 returns-in-Some c =
     let said = Some (script.Ask (asks.Query asked.Head)) in
-    sym (with_none_some said c.in-Some.field-0.now) ∙ ap (λ behind. script.with_none said (words_behind (option_map (λ text. text.now) behind))) (sym c.in-Some.is)
+    sym (with_none_some said c.in-Some.field-0.now) ∙ ap (λ behind. script.with_no_word said (words_behind (option_map (λ text. text.now) behind))) (sym c.in-Some.is)

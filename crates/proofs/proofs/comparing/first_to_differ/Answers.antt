@@ -1,5 +1,5 @@
 use Rattle.std.proofs.Common.{◌≡◌, ◌+◌, ◌-◌, ◌<◌, [], length, slice_index_or, refl, arith}
-use Rattle.prefixtree.specs.Paths.{joined}
+use Rattle.prefixtree.specs.Paths.{parent_text}
 use Rattle.proofs.proofs.Differing.{goes_up, starts}
 use Rattle.proofs.proofs.comparing.first_to_differ.Goals as goal
 
@@ -18,7 +18,7 @@ loop-k-preserved g c =
     c.loop-k.first c.loop-k.second c.joined_text-first.result c.joined_text-second.result c.loop-k.found c.first_of-found-in-loop-k.result (c.loop-k.k - 1) c.loop-k.k
     next inside second_inside c.loop-k.invariant
     (rw (c.joined_text-first.ensures.value, c.digest-below.ensures.value, c.bytes.ensures.value, c.new.ensures)
-    (refl {a = joined c.args.index.now (c.loop-k.k - 1) (g.H.NodeHash.digest_of c.loop-k.first) (slice_index_or c.args.first_siblings.now (c.loop-k.k - 1) [])}))
+    (refl {a = parent_text c.args.index.now (c.loop-k.k - 1) (g.H.NodeHash.digest_of c.loop-k.first) (slice_index_or c.args.first_siblings.now (c.loop-k.k - 1) [])}))
     (rw (c.joined_text-second.ensures.value, c.digest-below-in-loop-k.ensures.value, c.bytes-in-loop-k.ensures.value, c.new-in-loop-k.ensures)
-    (refl {a = joined c.args.index.now (c.loop-k.k - 1) (g.H.NodeHash.digest_of c.loop-k.second) (slice_index_or c.args.second_siblings.now (c.loop-k.k - 1) [])}))
+    (refl {a = parent_text c.args.index.now (c.loop-k.k - 1) (g.H.NodeHash.digest_of c.loop-k.second) (slice_index_or c.args.second_siblings.now (c.loop-k.k - 1) [])}))
     c.first_of-found-in-loop-k.ensures

@@ -1,11 +1,11 @@
 use Rattle.std.proofs.Common.{subst, take}
 use Rattle.std.specs.Io.BufRead.{FillKeeps}
 use Rattle.std.proofs.BufReadLemmas.{Consumes_shown}
-use Rattle.textio.proofs.Steps.{IsAtEnd-shown, TakesPiece-none}
+use Rattle.textio.proofs.Steps.{IsAtEnd-shown, LosesPiece-none}
 use Rattle.textio.proofs.line.take_step.Goals as goal
 
 pub returns-in-Err-clause-ok : goal.returns-in-Err-clause-ok
-returns-in-Err-clause-ok g c = TakesPiece-none _ _ _ _ c.fill_buf.follows.holds-at-none.0
+returns-in-Err-clause-ok g c = LosesPiece-none _ _ _ _ c.fill_buf.follows.holds-at-none.0
 
 pub returns-clause-ok : goal.returns-clause-ok
 returns-clause-ok g c =

@@ -1,5 +1,5 @@
 use Rattle.std.proofs.Common.{◌≡◌, ◌∙◌, suc, Bool, true, false, Err, refl, rules, subst, sym}
-use Rattle.asking.specs.Exchanges.{Exchanges}
+use Rattle.asking.specs.Exchanges.{ExchangesFrames}
 use Rattle.asking.specs.Following.{TakesList, TakesSome}
 use Rattle.asking.specs.Scenes.{scene}
 use Rattle.asking.specs.declared.fault.AskFault.TheVariants.{NoReply, Stopped}
@@ -13,14 +13,14 @@ pub returns-then-not-branch-clause-follows : goal.returns-then-not-branch-clause
 returns-then-not-branch-clause-follows g c =
     let went : c.in_ok-take_list.field-0 ≡ false = search rules in
     c.loop.invariant.follows 0 (scene c.take_list.new.self c.take_list.new.said c.take_list.new.stream)
-    (subst (λ (t : Bool). TakesList g.H.NodeHash.digest_of g.S.Verifier.verified (Exchanges g.T.Write.contents g.T.Read.remaining) (scene c.loop.self c.loop.said c.loop.stream) t (scene c.take_list.new.self c.take_list.new.said c.take_list.new.stream))
+    (subst (λ (t : Bool). TakesList g.H.NodeHash.digest_of g.S.Verifier.verified (ExchangesFrames g.T.Write.contents g.T.Read.remaining) (scene c.loop.self c.loop.said c.loop.stream) t (scene c.take_list.new.self c.take_list.new.said c.take_list.new.stream))
     went c.in_ok-take_list.ensures.takes)
 
 pub loop-preserved : goal.loop-preserved
 loop-preserved g c =
     let went : c.in_ok-take_list.field-0 ≡ true = search rules in
     let there = scene c.take_list.new.self c.take_list.new.said c.take_list.new.stream in
-    let takes = subst (λ (t : Bool). TakesList g.H.NodeHash.digest_of g.S.Verifier.verified (Exchanges g.T.Write.contents g.T.Read.remaining) (scene c.loop.self c.loop.said c.loop.stream) t there) went c.in_ok-take_list.ensures.takes in
+    let takes = subst (λ (t : Bool). TakesList g.H.NodeHash.digest_of g.S.Verifier.verified (ExchangesFrames g.T.Write.contents g.T.Read.remaining) (scene c.loop.self c.loop.said c.loop.stream) t there) went c.in_ok-take_list.ensures.takes in
     let stay = c.in_ok-take_list.ensures.stays in
     let stayed = c.loop.invariant.stays in
     record {
@@ -45,5 +45,5 @@ returns-in_err-take_list-clause-halts g c =
 
 pub returns-clause-halts : goal.returns-clause-halts
 returns-clause-halts g c =
-    λ unstopped. halts_here c.loop.self c.loop.said c.loop.stream (TakesSome g.H.NodeHash.digest_of g.S.Verifier.verified (Exchanges g.T.Write.contents g.T.Read.remaining) (scene c.args.self.now c.args.said.now c.args.stream.now)) NoReply
+    λ unstopped. halts_here c.loop.self c.loop.said c.loop.stream (TakesSome g.H.NodeHash.digest_of g.S.Verifier.verified (ExchangesFrames g.T.Write.contents g.T.Read.remaining) (scene c.args.self.now c.args.said.now c.args.stream.now)) NoReply
     (c.loop.invariant.some 0 (scene c.loop.self c.loop.said c.loop.stream) refl)

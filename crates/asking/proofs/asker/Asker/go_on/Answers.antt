@@ -1,5 +1,5 @@
 use Rattle.std.proofs.Common.{◌≡◌, ◌∙◌, ◌+◌, ℕ, suc, Err, arith, inl, rules, subst}
-use Rattle.asking.specs.Exchanges.{Exchanges}
+use Rattle.asking.specs.Exchanges.{ExchangesFrames}
 use Rattle.asking.specs.Scenes.{scene}
 use Rattle.asking.specs.Watching.{SomeStep}
 use Rattle.asking.proofs.Stepped.{all_step_more, goes_on, halts_testing, some_step_here, some_step_more}
@@ -15,10 +15,10 @@ loop-place-preserved g c =
     let steps = c.in_ok-step_through.ensures.steps in
     record {
       goes = λ after rest. c.loop-place.invariant.goes after
-          (all_step_more g.H.NodeHash.digest_of g.V.VufCheck.accepted (Exchanges g.T.Write.contents g.T.Read.remaining) c.loop-place.place (c.loop-place.place + 1) c.len-place-end.result
+          (all_step_more g.H.NodeHash.digest_of g.V.VufCheck.accepted (ExchangesFrames g.T.Write.contents g.T.Read.remaining) c.loop-place.place (c.loop-place.place + 1) c.len-place-end.result
           steps.0 here there after c.loop-place-test.true next steps.1 rest);
       some = λ reached rest. c.loop-place.invariant.some reached
-          (some_step_more g.H.NodeHash.digest_of g.V.VufCheck.accepted (Exchanges g.T.Write.contents g.T.Read.remaining) c.loop-place.place (c.loop-place.place + 1) c.len-place-end.result
+          (some_step_more g.H.NodeHash.digest_of g.V.VufCheck.accepted (ExchangesFrames g.T.Write.contents g.T.Read.remaining) c.loop-place.place (c.loop-place.place + 1) c.len-place-end.result
           steps.0 here there reached c.loop-place-test.true next steps.1 rest);
       stays = (stay.0 ∙ stayed.0, stay.1 ∙ stayed.1, stay.2 ∙ stayed.2, stay.3 ∙ stayed.3, stay.4 ∙ stayed.4);
       end = c.loop-place.invariant.end;
@@ -26,14 +26,14 @@ loop-place-preserved g c =
 
 pub returns-clause-goes : goal.returns-clause-goes
 returns-clause-goes g c =
-    goes_on g.H.NodeHash.digest_of g.V.VufCheck.accepted (Exchanges g.T.Write.contents g.T.Read.remaining) c.test_promises.result c.loop-place.self.marks c.args.self.now.marks
+    goes_on g.H.NodeHash.digest_of g.V.VufCheck.accepted (ExchangesFrames g.T.Write.contents g.T.Read.remaining) c.test_promises.result c.loop-place.self.marks c.args.self.now.marks
     c.loop-place.place c.len-place-end.result (scene c.args.self.now c.args.said.now c.args.stream.now) (scene c.loop-place.self c.loop-place.said c.loop-place.stream)
     (scene c.test_promises.new.self c.test_promises.new.said c.test_promises.new.stream) c.loop-place.invariant.stays.2 c.loop-place.invariant.end c.loop-place-test.false c.loop-place.invariant.goes
     c.test_promises.ensures.tests
 
 pub returns-clause-halts : goal.returns-clause-halts
 returns-clause-halts g c =
-    halts_testing g.H.NodeHash.digest_of g.V.VufCheck.accepted (Exchanges g.T.Write.contents g.T.Read.remaining) c.test_promises.result c.test_promises.new.self c.test_promises.new.said
+    halts_testing g.H.NodeHash.digest_of g.V.VufCheck.accepted (ExchangesFrames g.T.Write.contents g.T.Read.remaining) c.test_promises.result c.test_promises.new.self c.test_promises.new.said
     c.loop-place.self.marks c.args.self.now.marks c.loop-place.place c.len-place-end.result (scene c.args.self.now c.args.said.now c.args.stream.now)
     (scene c.loop-place.self c.loop-place.said c.loop-place.stream) c.loop-place.invariant.stays.2 c.loop-place.invariant.end c.loop-place-test.false c.loop-place.invariant.goes
     c.test_promises.ensures.halts
@@ -45,5 +45,5 @@ returns-in_err-step_through-clause-halts g c =
     let here = scene c.loop-place.self c.loop-place.said c.loop-place.stream in
     let halts = c.in_err-step_through.ensures.halts in
     let some = c.loop-place.invariant.some halts.0
-    (some_step_here g.H.NodeHash.digest_of g.V.VufCheck.accepted (Exchanges g.T.Write.contents g.T.Read.remaining) c.loop-place.place c.len-place-end.result here halts.0 c.loop-place-test.true halts.1) in
-    rw passed (halts.0, inl (subst (λ (n : ℕ). SomeStep g.H.NodeHash.digest_of g.V.VufCheck.accepted (Exchanges g.T.Write.contents g.T.Read.remaining) n first 0 halts.0) c.loop-place.invariant.end some), halts.2)
+    (some_step_here g.H.NodeHash.digest_of g.V.VufCheck.accepted (ExchangesFrames g.T.Write.contents g.T.Read.remaining) c.loop-place.place c.len-place-end.result here halts.0 c.loop-place-test.true halts.1) in
+    rw passed (halts.0, inl (subst (λ (n : ℕ). SomeStep g.H.NodeHash.digest_of g.V.VufCheck.accepted (ExchangesFrames g.T.Write.contents g.T.Read.remaining) n first 0 halts.0) c.loop-place.invariant.end some), halts.2)

@@ -5,7 +5,7 @@ use Rattle.std.proofs.lemmas.List.{with_items_is}
 use Rattle.std.proofs.lemmas.Option.{slice_get_read}
 use Rattle.monitor.specs.Monitors.{Monitor}
 use Rattle.wire.specs.FrameViews.{frame_seen}
-use Rattle.asking.specs.Exchanges.{Exchanges}
+use Rattle.asking.specs.Exchanges.{ExchangesFrames}
 use Rattle.asking.specs.Watching.{WatchesAt}
 use Rattle.asking.proofs.Stepped.{steps_none, steps_some}
 use Rattle.asking.proofs.asker.Asker.step.Goals as goal
@@ -17,7 +17,7 @@ returns-in_default-2-clause-steps g c =
     (slice_get_read c.deref.result.now (length c.deref.result.now) c.args.place c.in-Some.monitor.now refl c.in-Some.ensures.lookup.3.0 c.in-Some.ensures.lookup.1) in
     let next = rw c.in-Some-next_epoch.is at c.next_epoch.ensures in
     let gives = rw c.in_default-2.is at c.in_ok-found.ensures.gives in
-    steps_none g.H.NodeHash.digest_of g.V.VufCheck.accepted (Exchanges g.T.Write.contents g.T.Read.remaining) c.args.self.now c.args.said.now c.args.stream.now c.args.place
+    steps_none g.H.NodeHash.digest_of g.V.VufCheck.accepted (ExchangesFrames g.T.Write.contents g.T.Read.remaining) c.args.self.now c.args.said.now c.args.stream.now c.args.place
     c.in-Some.monitor.now c.in_ok-name.name.items c.in-Some-next_epoch.epoch (frame_seen c.in_ok-frame_in.field-0) c.request.new.stream c.body_of.new.said at next
     (c.in_ok-name.ensures.items ∙ c.bytes.ensures.value ∙ c.name.ensures)
     (c.in_ok-reply.ensures.sent (frame_seen c.in_ok-frame_in.field-0) (rw c.deref-2.ensures.value at c.in_ok-frame_in.ensures.ok)) gives
@@ -37,7 +37,7 @@ returns-clause-steps g c =
     c.watch_at.new.said c.watch_at.new.monitors) old c.in_ok-watch_at.ensures.watches in
     let watched = subst (λ (all : List Monitor). WatchesAt g.H.NodeHash.digest_of g.V.VufCheck.accepted c.args.self.now.monitors.items c.args.place c.in-Some-next_epoch.epoch c.in-Some-2.found.now c.body_of.new.said
     c.in_ok-watch_at.field-0 c.watch_at.new.said all) (sym back) watches in
-    steps_some g.H.NodeHash.digest_of g.V.VufCheck.accepted (Exchanges g.T.Write.contents g.T.Read.remaining) c.args.self.now c.args.said.now c.args.stream.now c.args.place
+    steps_some g.H.NodeHash.digest_of g.V.VufCheck.accepted (ExchangesFrames g.T.Write.contents g.T.Read.remaining) c.args.self.now c.args.said.now c.args.stream.now c.args.place
     c.in-Some.monitor.now c.in_ok-name.name.items c.in-Some-next_epoch.epoch (frame_seen c.in_ok-frame_in.field-0) c.request.new.stream c.body_of.new.said c.watch_at.new.said
     c.in-Some-2.found.now c.in_ok-watch_at.field-0 (with_items c.args.self.now.monitors c.watch_at.new.monitors).items at next
     (c.in_ok-name.ensures.items ∙ c.bytes.ensures.value ∙ c.name.ensures)

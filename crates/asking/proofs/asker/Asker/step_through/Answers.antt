@@ -1,5 +1,5 @@
 use Rattle.std.proofs.Common.{◌≡◌, ◌∙◌, suc, Bool, Err, true, false, refl, rules, subst}
-use Rattle.asking.specs.Exchanges.{Exchanges}
+use Rattle.asking.specs.Exchanges.{ExchangesFrames}
 use Rattle.asking.specs.Scenes.{scene}
 use Rattle.asking.specs.Watching.{StepsOnce, StepsSome}
 use Rattle.asking.specs.declared.fault.AskFault.TheVariants.{NoReply}
@@ -13,14 +13,14 @@ pub returns-then-not-branch-clause-steps : goal.returns-then-not-branch-clause-s
 returns-then-not-branch-clause-steps g c =
     let went : c.in_ok-step.field-0 ≡ false = search rules in
     c.loop.invariant.steps 0 (scene c.step.new.self c.step.new.said c.step.new.stream)
-    (subst (λ (t : Bool). StepsOnce g.H.NodeHash.digest_of g.V.VufCheck.accepted (Exchanges g.T.Write.contents g.T.Read.remaining) (scene c.loop.self c.loop.said c.loop.stream) c.args.place t (scene c.step.new.self c.step.new.said c.step.new.stream))
+    (subst (λ (t : Bool). StepsOnce g.H.NodeHash.digest_of g.V.VufCheck.accepted (ExchangesFrames g.T.Write.contents g.T.Read.remaining) (scene c.loop.self c.loop.said c.loop.stream) c.args.place t (scene c.step.new.self c.step.new.said c.step.new.stream))
     went c.in_ok-step.ensures.steps)
 
 pub loop-preserved : goal.loop-preserved
 loop-preserved g c =
     let went : c.in_ok-step.field-0 ≡ true = search rules in
     let there = scene c.step.new.self c.step.new.said c.step.new.stream in
-    let once = subst (λ (t : Bool). StepsOnce g.H.NodeHash.digest_of g.V.VufCheck.accepted (Exchanges g.T.Write.contents g.T.Read.remaining) (scene c.loop.self c.loop.said c.loop.stream) c.args.place t there) went c.in_ok-step.ensures.steps in
+    let once = subst (λ (t : Bool). StepsOnce g.H.NodeHash.digest_of g.V.VufCheck.accepted (ExchangesFrames g.T.Write.contents g.T.Read.remaining) (scene c.loop.self c.loop.said c.loop.stream) c.args.place t there) went c.in_ok-step.ensures.steps in
     let stay = c.in_ok-step.ensures.stays in
     let stayed = c.loop.invariant.stays in
     record {
@@ -37,5 +37,5 @@ returns-in_err-step-clause-halts g c =
 
 pub returns-clause-halts : goal.returns-clause-halts
 returns-clause-halts g c =
-    halts_here c.loop.self c.loop.said c.loop.stream (StepsSome g.H.NodeHash.digest_of g.V.VufCheck.accepted (Exchanges g.T.Write.contents g.T.Read.remaining) (scene c.args.self.now c.args.said.now c.args.stream.now) c.args.place) NoReply
+    halts_here c.loop.self c.loop.said c.loop.stream (StepsSome g.H.NodeHash.digest_of g.V.VufCheck.accepted (ExchangesFrames g.T.Write.contents g.T.Read.remaining) (scene c.args.self.now c.args.said.now c.args.stream.now) c.args.place) NoReply
     (c.loop.invariant.some 0 (scene c.loop.self c.loop.said c.loop.stream) refl)

@@ -1,5 +1,5 @@
 use Rattle.std.proofs.Common.{◌≡◌, ◌∙◌, suc, Err, Some, None, refl, rules}
-use Rattle.asking.specs.Exchanges.{Exchanges}
+use Rattle.asking.specs.Exchanges.{ExchangesFrames}
 use Rattle.asking.specs.Scenes.{scene}
 use Rattle.asking.specs.Visiting.{TestsSome}
 use Rattle.asking.specs.declared.fault.AskFault.TheVariants.{NoReply}
@@ -12,7 +12,7 @@ returns-in-None-clause-tests g c =
     let here = scene c.loop.self c.loop.said c.loop.stream in
     let there = scene c.visit.new.self c.visit.new.said c.visit.new.stream in
     c.loop.invariant.tests 0 there
-    (visits_as g.H.NodeHash.digest_of g.V.VufCheck.accepted (Exchanges g.T.Write.contents g.T.Read.remaining) c.loop.self.marks c.args.self.now.marks here there c.loop.place
+    (visits_as g.H.NodeHash.digest_of g.V.VufCheck.accepted (ExchangesFrames g.T.Write.contents g.T.Read.remaining) c.loop.self.marks c.args.self.now.marks here there c.loop.place
     c.in_ok-next.field-0 None c.loop.invariant.stays.2 c.in-None.is c.in_ok-next.ensures.visits)
 
 pub loop-preserved : goal.loop-preserved
@@ -21,7 +21,7 @@ loop-preserved g c =
     let there = scene c.visit.new.self c.visit.new.said c.visit.new.stream in
     let stay = c.in_ok-next.ensures.stays in
     let stayed = c.loop.invariant.stays in
-    let visited = visits_as g.H.NodeHash.digest_of g.V.VufCheck.accepted (Exchanges g.T.Write.contents g.T.Read.remaining) c.loop.self.marks c.args.self.now.marks here there c.loop.place
+    let visited = visits_as g.H.NodeHash.digest_of g.V.VufCheck.accepted (ExchangesFrames g.T.Write.contents g.T.Read.remaining) c.loop.self.marks c.args.self.now.marks here there c.loop.place
     c.in_ok-next.field-0 (Some c.in-Some.next) stayed.2 c.in-Some.is c.in_ok-next.ensures.visits in
     record {
       tests = λ count after rest. c.loop.invariant.tests (suc count) after (c.in-Some.next, there, visited, rest);
@@ -37,5 +37,5 @@ returns-in_err-next-clause-halts g c =
 
 pub returns-clause-halts : goal.returns-clause-halts
 returns-clause-halts g c =
-    halts_here c.loop.self c.loop.said c.loop.stream (TestsSome g.H.NodeHash.digest_of g.V.VufCheck.accepted (Exchanges g.T.Write.contents g.T.Read.remaining) c.args.self.now.marks.items (scene c.args.self.now c.args.said.now c.args.stream.now)) NoReply
+    halts_here c.loop.self c.loop.said c.loop.stream (TestsSome g.H.NodeHash.digest_of g.V.VufCheck.accepted (ExchangesFrames g.T.Write.contents g.T.Read.remaining) c.args.self.now.marks.items (scene c.args.self.now c.args.said.now c.args.stream.now)) NoReply
     (c.loop.invariant.some 0 (scene c.loop.self c.loop.said c.loop.stream) refl)

@@ -1,5 +1,5 @@
 use Rattle.std.proofs.Common.{◌≡◌}
-use Rattle.asking.specs.Exchanges.{Exchanges}
+use Rattle.asking.specs.Exchanges.{ExchangesFrames}
 use Rattle.asking.specs.Runs.{known_of}
 use Rattle.asking.specs.Scenes.{scene}
 use Rattle.asking.proofs.Ran.{LeadsOn}
@@ -7,7 +7,7 @@ use Rattle.asking.proofs.run.Run.ask_lines.Given as goal
 
 abbrev pub invariant-loop-number : goal.invariant-loop-number
 invariant-loop-number g l = record {
-  asks : LeadsOn g.H.NodeHash.digest_of g.V.VufCheck.accepted g.S.Verifier.verified (Exchanges g.T.Write.contents g.T.Read.remaining) (known_of l.fn.asker)
+  asks : LeadsOn g.H.NodeHash.digest_of g.V.VufCheck.accepted g.S.Verifier.verified (ExchangesFrames g.T.Write.contents g.T.Read.remaining) (known_of l.fn.asker)
       (scene l.fn.asker l.fn.self.said l.fn.stream) (g.R.Read.remaining l.fn.reader) (g.W.Write.contents l.fn.writer)
       (scene l.asker l.self.said l.stream) (g.R.Read.remaining l.reader) (g.W.Write.contents l.writer);
   same : known_of l.asker ≡ known_of l.fn.asker;

@@ -1,6 +1,6 @@
 use Rattle.std.proofs.Common.{rules, ◌≡◌, Ok, Err, refl, ap, subst}
 use Rattle.rootchain.specs.Chains.{IsChain}
-use Rattle.client.specs.Clients.{Client, IsSound}
+use Rattle.client.specs.Clients.{Client, IsSoundClient}
 use Rattle.client.specs.Dues.{IsTested, Tests, left}
 use Rattle.client.specs.declared.due.Due.TheVariants.{Kept, Broken, OtherIndex}
 use Rattle.client.proofs.Breaking.{due-holds, refused}
@@ -47,7 +47,7 @@ returns-in-Ok-Broken-clause-evidence g c =
     let told = subst (Tests g.H.NodeHash.digest_of g.V.VufCheck.accepted c.self.inside.chain c.args.name.now c.args.bytes.now signed) is c.test.ensures.tests in
     let tests = subst (λ (client : Client). Tests g.H.NodeHash.digest_of g.V.VufCheck.accepted client.chain c.args.name.now c.args.bytes.now signed (Ok (Broken c.in-Ok-Broken.broken))) c.self.view_is told in
     let chain = subst (λ (client : Client). IsChain g.H.NodeHash.digest_of g.S.Verifier.verified client.chain) c.self.view_is c.test.ensures.chain in
-    let sound = subst (IsSound g.H.NodeHash.digest_of g.V.VufCheck.accepted g.S.Verifier.verified) c.self.view_is c.self.invariant in
+    let sound = subst (IsSoundClient g.H.NodeHash.digest_of g.V.VufCheck.accepted g.S.Verifier.verified) c.self.view_is c.self.invariant in
     due-holds g.H.NodeHash.digest_of g.V.VufCheck.accepted g.S.Verifier.verified c.args.self.now c.args.name.now c.args.bytes.now chain sound place signed found (Broken c.in-Ok-Broken.broken) tests
 
 pub returns-in-Ok-OtherIndex-clause-due : goal.returns-in-Ok-OtherIndex-clause-due

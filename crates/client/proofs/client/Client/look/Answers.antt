@@ -1,11 +1,11 @@
 use Rattle.std.proofs.Common.{rules, ◌≡◌, ◌++◌, ◌∷◌, [], ap, option_copied, refl}
-use Rattle.client.specs.Looking.{IsAsked}
+use Rattle.client.specs.Looking.{IsLookRoot}
 use Rattle.client.proofs.Keeping.{answered, look-kept}
 use Rattle.client.proofs.client.Client.look.Goals as goal
 
 pub returns-then-is_err : goal.returns-then-is_err
 returns-then-is_err g c =
-    let asked : IsAsked c.args.self.now.chain c.args.epoch c.in-Some.root.now = rw (← c.self.view_is) ((c.asked.ensures c.in-Some.root.now).0 (ap option_copied c.in-Some.is)) in
+    let asked : IsLookRoot c.args.self.now.chain c.args.epoch c.in-Some.root.now = rw (← c.self.view_is) ((c.asked.ensures c.in-Some.root.now).0 (ap option_copied c.in-Some.is)) in
     let same : c.push.new.self ≡ c.self.inside.looks = search rules in (
       c.in-Some.root.now,
       c.in-Ok.accepted.reply,
@@ -23,7 +23,7 @@ invariant_of-self-in-Ok g c =
 
 pub returns-else-is_err : goal.returns-else-is_err
 returns-else-is_err g c =
-    let asked : IsAsked c.args.self.now.chain c.args.epoch c.in-Some.root.now = rw (← c.self.view_is) ((c.asked.ensures c.in-Some.root.now).0 (ap option_copied c.in-Some.is)) in
+    let asked : IsLookRoot c.args.self.now.chain c.args.epoch c.in-Some.root.now = rw (← c.self.view_is) ((c.asked.ensures c.in-Some.root.now).0 (ap option_copied c.in-Some.is)) in
     let more : c.push.new.self ≡ c.self.inside.looks ++ (record { name = c.args.name.now; epoch = c.in-Some.root.now.body.epoch; reply = c.args.bytes.now }) ∷ [] =
     search rules in (
       c.in-Some.root.now,

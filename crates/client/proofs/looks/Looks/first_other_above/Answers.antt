@@ -1,5 +1,5 @@
 use Rattle.std.proofs.Common.{ℕ, List, Vec, Global, sym, subst, ◌∙◌}
-use Rattle.proofs.specs.Replies.{Spells}
+use Rattle.proofs.specs.Replies.{SpellsReply}
 use Rattle.proofs.specs.Views.{key_stated}
 use Rattle.client.specs.Agreements.{AreBeside}
 use Rattle.client.specs.Clients.{Look}
@@ -38,7 +38,7 @@ returns-then-not-states c =
     let x : LookPlace × Vec ℕ Global = (c.in-Some.other.now, c.in-Some.reply.now) in
     let here = up-here items_of c.args.self.now c.args.place.now (key_stated c.args.told.now) c.requires.ones inv.0 inv.1 c.requires.below x c.next.new.self c.loop-other.other-iterator inv.2 c.in-Some.ensures.steps in
     let other = does-not items_of c.args.self.now c.args.place.now (key_stated c.args.told.now) c.requires.ones inv.0 inv.1 x here (c.is_beside.ensures.0 c.if-not-is_beside.false) c.states.result c.if-not-states.true
-    (λ read spelled. c.states.ensures read (subst (λ (bytes : List ℕ). Spells bytes read) (sym c.deref.ensures.value) spelled)) in
+    (λ read spelled. c.states.ensures read (subst (λ (bytes : List ℕ). SpellsReply bytes read) (sym c.deref.ensures.value) spelled)) in
     rw c.deref-then-not-states.ensures.value
     (up-found items_of c.args.self.now c.args.place.now (key_stated c.args.told.now) c.requires.ones inv.0 inv.1 c.requires.below x c.next.new.self c.loop-other.other-iterator inv.2 c.in-Some.ensures.steps (items_of x.1) other)
 
@@ -49,7 +49,7 @@ loop-other-preserved c =
       inv.0,
       inv.1,
       more-gone _ (from_of c.args.place.now inv.0) _ x c.next.new.self inv.2 c.in-Some.ensures.steps
-          (λ read spelled. (c.states.ensures read (subst (λ (bytes : List ℕ). Spells bytes read) (sym c.deref.ensures.value) spelled)).0 c.if-not-states.false),
+          (λ read spelled. (c.states.ensures read (subst (λ (bytes : List ℕ). SpellsReply bytes read) (sym c.deref.ensures.value) spelled)).0 c.if-not-states.false),
     )
 
 pub returns : goal.returns

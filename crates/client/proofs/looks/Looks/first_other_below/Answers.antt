@@ -1,5 +1,5 @@
 use Rattle.std.proofs.Common.{ℕ, List, Vec, Global, sym, ap, subst, ◌∙◌}
-use Rattle.proofs.specs.Replies.{Spells}
+use Rattle.proofs.specs.Replies.{SpellsReply}
 use Rattle.proofs.specs.Views.{key_stated}
 use Rattle.client.specs.Agreements.{AreBeside}
 use Rattle.client.specs.Clients.{Look}
@@ -37,7 +37,7 @@ loop-other-preserved-then-not-states c =
     let x : LookPlace × Vec ℕ Global = (c.in-Some.other.now, c.in-Some.reply.now) in
     let here = down-here items_of c.args.self.now c.args.place.now (key_stated c.args.told.now) inv.2 inv.0 inv.1 x c.next.new.self.iter c.loop-other.other-iterator.iter _ inv.3 c.in-Some.ensures.steps in
     let other = does-not items_of c.args.self.now c.args.place.now (key_stated c.args.told.now) inv.2 inv.0 inv.1 x here (c.is_beside.ensures.0 c.if-not-is_beside.false) c.states.result c.if-not-states.true
-    (λ read spelled. c.states.ensures read (subst (λ (bytes : List ℕ). Spells bytes read) (sym c.deref.ensures.value) spelled)) in (
+    (λ read spelled. c.states.ensures read (subst (λ (bytes : List ℕ). SpellsReply bytes read) (sym c.deref.ensures.value) spelled)) in (
       inv.0,
       inv.1,
       inv.2,
@@ -53,7 +53,7 @@ loop-other-preserved c =
       inv.1,
       inv.2,
       down-stated items_of c.args.self.now c.args.place.now (key_stated c.args.told.now) inv.2 inv.0 inv.1 x c.next.new.self.iter c.loop-other.other-iterator.iter _ inv.3 c.in-Some.ensures.steps
-          (λ read spelled. (c.states.ensures read (subst (λ (bytes : List ℕ). Spells bytes read) (sym c.deref.ensures.value) spelled)).0 c.if-not-states.false),
+          (λ read spelled. (c.states.ensures read (subst (λ (bytes : List ℕ). SpellsReply bytes read) (sym c.deref.ensures.value) spelled)).0 c.if-not-states.false),
     )
 
 pub returns : goal.returns

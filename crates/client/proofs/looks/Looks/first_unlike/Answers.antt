@@ -1,5 +1,5 @@
 use Rattle.std.proofs.Common.{ℕ, List, [], Option, Vec, Global, inl, inr, refl, sym, subst, ◌∙◌}
-use Rattle.proofs.specs.Replies.{Spells}
+use Rattle.proofs.specs.Replies.{SpellsReply}
 use Rattle.client.specs.Agreements.{AllState, IsFirstOther}
 use Rattle.client.specs.Clients.{Look}
 use Rattle.client.specs.declared.looks.LookPlace.{LookPlace}
@@ -43,7 +43,7 @@ loop-place-preserved-in_default c =
           (inl
           (λ read spelled.
           subst (λ (told : Option (List ℕ)). AllState c.args.others.now x.0.asked.name.items x.0.asked.epoch told)
-          (c.statement.ensures read (subst (λ (bytes : List ℕ). Spells bytes read) (sym c.deref.ensures.value) spelled)) c.in_default.ensures)),
+          (c.statement.ensures read (subst (λ (bytes : List ℕ). SpellsReply bytes read) (sym c.deref.ensures.value) spelled)) c.in_default.ensures)),
     )
 
 pub loop-place-preserved : goal.loop-place-preserved
@@ -60,7 +60,7 @@ loop-place-preserved c =
             one = c.deref-in-loop-place-2.ensures.value;
             other = λ read spelled.
                 subst (λ (told : Option (List ℕ)). IsFirstOther c.args.others.now x.0.asked.name.items x.0.asked.epoch told c.in-Some-first_other.other.now)
-                (c.statement.ensures read (subst (λ (bytes : List ℕ). Spells bytes read) (sym c.deref.ensures.value) spelled)) c.in-Some-first_other.ensures;
+                (c.statement.ensures read (subst (λ (bytes : List ℕ). SpellsReply bytes read) (sym c.deref.ensures.value) spelled)) c.in-Some-first_other.ensures;
           })
           (not-before c.loop-place.found x.0.number (λ is. let yes-it = c.is_before.ensures.1 is in let not-it = c.if-is_before.false in absurd cc)),
     )

@@ -1,10 +1,10 @@
 use Rattle.std.proofs.Common.{◌≡◌, ◌≤◌, List, ℕ, [], take, length, Err, Ok, IsTrue, false, true, refl, rules, arith, inl}
 use Rattle.std.proofs.lemmas.Grind.{common_steps}
 use Rattle.connections.specs.declared.ending.Ending.TheVariants.{Fault}
-use Rattle.connections.specs.Rounds.{asks}
-use Rattle.connections.specs.Fitting.{Keeps, KeepsTalk}
+use Rattle.connections.specs.Rounds.{gives_turn}
+use Rattle.connections.specs.Fitting.{KeepsCourse, KeepsTalk}
 use Rattle.connections.specs.Histories.{Fails, IsOver, IsSilent, Reads, Course, History, of_connections}
-use Rattle.connections.specs.Soundness.{MayRead}
+use Rattle.connections.specs.Soundness.{MayBeRead}
 use Rattle.connections.proofs.Hearing.{attends_both, attends_first, attends_last, attends_stop}
 use Rattle.connections.proofs.Steps.{come_to, here_so, may_read, next_fail, next_over, next_read, next_silent}
 use Rattle.connections.proofs.talk.Talk.attend.Goals as goal
@@ -25,12 +25,12 @@ returns-in_err-hear_new-in-Bytes g c =
     let some : 1 ≤ length bytes = grind (arith, common_steps) in
     let few : length bytes ≤ 4096 = grind (arith, common_steps) in
     rw passed (attends_stop g.S.Sessions.opens g.S.Sessions.refuses g.S.Sessions.hears g.S.Sessions.misses g.S.Sessions.ends g.C.Connections.has c.args.place c.args.now c.args.connections.now c.args.sessions.now c.args.self.now c.read.new.self
-    (Keeps bytes c.args.self.now.output.items c.args.self.now.active c.args.self.now.is_over) c.in_err-hear_new-in-Bytes.field-0.0 c.hear_new.new.sessions c.hear_new.new.self
+    (KeepsCourse bytes c.args.self.now.output.items c.args.self.now.active c.args.self.now.is_over) c.in_err-hear_new-in-Bytes.field-0.0 c.hear_new.new.sessions c.hear_new.new.self
     (λ (idle : ℕ) (acts : History) knows hearing unread here.
     let a = come_to g.C.Connections.has idle c.args.place acts c.args.connections.now c.read.new.self (Reads bytes) _ tt
     (c.read.ensures.bytes c.in-Bytes.count c.in-Bytes.is (of_connections acts)) knows
     (next_read idle acts c.args.place bytes c.args.self.now.input.items _ _ _ unread hearing some few (may_read _ _ _ _ _ ready.0 ready.1 ready.2 here)) in
-    (a.0, a.1, a.2, a.3, a.4 asks refl))
+    (a.0, a.1, a.2, a.3, a.4 gives_turn refl))
     c.in_err-hear_new-in-Bytes.ensures.hears)
 
 pub returns-in_ok-hear_new-in-Bytes : goal.returns-in_ok-hear_new-in-Bytes
@@ -43,12 +43,12 @@ returns-in_ok-hear_new-in-Bytes g c =
     let some : 1 ≤ length bytes = grind (arith, common_steps) in
     let few : length bytes ≤ 4096 = grind (arith, common_steps) in
     attends_both g.S.Sessions.opens g.S.Sessions.refuses g.S.Sessions.hears g.S.Sessions.misses g.S.Sessions.ends g.C.Connections.has c.args.place c.args.now c.args.connections.now c.args.sessions.now c.args.self.now c.read.new.self
-    (Keeps bytes c.args.self.now.output.items c.args.self.now.active c.args.self.now.is_over) c.hear_new.new.sessions c.hear_new.new.self
+    (KeepsCourse bytes c.args.self.now.output.items c.args.self.now.active c.args.self.now.is_over) c.hear_new.new.sessions c.hear_new.new.self
     (λ (idle : ℕ) (acts : History) knows hearing unread here.
     let a = come_to g.C.Connections.has idle c.args.place acts c.args.connections.now c.read.new.self (Reads bytes) _ tt
     (c.read.ensures.bytes c.in-Bytes.count c.in-Bytes.is (of_connections acts)) knows
     (next_read idle acts c.args.place bytes c.args.self.now.input.items _ _ _ unread hearing some few (may_read _ _ _ _ _ ready.0 ready.1 ready.2 here)) in
-    (a.0, a.1, a.2, a.3, a.4 asks refl))
+    (a.0, a.1, a.2, a.3, a.4 gives_turn refl))
     c.in_ok-hear_new-in-Bytes.ensures.hears c.in_ok-hear_new-in-Bytes.ensures.all
 
 pub returns-in-End : goal.returns-in-End
@@ -60,7 +60,7 @@ returns-in-End g c =
     let a = come_to g.C.Connections.has idle c.args.place acts c.args.connections.now c.read.new.self IsOver _ tt
     (c.read.ensures.end c.in-End.is (of_connections acts)) knows
     (next_over idle acts c.args.place _ _ _ _ unread hearing (may_read _ _ _ _ _ ready.0 ready.1 ready.2 here)) in
-    (a.0, a.1, a.2, a.3, a.4 asks refl))
+    (a.0, a.1, a.2, a.3, a.4 gives_turn refl))
     ready.0
 
 pub returns-in-Wait : goal.returns-in-Wait
@@ -72,7 +72,7 @@ returns-in-Wait g c =
     let a = come_to g.C.Connections.has idle c.args.place acts c.args.connections.now c.read.new.self IsSilent _ tt
     (c.read.ensures.wait c.in-Wait.is (of_connections acts)) knows
     (next_silent idle acts c.args.place _ _ _ _ unread hearing (may_read _ _ _ _ _ ready.0 ready.1 ready.2 here)) in
-    (a.0, a.1, a.2, a.3, a.4 asks refl))
+    (a.0, a.1, a.2, a.3, a.4 gives_turn refl))
     ready.0
 
 pub returns-in-Fault : goal.returns-in-Fault
@@ -84,5 +84,5 @@ returns-in-Fault g c =
     let a = come_to g.C.Connections.has idle c.args.place acts c.args.connections.now c.read.new.self Fails _ tt
     (c.read.ensures.fault c.in-Fault.is (of_connections acts)) knows
     (next_fail idle acts c.args.place _ _ _ _
-    (here_so _ _ _ (λ (of : Course) (may : KeepsTalk c.args.self.now of × MayRead of). (may.0, inl (may.1, hearing))) (may_read _ _ _ _ _ ready.0 ready.1 ready.2 here))) in
+    (here_so _ _ _ (λ (of : Course) (may : KeepsTalk c.args.self.now of × MayBeRead of). (may.0, inl (may.1, hearing))) (may_read _ _ _ _ _ ready.0 ready.1 ready.2 here))) in
     (a.0, a.1, a.2, a.3, tt)) tt

@@ -3,7 +3,7 @@ use Rattle.std.proofs.lemmas.Grind.{common_steps}
 use Rattle.connections.specs.Rounds.{offers}
 use Rattle.connections.specs.Fitting.{KeepsTalk}
 use Rattle.connections.specs.Histories.{Fails, Takes, TakesNone, Course, of_connections}
-use Rattle.connections.specs.Soundness.{MayTake}
+use Rattle.connections.specs.Soundness.{MayBeOffered}
 use Rattle.connections.proofs.Steps.{come_to, here_so, may_take, next_fail, next_take, next_take_none}
 use Rattle.connections.proofs.talk.Talk.write.Goals as goal
 
@@ -35,5 +35,5 @@ returns-in-Fault-clause-writes g c = λ idle acts knows telling time here.
     let a = come_to g.C.Connections.has idle c.args.place acts c.args.connections.now c.write.new.self Fails _ tt
     (c.write.ensures.fault c.in-Fault.is (of_connections acts)) knows
     (next_fail idle acts c.args.place _ _ _ _
-    (here_so _ _ _ (λ (of : Course) (may : KeepsTalk c.args.self.now of × MayTake of). (may.0, inr (may.1, telling))) (may_take _ _ _ _ _ c.requires here))) in
+    (here_so _ _ _ (λ (of : Course) (may : KeepsTalk c.args.self.now of × MayBeOffered of). (may.0, inr (may.1, telling))) (may_take _ _ _ _ _ c.requires here))) in
     (a.0, a.1, a.2, a.3, tt)

@@ -9,7 +9,7 @@ use Rattle.book.specs.Books.{Binding}
 use Rattle.book.specs.Shows.{reply_end}
 use Rattle.epochs.specs.declared.address.Address.{Address}
 use Rattle.epochs.specs.Addresses.{address_of}
-use Rattle.epochs.specs.Directories.{kept_of, parts_of}
+use Rattle.epochs.specs.Directories.{parts_of, state_of}
 use Rattle.epochs.specs.Histories.{binding_at}
 use Rattle.epochs.specs.DirectoryStates.{provider}
 use Rattle.epochs.proofs.Addresses.{address_read, chosen_found, held_there}
@@ -23,7 +23,7 @@ index-requires g c =
 
 pub returns-clause-reads : goal.returns-clause-reads
 returns-clause-reads g c =
-    let by = provider g.H.NodeHash.digest_of g.V.Vuf.value_of g.S.Signer.signature_of (kept_of g.V.Vuf.public_key g.S.Signer.public_key g.H.NodeHash.digests c.self.inside) in
+    let by = provider g.H.NodeHash.digest_of g.V.Vuf.value_of g.S.Signer.signature_of (state_of g.V.Vuf.public_key g.S.Signer.public_key g.H.NodeHash.digests c.self.inside) in
     let sought = c.in-Ok.sought in
     let search = c.in-Ok.ensures.found in
     let own : sought.address ≡ address_of by c.args.name.now =

@@ -1,6 +1,6 @@
 use Rattle.std.proofs.Common.{rules, arith, ◌≡◌, Option, length}
 use Rattle.book.specs.declared.refusal.Refusal.{Refusal}
-use Rattle.epochs.specs.Directories.{kept_of, parts_of}
+use Rattle.epochs.specs.Directories.{parts_of, state_of}
 use Rattle.epochs.specs.DirectoryStates.{provider}
 use Rattle.epochs.specs.KeyChanges.{IsRefusedSo}
 use Rattle.epochs.proofs.KeyChanges.{addresses_changed, book_changed, fits_kept, keeps_changed}
@@ -13,13 +13,13 @@ let_change_wait-requires-clause-begun g c =
 
 pub let_change_wait-requires-clause-fits : goal.let_change_wait-requires-clause-fits
 let_change_wait-requires-clause-fits g c =
-    let by = provider g.H.NodeHash.digest_of g.V.Vuf.value_of g.S.Signer.signature_of (kept_of g.V.Vuf.public_key g.S.Signer.public_key g.H.NodeHash.digests c.self.inside) in
+    let by = provider g.H.NodeHash.digest_of g.V.Vuf.value_of g.S.Signer.signature_of (state_of g.V.Vuf.public_key g.S.Signer.public_key g.H.NodeHash.digests c.self.inside) in
     let long : c.len-page.result ≡ length (parts_of c.self.inside).roots = search rules in
     fits_kept by c.self.inside.names (parts_of c.self.inside) _ _ c.self.invariant.0 c.self.invariant.1 c.args.name.now c.args.key.now c.args.salt c.bytes-3.ensures.size c.len-page.result long
 
 pub invariant_of-self : goal.invariant_of-self
 invariant_of-self g c =
-    let by = provider g.H.NodeHash.digest_of g.V.Vuf.value_of g.S.Signer.signature_of (kept_of g.V.Vuf.public_key g.S.Signer.public_key g.H.NodeHash.digests c.self.inside) in
+    let by = provider g.H.NodeHash.digest_of g.V.Vuf.value_of g.S.Signer.signature_of (state_of g.V.Vuf.public_key g.S.Signer.public_key g.H.NodeHash.digests c.self.inside) in
     let kept = g.K.Keeper.kept c.args.keeper.now c.args.what.now c.let_change_wait.new.keeper in
     let refused = λ (due : Option Refusal) (why : Refusal). IsRefusedSo g.K.Keeper.failed c.args.keeper.now c.args.what.now due why c.let_change_wait.new.keeper in
     let long : c.len-page.result ≡ length (parts_of c.self.inside).roots = search rules in (
@@ -31,7 +31,7 @@ invariant_of-self g c =
 
 pub returns-clause-made : goal.returns-clause-made
 returns-clause-made g c =
-    let by = provider g.H.NodeHash.digest_of g.V.Vuf.value_of g.S.Signer.signature_of (kept_of g.V.Vuf.public_key g.S.Signer.public_key g.H.NodeHash.digests c.self.inside) in
+    let by = provider g.H.NodeHash.digest_of g.V.Vuf.value_of g.S.Signer.signature_of (state_of g.V.Vuf.public_key g.S.Signer.public_key g.H.NodeHash.digests c.self.inside) in
     let kept = g.K.Keeper.kept c.args.keeper.now c.args.what.now c.let_change_wait.new.keeper in
     let refused = λ (due : Option Refusal) (why : Refusal). IsRefusedSo g.K.Keeper.failed c.args.keeper.now c.args.what.now due why c.let_change_wait.new.keeper in
     let long : c.len-page.result ≡ length (parts_of c.self.inside).roots = search rules in

@@ -2,7 +2,7 @@ use Rattle.std.proofs.Common.{List, ℕ, Some, ap, rules, sym, ◌∙◌}
 use Rattle.std.specs.Option.{option_map}
 use Rattle.book.specs.Books.{Binding}
 use Rattle.epochs.specs.declared.address.Address.{Address}
-use Rattle.epochs.specs.Directories.{kept_of, parts_of}
+use Rattle.epochs.specs.Directories.{parts_of, state_of}
 use Rattle.epochs.specs.DirectoryStates.{provider}
 use Rattle.epochs.proofs.Addresses.{address-kept, none_waits, waits_there}
 use Rattle.epochs.proofs.directory.Directory.waiting.Goals as goal
@@ -22,7 +22,7 @@ returns-in-Some-waiting-clause-key g c =
 
 pub returns-in-Some-waiting-clause-index : goal.returns-in-Some-waiting-clause-index
 returns-in-Some-waiting-clause-index g c =
-    let by = provider g.H.NodeHash.digest_of g.V.Vuf.value_of g.S.Signer.signature_of (kept_of g.V.Vuf.public_key g.S.Signer.public_key g.H.NodeHash.digests c.self.inside) in
+    let by = provider g.H.NodeHash.digest_of g.V.Vuf.value_of g.S.Signer.signature_of (state_of g.V.Vuf.public_key g.S.Signer.public_key g.H.NodeHash.digests c.self.inside) in
     rw (← c.self.view_is)
     (c.index.ensures
     ∙ ap (λ (address : Address). address.index) (address-kept by c.self.inside.names.addresses c.args.name.now c.in-Some.history.now.address c.self.invariant.1 (rw c.bytes.ensures.value at (sym c.in-Some.ensures.address))))

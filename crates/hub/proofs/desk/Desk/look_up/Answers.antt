@@ -1,7 +1,7 @@
 use Rattle.std.proofs.Common.{rules, ◌≡◌, ℕ, List, [], length, take, ◌++◌, Vec, Global, sym, ap, ◌∙◌}
 use Rattle.std.proofs.Math.Seq.{take-append_seam}
 use Rattle.commands.specs.Operations.{Lookup}
-use Rattle.book.specs.Refusals.{refusal_number}
+use Rattle.book.specs.Refusals.{book_refusal_number}
 use Rattle.book.specs.declared.reply.Reply.TheVariants as reply
 use Rattle.wire.specs.Frames.{frame_bytes, frame_head}
 use Rattle.wire.specs.Responses.{proof_frame}
@@ -29,8 +29,8 @@ returns g c =
           let cut : w.truncate.new.self.items ≡ before =
           w.truncate.ensures.items ∙ ap (λ (output : Vec ℕ Global). take c.len-start.result output.items) reads.1
           ∙ ap (take c.len-start.result) begun ∙ ap (λ (n : ℕ). take n (before ++ frame_head (proof_frame []).kind 0)) (sym start) ∙ take-append_seam before (frame_head (proof_frame []).kind 0) in
-          let number : w.number.result ≡ refusal_number w.in-Err.why = search rules in
-          let written : c.match-lookup_into.output.items ≡ before ++ refused_frame (refusal_number w.in-Err.why) =
+          let number : w.number.result ≡ book_refusal_number w.in-Err.why = search rules in
+          let written : c.match-lookup_into.output.items ≡ before ++ refused_frame (book_refusal_number w.in-Err.why) =
           ap (λ (output : Vec ℕ Global). output.items) w.output-is ∙ w.write_refused.ensures ∙ ap (λ (front : List ℕ). front ++ refused_frame w.number.result) cut
           ∙ ap (λ (code : ℕ). before ++ refused_frame code) number in
           read_turned g.H.NodeHash.digest_of g.V.Vuf.value_of g.S.Signer.signature_of g.R.Rng.stream g.K.Keeper.kept g.K.Keeper.failed

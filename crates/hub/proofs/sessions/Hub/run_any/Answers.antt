@@ -1,6 +1,6 @@
 use Rattle.std.proofs.Common.{[], ap, map, rules, sym, ◌∙◌}
 use Rattle.std.proofs.lemmas.List.{append-nil, map-append, take_all, take_more}
-use Rattle.hub.specs.Events.{seen}
+use Rattle.hub.specs.Events.{event_seen}
 use Rattle.hub.proofs.Outputting.{are_outputs, if_ok, outputs_begin, ran_more}
 use Rattle.hub.proofs.Running.{nothing_run}
 use Rattle.hub.proofs.Stopping.{any_err, begun, runs_begin, stopped, stopped_first, stopped_last}
@@ -14,17 +14,17 @@ loop-event-init g c = ([], nothing_run g.D.Service.answers c.args.self.now, outp
 
 pub loop-event-preserved : goal.loop-event-preserved
 loop-event-preserved g c =
-    ran_more g.D.Service.answers _ _ _ _ _ _ _ _ (ap (map seen) (take_more _ _ _ c.loop-event-test.true) ∙ map-append seen _ _) c.loop-event.invariant c.in_ok-event_into.ensures.ok
+    ran_more g.D.Service.answers _ _ _ _ _ _ _ _ (ap (map event_seen) (take_more _ _ _ c.loop-event-test.true) ∙ map-append event_seen _ _) c.loop-event.invariant c.in_ok-event_into.ensures.ok
 
 pub returns-in_err-event_into-clause-err : goal.returns-in_err-event_into-clause-err
 returns-in_err-event_into-clause-err g c =
     let i = c.loop-event.invariant in
-    any_err c.from_residual-in_err-event_into.result _ (stopped g.D.Service.answers seen c.args.self.now c.loop-event.self c.event_into.new.self c.args.events.now c.loop-event.event-index _ c.loop-event-test.true (i.0, i.1) c.in_err-event_into.ensures.err)
+    any_err c.from_residual-in_err-event_into.result _ (stopped g.D.Service.answers event_seen c.args.self.now c.loop-event.self c.event_into.new.self c.args.events.now c.loop-event.event-index _ c.loop-event-test.true (i.0, i.1) c.in_err-event_into.ensures.err)
 
 pub returns-in_err-event_into-clause-begun : goal.returns-in_err-event_into-clause-begun
 returns-in_err-event_into-clause-begun g c =
     let i = c.loop-event.invariant in
-    any_err c.from_residual-in_err-event_into.result _ (begun g.D.Service.answers seen c.args.self.now c.loop-event.self c.event_into.new.self c.args.events.now c.loop-event.event-index _ c.loop-event-test.true (i.0, i.1) c.in_err-event_into.ensures.err)
+    any_err c.from_residual-in_err-event_into.result _ (begun g.D.Service.answers event_seen c.args.self.now c.loop-event.self c.event_into.new.self c.args.events.now c.loop-event.event-index _ c.loop-event-test.true (i.0, i.1) c.in_err-event_into.ensures.err)
 
 pub returns-clause-ok : goal.returns-clause-ok
 returns-clause-ok g c =

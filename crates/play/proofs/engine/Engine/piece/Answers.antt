@@ -1,7 +1,7 @@
 use Rattle.std.proofs.Common.{◌≡◌, ◌<◌, ◌∙◌, ap, sym, subst, arith, List, ℕ}
 use Rattle.std.specs.Int.NonZero.{non_zero_u32_get}
 use Rattle.book.specs.Books.{Book}
-use Rattle.play.specs.Telling.{AreFramesOf, Heard}
+use Rattle.play.specs.Telling.{AreFramesOf, HeardFrame}
 use Rattle.play.proofs.Pieces.{hears_on, hears_only, past, piece_of_other}
 use Rattle.play.proofs.engine.Engine.piece.Goals as goal
 use Rattle.play.proofs.engine.Engine.piece.Goals.{then-latest+in_ok-follow, else-latest}
@@ -23,7 +23,7 @@ returns-clause-done g c stand are =
     let session : ℕ = non_zero_u32_get c.args.session in
     let others = piece_of_other (non_zero_u32_get c.args.session) c.args.piece.now (rw c.get.ensures.value at c.get.ensures.nonzero) in
     let p = past g.H.NodeHash.digest_of g.V.Vuf.value_of g.S.Signer.signature_of g.R.Rng.stream g.V.VufCheck.accepted g.S.Verifier.verified c.args.self.now stand _ _ _ others are c.in_ok-output.ensures in
-    let tells = λ (heard : List Heard) (frames : AreFramesOf c.in_ok-output.output.items heard).
+    let tells = λ (heard : List HeardFrame) (frames : AreFramesOf c.in_ok-output.output.items heard).
     c.in_ok-tell_output.ensures heard (subst (λ (bytes : List ℕ). AreFramesOf bytes heard) (sym c.deref.ensures.value) frames) in
     let before : c.latest-latest.result ≡ stand.book.last.epoch = c.latest-latest.ensures.epoch ∙ ap (λ (now : Book). now.last.epoch) are.hub.book in
     elim c.if-latest.branch [

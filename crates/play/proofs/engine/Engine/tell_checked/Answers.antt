@@ -1,7 +1,7 @@
 use Rattle.std.proofs.Common.{◌≡◌, ◌++◌, ◌∷◌, [], ap, subst, sym, ◌∙◌, List, ℕ}
 use Rattle.std.proofs.lemmas.Result.{on_ok_weaker}
 use Rattle.rootchain.specs.declared.body.Body.{Body}
-use Rattle.proofs.specs.Replies.{Spells}
+use Rattle.proofs.specs.Replies.{SpellsReply}
 use Rattle.commands.specs.Operations.{Lookup}
 use Rattle.wire.specs.Frames.{Frame}
 use Rattle.wire.specs.Laws.{IsReadAs}
@@ -66,7 +66,7 @@ tell_look-requires g c =
     let of : ask_seen c.args.ask.now ≡ Query (Lookup c.deref.result.now c.in-Lookup.epoch)
     = ap ask_seen c.in-Lookup.is ∙ ap (λ (name : List ℕ). Query (Lookup name c.in-Lookup.epoch)) (sym c.deref.ensures.value) in
     let h = has-found g.H.NodeHash.digest_of g.V.Vuf.value_of g.S.Signer.signature_of g.R.Rng.stream g.V.VufCheck.accepted g.S.Verifier.verified before c.args.self.now (ask_seen c.args.ask.now) c.args.reply.now a
-    c.body_of.result.now (says ∙ ap (λ (text : List ℕ). Found text) (sym body)) c.deref.result.now c.in-Lookup.epoch of c.in-Some.found (subst (λ (text : List ℕ). Spells text c.in-Some.found) (sym body) spells) knowing.chain in
+    c.body_of.result.now (says ∙ ap (λ (text : List ℕ). Found text) (sym body)) c.deref.result.now c.in-Lookup.epoch of c.in-Some.found (subst (λ (text : List ℕ). SpellsReply text c.in-Some.found) (sym body) spells) knowing.chain in
     let at_epoch = ap (λ (b : Body). b.epoch) c.body.ensures ∙ h.at_epoch in
     record { found = (h.page, h.is, at_epoch) }
 
@@ -81,7 +81,7 @@ returns g c = record {
       let of : ask_seen c.args.ask.now ≡ Query (Lookup c.deref.result.now c.in-Lookup.epoch)
       = ap ask_seen c.in-Lookup.is ∙ ap (λ (name : List ℕ). Query (Lookup name c.in-Lookup.epoch)) (sym c.deref.ensures.value) in
       let h = has-found g.H.NodeHash.digest_of g.V.Vuf.value_of g.S.Signer.signature_of g.R.Rng.stream g.V.VufCheck.accepted g.S.Verifier.verified before c.args.self.now (ask_seen c.args.ask.now) c.args.reply.now a
-      c.body_of.result.now (says ∙ ap (λ (text : List ℕ). Found text) (sym body)) c.deref.result.now c.in-Lookup.epoch of c.in-Some.found (subst (λ (text : List ℕ). Spells text c.in-Some.found) (sym body) spells) knowing.chain in
+      c.body_of.result.now (says ∙ ap (λ (text : List ℕ). Found text) (sym body)) c.deref.result.now c.in-Lookup.epoch of c.in-Some.found (subst (λ (text : List ℕ). SpellsReply text c.in-Some.found) (sym body) spells) knowing.chain in
       let at_epoch = ap (λ (b : Body). b.epoch) c.body.ensures ∙ h.at_epoch in
       let looked = λ (looks : HasLooked g.H.NodeHash.digest_of g.V.VufCheck.accepted c.args.self.now c.deref.result.now c.in-Lookup.epoch c.body_of.result.now c.tell_look.new.self).
       subst (λ (said : Reply). HasChecked g.H.NodeHash.digest_of g.V.VufCheck.accepted c.args.self.now (ask_seen c.args.ask.now) said c.tell_look.new.self) (sym says)

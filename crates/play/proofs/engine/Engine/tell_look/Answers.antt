@@ -1,6 +1,6 @@
 use Rattle.std.proofs.Common.{◌≡◌, ◌≢◌, [], ◌∷◌, ◌++◌, Err, Ok, refl, subst}
 use Rattle.std.specs.Prelude.{OnOk, Result, codes, decimal}
-use Rattle.proofs.specs.Refusals.{refusal_number}
+use Rattle.proofs.specs.Refusals.{reply_refusal_number}
 use Rattle.proofs.specs.Views.{key_stated}
 use Rattle.proofs.specs.declared.refusal.Refusal.{Refusal as ProofRefusal}
 use Rattle.proofs.specs.declared.statement.Statement.{Statement}
@@ -9,7 +9,7 @@ use Rattle.epochs.specs.DirectoryStates.{provider}
 use Rattle.client.specs.Looking.{Looks}
 use Rattle.client.specs.declared.refusal.Refusal.{Refusal}
 use Rattle.client.specs.declared.refusal.Refusal.TheVariants as client
-use Rattle.play.specs.Checked.{HasLooked, IsFound}
+use Rattle.play.specs.Checked.{HasLooked, HasLookedUp}
 use Rattle.play.specs.Lines.{found_text, statement_text}
 use Rattle.play.specs.Parties.{Parties}
 use Rattle.play.proofs.Looked.{LooksSo, looks_so, on_ok, told_refused, told_stated}
@@ -27,7 +27,7 @@ pub tell_refusal-requires : goal.tell_refusal-requires
 tell_refusal-requires g c =
     let (page, found, same) = c.requires.found in
     let before : Parties g.row.R.Denot = record { hub = c.self.inside.hub; key = c.self.inside.key; client = c.self.inside.client; auditor = c.self.inside.auditor; monitors = c.self.inside.monitors.items } in
-    let f : IsFound g.H.NodeHash.digest_of g.V.Vuf.value_of g.S.Signer.signature_of g.R.Rng.stream g.V.VufCheck.accepted g.S.Verifier.verified before c.args.name.now c.args.epoch c.args.reply.now page
+    let f : HasLookedUp g.H.NodeHash.digest_of g.V.Vuf.value_of g.S.Signer.signature_of g.R.Rng.stream g.V.VufCheck.accepted g.S.Verifier.verified before c.args.name.now c.args.epoch c.args.reply.now page
     = rw (← c.self.view_is) at found in
     let by = provider g.H.NodeHash.digest_of g.V.Vuf.value_of g.S.Signer.signature_of before.hub.service.directory in
     let looks : Looks g.H.NodeHash.digest_of g.V.VufCheck.accepted c.self.inside.client c.args.name.now c.args.epoch c.args.reply.now c.look.result c.look.new.self
@@ -40,7 +40,7 @@ pub returns : goal.returns
 returns g c = λ page found same.
     let before : Parties g.row.R.Denot = record { hub = c.self.inside.hub; key = c.self.inside.key; client = c.self.inside.client; auditor = c.self.inside.auditor; monitors = c.self.inside.monitors.items } in
     let after : Parties g.row.R.Denot = record before { client = c.look.new.self } in
-    let f : IsFound g.H.NodeHash.digest_of g.V.Vuf.value_of g.S.Signer.signature_of g.R.Rng.stream g.V.VufCheck.accepted g.S.Verifier.verified before c.args.name.now c.args.epoch c.args.reply.now page
+    let f : HasLookedUp g.H.NodeHash.digest_of g.V.Vuf.value_of g.S.Signer.signature_of g.R.Rng.stream g.V.VufCheck.accepted g.S.Verifier.verified before c.args.name.now c.args.epoch c.args.reply.now page
     = rw (← c.self.view_is) at found in
     let by = provider g.H.NodeHash.digest_of g.V.Vuf.value_of g.S.Signer.signature_of before.hub.service.directory in
     let looks : Looks g.H.NodeHash.digest_of g.V.VufCheck.accepted c.self.inside.client c.args.name.now c.args.epoch c.args.reply.now c.look.result c.look.new.self
@@ -60,7 +60,7 @@ returns g c = λ page found same.
       | in-Err w ↦
           let so_refused : LooksSo by page c.args.name.now (Err w.in-Err.why) = subst (LooksSo by page c.args.name.now) w.in-Err.is so in
           on_ok c.match-look.result
-          ((refused : ProofRefusal) × (w.in-Err.why ≡ client.Proof refused) × (c.match-look.text.items ≡ c.args.text.now.items ++ codes "client refuses proof " ++ decimal (refusal_number refused) ++ 10 ∷ [])) _
+          ((refused : ProofRefusal) × (w.in-Err.why ≡ client.Proof refused) × (c.match-look.text.items ≡ c.args.text.now.items ++ codes "client refuses proof " ++ decimal (reply_refusal_number refused) ++ 10 ∷ [])) _
           (rw (w.result-is, w.text-is) w.tell_refusal.ensures)
           (λ (refused, is, wrote). (
             told_refused by page c.args.name.now c.args.text.now.items c.match-look.text.items refused (subst (λ (why : Refusal). LooksSo by page c.args.name.now (Err why)) is so_refused) wrote,
