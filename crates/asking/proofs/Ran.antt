@@ -11,10 +11,12 @@ use Rattle.play.specs.Reading.{TakesWholeLine}
 use Rattle.asking.specs.declared.asker.Asker.{Asker}
 use Rattle.asking.specs.declared.asker.Mark.{Mark}
 use Rattle.asking.specs.declared.order.AskOrder.{AskOrder}
+use Rattle.asking.specs.declared.run.RunEnd.{RunEnd}
+use Rattle.asking.specs.declared.run.RunEnd.TheVariants.{Whole, Stopped}
 use Rattle.asking.specs.declared.said.Said.{Said}
 use Rattle.asking.specs.AskOptions.{AskOptions, ask_values}
 use Rattle.asking.specs.Reports.{Report, report_of}
-use Rattle.asking.specs.Runs.{AsksLine, AsksLines, emptied, Known, known_new, known_of, lines_asked, Prepares, RunsWhole, words_line, Writes}
+use Rattle.asking.specs.Runs.{AsksLine, AsksLines, emptied, Known, known_new, known_of, lines_asked, Prepares, RunsAs, RunsWhole, words_line, Writes, IsCutShort}
 use Rattle.asking.specs.Scenes.{Scene, scene, Remains, StartsAtHead}
 use Rattle.asking.proofs.Joined.{scene_of}
 
@@ -85,16 +87,19 @@ ok_before {B = B} {F = F} P (Ok it) first done same holds = subst (λ (r : Resul
 -- a run is whole, where its lines are asked to the end
 pub whole : {T E : Type 0} (hash : List ℕ → List ℕ) (accepted verified : List ℕ → List ℕ → List ℕ → Type 0) (exchanged : T → RequestContent → Frame → T → Type 0) (key token : List ℕ) (options : AskOptions) (HasNoState : Type 0)
     (result : Result (Unit {0}) E) (known known' : Known) (stream : T) (start ready last : Scene T) (input old now new : Option (List ℕ)) (first : Report) → start.told ≡ first
-    → (HasNoState → StartsAtHead verified exchanged key stream start.client start.stream) → (HasNoState → (known ≡ known_new key token) × (start.monitors ≡ []))
+    → StartsAtHead verified exchanged key stream start.client start.stream ⊎ (start.stream ≡ stream) → (known.key ≡ key) × (known.token ≡ token) × (start.monitors ≡ [])
+    → (HasNoState → StartsAtHead verified exchanged key stream start.client start.stream × (known ≡ known_new key token))
     → Writes (Prepares hash accepted verified exchanged known) start old now ready → known' ≡ known
     → OnOk result (IfSome (lines_asked options.words input) (λ lines. AsksLines hash accepted verified exchanged known' lines ready now new last))
     → OnOk result (first ≡ emptied 0 → RunsWhole hash accepted verified exchanged key token options HasNoState stream input last.told.status old new)
-whole hash accepted verified exchanged key token options HasNoState (Err why) known known' stream start ready last input old now new first told begins knows prepares same asks = tt
-whole hash accepted verified exchanged key token options HasNoState (Ok done) known known' stream start ready last input old now new first told begins knows prepares same asks = λ none. record {
+whole hash accepted verified exchanged key token options HasNoState (Err why) known known' stream start ready last input old now new first told begins knows anew prepares same asks = tt
+whole hash accepted verified exchanged key token options HasNoState (Ok done) known known' stream start ready last input old now new first told begins knows anew prepares same asks = λ none. record {
   known = known;
   start = start;
   silent = told ∙ none;
-  begins = λ without. (begins without, (knows without).1, (knows without).0);
+  begins = begins;
+  knows = knows;
+  anew = anew;
   ready = ready;
   now = now;
   prepares = prepares;
@@ -120,27 +125,30 @@ asks_words Asked (Ok done) input order word some asks =
     subst (λ (command : Option (Bor (List ℕ))). Asked (words_line (option_map (λ text. text.now) command ∷ option_map (λ text. text.now) order.first ∷ option_map (λ text. text.now) order.second ∷ []) ∷ [])
     → IfSome (lines_asked (option_map (λ text. text.now) command ∷ option_map (λ text. text.now) order.first ∷ option_map (λ text. text.now) order.second ∷ []) input) Asked) (sym some) (λ it. it) asks
 
--- a run that came to its end has its status, and one that was stopped another than 0
+-- a run that came to its end is whole, and one that was stopped has another status than 0
 pub ends_so : {T E F : Type 0} (hash : List ℕ → List ℕ) (accepted verified : List ℕ → List ℕ → List ℕ → Type 0) (exchanged : T → RequestContent → Frame → T → Type 0) (key token : List ℕ) (options : AskOptions) (NoState None' : Type 0)
-    (outcome : Result (Unit {0}) E) (result : Result ℕ F) (stream : T) (input old new new' : Option (List ℕ)) (status : ℕ) (told : Report) → told ≡ emptied 0 → (None' → NoState)
+    (outcome : Result (Unit {0}) E) (result : Result RunEnd F) (stream : T) (input old new new' : Option (List ℕ)) (status : ℕ) (told : Report) → told ≡ emptied 0 → (None' → NoState)
     → OnOk outcome (told ≡ emptied 0 → RunsWhole hash accepted verified exchanged key token options NoState stream input status old new)
-    → OnOk outcome ((result ≡ Ok status) × (new' ≡ new)) → IfErr outcome (λ fault. IfOk result (λ other. 0 < other))
-    → IfOk result (λ other. (0 < other) ⊎ RunsWhole hash accepted verified exchanged key token options None' stream input other old new')
+    → OnOk outcome ((result ≡ Ok (Whole status)) × (new' ≡ new)) → IfErr outcome (λ fault. IfOk result IsCutShort)
+    → IfOk result (λ ended. RunsAs hash accepted verified exchanged key token options None' stream input ended old new')
 ends_so hash accepted verified exchanged key token options NoState None' (Err fault) (Err why) stream input old new new' status told empty without runs ends stops = tt
-ends_so hash accepted verified exchanged key token options NoState None' (Err fault) (Ok other) stream input old new new' status told empty without runs ends stops = inl stops
+ends_so hash accepted verified exchanged key token options NoState None' (Err fault) (Ok (Whole other)) stream input old new new' status told empty without runs ends stops = absurd stops
+ends_so hash accepted verified exchanged key token options NoState None' (Err fault) (Ok (Stopped other)) stream input old new new' status told empty without runs ends stops = stops
 ends_so {F = F} hash accepted verified exchanged key token options NoState None' (Ok done) result stream input old new new' status told empty without runs (is, same) stops =
     let run = runs empty in
-    subst (λ (r : Result ℕ F). IfOk r (λ other. (0 < other) ⊎ RunsWhole hash accepted verified exchanged key token options None' stream input other old new')) (sym is) (inr (
-    subst (λ (text : Option (List ℕ)). RunsWhole hash accepted verified exchanged key token options None' stream input status old text) (sym same) (record {
-      known = run.known;
-      start = run.start;
-      silent = run.silent;
-      begins = λ none. run.begins (without none);
-      ready = run.ready;
-      now = run.now;
-      prepares = run.prepares;
-      last = run.last;
-      asks = run.asks;
-      status_is = run.status_is;
-    })
-    ))
+    subst (λ (r : Result RunEnd F). IfOk r (λ ended. RunsAs hash accepted verified exchanged key token options None' stream input ended old new')) (sym is) (
+      subst (λ (text : Option (List ℕ)). RunsWhole hash accepted verified exchanged key token options None' stream input status old text) (sym same) (record {
+        known = run.known;
+        start = run.start;
+        silent = run.silent;
+        begins = run.begins;
+        knows = run.knows;
+        anew = λ none. run.anew (without none);
+        ready = run.ready;
+        now = run.now;
+        prepares = run.prepares;
+        last = run.last;
+        asks = run.asks;
+        status_is = run.status_is;
+      })
+    )

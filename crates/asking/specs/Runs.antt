@@ -1,5 +1,5 @@
 -- What a run writes: all that is told of each line that it asks, one after another.
-use Rattle.std.specs.Prelude.{◌≡◌, ℕ, List, [], ◌∷◌, ◌++◌, Option, Some, None, IfSome, option_map}
+use Rattle.std.specs.Prelude.{◌≡◌, ◌<◌, ◌⊎◌, ℕ, List, [], ◌∷◌, ◌++◌, Option, Some, None, IfSome, option_map}
 use Rattle.std.specs.Io.KnownBytes.{Appends}
 use Rattle.rootchain.specs.declared.signed_promise.SignedPromise.{SignedPromise}
 use Rattle.textio.specs.Lines.{lines_of}
@@ -15,6 +15,17 @@ use Rattle.asking.specs.Scenes.{Scene, StartsAtHead}
 use Rattle.asking.specs.Visiting.{TestsAll}
 use Rattle.asking.specs.declared.asker.Asker.{Asker}
 use Rattle.asking.specs.declared.asker.Mark.{Mark}
+use Rattle.asking.specs.declared.run.RunEnd.{RunEnd}
+use Rattle.asking.specs.declared.run.RunEnd.TheVariants.{Whole, Stopped}
+
+-- the status of the program, and that of a run that was stopped: not 0
+abbrev pub end_status : RunEnd → ℕ
+end_status (Whole status) = status
+end_status (Stopped status) = status
+
+abbrev pub IsCutShort : RunEnd → Type 0
+IsCutShort (Whole status) = ⊥
+IsCutShort (Stopped status) = 0 < status
 
 -- what stays throughout a run: the provider's key, the token, and the marks and the promised changes of earlier runs
 pub record Known : Type 0 where
@@ -25,6 +36,10 @@ pub record Known : Type 0 where
 
 abbrev pub known_of : {H V S : Type 0} → Asker H V S → Known
 known_of asker = record { key = asker.key; token = asker.token; marks = asker.marks.items; earlier = asker.earlier.items }
+
+-- the same key and token, and the same monitors
+abbrev pub IsSame : {H V S : Type 0} → Asker H V S → Asker H V S → Type 0
+IsSame before after = (after.key ≡ before.key) × (after.token ≡ before.token) × (after.monitors ≡ before.monitors)
 
 -- with no earlier run
 abbrev pub known_new : List ℕ → List ℕ → Known
@@ -42,7 +57,7 @@ written before = record before { told = emptied before.told.status }
 abbrev pub Writes : {T : Type 0} → (Scene T → Scene T → Type 0) → Scene T → Option (List ℕ) → Option (List ℕ) → Scene T → Type 0
 Writes {T} Does before old new after = (done : Scene T) × Does before done × Appends old new done.told.lines × (after ≡ written done)
 
--- the words of an order in one line, each behind a space
+-- the words of an order in one line, with a space between two
 abbrev pub with_word : List ℕ → Option (List ℕ) → List ℕ
 with_word line None = line
 with_word [] (Some word) = word
@@ -63,7 +78,7 @@ lines_asked [] input = option_map lines_of input
 
 module _ (hash : List ℕ → List ℕ) (accepted verified : List ℕ → List ℕ → List ℕ → Type 0) {T : Type 0} (exchanged : T → RequestContent → Frame → T → Type 0) where
   module _ (known : Known) where
-    -- the new roots are taken, and each promise is tested that is due
+    -- the new roots are taken, and each promise is tested that is due and does not wait
     abbrev pub Prepares : Scene T → Scene T → Type 0
     Prepares before after = (count : ℕ) × (middle : Scene T) × Follows hash verified exchanged count before middle × TestsAll hash accepted exchanged known.marks middle after
 
@@ -83,16 +98,24 @@ module _ (hash : List ℕ → List ℕ) (accepted verified : List ℕ → List �
     AsksLines [] before old new after = Appends old new [] × (after ≡ before)
     AsksLines (line ∷ more) before old new after = (middle : Scene T) × (now : Option (List ℕ)) × Writes (AsksLine line) before old now middle × AsksLines more middle now new after
 
-  -- A run from its beginning to its end. Without a state, the client starts with the directory's head, and with nothing of
-  -- earlier runs; else as the files of the state have it. Then all that is new is followed, and the lines are asked.
+  -- A run from its beginning to its end. The client starts with the directory's head, or as the files of a state have it,
+  -- with no monitor; without a state, it knows nothing of earlier runs. Then all that is new is followed, and the lines are
+  -- asked.
   pub record RunsWhole (key token : List ℕ) (options : AskOptions) (HasNoState : Type 0) (stream : T) (input : Option (List ℕ)) (status : ℕ) (old new : Option (List ℕ)) : Type 0 where
     pub known : Known
     pub start : Scene T
     pub silent : start.told ≡ emptied 0
-    pub begins : HasNoState → StartsAtHead verified exchanged key stream start.client start.stream × (start.monitors ≡ []) × (known ≡ known_new key token)
+    pub begins : StartsAtHead verified exchanged key stream start.client start.stream ⊎ (start.stream ≡ stream)
+    pub knows : (known.key ≡ key) × (known.token ≡ token) × (start.monitors ≡ [])
+    pub anew : HasNoState → StartsAtHead verified exchanged key stream start.client start.stream × (known ≡ known_new key token)
     pub ready : Scene T
     pub now : Option (List ℕ)
     pub prepares : Writes (Prepares known) start old now ready
     pub last : Scene T
     pub asks : IfSome (lines_asked options.words input) (λ lines. AsksLines known lines ready now new last)
     pub status_is : status ≡ last.told.status
+
+  -- a run that is whole; of one that was stopped, only that its status is not 0
+  abbrev pub RunsAs : List ℕ → List ℕ → AskOptions → Type 0 → T → Option (List ℕ) → RunEnd → Option (List ℕ) → Option (List ℕ) → Type 0
+  RunsAs key token options HasNoState stream input (Whole status) old new = RunsWhole key token options HasNoState stream input status old new
+  RunsAs key token options HasNoState stream input (Stopped status) old new = 0 < status

@@ -34,5 +34,6 @@ pub use asker::{Asker, Checks};
 pub use checking::hear;
 pub use fault::AskFault;
 pub use order::{AskKeys, AskOrder};
+pub use run::RunEnd;
 pub use running::{ask, ask_over};
 pub use said::Said;

@@ -1,12 +1,13 @@
 // A run: each line of the input is asked, what is told of it is written, and the state is kept.
-ghost use Rattle.std.specs.Prelude.{◌≡◌, ◌<◌, [], Err, IfErr, IfOk, IfSome, None, Ok, OnOk, option_map};
+ghost use Rattle.std.specs.Prelude.{◌≡◌, ◌⊎◌, ◌<◌, [], Err, IfErr, IfOk, IfSome, None, Ok, OnOk, option_map};
 ghost use Rattle.std.specs.Io.KnownBytes.{Appends};
 ghost use Rattle.textio.specs.Lines.{lines_of};
 ghost use Rattle.play.specs.Spoken.{line_seen};
 ghost use Rattle.asking.specs.AskOptions.{ask_values};
 ghost use Rattle.asking.specs.Exchanges.{ExchangesFrames};
 ghost use Rattle.asking.specs.Reports.{report_of};
-ghost use Rattle.asking.specs.Runs.{AsksLine, AsksLines, DoesLine, emptied, known_new, known_of, Prepares, RunsWhole, with_word, words_line, Writes};
+ghost use Rattle.asking.specs.Runs.{AsksLine, AsksLines, DoesLine, emptied, IsCutShort, known_new, known_of, Prepares, RunsWhole, end_status, with_word, words_line, Writes};
+ghost use Rattle.asking.specs.declared.run.RunEnd.TheVariants.{Whole, Stopped};
 ghost use Rattle.asking.specs.Scenes.{scene, StartsAtHead};
 
 use crate::fault::RunFault;
@@ -21,6 +22,26 @@ use std::fs::{File, Files};
 use std::io::{BufRead, Read, Write};
 use textio::{ProgramFault, write_text};
 use vrfiface::VufCheck;
+
+/// How a run ended, with its status: 1 if the directory or the client refused, 3 if a monitor gave an alarm, else 0.
+#[derive(Clone, Copy, Debug, PartialEq, Eq)]
+pub enum RunEnd {
+    /// All was asked.
+    Whole(u8),
+    /// No reply came, new roots were refused, or a fault followed an alarm. The status is not 0.
+    Stopped(u8),
+}
+
+impl RunEnd {
+    /// The status of the program.
+    pub fn status(self) -> u8
+        ensures { result ≡ end_status self }
+    {
+        match self {
+            RunEnd::Whole(status) | RunEnd::Stopped(status) => status,
+        }
+    }
+}
 
 /// What a run works with: the files of the state, and what is said.
 #[derive(Drop)]
@@ -42,7 +63,7 @@ fn line_of_words(alloc: Global, order: AskOrder<'_>) -> Result<Vec<u8>, AllocErr
     Ok(line)
 }
 
-/// Appends a word, if there is one, behind a space.
+/// Appends a word, if there is one, behind a space if it is not the first.
 fn push_word(line: &mut Vec<u8>, word: Option<&str>) -> Result<(), AllocError>
     ensures { OnOk result (line.new.items ≡ with_word line.old.items (option_map (λ text. text.now) word.entry)) }
 {
@@ -80,27 +101,28 @@ where
         })
     }
 
-    /// Ends a run with its status. That of an alarm stays if a fault follows.
+    /// Ends a run with its status. That of an alarm stays, even if a fault follows.
     pub(crate) fn end<W: Write, E: Write>(
         &mut self,
         outcome: Result<(), RunFault>,
         writer: &mut W,
         errors: &mut E,
-    ) -> Result<u8, ProgramFault>
-        ensures ok { OnOk outcome ((result ≡ Ok (self.old).said.status) × (writer.new ≡ writer.old)) }
-        ensures err { IfErr outcome (λ fault. IfOk result (λ status. 0 < status)) }
+    ) -> Result<RunEnd, ProgramFault>
+        ensures ok { OnOk outcome ((result ≡ Ok (Whole (self.old).said.status)) × (writer.new ≡ writer.old)) }
+        ensures err { IfErr outcome (λ fault. IfOk result IsCutShort) }
+        ensures alarm { IfErr outcome (λ fault. (self.old).said.status ≡ 3 → result ≡ Ok (Stopped 3)) }
     {
         let fault = match outcome {
-            Ok(()) => return Ok(self.said.status),
+            Ok(()) => return Ok(RunEnd::Whole(self.said.status)),
             Err(fault) => fault,
         };
         match self.conclude(fault, writer, errors) {
             Err(fault) if self.said.status != ALARM => Err(fault),
             Err(fault) => {
                 let _told = fault.tell(errors);
-                Ok(ALARM)
+                Ok(RunEnd::Stopped(ALARM))
             }
-            Ok(()) => Ok(self.said.status),
+            Ok(()) => Ok(RunEnd::Stopped(self.said.status)),
         }
     }
 
@@ -111,7 +133,8 @@ where
         writer: &mut W,
         errors: &mut E,
     ) -> Result<(), ProgramFault>
-        ensures { OnOk result (0 < (self.new).said.status) }
+        ensures status { OnOk result (0 < (self.new).said.status) }
+        ensures alarm { (self.old).said.status ≡ 3 → (self.new).said.status ≡ 3 }
     {
         match fault {
             RunFault::Program(fault) => {
@@ -176,8 +199,9 @@ where
         H: NodeHash + Drop,
         V: VufCheck + Drop,
         S: Verifier + Drop,
-        ensures begins { IfOk result (λ asker. (self.old).state ≡ None → StartsAtHead S.verified (ExchangesFrames T.contents T.remaining) keys.now.provider stream.old asker.client stream.new) }
-        ensures knows { IfOk result (λ asker. (self.old).state ≡ None → (known_of asker ≡ known_new keys.now.provider keys.now.token) × (asker.monitors.items ≡ [])) }
+        ensures begins { IfOk result (λ asker. StartsAtHead S.verified (ExchangesFrames T.contents T.remaining) keys.now.provider stream.old asker.client stream.new ⊎ (stream.new ≡ stream.old)) }
+        ensures knows { IfOk result (λ asker. (asker.key ≡ keys.now.provider) × (asker.token ≡ keys.now.token) × (asker.monitors.items ≡ [])) }
+        ensures anew { IfOk result (λ asker. (self.old).state ≡ None → StartsAtHead S.verified (ExchangesFrames T.contents T.remaining) keys.now.provider stream.old asker.client stream.new × (known_of asker ≡ known_new keys.now.provider keys.now.token)) }
         ensures said { IfOk result (λ asker. report_of (self.new).said ≡ report_of (self.old).said) }
     {
         match self.load(checks, keys)? {
@@ -197,6 +221,7 @@ where
         V: VufCheck + Drop,
         S: Verifier + Drop,
         ensures none { (self.old).state ≡ None → result ≡ Ok (Err checks) }
+        ensures knows { IfOk result (λ loaded. IfOk loaded (λ asker. (asker.key ≡ keys.now.provider) × (asker.token ≡ keys.now.token) × (asker.monitors.items ≡ []))) }
         ensures said { (self.new).said ≡ (self.old).said }
     {
         match self.state.as_mut() {
@@ -367,6 +392,7 @@ where
         errors: &mut E,
     ) -> Result<(), ProgramFault>
         ensures writes { OnOk result (Appends (W.contents writer.old) (W.contents writer.new) (self.old).said.text.items × ((self.new).said.text.items ≡ [])) }
+        ensures words { OnOk result (Appends (E.contents errors.old) (E.contents errors.new) (self.old).said.words.items) }
         ensures status { (self.new).said.status ≡ (self.old).said.status }
     {
         let told = write_text(writer, &self.said.text);

@@ -4,9 +4,9 @@ ghost use Rattle.std.specs.Io.KnownBytes.{Keeps};
 ghost use Rattle.textio.specs.declared.program_fault.ProgramFault.TheVariants.{BadHex};
 ghost use Rattle.asking.specs.AskOptions.{ask_keys_of, ask_values};
 ghost use Rattle.asking.specs.Exchanges.{ExchangesFrames};
-ghost use Rattle.asking.specs.Runs.{RunsWhole};
+ghost use Rattle.asking.specs.Runs.{RunsAs};
 
-use crate::run::Run;
+use crate::run::{Run, RunEnd};
 use crate::said::REFUSED;
 use crate::{AskKeys, AskOrder, Checks};
 use encoding::Hash32;
@@ -30,7 +30,7 @@ const SECONDS: u64 = 60;
 /// # Errors
 ///
 /// `BadHex`, before all else, if a text of the order is not 64 hexadecimal digits; `NotACommand` at the first
-/// line that asks nothing of a directory; `BadItem` at a line of the state that is not as a run wrote it;
+/// line that is no command, or that says something to a session; `BadItem` at a line of the state that is not as a run wrote it;
 /// `CannotRead`; `CannotWrite`; `OutOfMemory`.
 pub fn ask<'a, N, R, W, E>(
     alloc: Global,
@@ -96,7 +96,7 @@ where
         vuf: KeyedVuf::new(keys.provider),
         verifier: KeyedSign::new(keys.provider),
     };
-    ask_over(
+    let ended = ask_over(
         alloc,
         system,
         &mut stream,
@@ -106,11 +106,12 @@ where
         reader,
         writer,
         errors,
-    )
+    )?;
+    Ok(ended.status())
 }
 
 /// Asks what the words of an order ask, or the lines of the input, over a stream to a directory, and writes the
-/// line of each answer. The words of refusals go to the errors. Returns the status, as `ask` does.
+/// line of each answer. The words of refusals go to the errors. Returns how the run ended, with the status of `ask`.
 ///
 /// # Errors
 ///
@@ -125,7 +126,7 @@ pub fn ask_over<'a, F, T, R, W, E, H, V, S>(
     reader: &mut R,
     writer: &mut W,
     errors: &mut E,
-) -> Result<u8, ProgramFault>
+) -> Result<RunEnd, ProgramFault>
 where
     F: Files<File = File>,
     T: Read + Write,
@@ -135,8 +136,8 @@ where
     H: NodeHash + Drop,
     V: VufCheck + Drop,
     S: Verifier + Drop,
-    ensures runs { IfOk result (λ status. (0 < status) ⊎ RunsWhole H.digest_of V.accepted S.verified (ExchangesFrames T.contents T.remaining) keys.provider keys.token (ask_values order.entry)
-        (order.entry.state ≡ None) stream.old (R.remaining reader.old) status (W.contents writer.old) (W.contents writer.new)) }
+    ensures runs { IfOk result (λ ended. RunsAs H.digest_of V.accepted S.verified (ExchangesFrames T.contents T.remaining) keys.provider keys.token (ask_values order.entry)
+        (order.entry.state ≡ None) stream.old (R.remaining reader.old) ended (W.contents writer.old) (W.contents writer.new)) }
 {
     let mut run = Run::new(alloc, files, order.state)?;
     let outcome = run.ask(stream, checks, &keys, order, reader, writer, errors);

@@ -1,11 +1,14 @@
 // What a client keeps between runs. In the file of the state stand the signed roots of its chain, one a line
 // in hexadecimal digits; in a second one beside it the promises that it keeps, and how far names were watched.
+ghost use Rattle.std.specs.Prelude.{◌≡◌, [], IfOk};
+ghost use Rattle.asking.specs.Runs.{IsSame};
+
 use crate::asker::Mark;
 use crate::{AskFault, Asker, Checks};
 use encoding::{Hash32, Name};
 use hex::FromHexError;
 use nodehash::NodeHash;
-use play::{push_hex, push_number};
+use play::{next_line, push_hex, push_number};
 use rootchain::SignedPromise;
 use sigiface::Verifier;
 use std::alloc::{AllocError, Global};
@@ -82,7 +85,7 @@ impl<'a> State<'a> {
         })
     }
 
-    /// What asks with the chain and the promises of the state, or `None` if its file is not there.
+    /// What asks with the chain and the promises of the state, or the checks back if its file is not there.
     ///
     /// # Errors
     ///
@@ -100,33 +103,22 @@ impl<'a> State<'a> {
         H: NodeHash + Drop,
         V: VufCheck + Drop,
         S: Verifier + Drop,
+        ensures { IfOk result (λ loaded. IfOk loaded (λ asker. (asker.key ≡ key) × (asker.token ≡ token) × (asker.monitors.items ≡ []))) }
     {
         let Some(roots) = file_bytes(alloc, files, self.path)? else {
             return Ok(Err(checks));
         };
         self.is_cut = roots.last() != Some(&b'\n');
-        let mut lines = roots.split(|byte| *byte == b'\n');
-        let first = line_bytes(alloc, lines.next().unwrap_or(b""), 1)?;
+        let line = roots.split(|byte| *byte == b'\n').next().unwrap_or(b"");
+        let first = line_bytes(alloc, line, 1)?;
         let mut asker = match Asker::start(alloc, checks, key, token, &first) {
             Ok(asker) => asker,
             Err(why) => return Err(fault_of(&why, 1)),
         };
-        let mut number: u64 = 1;
-        for line in lines {
-            number = number.saturating_add(1);
-            if !line.is_empty() {
-                asker.take_line(line, number)?;
-            }
-        }
+        asker.take_lines(&roots)?;
         self.epoch = asker.head();
         if let Some(kept) = file_bytes(alloc, files, self.beside.as_str())? {
-            let mut number: u64 = 0;
-            for line in kept.split(|byte| *byte == b'\n') {
-                number = number.saturating_add(1);
-                if !line.is_empty() {
-                    asker.keep_line(line, number)?;
-                }
-            }
+            asker.keep_lines(&kept)?;
             self.kept = kept;
         }
         Ok(Ok(asker))
@@ -229,8 +221,46 @@ where
     V: VufCheck + Drop,
     S: Verifier + Drop,
 {
+    /// Takes the roots of a text's lines behind the first.
+    fn take_lines(&mut self, text: &[u8]) -> Result<(), ProgramFault>
+        ensures { IsSame self.old self.new }
+    {
+        let mut left = text;
+        let mut line = Vec::new(self.alloc);
+        // Every loop of Rattle has an end: this one's is past any text.
+        for number in 1..u64::MAX {
+            if !next_line(&mut left, &mut line)? {
+                return Ok(());
+            }
+            if 1 < number && !line.is_empty() {
+                self.take_line(&line, number)?;
+            }
+        }
+        Ok(())
+    }
+
+    /// Keeps what the lines of the second file have.
+    fn keep_lines(&mut self, text: &[u8]) -> Result<(), ProgramFault>
+        ensures { IsSame self.old self.new }
+    {
+        let mut left = text;
+        let mut line = Vec::new(self.alloc);
+        // Every loop of Rattle has an end: this one's is past any text.
+        for number in 1..u64::MAX {
+            if !next_line(&mut left, &mut line)? {
+                return Ok(());
+            }
+            if !line.is_empty() {
+                self.keep_line(&line, number)?;
+            }
+        }
+        Ok(())
+    }
+
     /// Takes the root of a line.
-    fn take_line(&mut self, line: &[u8], number: u64) -> Result<(), ProgramFault> {
+    fn take_line(&mut self, line: &[u8], number: u64) -> Result<(), ProgramFault>
+        ensures { IsSame self.old self.new }
+    {
         let root = line_bytes(self.alloc, line, number)?;
         let mut list = Vec::new(self.alloc);
         push_list(&mut list, &root)?;
@@ -245,7 +275,9 @@ where
     }
 
     /// Keeps what a line of the second file has: `promise HEX`, `change HEX`, or `watched NAME EPOCH`.
-    fn keep_line(&mut self, line: &[u8], number: u64) -> Result<(), ProgramFault> {
+    fn keep_line(&mut self, line: &[u8], number: u64) -> Result<(), ProgramFault>
+        ensures { IsSame self.old self.new }
+    {
         if let Some(promise) = line.strip_prefix(b"promise ".as_slice()) {
             let _signed = self.keep_earlier(promise, number)?;
             return Ok(());
@@ -262,7 +294,9 @@ where
     }
 
     /// Keeps a promise of an earlier run, which these digits give.
-    fn keep_earlier(&mut self, digits: &[u8], number: u64) -> Result<SignedPromise, ProgramFault> {
+    fn keep_earlier(&mut self, digits: &[u8], number: u64) -> Result<SignedPromise, ProgramFault>
+        ensures { IsSame self.old self.new }
+    {
         let promise = line_bytes(self.alloc, digits, number)?;
         let checks = &mut self.checks;
         let read = self
@@ -280,7 +314,9 @@ where
     }
 
     /// Keeps how far a name was watched: `NAME EPOCH`.
-    fn keep_mark(&mut self, mark: &[u8], number: u64) -> Result<(), ProgramFault> {
+    fn keep_mark(&mut self, mark: &[u8], number: u64) -> Result<(), ProgramFault>
+        ensures { IsSame self.old self.new }
+    {
         let mut words = mark.split(|byte| *byte == b' ');
         let (Some(name), Some(epoch), None) = (words.next(), words.next(), words.next()) else {
             return Err(ProgramFault::BadItem(number));

@@ -21,7 +21,7 @@ returns-in-Some g c =
     (g.W.Write.contents c.prepare.new.writer) (g.W.Write.contents c.ask_line.new.writer) last} c.ask_line.result line once) in
     whole g.H.NodeHash.digest_of g.V.VufCheck.accepted g.S.Verifier.verified (ExchangesFrames g.T.Write.contents g.T.Read.remaining) c.args.keys.now.provider c.args.keys.now.token (ask_values c.args.order) (c.args.self.now.state ≡ None)
     c.ask_line.result (known_of c.in_ok-asker.asker) (known_of c.prepare.new.asker) c.args.stream.now start ready last (g.R.Read.remaining c.args.reader.now) (g.W.Write.contents c.args.writer.now)
-    (g.W.Write.contents c.prepare.new.writer) (g.W.Write.contents c.ask_line.new.writer) (report_of c.args.self.now.said) c.in_ok-asker.ensures.said c.in_ok-asker.ensures.begins c.in_ok-asker.ensures.knows
+    (g.W.Write.contents c.prepare.new.writer) (g.W.Write.contents c.ask_line.new.writer) (report_of c.args.self.now.said) c.in_ok-asker.ensures.said c.in_ok-asker.ensures.begins c.in_ok-asker.ensures.knows c.in_ok-asker.ensures.anew
     c.in_ok-prepare.ensures.prepares c.in_ok-prepare.ensures.stays asks
 
 pub returns : goal.returns
@@ -33,5 +33,5 @@ returns g c =
     (g.W.Write.contents c.prepare.new.writer) (g.W.Write.contents c.ask_lines.new.writer) last) c.ask_lines.result (g.R.Read.remaining c.args.reader.now) c.args.order c.in-None.is c.ask_lines.ensures in
     whole g.H.NodeHash.digest_of g.V.VufCheck.accepted g.S.Verifier.verified (ExchangesFrames g.T.Write.contents g.T.Read.remaining) c.args.keys.now.provider c.args.keys.now.token (ask_values c.args.order) (c.args.self.now.state ≡ None)
     c.ask_lines.result (known_of c.in_ok-asker.asker) (known_of c.prepare.new.asker) c.args.stream.now start ready last (g.R.Read.remaining c.args.reader.now) (g.W.Write.contents c.args.writer.now)
-    (g.W.Write.contents c.prepare.new.writer) (g.W.Write.contents c.ask_lines.new.writer) (report_of c.args.self.now.said) c.in_ok-asker.ensures.said c.in_ok-asker.ensures.begins c.in_ok-asker.ensures.knows
+    (g.W.Write.contents c.prepare.new.writer) (g.W.Write.contents c.ask_lines.new.writer) (report_of c.args.self.now.said) c.in_ok-asker.ensures.said c.in_ok-asker.ensures.begins c.in_ok-asker.ensures.knows c.in_ok-asker.ensures.anew
     c.in_ok-prepare.ensures.prepares c.in_ok-prepare.ensures.stays asks
