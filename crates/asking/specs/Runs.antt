@@ -38,8 +38,8 @@ abbrev pub known_of : {H V S : Type 0} → Asker H V S → Known
 known_of asker = record { key = asker.key; token = asker.token; marks = asker.marks.items; earlier = asker.earlier.items }
 
 -- the same key and token, and the same monitors
-abbrev pub IsSame : {H V S : Type 0} → Asker H V S → Asker H V S → Type 0
-IsSame before after = (after.key ≡ before.key) × (after.token ≡ before.token) × (after.monitors ≡ before.monitors)
+abbrev pub IsSameAsker : {H V S : Type 0} → Asker H V S → Asker H V S → Type 0
+IsSameAsker before after = (after.key ≡ before.key) × (after.token ≡ before.token) × (after.monitors ≡ before.monitors)
 
 -- with no earlier run
 abbrev pub known_new : List ℕ → List ℕ → Known

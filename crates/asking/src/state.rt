@@ -1,7 +1,7 @@
 // What a client keeps between runs. In the file of the state stand the signed roots of its chain, one a line
 // in hexadecimal digits; in a second one beside it the promises that it keeps, and how far names were watched.
 ghost use Rattle.std.specs.Prelude.{◌≡◌, [], IfOk};
-ghost use Rattle.asking.specs.Runs.{IsSame};
+ghost use Rattle.asking.specs.Runs.{IsSameAsker};
 
 use crate::asker::Mark;
 use crate::{AskFault, Asker, Checks};
@@ -223,7 +223,7 @@ where
 {
     /// Takes the roots of a text's lines behind the first.
     fn take_lines(&mut self, text: &[u8]) -> Result<(), ProgramFault>
-        ensures { IsSame self.old self.new }
+        ensures { IsSameAsker self.old self.new }
     {
         let mut left = text;
         let mut line = Vec::new(self.alloc);
@@ -241,7 +241,7 @@ where
 
     /// Keeps what the lines of the second file have.
     fn keep_lines(&mut self, text: &[u8]) -> Result<(), ProgramFault>
-        ensures { IsSame self.old self.new }
+        ensures { IsSameAsker self.old self.new }
     {
         let mut left = text;
         let mut line = Vec::new(self.alloc);
@@ -259,7 +259,7 @@ where
 
     /// Takes the root of a line.
     fn take_line(&mut self, line: &[u8], number: u64) -> Result<(), ProgramFault>
-        ensures { IsSame self.old self.new }
+        ensures { IsSameAsker self.old self.new }
     {
         let root = line_bytes(self.alloc, line, number)?;
         let mut list = Vec::new(self.alloc);
@@ -276,7 +276,7 @@ where
 
     /// Keeps what a line of the second file has: `promise HEX`, `change HEX`, or `watched NAME EPOCH`.
     fn keep_line(&mut self, line: &[u8], number: u64) -> Result<(), ProgramFault>
-        ensures { IsSame self.old self.new }
+        ensures { IsSameAsker self.old self.new }
     {
         if let Some(promise) = line.strip_prefix(b"promise ".as_slice()) {
             let _signed = self.keep_earlier(promise, number)?;
@@ -295,7 +295,7 @@ where
 
     /// Keeps a promise of an earlier run, which these digits give.
     fn keep_earlier(&mut self, digits: &[u8], number: u64) -> Result<SignedPromise, ProgramFault>
-        ensures { IsSame self.old self.new }
+        ensures { IsSameAsker self.old self.new }
     {
         let promise = line_bytes(self.alloc, digits, number)?;
         let checks = &mut self.checks;
@@ -315,7 +315,7 @@ where
 
     /// Keeps how far a name was watched: `NAME EPOCH`.
     fn keep_mark(&mut self, mark: &[u8], number: u64) -> Result<(), ProgramFault>
-        ensures { IsSame self.old self.new }
+        ensures { IsSameAsker self.old self.new }
     {
         let mut words = mark.split(|byte| *byte == b' ');
         let (Some(name), Some(epoch), None) = (words.next(), words.next(), words.next()) else {
