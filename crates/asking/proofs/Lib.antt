@@ -4,7 +4,6 @@ pub mod Halted
 pub mod Heard
 pub mod Joined
 pub mod Listed
-pub mod Moved
 pub mod Placed
 pub mod Ran
 pub mod Stepped

@@ -10,7 +10,7 @@ use Rattle.asking.specs.declared.said.Said.{Said}
 use Rattle.asking.specs.Following.{MonitorUpdates, OneRefuses, RefusesList, TellsRootRefusal}
 use Rattle.asking.specs.Refused.{client_refuses}
 use Rattle.asking.specs.Reports.{Tells}
-use Rattle.asking.proofs.Moved.{AreMoved}
+use Rattle.play.proofs.Moved.{AreMoved}
 use Rattle.asking.proofs.Stepped.{set_to_itself}
 
 -- lists of the same elements

@@ -65,7 +65,7 @@ waits_now idle most (On other deed ∷ acts) place sound few =
 
 -- ---- what is so of a history is so at each earlier time
 
-sound_before : (idle : ℕ) (later earlier : History) → IsSoundHistory idle (later ++ earlier) → IsSoundHistory idle earlier
+pub sound_before : (idle : ℕ) (later earlier : History) → IsSoundHistory idle (later ++ earlier) → IsSoundHistory idle earlier
 sound_before idle [] earlier sound = sound
 sound_before idle (At now ∷ later) earlier sound = sound_before idle later earlier sound
 sound_before idle (Ordered ∷ later) earlier sound = sound_before idle later earlier sound

@@ -20,6 +20,7 @@ pub mod InTime
 pub mod LineAsked
 pub mod Lists
 pub mod Looked
+pub mod Moved
 pub mod Numbers
 pub mod Pieces
 pub mod Plain

@@ -7,17 +7,9 @@ use Rattle.connections.specs.declared.ending.SessionFault.TheVariants as fault
 use Rattle.connections.specs.Histories.{At, Ordered, GoesOn, Syncs, NoneWaits, On, Comes, Opens, Refuses, Reads, IsOver, IsSilent, Hears, Misses, Lacks, Takes, TakesNone, Fails, Ends, Closes, History, course}
 use Rattle.connections.specs.Soundness.{IsSoundHistory}
 use Rattle.connections.proofs.Orderly.{in_order}
+use Rattle.connections.proofs.Waiting.{sound_before}
 use Rattle.server.specs.Sessions.{AlwaysAnswered, AlwaysInOrder, AreLines}
 use Rattle.server.proofs.Following.{all_follow, is_answered}
-
-sound_before : (idle : ℕ) (later earlier : History) → IsSoundHistory idle (later ++ earlier) → IsSoundHistory idle earlier
-sound_before idle [] earlier sound = sound
-sound_before idle (At now ∷ later) earlier sound = sound_before idle later earlier sound
-sound_before idle (Ordered ∷ later) earlier sound = sound_before idle later earlier sound
-sound_before idle (Syncs kept ∷ later) earlier sound = sound_before idle later earlier sound.1
-sound_before idle (GoesOn ∷ later) earlier sound = sound_before idle later earlier sound.1
-sound_before idle (NoneWaits ∷ later) earlier sound = sound_before idle later earlier sound.2
-sound_before idle (On place deed ∷ later) earlier sound = sound_before idle later earlier sound.1
 
 pub always_in_order : (idle : ℕ) (acts : History) → IsSoundHistory idle acts → AlwaysInOrder acts
 always_in_order idle acts sound later earlier place split = in_order idle earlier place (sound_before idle later earlier (subst (IsSoundHistory idle) split sound))

@@ -1,6 +1,6 @@
 use Rattle.std.proofs.Common.{◌≡◌}
 use Rattle.asking.specs.Following.{MonitorUpdates}
-use Rattle.asking.proofs.Moved.{AreMoved}
+use Rattle.play.proofs.Moved.{AreMoved}
 use Rattle.asking.proofs.following.update_all.Given as goal
 
 -- the monitors before this place took the roots, and the others are as they were

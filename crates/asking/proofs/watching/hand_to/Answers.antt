@@ -2,7 +2,7 @@ use Rattle.std.proofs.Common.{subst, arith}
 use Rattle.std.proofs.lemmas.List.{get_or_default}
 use Rattle.monitor.specs.Monitors.{Monitor}
 use Rattle.asking.specs.Asking.{HandsTo}
-use Rattle.asking.proofs.Moved.{moved-begin, moved-end, moved-step}
+use Rattle.play.proofs.Moved.{moved-begin, moved-end, moved-step}
 use Rattle.asking.proofs.watching.hand_to.Goals as goal
 
 pub loop-monitor-init : goal.loop-monitor-init

@@ -1,5 +1,5 @@
 use Rattle.asking.specs.Asking.{HandsTo}
-use Rattle.asking.proofs.Moved.{AreMoved}
+use Rattle.play.proofs.Moved.{AreMoved}
 use Rattle.asking.proofs.watching.hand_to.Given as goal
 
 -- the monitors before this place were given it, and the others are as they were

@@ -4,7 +4,7 @@ use Rattle.std.proofs.lemmas.List.{get_or_default}
 use Rattle.monitor.specs.Monitors.{Monitor}
 use Rattle.play.specs.Taking.{MonitorTakes}
 use Rattle.play.specs.Wanting.{MayTake}
-use Rattle.play.proofs.Taken.{moved-begin, moved-end, moved-step, still-holds}
+use Rattle.play.proofs.Moved.{moved-begin, moved-end, moved-step, still-holds}
 use Rattle.play.proofs.engine.following.update_all.Goals as goal
 
 pub loop-monitor-init : goal.loop-monitor-init

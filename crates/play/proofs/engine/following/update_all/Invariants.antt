@@ -4,7 +4,7 @@ use Rattle.rootchain.specs.RootLists.{SpellsRoots}
 use Rattle.rootchain.specs.declared.signed_root.SignedRoot.{SignedRoot}
 use Rattle.monitor.specs.Monitors.{Monitor}
 use Rattle.play.specs.Taking.{MonitorTakes}
-use Rattle.play.proofs.Taken.{AreMoved}
+use Rattle.play.proofs.Moved.{AreMoved}
 use Rattle.play.proofs.engine.following.update_all.Given as goal
 
 abbrev pub invariant-loop-monitor : goal.invariant-loop-monitor

@@ -3,7 +3,7 @@ use Rattle.std.specs.Prelude.{⊤}
 use Rattle.std.proofs.lemmas.List.{get_or_default}
 use Rattle.monitor.specs.Monitors.{Monitor}
 use Rattle.play.specs.Handed.{IsHanded, MayBeHanded}
-use Rattle.play.proofs.Taken.{moved-begin, moved-end, moved-step, still-holds}
+use Rattle.play.proofs.Moved.{moved-begin, moved-end, moved-step, still-holds}
 use Rattle.play.proofs.engine.handing.hand_all.Goals as goal
 
 pub loop-monitor-init : goal.loop-monitor-init

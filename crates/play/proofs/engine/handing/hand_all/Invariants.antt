@@ -3,7 +3,7 @@ use Rattle.rootchain.specs.Promises.{SpellsPromise}
 use Rattle.rootchain.specs.declared.signed_promise.SignedPromise.{SignedPromise}
 use Rattle.monitor.specs.Monitors.{Monitor}
 use Rattle.play.specs.Handed.{IsHanded}
-use Rattle.play.proofs.Taken.{AreMoved}
+use Rattle.play.proofs.Moved.{AreMoved}
 use Rattle.play.proofs.engine.handing.hand_all.Given as goal
 
 -- the monitors before this place have the promise, and the others are as they were

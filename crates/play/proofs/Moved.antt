@@ -1,6 +1,6 @@
 -- A list whose elements change one after another.
-use Rattle.std.proofs.Common.{◌≡◌, ◌≢◌, ◌∙◌, ℕ, suc, ◌+◌, ◌<◌, ◌≤◌, List, [], ◌∷◌, length, get_or, slice_set, refl, sym, subst, inl, inr, arith, get_or-set_other, get_or-set_same}
-use Rattle.std.specs.List.{AllZip}
+use Rattle.std.proofs.Common.{◌≡◌, ◌≢◌, ◌∙◌, ℕ, zero, suc, ◌+◌, ◌<◌, ◌≤◌, List, [], ◌∷◌, length, get_or, slice_set, refl, sym, subst, inl, inr, arith, get_or-set_other, get_or-set_same}
+use Rattle.std.specs.List.{AllByRecursion, AllZip}
 use Rattle.std.proofs.lemmas.Bool.{cases_lt}
 
 -- up to this place each element was changed so, and the others are as before
@@ -35,3 +35,12 @@ module _ {X : Type 0} (R : X → X → Type 0) where
 
   pub moved-end : (xs ys : List X) (place : ℕ) → length ys ≡ length xs → length xs ≤ place → AreMoved R xs place ys → AllZip R xs ys
   moved-end xs ys place same high are = zip-from xs ys same (λ k d low. are.moved k d (omega (arith, low, high)))
+
+-- what holds of all holds of those that are as before
+all-at : {X : Type 0} (P : X → Type 0) (xs : List X) → AllByRecursion P xs → (k : ℕ) (d : X) → k < length xs → P (get_or xs k d)
+all-at P [] all k d low = absurd (omega (arith, low))
+all-at P (x ∷ xs) all zero d low = all.0
+all-at P (x ∷ xs) all (suc k) d low = all-at P xs all.1 k d (omega (arith, low))
+
+pub still-holds : {X : Type 0} (P : X → Type 0) (R : X → X → Type 0) (xs ys : List X) (place : ℕ) → length ys ≡ length xs → place < length ys → AreMoved R xs place ys → AllByRecursion P xs → (d : X) → P (get_or ys place d)
+still-holds P R xs ys place same low are all d = subst P (sym (are.still place d (omega arith))) (all-at P xs all place d (omega (arith, same, low)))
