@@ -21,7 +21,7 @@ module _ {X Y : Type 0} (R : X → Y → Type 0) where
   zip-drop (suc n) (x ∷ xs) [] all = absurd all
   zip-drop (suc n) (x ∷ xs) (y ∷ ys) all = zip-drop n xs ys all.1
 
-  zip-take : (n : ℕ) (xs : List X) (ys : List Y) → AllZip R xs ys → AllZip R (take n xs) (take n ys)
+  pub zip-take : (n : ℕ) (xs : List X) (ys : List Y) → AllZip R xs ys → AllZip R (take n xs) (take n ys)
   zip-take zero xs ys all = tt
   zip-take (suc n) [] [] all = tt
   zip-take (suc n) [] (y ∷ ys) all = absurd all

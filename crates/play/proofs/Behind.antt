@@ -21,7 +21,7 @@ use Rattle.book.specs.Sound.{IsSound}
 use Rattle.book.specs.Steps.{Answers, Outcome}
 use Rattle.book.specs.Turns.{Turn}
 use Rattle.book.proofs.OneRoot.{same-roots}
-use Rattle.book.proofs.Rooted.{all-rooted}
+use Rattle.book.proofs.Rooted.{all-rooted, zip-take}
 use Rattle.epochs.specs.DirectoryStates.{book, DirectoryState, HasKeysOf}
 use Rattle.hub.specs.Desks.{reply_frame, DeskState, IsResponseOf}
 use Rattle.hub.specs.Events.{at_session, BySession, HubState}
@@ -72,13 +72,6 @@ module _ {X Y : Type 0} (R : X → Y → Type 0) where
   part-at (x ∷ xs) (i ∷ init) y zs zip =
       let p = part-at xs init y zs zip.1 in
       record { front = x ∷ p.front; own = p.own; more = p.more; is = ap (λ (rest : List X). x ∷ rest) p.is; beside = p.beside; behind = p.behind }
-
-  zip-take : (n : ℕ) (xs : List X) (ys : List Y) → AllZip R xs ys → AllZip R (take n xs) (take n ys)
-  zip-take zero xs ys all = tt
-  zip-take (suc n) [] [] all = tt
-  zip-take (suc n) [] (y ∷ ys) all = absurd all
-  zip-take (suc n) (x ∷ xs) [] all = absurd all
-  zip-take (suc n) (x ∷ xs) (y ∷ ys) all = (all.0, zip-take n xs ys all.1)
 
 -- ---- what is told of a book
 
