@@ -9,8 +9,8 @@ use Rattle.wire.specs.Frames.{Frame}
 use Rattle.wire.specs.Requests.{RequestContent}
 use Rattle.asking.specs.declared.asker.Asker.{Asker}
 use Rattle.asking.specs.declared.asker.Mark.{Mark}
-use Rattle.asking.specs.declared.fault.AskFault.{AskFault}
-use Rattle.asking.specs.declared.fault.AskFault.TheVariants.{NoReply, OutOfMemory, Stopped}
+use Rattle.asking.specs.declared.ask_fault.AskFault.{AskFault}
+use Rattle.asking.specs.declared.ask_fault.AskFault.TheVariants.{NoReply, OutOfMemory, Stopped}
 use Rattle.asking.specs.declared.said.Said.{Said}
 use Rattle.asking.specs.Answering.{with_token}
 use Rattle.asking.specs.Asking.{AsksSome, CatchesSome, CatchesUp, GoesSomeAbove, Hands, HearsSome, Notes, SpeaksOf}

@@ -9,8 +9,8 @@ use Rattle.wire.specs.Responses as response
 use Rattle.client.specs.Clients.{Client}
 use Rattle.client.specs.Looking.{Looks}
 use Rattle.client.specs.Promising.{KeepsPromise}
-use Rattle.client.specs.declared.refusal.Refusal.{Refusal}
-use Rattle.client.specs.declared.refusal.Refusal.TheVariants.{Root, Proof, UnknownRoot, RootDiffers, Memory, NoPromise}
+use Rattle.client.specs.declared.client_refusal.Refusal.{Refusal}
+use Rattle.client.specs.declared.client_refusal.Refusal.TheVariants.{Root, Proof, UnknownRoot, RootDiffers, Memory, NoPromise}
 use Rattle.asking.specs.Answering.{IsAnswerTo}
 use Rattle.asking.specs.Checking.{look_told, promise_told, HearsResponse, IsTellable}
 use Rattle.asking.specs.Reports.{Report}

@@ -4,7 +4,7 @@ use Rattle.std.specs.Prelude.{OnOk, if◌then◌else◌, is_ok}
 use Rattle.rootchain.specs.Chains.{KeyedRoots}
 use Rattle.rootchain.specs.declared.signed_root.SignedRoot.{SignedRoot}
 use Rattle.wire.specs.Responses.{Roots}
-use Rattle.client.specs.declared.refusal.Refusal.{Refusal}
+use Rattle.client.specs.declared.client_refusal.Refusal.{Refusal}
 use Rattle.play.specs.Hearing.{response_text}
 use Rattle.asking.specs.declared.placing.Stop.{Stop}
 use Rattle.asking.specs.declared.said.Said.{Said}

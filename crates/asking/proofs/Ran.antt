@@ -137,18 +137,18 @@ ends_so hash accepted verified exchanged key token options NoState None' (Err fa
 ends_so {F = F} hash accepted verified exchanged key token options NoState None' (Ok done) result stream input old new new' status told empty without runs (is, same) stops =
     let run = runs empty in
     subst (λ (r : Result RunEnd F). IfOk r (λ ended. RunsAs hash accepted verified exchanged key token options None' stream input ended old new')) (sym is) (
-      subst (λ (text : Option (List ℕ)). RunsWhole hash accepted verified exchanged key token options None' stream input status old text) (sym same) (record {
-        known = run.known;
-        start = run.start;
-        silent = run.silent;
-        begins = run.begins;
-        knows = run.knows;
-        anew = λ none. run.anew (without none);
-        ready = run.ready;
-        now = run.now;
-        prepares = run.prepares;
-        last = run.last;
-        asks = run.asks;
-        status_is = run.status_is;
-      })
+    subst (λ (text : Option (List ℕ)). RunsWhole hash accepted verified exchanged key token options None' stream input status old text) (sym same) (record {
+      known = run.known;
+      start = run.start;
+      silent = run.silent;
+      begins = run.begins;
+      knows = run.knows;
+      anew = λ none. run.anew (without none);
+      ready = run.ready;
+      now = run.now;
+      prepares = run.prepares;
+      last = run.last;
+      asks = run.asks;
+      status_is = run.status_is;
+    })
     )

@@ -7,7 +7,7 @@ use Rattle.monitor.specs.Stepping.{IsNextEpoch}
 use Rattle.wire.specs.Frames.{Frame}
 use Rattle.wire.specs.Requests.{RequestContent, Query}
 use Rattle.asking.specs.declared.asker.Asker.{Asker}
-use Rattle.asking.specs.declared.fault.AskFault.{AskFault}
+use Rattle.asking.specs.declared.ask_fault.AskFault.{AskFault}
 use Rattle.asking.specs.declared.said.Said.{Said}
 use Rattle.asking.specs.Reports.{Tells, report_of}
 use Rattle.asking.specs.declared.asker.Mark.{Mark}

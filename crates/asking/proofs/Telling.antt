@@ -2,7 +2,7 @@
 use Rattle.std.proofs.Common.{◌≡◌, ◌∙◌, ◌++◌, ◌∷◌, [], ℕ, zero, suc, List, Result, Ok, Err, ap, refl, rules, subst, append_assoc}
 use Rattle.std.specs.Prelude.{OnOk}
 use Rattle.client.specs.Refusals.{client_refusal_number}
-use Rattle.client.specs.declared.refusal.Refusal.{Refusal}
+use Rattle.client.specs.declared.client_refusal.Refusal.{Refusal}
 use Rattle.asking.specs.declared.said.Said.{Said}
 use Rattle.asking.specs.Refused.{client_refuses, evidence_before, refuses_text}
 use Rattle.asking.specs.Reports.{Report, Tells, refused, report_of, worse}

@@ -4,15 +4,15 @@ use Rattle.std.specs.List.{AllZip}
 use Rattle.rootchain.specs.Chains.{IsHead}
 use Rattle.rootchain.specs.declared.signed_promise.SignedPromise.{SignedPromise}
 use Rattle.rootchain.specs.declared.signed_root.SignedRoot.{SignedRoot}
-use Rattle.client.specs.declared.refusal.Refusal.TheVariants.{Memory}
+use Rattle.client.specs.declared.client_refusal.Refusal.TheVariants.{Memory}
 use Rattle.monitor.specs.Expecting.{Expects}
 use Rattle.monitor.specs.Monitors.{Monitor}
-use Rattle.monitor.specs.declared.refusal.Refusal.{Refusal}
-use Rattle.monitor.specs.declared.refusal.Refusal.TheVariants.{Client}
+use Rattle.monitor.specs.declared.monitor_refusal.Refusal.{Refusal}
+use Rattle.monitor.specs.declared.monitor_refusal.Refusal.TheVariants.{Client}
 use Rattle.wire.specs.Frames.{Frame}
 use Rattle.wire.specs.Requests.{RequestContent, Query, Put, Turn}
 use Rattle.wire.specs.Responses.{ResponseContent, Promise, Proof, Roots, Root, Refused, Responds, ReadsResponse}
-use Rattle.wire.specs.declared.refusals.ReadRefusal.{ReadRefusal}
+use Rattle.wire.specs.declared.message_refusals.ReadRefusal.{ReadRefusal}
 use Rattle.asking.specs.declared.asker.Mark.{Mark}
 use Rattle.asking.specs.Answering.{IsAnswerTo, with_token}
 use Rattle.asking.specs.Checking.{HearsFrame}

@@ -5,8 +5,8 @@ use Rattle.rootchain.specs.Chains.{KeyedRoots, Verifies}
 use Rattle.rootchain.specs.Places.{IsPlace}
 use Rattle.rootchain.specs.declared.chain.placing.Place.{Place}
 use Rattle.rootchain.specs.declared.chain.placing.Place.TheVariants.{Known, Evidence, Next, Ahead, BeforeStart}
-use Rattle.rootchain.specs.declared.refusal.Refusal.{Refusal as RootRefusal}
-use Rattle.rootchain.specs.declared.refusal.Refusal.TheVariants as root
+use Rattle.rootchain.specs.declared.root_refusal.Refusal.{Refusal as RootRefusal}
+use Rattle.rootchain.specs.declared.root_refusal.Refusal.TheVariants as root
 use Rattle.rootchain.specs.declared.signed_root.SignedRoot.{SignedRoot}
 use Rattle.proofs.specs.Views.{key_stated}
 use Rattle.proofs.specs.declared.statement.Statement.{Statement}
@@ -15,13 +15,13 @@ use Rattle.wire.specs.Refusals.{read_refusal_number}
 use Rattle.wire.specs.Requests.{RequestContent, Query}
 use Rattle.wire.specs.Responses.{ResponseContent, Proof, Roots, Root, Refused, Responds, ReadsResponse}
 use Rattle.wire.specs.Responses as response
-use Rattle.wire.specs.declared.refusals.ReadRefusal.{ReadRefusal}
+use Rattle.wire.specs.declared.message_refusals.ReadRefusal.{ReadRefusal}
 use Rattle.client.specs.Clients.{Client}
 use Rattle.client.specs.Looking.{Looks}
 use Rattle.client.specs.Promising.{KeepsPromise}
 use Rattle.client.specs.Refusals.{of_root}
-use Rattle.client.specs.declared.refusal.Refusal.{Refusal}
-use Rattle.client.specs.declared.refusal.Refusal.TheVariants.{Memory, RootDiffers}
+use Rattle.client.specs.declared.client_refusal.Refusal.{Refusal}
+use Rattle.client.specs.declared.client_refusal.Refusal.TheVariants.{Memory, RootDiffers}
 use Rattle.play.specs.Hearing.{response_text}
 use Rattle.play.specs.Lines.{statement_text}
 use Rattle.asking.specs.Answering.{IsAnswerTo}

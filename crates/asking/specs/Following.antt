@@ -7,8 +7,8 @@ use Rattle.rootchain.specs.declared.root_list.TheConstants.{MAX_ROOTS}
 use Rattle.rootchain.specs.declared.signed_root.SignedRoot.{SignedRoot}
 use Rattle.client.specs.Clients.{Client}
 use Rattle.client.specs.Updating.{Updates}
-use Rattle.client.specs.declared.refusal.Refusal.{Refusal}
-use Rattle.client.specs.declared.refusal.Refusal.TheVariants.{Memory}
+use Rattle.client.specs.declared.client_refusal.Refusal.{Refusal}
+use Rattle.client.specs.declared.client_refusal.Refusal.TheVariants.{Memory}
 use Rattle.monitor.specs.Monitors.{Monitor}
 use Rattle.wire.specs.Frames.{Frame}
 use Rattle.wire.specs.Requests.{RequestContent, Query}

@@ -3,8 +3,8 @@ use Rattle.std.specs.Prelude.{ℕ, List, [], ◌∷◌, ◌++◌, codes, decimal
 use Rattle.auditor.specs.declared.evidence.Evidence.TheVariants as evidence
 use Rattle.audits.specs.Files.{evidence_text}
 use Rattle.client.specs.Refusals.{client_refusal_number}
-use Rattle.client.specs.declared.refusal.Refusal.{Refusal}
-use Rattle.client.specs.declared.refusal.Refusal.TheVariants.{Root, Proof, UnknownRoot, RootDiffers, Memory, NoPromise}
+use Rattle.client.specs.declared.client_refusal.Refusal.{Refusal}
+use Rattle.client.specs.declared.client_refusal.Refusal.TheVariants.{Root, Proof, UnknownRoot, RootDiffers, Memory, NoPromise}
 use Rattle.asking.specs.Reports.{Report, refused}
 
 -- that the client refuses a root, a promise, a proof or a reply, and the number of the refusal

@@ -3,7 +3,7 @@ use Rattle.std.specs.Prelude.{◌≡◌, ◌≤◌, ◌<◌, ◌⊎◌, ℕ, Lis
 use Rattle.std.specs.List.{flat_map}
 use Rattle.rootchain.specs.Chains.{KeyedRoots}
 use Rattle.rootchain.specs.declared.chain.placing.Place.{Place}
-use Rattle.rootchain.specs.declared.refusal.Refusal.{Refusal as RootRefusal}
+use Rattle.rootchain.specs.declared.root_refusal.Refusal.{Refusal as RootRefusal}
 use Rattle.rootchain.specs.declared.signed_root.SignedRoot.{SignedRoot}
 use Rattle.asking.specs.declared.placing.Stop.{Stop}
 use Rattle.asking.specs.declared.placing.Stop.TheVariants.{OtherEpoch, Refused}

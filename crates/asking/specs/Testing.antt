@@ -6,7 +6,7 @@ use Rattle.client.specs.Clients.{Client}
 use Rattle.client.specs.Dues.{Dues}
 use Rattle.client.specs.declared.due.Due.{Due}
 use Rattle.client.specs.declared.due.Due.TheVariants.{Kept, Broken, OtherIndex}
-use Rattle.client.specs.declared.refusal.Refusal.{Refusal}
+use Rattle.client.specs.declared.client_refusal.Refusal.{Refusal}
 use Rattle.asking.specs.declared.said.Said.{Said}
 use Rattle.asking.specs.Refused.{client_refuses, refuses_text}
 use Rattle.asking.specs.Reports.{Report, Tells, refused, silent}

@@ -1,11 +1,11 @@
 -- Steps of monitors, as they are told.
 use Rattle.std.specs.Prelude.{◌≡◌, ◌≢◌, ◌⊎◌, ℕ, zero, suc, Bool, true, false, List, [], ◌∷◌, ◌++◌, length, Some, None, Ok, Err, codes, slice_get, slice_set}
 use Rattle.commands.specs.Operations.{Lookup}
-use Rattle.client.specs.declared.refusal.Refusal.{Refusal}
-use Rattle.client.specs.declared.refusal.Refusal.TheVariants.{Memory}
+use Rattle.client.specs.declared.client_refusal.Refusal.{Refusal}
+use Rattle.client.specs.declared.client_refusal.Refusal.TheVariants.{Memory}
 use Rattle.monitor.specs.Monitors.{Monitor}
 use Rattle.monitor.specs.Stepping.{IsNextEpoch, Steps}
-use Rattle.monitor.specs.declared.refusal.Refusal.TheVariants.{Client}
+use Rattle.monitor.specs.declared.monitor_refusal.Refusal.TheVariants.{Client}
 use Rattle.monitor.specs.declared.step.Step.{Step}
 use Rattle.monitor.specs.declared.step.Step.TheVariants.{Kept, Alarm}
 use Rattle.play.specs.Telling.{step_text}

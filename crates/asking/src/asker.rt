@@ -5,7 +5,7 @@ ghost use Rattle.client.specs.Starting.{Starts};
 ghost use Rattle.asking.specs.Exchanges.{ExchangesFrames};
 ghost use Rattle.asking.specs.Reports.{report_of};
 ghost use Rattle.asking.specs.Scenes.{StartsAtHead, StopsAtHead};
-ghost use Rattle.asking.specs.declared.fault.AskFault.TheVariants.{Stopped};
+ghost use Rattle.asking.specs.declared.ask_fault.AskFault.TheVariants.{Stopped};
 
 use crate::answering::{body_of, request_of};
 use crate::checking::tell_client;

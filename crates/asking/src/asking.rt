@@ -10,7 +10,7 @@ ghost use Rattle.asking.specs.Checking.{HearsFrame};
 ghost use Rattle.asking.specs.Exchanges.{ExchangesFrames, HoldsFrame, IsOneFrame};
 ghost use Rattle.asking.specs.Scenes.{scene, HaltsAfter, Remains, StaysWhole};
 ghost use Rattle.asking.specs.Reports.{report_of, Report, Tells};
-ghost use Rattle.asking.specs.declared.fault.AskFault.TheVariants.{Stopped};
+ghost use Rattle.asking.specs.declared.ask_fault.AskFault.TheVariants.{Stopped};
 
 use crate::answering::{answers, request_of};
 use crate::checking::hear;

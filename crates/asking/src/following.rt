@@ -5,7 +5,7 @@ ghost use Rattle.asking.specs.Exchanges.{ExchangesFrames};
 ghost use Rattle.asking.specs.Following.{AllUpdate, AnyRefuses, Follows, MonitorUpdates, OneRefuses, RefusesList, StopsAfter, StopsList, TakesList, TakesSome, TellsRootRefusal};
 ghost use Rattle.asking.specs.Scenes.{scene, HaltsAfter, HaltsIn, StaysWhole};
 ghost use Rattle.asking.specs.Reports.{report_of};
-ghost use Rattle.asking.specs.declared.fault.AskFault.TheVariants.{NoReply, Stopped};
+ghost use Rattle.asking.specs.declared.ask_fault.AskFault.TheVariants.{NoReply, Stopped};
 
 use crate::answering::{body_of, tell_other};
 use crate::checking::tell_client;

@@ -1,10 +1,10 @@
 // A monitor of a name joins the others, and begins to watch.
 ghost use Rattle.std.specs.Prelude.{◌≡◌, ◌≢◌, ◌↔◌, ℕ, IfErr, IfOk, IsTrue, None, OnOk, Err, Ok, option_map};
-ghost use Rattle.client.specs.declared.refusal.Refusal.TheVariants.{Memory};
+ghost use Rattle.client.specs.declared.client_refusal.Refusal.TheVariants.{Memory};
 ghost use Rattle.asking.specs.Exchanges.{ExchangesFrames};
 ghost use Rattle.asking.specs.Joining.{first_expected, AllHand, BeginsAt, BeginsSome, BeginsSomeAt, BeginsWatch, IsJoined, IsLaterPromise, IsLatest, IsUnwatched, RefusesOne, Retraces, RetracesOne, StartsFrom};
 ghost use Rattle.asking.specs.Scenes.{scene, HaltsAfter, StaysWhole};
-ghost use Rattle.asking.specs.declared.fault.AskFault.TheVariants.{Stopped};
+ghost use Rattle.asking.specs.declared.ask_fault.AskFault.TheVariants.{Stopped};
 
 use crate::asker::Mark;
 use crate::checking::tell_client;

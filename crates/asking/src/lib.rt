@@ -14,11 +14,11 @@
 #![tactic(auto)]
 
 mod answering;
+mod ask_fault;
 mod asker;
 mod asking;
 mod checking;
 mod exchange;
-mod fault;
 mod following;
 mod joining;
 mod order;
@@ -30,9 +30,9 @@ mod said;
 mod state;
 mod watching;
 
+pub use ask_fault::AskFault;
 pub use asker::{Asker, Checks};
 pub use checking::hear;
-pub use fault::AskFault;
 pub use order::{AskKeys, AskOrder};
 pub use run::RunEnd;
 pub use running::{ask, ask_over};

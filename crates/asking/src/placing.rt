@@ -2,7 +2,7 @@
 // chain has no reason against it.
 ghost use Rattle.std.specs.Prelude.{◌≡◌, ◌++◌, codes, IfOk, None, OnOk, Result};
 ghost use Rattle.rootchain.specs.declared.chain.placing.Place.{Place};
-ghost use Rattle.rootchain.specs.declared.refusal.Refusal.{Refusal as ChainRefusal};
+ghost use Rattle.rootchain.specs.declared.root_refusal.Refusal.{Refusal as ChainRefusal};
 ghost use Rattle.client.specs.Refusals.{of_root};
 ghost use Rattle.asking.specs.Checking.{place_told, refusal_at, AreTold, Places};
 ghost use Rattle.asking.specs.Refused.{client_refuses};

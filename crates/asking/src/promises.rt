@@ -8,7 +8,7 @@ ghost use Rattle.asking.specs.Scenes.{scene, HaltsAfter, HaltsIn, StaysWhole};
 ghost use Rattle.asking.specs.Testing.{TellsDue};
 ghost use Rattle.asking.specs.Reports.{refused, report_of, Tells};
 ghost use Rattle.asking.specs.Visiting.{AwaitsMonitor, HasMonitor, IsMarked, TestsAll, TestsName, TestsSome, Visits};
-ghost use Rattle.asking.specs.declared.fault.AskFault.TheVariants.{Stopped};
+ghost use Rattle.asking.specs.declared.ask_fault.AskFault.TheVariants.{Stopped};
 
 use crate::answering::body_of;
 use crate::asker::Mark;

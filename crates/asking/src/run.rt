@@ -10,7 +10,7 @@ ghost use Rattle.asking.specs.Runs.{AsksLine, AsksLines, DoesLine, emptied, IsCu
 ghost use Rattle.asking.specs.declared.run.RunEnd.TheVariants.{Whole, Stopped};
 ghost use Rattle.asking.specs.Scenes.{scene, StartsAtHead};
 
-use crate::fault::RunFault;
+use crate::ask_fault::RunFault;
 use crate::said::{ALARM, REFUSED};
 use crate::state::State;
 use crate::{AskFault, AskKeys, AskOrder, Asker, Checks, Said};

@@ -2,7 +2,7 @@
 use Rattle.std.proofs.Common.{◌≡◌, ◌≢◌, ◌↔◌, ℕ, Bool, true, false, not, List, Some, IsTrue, refl, sym, subst, ◌∙◌}
 use Rattle.rootchain.specs.declared.body.Body.{Body}
 use Rattle.rootchain.specs.declared.promise.Promise.{Promise}
-use Rattle.proofs.specs.declared.refusal.Refusal.{Refusal}
+use Rattle.proofs.specs.declared.reply_refusal.Refusal.{Refusal}
 use Rattle.proofs.specs.Accepts.{stated, States}
 use Rattle.proofs.specs.BrokenPromises.{Contradicts}
 use Rattle.proofs.specs.Comparisons.{IsAcceptedReply, Refuses}

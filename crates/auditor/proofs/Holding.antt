@@ -11,8 +11,8 @@ use Rattle.prefixtree.proofs.Entries.{at_put_other, at_put_same, is_name}
 use Rattle.prefixtree.proofs.Order.{same-equal}
 use Rattle.rootchain.specs.declared.chain.placing.Place.{Place}
 use Rattle.rootchain.specs.declared.chain.placing.Place.TheVariants.{Known, Evidence, Next, Ahead, BeforeStart}
-use Rattle.rootchain.specs.declared.refusal.Refusal.{Refusal}
-use Rattle.rootchain.specs.declared.refusal.Refusal.TheVariants.{Malformed, BadSignature, NotLater, BadLink, Memory}
+use Rattle.rootchain.specs.declared.root_refusal.Refusal.{Refusal}
+use Rattle.rootchain.specs.declared.root_refusal.Refusal.TheVariants.{Malformed, BadSignature, NotLater, BadLink, Memory}
 use Rattle.rootchain.specs.declared.signed_root.SignedRoot.{SignedRoot}
 use Rattle.rootchain.specs.Chains.{IsChain, KeyedRoots, Verifies}
 use Rattle.rootchain.specs.Evidence.{IsRootEvidence}

@@ -20,8 +20,8 @@ use Rattle.serde_json.specs.Data.{Data}
 use Rattle.serde_json.specs.Read.{of_json, read, max_depth}
 use Rattle.serde_json.specs.Written.{compact_text, outline}
 use Rattle.serde_json.proofs.Texts.{print-outline}
-use Rattle.audits.specs.declared.fault.ReadFault.{ReadFault}
-use Rattle.audits.specs.declared.fault.ReadFault.TheVariants.{NotEvidence, OutOfMemory}
+use Rattle.audits.specs.declared.read_fault.ReadFault.{ReadFault}
+use Rattle.audits.specs.declared.read_fault.ReadFault.TheVariants.{NotEvidence, OutOfMemory}
 use Rattle.audits.specs.Files.{evidence_text, parts_text, value_of, Finds, IsEvidenceOf, IsFileOf, IsOfParts, ReadsAgain}
 use Rattle.audits.specs.Parts.{evidence_parts, EvidenceParts, IsFormed}
 use Rattle.audits.proofs.Parts.{are_ascii-kind, escape-kind, same_evidence, IsBytes-first, IsBytes-second}

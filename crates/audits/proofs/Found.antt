@@ -1,12 +1,12 @@
 -- What a step of reading says of the whole.
 use Rattle.std.proofs.Common.{◌≡◌, ℕ, true, false, List, Option, Some, Result, Ok, Err, is_err, true≢false, eqb-true, eq-eqb, nat_eq, IsTrue, ◌↔◌, option_map, sym, ap, subst, ◌∙◌}
 use Rattle.proofs.proofs.Passing.{nothing_left}
-use Rattle.proofs.specs.declared.refusal.Refusal.{Refusal}
-use Rattle.proofs.specs.declared.refusal.Refusal.TheVariants.{Malformed, Trailing, OtherRoot, BadVuf, SameIndex, OtherPrefix, PathMismatch}
+use Rattle.proofs.specs.declared.reply_refusal.Refusal.{Refusal}
+use Rattle.proofs.specs.declared.reply_refusal.Refusal.TheVariants.{Malformed, Trailing, OtherRoot, BadVuf, SameIndex, OtherPrefix, PathMismatch}
 use Rattle.proofs.specs.Refusals.{ReadsReply}
 use Rattle.proofs.specs.Replies.{Reply, SpellsReply}
-use Rattle.audits.specs.declared.fault.ReadFault.{ReadFault}
-use Rattle.audits.specs.declared.fault.ReadFault.TheVariants.{NotEvidence, OutOfMemory}
+use Rattle.audits.specs.declared.read_fault.ReadFault.{ReadFault}
+use Rattle.audits.specs.declared.read_fault.ReadFault.TheVariants.{NotEvidence, OutOfMemory}
 use Rattle.serde_json.specs.Data.{Data, Members}
 use Rattle.serde_json.specs.Events.{members_len}
 use Rattle.serde_json.specs.Find.{as_object}

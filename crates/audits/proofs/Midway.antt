@@ -7,8 +7,8 @@ use Rattle.hex.specs.Hex.{decode_of}
 use Rattle.hex.specs.declared.error.FromHexError.{FromHexError}
 use Rattle.hex.specs.declared.error.FromHexError.TheVariants.{OddLength}
 use Rattle.hex.proofs.HexLemmas.{decode_of-odd, decode_of-ok}
-use Rattle.rootchain.specs.declared.refusal.Refusal.{Refusal}
-use Rattle.rootchain.specs.declared.refusal.Refusal.TheVariants.{Malformed}
+use Rattle.rootchain.specs.declared.root_refusal.Refusal.{Refusal}
+use Rattle.rootchain.specs.declared.root_refusal.Refusal.TheVariants.{Malformed}
 use Rattle.rootchain.specs.declared.signed_root.SignedRoot.{SignedRoot}
 use Rattle.textio.specs.Lines.{lines_of, TakesLine}
 use Rattle.textio.specs.Output.{WritesBeginning}

@@ -4,8 +4,8 @@ use Rattle.std.specs.Io.KnownBytes.{Appends, Keeps}
 use Rattle.hex.specs.Hex.{decode_of}
 use Rattle.hex.specs.declared.error.FromHexError.{FromHexError}
 use Rattle.nodehash.specs.Sha256.{sha256}
-use Rattle.rootchain.specs.declared.refusal.Refusal.{Refusal}
-use Rattle.rootchain.specs.declared.refusal.Refusal.TheVariants.{Malformed, Memory}
+use Rattle.rootchain.specs.declared.root_refusal.Refusal.{Refusal}
+use Rattle.rootchain.specs.declared.root_refusal.Refusal.TheVariants.{Malformed, Memory}
 use Rattle.rootchain.specs.Refusals.{chain_refusal_number}
 use Rattle.textio.specs.Digits.{hex32}
 use Rattle.textio.specs.Lines.{lines_of}

@@ -6,8 +6,8 @@ use Rattle.serde_json.specs.Data.{Data, string, object, member, no_members}
 use Rattle.serde_json.specs.Events.{members_len}
 use Rattle.serde_json.specs.Find.{as_object, as_str, get}
 use Rattle.serde_json.specs.Read.{read}
-use Rattle.audits.specs.declared.fault.ReadFault.{ReadFault}
-use Rattle.audits.specs.declared.fault.ReadFault.TheVariants.{NotEvidence, OutOfMemory}
+use Rattle.audits.specs.declared.read_fault.ReadFault.{ReadFault}
+use Rattle.audits.specs.declared.read_fault.ReadFault.TheVariants.{NotEvidence, OutOfMemory}
 use Rattle.audits.specs.Parts.{evidence_parts, EvidenceParts, HasParts, IsFormed}
 
 -- one object with no space: its keys are first, kind and second, and the parts are in hex

@@ -13,18 +13,18 @@
 #![tactic(auto)]
 
 mod auditing;
-mod fault;
 mod judging;
 mod laws;
 mod opening;
 mod orders;
+mod read_fault;
 mod reading;
 mod writing;
 
 pub use auditing::audit;
-pub use fault::ReadFault;
 pub use judging::{Verdict, judge_at, judge_file};
 pub use laws::{file_is_one_evidence, text_is_compact, text_is_file};
 pub use orders::{AuditOrder, JudgeOrder};
+pub use read_fault::ReadFault;
 pub use reading::read_evidence;
 pub use writing::evidence_json;

@@ -9,8 +9,8 @@ use Rattle.rootchain.specs.Bodies.{IsBody}
 use Rattle.rootchain.specs.declared.body.Body.{Body}
 use Rattle.proofs.specs.Refusals.{IsFirstToFail, Passes, reply_refusal_number}
 use Rattle.proofs.specs.Replies.{End, Other, Reply, IsReply, SpellsReply, reply_bytes}
-use Rattle.proofs.specs.declared.refusal.Refusal.{Refusal}
-use Rattle.proofs.specs.declared.refusal.Refusal.TheVariants.{Malformed, Trailing, OtherRoot, BadVuf, SameIndex, OtherPrefix, PathMismatch}
+use Rattle.proofs.specs.declared.reply_refusal.Refusal.{Refusal}
+use Rattle.proofs.specs.declared.reply_refusal.Refusal.TheVariants.{Malformed, Trailing, OtherRoot, BadVuf, SameIndex, OtherPrefix, PathMismatch}
 use Rattle.book.specs.Books.{Binding, Page}
 use Rattle.book.specs.Fresh.{KeepsLaws}
 use Rattle.book.specs.Maps.{Map, at}

@@ -3,7 +3,7 @@ use Rattle.std.proofs.Common.{◌≡◌, ℕ, ◌<◌, List, [], ◌∷◌, ◌+
 use Rattle.std.specs.Prelude.{nat_le, unwrap_or}
 use Rattle.std.proofs.lemmas.List.{append-nil, append_assoc}
 use Rattle.book.specs.declared.record.Record.{Record}
-use Rattle.book.specs.declared.refusal.Refusal.TheVariants.{EpochNotLater}
+use Rattle.book.specs.declared.directory_refusal.Refusal.TheVariants.{EpochNotLater}
 use Rattle.book.specs.declared.reply.Reply.{Reply}
 use Rattle.book.specs.Answers.{Answer, next_page, refusal, with_page}
 use Rattle.commands.specs.Operations.{Operation, Query, Edit, Put, Turn}

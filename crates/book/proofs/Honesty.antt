@@ -18,7 +18,7 @@ use Rattle.rootchain.specs.declared.signed_promise.SignedPromise.{SignedPromise}
 use Rattle.rootchain.specs.declared.signed_root.SignedRoot.{SignedRoot}
 use Rattle.proofs.specs.Accepts.{Accepts, HasIndex}
 use Rattle.proofs.specs.Replies.{Reply as Spelled}
-use Rattle.proofs.specs.declared.refusal.Refusal.TheVariants.{SameIndex}
+use Rattle.proofs.specs.declared.reply_refusal.Refusal.TheVariants.{SameIndex}
 use Rattle.proofs.proofs.Passing.{accepts-passed, one_reply}
 use Rattle.book.specs.declared.record.Record.{Record}
 use Rattle.book.specs.declared.reply.Reply.{Reply}

@@ -1,8 +1,8 @@
 -- What a step that answers is, command by command, and when a step refuses.
 use Rattle.std.proofs.Common.{◌≡◌, List, ℕ, [], ◌∷◌, false, Option, Some, None, not, refl, sym, ap, ◌∙◌}
 use Rattle.std.specs.Prelude.{is_none, is_some}
-use Rattle.book.specs.declared.refusal.Refusal.{Refusal}
-use Rattle.book.specs.declared.refusal.Refusal.TheVariants.{BadName, BadKey, PendingExists, NoSuchEpoch, NoPromise}
+use Rattle.book.specs.declared.directory_refusal.Refusal.{Refusal}
+use Rattle.book.specs.declared.directory_refusal.Refusal.TheVariants.{BadName, BadKey, PendingExists, NoSuchEpoch, NoPromise}
 use Rattle.book.specs.Answers.{Answer, Promised, Found, Told, Last, bad_index, bad_verb, has_length_within, next_page, refusal, page_range, with_page, with_pending}
 use Rattle.commands.specs.declared.edit.Verb.{Verb}
 use Rattle.commands.specs.Operations.{Operation, Question, Query, Edit, Put, Turn, Promise, Lookup, History, Head}

@@ -9,7 +9,7 @@ use Rattle.std.proofs.lemmas.List.Elements.{Contains-append_left, Contains-push_
 use Rattle.encoding.specs.Bytes.{bytes_cmp, Is32Bytes, IsBytes}
 use Rattle.encoding.specs.Limits.{IsWithin, IsName, IsKeyData}
 use Rattle.rootchain.specs.declared.signed_root.SignedRoot.{SignedRoot}
-use Rattle.book.specs.declared.refusal.Refusal.{Refusal}
+use Rattle.book.specs.declared.directory_refusal.Refusal.{Refusal}
 use Rattle.book.specs.Answers.{first, has_length_within, with_pending, next_page, with_page}
 use Rattle.book.specs.Books.{Binding, Book, Page, page_at, pages}
 use Rattle.book.specs.Honest.{key_at, IsAskedBy}

@@ -6,8 +6,8 @@ use Rattle.encoding.specs.Reading.{is_within}
 use Rattle.encoding.specs.declared.bounded.TheConstants.{MIN_LEN}
 use Rattle.encoding.specs.declared.key_data.TheConstants.{MAX_KEY_DATA_LEN}
 use Rattle.encoding.specs.declared.name.TheConstants.{MAX_NAME_LEN}
-use Rattle.book.specs.declared.refusal.Refusal.{Refusal}
-use Rattle.book.specs.declared.refusal.Refusal.TheVariants.{BadName, BadKey, NameTaken, NoSuchName, PendingExists, IndexTaken, NoSuchEpoch, EpochNotLater, NoPromise, BadRange}
+use Rattle.book.specs.declared.directory_refusal.Refusal.{Refusal}
+use Rattle.book.specs.declared.directory_refusal.Refusal.TheVariants.{BadName, BadKey, NameTaken, NoSuchName, PendingExists, IndexTaken, NoSuchEpoch, EpochNotLater, NoPromise, BadRange}
 use Rattle.commands.specs.declared.edit.Verb.{Verb}
 use Rattle.commands.specs.declared.edit.Verb.TheVariants.{Register, Change}
 use Rattle.commands.specs.Operations.{Operation, Question, Revision, Query, Edit, Put, Turn, Promise, Lookup, History, Head}

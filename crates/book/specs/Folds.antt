@@ -1,7 +1,7 @@
 -- A run as the fold of steps, under what memory and the keeper let happen.
 use Rattle.std.specs.Prelude.{◌≡◌, ℕ, List, [], ◌∷◌, Option, Some, None, ⊤}
 use Rattle.book.specs.declared.record.Record.{Record}
-use Rattle.book.specs.declared.refusal.Refusal.TheVariants.{Memory, KeepFailed}
+use Rattle.book.specs.declared.directory_refusal.Refusal.TheVariants.{Memory, KeepFailed}
 use Rattle.book.specs.declared.reply.Reply.{Reply}
 use Rattle.book.specs.declared.reply.Reply.TheVariants as reply
 use Rattle.book.specs.Answers.{Promised, Found, Told, Last}

@@ -10,7 +10,7 @@ use Rattle.rootchain.specs.declared.signed_root.SignedRoot.{SignedRoot}
 use Rattle.proofs.specs.Accepts.{Accepts, HasIndex}
 use Rattle.proofs.specs.Refusals.{IsFirstToFail, Passes}
 use Rattle.proofs.specs.Replies.{Reply as ReplyRead, SpellsReply}
-use Rattle.proofs.specs.declared.refusal.Refusal.TheVariants.{SameIndex}
+use Rattle.proofs.specs.declared.reply_refusal.Refusal.TheVariants.{SameIndex}
 use Rattle.book.specs.declared.reply.Reply.{Reply}
 use Rattle.book.specs.declared.reply.Reply.TheVariants as reply
 use Rattle.commands.specs.Operations.{Operation, Query, Edit, Put, Turn, Promise, Lookup, History, Head}

@@ -1,7 +1,7 @@
 -- One step of a book: what comes of a command, and the book after it.
 use Rattle.std.specs.Prelude.{ℕ, List, Option, Some, None}
-use Rattle.book.specs.declared.refusal.Refusal.{Refusal}
-use Rattle.book.specs.declared.refusal.Refusal.TheVariants.{NoSuchEpoch, NoPromise}
+use Rattle.book.specs.declared.directory_refusal.Refusal.{Refusal}
+use Rattle.book.specs.declared.directory_refusal.Refusal.TheVariants.{NoSuchEpoch, NoPromise}
 use Rattle.book.specs.Answers.{Answer, Promised, Found, Told, Last, refusal, with_pending, next_page, with_page, page_range}
 use Rattle.commands.specs.Operations.{Operation, Question, Revision, Query, Edit, Put, Turn, Promise, Lookup, History, Head}
 use Rattle.book.specs.Books.{Binding, Book, Page, page_at}

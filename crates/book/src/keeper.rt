@@ -10,7 +10,7 @@ use thiserror::Error;
 pub struct KeepFailed;
 
 impl From<KeepFailed> for Refusal {
-    ghost use Rattle.book.specs.declared.refusal.Refusal.TheVariants.{KeepFailed};
+    ghost use Rattle.book.specs.declared.directory_refusal.Refusal.TheVariants.{KeepFailed};
 
     ghost from_gives = { λ _ refusal. refusal ≡ KeepFailed };
 

@@ -14,13 +14,13 @@
 //! ```
 #![tactic(auto)]
 
+mod directory_refusal;
 mod keeper;
 pub mod laws;
 mod record;
-mod refusal;
 mod reply;
 
+pub use directory_refusal::Refusal;
 pub use keeper::{KeepFailed, Keeper, NoKeeper};
 pub use record::Record;
-pub use refusal::Refusal;
 pub use reply::Reply;

@@ -8,8 +8,8 @@ use Rattle.rootchain.specs.declared.piece_refusal.PieceRefusal.TheVariants as pi
 use Rattle.rootchain.proofs.TakingPieces.{cuts}
 use Rattle.client.specs.Clients.{Client}
 use Rattle.client.specs.UpdatingFrom.{piece_told_as, with_chain, UpdatesInPieces, UpdatesMayBeCut}
-use Rattle.client.specs.declared.refusal.Refusal.{Refusal}
-use Rattle.client.specs.declared.refusal.Refusal.TheVariants.{Memory}
+use Rattle.client.specs.declared.client_refusal.Refusal.{Refusal}
+use Rattle.client.specs.declared.client_refusal.Refusal.TheVariants.{Memory}
 
 abbrev refused : Refusal → Result Unit Refusal
 refused why = Err why

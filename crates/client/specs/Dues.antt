@@ -14,8 +14,8 @@ use Rattle.proofs.specs.Replies.{Reply}
 use Rattle.client.specs.Clients.{Client}
 use Rattle.client.specs.declared.due.Due.{Due}
 use Rattle.client.specs.declared.due.Due.TheVariants.{Kept, Broken, OtherIndex}
-use Rattle.client.specs.declared.refusal.Refusal.{Refusal}
-use Rattle.client.specs.declared.refusal.Refusal.TheVariants.{Root, Proof, UnknownRoot, RootDiffers, Memory, NoPromise}
+use Rattle.client.specs.declared.client_refusal.Refusal.{Refusal}
+use Rattle.client.specs.declared.client_refusal.Refusal.TheVariants.{Root, Proof, UnknownRoot, RootDiffers, Memory, NoPromise}
 
 -- no promise is one for the name
 abbrev pub HasNone : List SignedPromise → List ℕ → Type 0

@@ -8,8 +8,8 @@ use Rattle.proofs.specs.Replies.{Reply}
 use Rattle.proofs.specs.Views.{key_stated}
 use Rattle.proofs.specs.declared.statement.Statement.{Statement}
 use Rattle.client.specs.Clients.{Client, with_look}
-use Rattle.client.specs.declared.refusal.Refusal.{Refusal}
-use Rattle.client.specs.declared.refusal.Refusal.TheVariants.{Root, Proof, UnknownRoot, RootDiffers, Memory, NoPromise}
+use Rattle.client.specs.declared.client_refusal.Refusal.{Refusal}
+use Rattle.client.specs.declared.client_refusal.Refusal.TheVariants.{Root, Proof, UnknownRoot, RootDiffers, Memory, NoPromise}
 
 -- the root that a look at an epoch is checked under: for 0 the head, else the one of the epoch
 abbrev pub IsLookRoot : KeyedRoots → ℕ → SignedRoot → Type 0

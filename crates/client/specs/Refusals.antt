@@ -1,12 +1,12 @@
 -- The numbers of the refusals.
 use Rattle.std.specs.Prelude.{ℕ}
-use Rattle.rootchain.specs.declared.refusal.Refusal as chains
-use Rattle.rootchain.specs.declared.refusal.Refusal.TheVariants as chain
+use Rattle.rootchain.specs.declared.root_refusal.Refusal as chains
+use Rattle.rootchain.specs.declared.root_refusal.Refusal.TheVariants as chain
 use Rattle.proofs.specs.Refusals.{reply_refusal_number}
-use Rattle.client.specs.declared.refusal.Refusal.{Refusal}
-use Rattle.client.specs.declared.refusal.Refusal.TheVariants.{Root, Proof, UnknownRoot, RootDiffers, Memory, NoPromise}
-use Rattle.client.specs.declared.refusal.RootRefusal.{RootRefusal}
-use Rattle.client.specs.declared.refusal.RootRefusal.TheVariants.{Malformed, BadSignature, NotLater, BadLink}
+use Rattle.client.specs.declared.client_refusal.Refusal.{Refusal}
+use Rattle.client.specs.declared.client_refusal.Refusal.TheVariants.{Root, Proof, UnknownRoot, RootDiffers, Memory, NoPromise}
+use Rattle.client.specs.declared.client_refusal.RootRefusal.{RootRefusal}
+use Rattle.client.specs.declared.client_refusal.RootRefusal.TheVariants.{Malformed, BadSignature, NotLater, BadLink}
 
 -- the numbers of the like refusals of a chain
 abbrev pub root_number : RootRefusal → ℕ

@@ -4,9 +4,9 @@ use Rattle.rootchain.specs.Chains.{Verifies}
 use Rattle.rootchain.specs.SignedRoots.{SpellsRoot}
 use Rattle.rootchain.specs.declared.signed_root.SignedRoot.{SignedRoot}
 use Rattle.client.specs.Clients.{Client, started}
-use Rattle.client.specs.declared.refusal.Refusal.{Refusal}
-use Rattle.client.specs.declared.refusal.RootRefusal.TheVariants.{Malformed, BadSignature, NotLater, BadLink}
-use Rattle.client.specs.declared.refusal.Refusal.TheVariants.{Root, Proof, UnknownRoot, RootDiffers, Memory, NoPromise}
+use Rattle.client.specs.declared.client_refusal.Refusal.{Refusal}
+use Rattle.client.specs.declared.client_refusal.RootRefusal.TheVariants.{Malformed, BadSignature, NotLater, BadLink}
+use Rattle.client.specs.declared.client_refusal.Refusal.TheVariants.{Root, Proof, UnknownRoot, RootDiffers, Memory, NoPromise}
 
 module _ (verified : List ℕ → List ℕ → List ℕ → Type 0) (key : List ℕ) (bytes : List ℕ) where
   -- the bytes spell a root that verifies under the key

@@ -9,9 +9,9 @@ use Rattle.rootchain.specs.declared.piece_refusal.PieceRefusal.{PieceRefusal}
 use Rattle.rootchain.specs.declared.piece_refusal.PieceRefusal.TheVariants as piece
 use Rattle.client.specs.Clients.{Client}
 use Rattle.client.specs.Updating.{told_as}
-use Rattle.client.specs.declared.refusal.Refusal.{Refusal}
-use Rattle.client.specs.declared.refusal.RootRefusal.TheVariants as root
-use Rattle.client.specs.declared.refusal.Refusal.TheVariants.{Root, Memory}
+use Rattle.client.specs.declared.client_refusal.Refusal.{Refusal}
+use Rattle.client.specs.declared.client_refusal.RootRefusal.TheVariants as root
+use Rattle.client.specs.declared.client_refusal.Refusal.TheVariants.{Root, Memory}
 
 -- the client's refusal for its chain's refusal of a piece
 abbrev pub piece_told_as : PieceRefusal → Refusal

@@ -3,7 +3,7 @@ ghost use Rattle.client.specs.Clients.{with_promise, IsPromised, IsSoundClient};
 ghost use Rattle.client.specs.Looking.{Looks as LooksUp};
 ghost use Rattle.client.specs.Promising.{KeepsPromise, ReadsPromise};
 ghost use Rattle.client.specs.Starting.{Starts};
-ghost use Rattle.client.specs.declared.refusal.Refusal.TheVariants.{Memory};
+ghost use Rattle.client.specs.declared.client_refusal.Refusal.TheVariants.{Memory};
 
 use crate::looks::Looks;
 use crate::roots::{asked, has_root_of};

@@ -16,18 +16,18 @@
 #![tactic(auto)]
 
 mod client;
+mod client_refusal;
 mod due;
 mod laws;
 mod looks;
 mod outcome;
 mod promises;
 mod reconciling;
-mod refusal;
 mod roots;
 
 pub use client::Client;
+pub use client_refusal::{Refusal, RootRefusal};
 pub use due::Due;
 pub use laws::{cuts_of_a_list_do_not_matter, two_values_are_never_told};
 pub use outcome::Outcome;
 pub use reconciling::reconcile;
-pub use refusal::{Refusal, RootRefusal};

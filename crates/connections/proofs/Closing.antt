@@ -5,7 +5,7 @@ use Rattle.connections.specs.declared.ending.Ending.TheVariants.{Done, Fault, Id
 use Rattle.connections.specs.declared.ending.SessionFault.{SessionFault}
 use Rattle.connections.specs.declared.ending.SessionFault.TheVariants as session
 use Rattle.std.proofs.lemmas.Bool.{false≢true}
-use Rattle.connections.specs.declared.limits.TheConstants.{LAST_MILLISECONDS}
+use Rattle.connections.specs.declared.loop_limits.TheConstants.{LAST_MILLISECONDS}
 use Rattle.connections.specs.declared.talk.Talk.{Talk}
 use Rattle.connections.specs.Fairness.{IsNotDue, IsUsed}
 use Rattle.connections.specs.Fitting.{Fits, Has, IsDone, IsIdleDue, IsJudged, IsStopDue, ending_of, Judged, KeepsCourse, KeepsTalk, Stays}

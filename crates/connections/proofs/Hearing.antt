@@ -6,7 +6,7 @@ use Rattle.connections.specs.declared.ending.Ending.{Ending}
 use Rattle.connections.specs.declared.ending.Ending.TheVariants.{Memory}
 use Rattle.connections.specs.declared.talk.Talk.{Talk}
 use Rattle.connections.specs.declared.ending.SessionFault.{SessionFault}
-use Rattle.connections.specs.declared.limits.TheConstants.{FULL_OUTPUT}
+use Rattle.connections.specs.declared.loop_limits.TheConstants.{FULL_OUTPUT}
 use Rattle.connections.specs.Endings.{newcomers}
 use Rattle.connections.specs.Telling.{lost}
 use Rattle.connections.specs.Rounds.{gives_turn, InRound, IsUnread}

@@ -6,7 +6,7 @@ use Rattle.std.specs.Prelude.{◌==◌}
 use Rattle.connections.specs.declared.ending.Ending.{Ending}
 use Rattle.connections.specs.declared.ending.Ending.TheVariants.{Done, Fault, Idle, Stopped, Unsynced, Memory, Refused}
 use Rattle.connections.specs.declared.ending.SessionFault.{SessionFault}
-use Rattle.connections.specs.declared.limits.TheConstants.{LAST_MILLISECONDS}
+use Rattle.connections.specs.declared.loop_limits.TheConstants.{LAST_MILLISECONDS}
 use Rattle.connections.specs.declared.talk.Talk.{Talk}
 use Rattle.connections.specs.Endings.{AreInside, AreWithin, HasEnded, IsClosing, IsFinished, IsStopped, comers, most_comers, rounds}
 use Rattle.connections.specs.Fairness.{AreAttended, AreHeard, AreUsed, IfThere, IsAttended, IsFair, IsServed, IsUsed, IsWhole, NoneOrdered, NoneWaited}

@@ -4,7 +4,7 @@ use Rattle.std.proofs.lemmas.Bool.{eqb-true}
 use Rattle.std.proofs.lemmas.List.{length-append}
 use Rattle.std.specs.Prelude.{◌==◌}
 use Rattle.connections.specs.declared.ending.SessionFault.TheVariants as fault
-use Rattle.connections.specs.declared.limits.TheConstants.{FULL_OUTPUT}
+use Rattle.connections.specs.declared.loop_limits.TheConstants.{FULL_OUTPUT}
 use Rattle.connections.specs.Histories.{At, Ordered, GoesOn, Syncs, NoneWaits, On, Deed, Comes, Opens, Refuses, Reads, IsOver, IsSilent, Hears, Misses, Lacks, Takes, TakesNone, Fails, Ends, Closes, History, Course, clock, course, done_at}
 use Rattle.connections.specs.Laws.{AlwaysWaitWithin, AreAnsweredWithin, IsAnsweredWithin, WaitsWithin}
 use Rattle.connections.specs.Soundness.{IsDue, IsSoundHistory}

@@ -1,7 +1,7 @@
 -- Each round gives each connection its turn.
 use Rattle.std.specs.Prelude.{◌≡◌, ◌≢◌, ◌⊎◌, ◌+◌, ◌<◌, ℕ, [], ◌∷◌, length, true, Option, Some, None, ⊤}
 use Rattle.connections.specs.declared.ending.Ending.{Ending}
-use Rattle.connections.specs.declared.limits.TheConstants.{FULL_OUTPUT}
+use Rattle.connections.specs.declared.loop_limits.TheConstants.{FULL_OUTPUT}
 use Rattle.connections.specs.Endings.{IsClosing, IsFinished, IsStopped}
 use Rattle.connections.specs.Histories.{At, Ordered, GoesOn, Syncs, NoneWaits, On, History, Course, Hearing, course, stage}
 use Rattle.connections.specs.Rounds.{closes, gives_turn, offers, InRound}

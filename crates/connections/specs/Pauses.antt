@@ -1,6 +1,6 @@
 -- For how many milliseconds a connection may stay as it is, and at most so many.
 use Rattle.std.specs.Prelude.{ℕ, ◌-◌, ◌==◌, if◌then◌else◌, min, Option, None, Some}
-use Rattle.connections.specs.declared.limits.TheConstants.{LAST_MILLISECONDS}
+use Rattle.connections.specs.declared.loop_limits.TheConstants.{LAST_MILLISECONDS}
 
 -- until the last time after an order to stop is over
 abbrev pub until_stopped : ℕ → Option ℕ → ℕ → ℕ

@@ -3,7 +3,7 @@ ghost use Rattle.connections.specs.Histories.{History, On, Closes, course};
 ghost use Rattle.connections.specs.Soundness.{Here, IsHeard, IsSoundHistory, IsTaken};
 ghost use Rattle.connections.specs.Laws.{AlwaysWaitWithin, AreAnsweredWithin, AreInOrder};
 ghost use Rattle.connections.specs.declared.ending.Ending.TheVariants.{Done};
-ghost use Rattle.connections.specs.declared.limits.TheConstants.{FULL_OUTPUT, LAST_MILLISECONDS, PIECE_SIZE};
+ghost use Rattle.connections.specs.declared.loop_limits.TheConstants.{FULL_OUTPUT, LAST_MILLISECONDS, PIECE_SIZE};
 
 /// A read gives at most 4,096 bytes, nothing is read or heard while more than 65,536 bytes of answers wait,
 /// and for 5,000 milliseconds after an order to stop answers may still be taken.

@@ -14,7 +14,7 @@
 mod connections;
 mod ending;
 mod laws;
-mod limits;
+mod loop_limits;
 mod places;
 mod rounds;
 mod sessions;
@@ -24,7 +24,7 @@ mod talk;
 pub use connections::{Connections, Reading, Writing};
 pub use ending::{Ending, SessionFault};
 pub use laws::{bytes_stay_in_order, done_is_whole, limits_have_their_values, outputs_are_bounded};
-pub use limits::Limits;
+pub use loop_limits::Limits;
 pub use places::Places;
 pub use rounds::answer_all;
 pub use sessions::Sessions;

@@ -7,7 +7,7 @@ ghost use Rattle.connections.specs.Histories.{Hearing, Telling};
 
 use crate::Sessions;
 use crate::connections::Connections;
-use crate::limits::PIECE_SIZE;
+use crate::loop_limits::PIECE_SIZE;
 use crate::slots::{Round, Work, hear_at, take_at, tell_at};
 use crate::talk::Talk;
 use std::alloc::{AllocError, Global};

@@ -10,7 +10,7 @@ ghost use Rattle.connections.specs.Histories.{History, Hearing, clock, stopped};
 ghost use Rattle.connections.specs.Telling.{TellsLosses, TellsMemory, TellsTimes};
 
 use crate::connections::Connections;
-use crate::limits::{LONGEST_WAIT, PIECE_SIZE};
+use crate::loop_limits::{LONGEST_WAIT, PIECE_SIZE};
 use crate::places::{Places, are_free, hear_all, take_all, tell_all};
 use crate::slots::{Round, Work};
 use crate::talk::Talk;

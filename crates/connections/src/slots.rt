@@ -11,7 +11,7 @@ ghost use Rattle.connections.specs.Telling.{lost_by};
 
 use crate::connections::Connections;
 use crate::ending::ending_of;
-use crate::limits::PIECE_SIZE;
+use crate::loop_limits::PIECE_SIZE;
 use crate::talk::Talk;
 use crate::{Ending, Sessions};
 use std::alloc::Global;

@@ -8,11 +8,13 @@ ghost use Rattle.connections.specs.Histories.{History, Hearing, Telling, clock, 
 ghost use Rattle.connections.specs.Pauses.{until_due, until_idle, until_stopped};
 ghost use Rattle.connections.specs.Soundness.{Here, MayBeRead};
 ghost use Rattle.connections.specs.Telling.{lost_by};
-ghost use Rattle.connections.specs.declared.limits.TheConstants.{FULL_OUTPUT};
+ghost use Rattle.connections.specs.declared.loop_limits.TheConstants.{FULL_OUTPUT};
 
 use crate::connections::{Connections, Reading, Writing};
 use crate::ending::ending_of;
-use crate::limits::{FULL_OUTPUT, KEPT_MILLISECONDS, KEPT_ROOM, LAST_MILLISECONDS, PIECE_SIZE};
+use crate::loop_limits::{
+    FULL_OUTPUT, KEPT_MILLISECONDS, KEPT_ROOM, LAST_MILLISECONDS, PIECE_SIZE,
+};
 use crate::{Ending, Sessions};
 use std::alloc::Global;
 

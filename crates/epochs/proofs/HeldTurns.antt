@@ -5,7 +5,7 @@ use Rattle.commands.specs.declared.edit.Verb.TheVariants.{Change}
 use Rattle.commands.specs.Operations.{Edit, Put}
 use Rattle.book.specs.declared.record.Record.{Record}
 use Rattle.book.specs.declared.record.Record.TheVariants as record_of_a
-use Rattle.book.specs.declared.refusal.Refusal.{Refusal}
+use Rattle.book.specs.declared.directory_refusal.Refusal.{Refusal}
 use Rattle.book.specs.declared.reply.Reply.TheVariants as reply
 use Rattle.book.specs.Answers.{refusal, with_pending, Promised}
 use Rattle.book.specs.Books.{Book}

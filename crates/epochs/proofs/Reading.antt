@@ -20,8 +20,8 @@ use Rattle.prefixtree.specs.declared.path.End.{End as PathEnd}
 use Rattle.rootchain.specs.declared.signed_promise.SignedPromise.{SignedPromise}
 use Rattle.rootchain.specs.declared.signed_root.SignedRoot.{SignedRoot}
 use Rattle.proofs.specs.Replies.{reply_bytes}
-use Rattle.book.specs.declared.refusal.Refusal.{Refusal}
-use Rattle.book.specs.declared.refusal.Refusal.TheVariants.{BadName, NoPromise, NoSuchEpoch}
+use Rattle.book.specs.declared.directory_refusal.Refusal.{Refusal}
+use Rattle.book.specs.declared.directory_refusal.Refusal.TheVariants.{BadName, NoPromise, NoSuchEpoch}
 use Rattle.book.specs.declared.reply.Reply.TheVariants as reply
 use Rattle.book.specs.Answers.{Found, Promised, Told, bad_name, first, has_length_within, refusal, page_range}
 use Rattle.commands.specs.Operations.{History, Lookup, Promise, Query}

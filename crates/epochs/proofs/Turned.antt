@@ -4,7 +4,7 @@ use Rattle.rootchain.specs.declared.signed_promise.SignedPromise.{SignedPromise}
 use Rattle.rootchain.specs.declared.signed_root.SignedRoot.{SignedRoot}
 use Rattle.book.specs.declared.record.Record.{Record}
 use Rattle.book.specs.declared.record.Record.TheVariants as record_of_a
-use Rattle.book.specs.declared.refusal.Refusal.{Refusal}
+use Rattle.book.specs.declared.directory_refusal.Refusal.{Refusal}
 use Rattle.book.specs.declared.reply.Reply.{Reply}
 use Rattle.book.specs.declared.reply.Reply.TheVariants as reply
 use Rattle.book.specs.Answers.{Answer, refusal, with_pending, Promised}

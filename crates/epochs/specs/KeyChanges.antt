@@ -2,8 +2,8 @@
 use Rattle.std.specs.Prelude.{◌≡◌, ◌⊎◌, ℕ, ◌-◌, List, [], ◌∷◌, ◌++◌, Option, Some, None, is_none, is_some, if◌then◌else◌}
 use Rattle.std.specs.Option.{option_map}
 use Rattle.book.specs.declared.record.Record.{Record}
-use Rattle.book.specs.declared.refusal.Refusal.{Refusal}
-use Rattle.book.specs.declared.refusal.Refusal.TheVariants.{NoSuchName, PendingExists}
+use Rattle.book.specs.declared.directory_refusal.Refusal.{Refusal}
+use Rattle.book.specs.declared.directory_refusal.Refusal.TheVariants.{NoSuchName, PendingExists}
 use Rattle.book.specs.Books.{Binding}
 use Rattle.book.specs.Maps.{at}
 use Rattle.prefixtree.specs.Placement.{Items, commitment_of, put}

@@ -8,7 +8,7 @@ use Rattle.commands.specs.declared.edit.Verb.{Verb}
 use Rattle.commands.specs.declared.edit.Verb.TheVariants.{Register, Change}
 use Rattle.book.specs.declared.record.Record.{Record}
 use Rattle.book.specs.declared.record.Record.TheVariants.{Start, Bound, Turned}
-use Rattle.book.specs.declared.refusal.Refusal.{Refusal}
+use Rattle.book.specs.declared.directory_refusal.Refusal.{Refusal}
 use Rattle.book.specs.Replays.{replayed, IsUnreplayed}
 use Rattle.book.specs.Shows.{Provider, placement}
 use Rattle.epochs.specs.DirectoryStates.{book, DirectoryState}

@@ -5,8 +5,8 @@ use Rattle.std.specs.List.Sorted.{IsStrictlySortedBy}
 use Rattle.std.specs.Map.{keys_of}
 use Rattle.std.specs.Option.{unwrap_or}
 use Rattle.book.specs.declared.record.Record.{Record}
-use Rattle.book.specs.declared.refusal.Refusal.{Refusal}
-use Rattle.book.specs.declared.refusal.Refusal.TheVariants.{Memory, KeepFailed}
+use Rattle.book.specs.declared.directory_refusal.Refusal.{Refusal}
+use Rattle.book.specs.declared.directory_refusal.Refusal.TheVariants.{Memory, KeepFailed}
 use Rattle.prefixtree.specs.Placement.{Items}
 use Rattle.epochs.specs.Histories.{Version}
 use Rattle.book.specs.Maps.{Map, at, put_name}

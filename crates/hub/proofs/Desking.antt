@@ -9,8 +9,8 @@ use Rattle.std.specs.Str.{bytes_eq}
 use Rattle.rand_core.specs.Stream.{Stream}
 use Rattle.rootchain.specs.declared.signed_root.SignedRoot.{SignedRoot}
 use Rattle.book.specs.declared.record.Record.{Record}
-use Rattle.book.specs.declared.refusal.Refusal.{Refusal}
-use Rattle.book.specs.declared.refusal.Refusal.TheVariants.{BadRange}
+use Rattle.book.specs.declared.directory_refusal.Refusal.{Refusal}
+use Rattle.book.specs.declared.directory_refusal.Refusal.TheVariants.{BadRange}
 use Rattle.book.specs.declared.reply.Reply.{Reply}
 use Rattle.book.specs.declared.reply.Reply.TheVariants as reply
 use Rattle.book.specs.Answers.{Told as ToldPages, page_range}
@@ -24,8 +24,8 @@ use Rattle.book.specs.Turns.{IsReadAnswer, IsRefused, ReadsOnly, Turn}
 use Rattle.epochs.specs.DirectoryStates.{DirectoryState, HasKeysOf, book as book_kept, provider as provider_kept}
 use Rattle.epochs.specs.Replied.{TellsRoots}
 use Rattle.epochs.proofs.Running.{head_reads, reads_turn, tells_reads}
-use Rattle.wire.specs.declared.refusals.ReadRefusal.{ReadRefusal}
-use Rattle.wire.specs.declared.refusals.ReadRefusal.TheVariants.{BadKind, BadBody}
+use Rattle.wire.specs.declared.message_refusals.ReadRefusal.{ReadRefusal}
+use Rattle.wire.specs.declared.message_refusals.ReadRefusal.TheVariants.{BadKind, BadBody}
 use Rattle.wire.specs.Frames.{frame_bytes}
 use Rattle.wire.specs.Requests.{ReadsRequest}
 use Rattle.hub.specs.Desks.{reply_frame, Commanded, IsRead}

@@ -11,7 +11,7 @@ use Rattle.book.specs.Shows.{index_of}
 use Rattle.book.specs.Sound.{IsSound}
 use Rattle.book.specs.Turns.{Run}
 use Rattle.epochs.specs.DirectoryStates.{book, provider, HasKeysOf}
-use Rattle.wire.specs.declared.refusals.ReadRefusal.{ReadRefusal}
+use Rattle.wire.specs.declared.message_refusals.ReadRefusal.{ReadRefusal}
 use Rattle.wire.specs.Frames.{frame_bytes}
 use Rattle.wire.specs.Laws.{IsReadAs}
 use Rattle.wire.specs.Refusals.{read_refusal_number}

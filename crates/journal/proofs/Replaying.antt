@@ -11,8 +11,8 @@ use Rattle.book.specs.Fresh.{fresh, keyed_provider}
 use Rattle.book.specs.Replays.{replayed}
 use Rattle.book.specs.Shows.{index_of}
 use Rattle.epochs.specs.DirectoryStates.{DirectoryState, provider, HasKeysOf}
-use Rattle.journal.specs.declared.refusal.Refusal.{Refusal}
-use Rattle.journal.specs.declared.refusal.Refusal.TheVariants.{BadRecord, OtherKeys, Memory}
+use Rattle.journal.specs.declared.open_refusal.Refusal.{Refusal}
+use Rattle.journal.specs.declared.open_refusal.Refusal.TheVariants.{BadRecord, OtherKeys, Memory}
 use Rattle.journal.specs.declared.beginning.Beginning.{Beginning}
 use Rattle.journal.specs.Opened.{BeginsSo, IsNotBegun, IsNotReplayed, IsOpenRefusal, OpensUpTo}
 use Rattle.journal.specs.Openings.{IsCut, IsNone, OpensTo, RecordsLead}

@@ -8,8 +8,8 @@ use Rattle.epochs.specs.DirectoryStates.{book}
 use Rattle.journal.specs.declared.beginning.Beginning.{Beginning}
 use Rattle.journal.specs.declared.opening.Opened.{Opened}
 use Rattle.journal.specs.declared.opening.Opened.TheVariants.{Nothing, Directory}
-use Rattle.journal.specs.declared.refusal.Refusal.{Refusal}
-use Rattle.journal.specs.declared.refusal.Refusal.TheVariants.{BadRecord, OtherKeys, Memory}
+use Rattle.journal.specs.declared.open_refusal.Refusal.{Refusal}
+use Rattle.journal.specs.declared.open_refusal.Refusal.TheVariants.{BadRecord, OtherKeys, Memory}
 use Rattle.journal.specs.Openings.{HasKeys, HasOtherKeys, IsBad, IsBadNext, IsBegun, IsCut, IsGoodNext, OpensTo, RecordsLead}
 use Rattle.journal.specs.Records.{record_bytes, start_bytes, IsLater, IsStart}
 

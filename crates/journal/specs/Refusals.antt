@@ -1,7 +1,7 @@
 -- The numbers of refusals.
 use Rattle.std.specs.Prelude.{ℕ}
-use Rattle.journal.specs.declared.refusal.Refusal.{Refusal}
-use Rattle.journal.specs.declared.refusal.Refusal.TheVariants.{BadRecord, OtherKeys, Memory}
+use Rattle.journal.specs.declared.open_refusal.Refusal.{Refusal}
+use Rattle.journal.specs.declared.open_refusal.Refusal.TheVariants.{BadRecord, OtherKeys, Memory}
 
 abbrev pub journal_refusal_number : Refusal → ℕ
 journal_refusal_number BadRecord = 1

@@ -20,9 +20,9 @@ mod counting;
 mod journal;
 mod later;
 mod laws;
+mod open_refusal;
 mod opening;
 mod reading;
-mod refusal;
 mod text;
 
 pub use counting::records;
@@ -30,5 +30,5 @@ pub use journal::{Journal, write_record};
 pub use laws::{
     faults_are_settled, journals_go_on, journals_open_to_their_runs, openings_are_settled,
 };
+pub use open_refusal::Refusal;
 pub use opening::{Opened, open};
-pub use refusal::Refusal;

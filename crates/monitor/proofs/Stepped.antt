@@ -6,12 +6,12 @@ use Rattle.proofs.specs.Views.{key_stated}
 use Rattle.proofs.specs.declared.statement.Statement.{Statement}
 use Rattle.client.specs.Clients.{Client}
 use Rattle.client.specs.Looking.{IsAnswered, IsLookRoot, Looks}
-use Rattle.client.specs.declared.refusal.Refusal.{Refusal}
-use Rattle.client.specs.declared.refusal.Refusal.TheVariants.{Root, Proof, UnknownRoot, RootDiffers, Memory, NoPromise}
+use Rattle.client.specs.declared.client_refusal.Refusal.{Refusal}
+use Rattle.client.specs.declared.client_refusal.Refusal.TheVariants.{Root, Proof, UnknownRoot, RootDiffers, Memory, NoPromise}
 use Rattle.monitor.specs.Monitors.{Monitor, IsNext, IsWatching}
 use Rattle.monitor.proofs.Watching.{watched-watching}
 use Rattle.monitor.specs.Stepping.{IsNextEpoch, StepTells, Steps}
-use Rattle.monitor.specs.declared.refusal.Refusal.TheVariants as refusal
+use Rattle.monitor.specs.declared.monitor_refusal.Refusal.TheVariants as refusal
 use Rattle.monitor.specs.declared.step.Step.{Step}
 
 -- where a search for the next root finds none, there is none

@@ -15,7 +15,7 @@ use Rattle.rootchain.proofs.TakingPieces.{piece-grows}
 use Rattle.client.specs.Clients.{Client, Look}
 use Rattle.client.specs.Updating.{Updates}
 use Rattle.client.specs.UpdatingFrom.{UpdatesFrom}
-use Rattle.client.specs.declared.refusal.Refusal.{Refusal}
+use Rattle.client.specs.declared.client_refusal.Refusal.{Refusal}
 use Rattle.monitor.specs.Monitors.{Monitor, new_monitor, with_change, with_watched, IsNext, IsWatching}
 
 pub begun-watching : (client : Client) (name : List ℕ) (start : Option (List ℕ)) → IsWatching (new_monitor client name start)

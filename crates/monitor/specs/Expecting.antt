@@ -5,10 +5,10 @@ use Rattle.rootchain.specs.declared.promise.Promise.{Promise}
 use Rattle.rootchain.specs.declared.signed_promise.SignedPromise.{SignedPromise}
 use Rattle.proofs.specs.Watches.{Watch, expected}
 use Rattle.client.specs.Promising.{IsGiven, ReadsPromise}
-use Rattle.client.specs.declared.refusal.Refusal.TheVariants.{Root, Proof, UnknownRoot, RootDiffers, Memory, NoPromise}
+use Rattle.client.specs.declared.client_refusal.Refusal.TheVariants.{Root, Proof, UnknownRoot, RootDiffers, Memory, NoPromise}
 use Rattle.monitor.specs.Monitors.{Monitor, with_change}
-use Rattle.monitor.specs.declared.refusal.Refusal.{Refusal}
-use Rattle.monitor.specs.declared.refusal.Refusal.TheVariants.{Client, OtherPromise}
+use Rattle.monitor.specs.declared.monitor_refusal.Refusal.{Refusal}
+use Rattle.monitor.specs.declared.monitor_refusal.Refusal.TheVariants.{Client, OtherPromise}
 
 -- The promise is of this key for the watched name, each expected change was promised before it, and no
 -- epoch above its own was watched.

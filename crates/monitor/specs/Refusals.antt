@@ -1,8 +1,8 @@
 -- The numbers of the refusals.
 use Rattle.std.specs.Prelude.{ℕ}
 use Rattle.client.specs.Refusals.{client_refusal_number}
-use Rattle.monitor.specs.declared.refusal.Refusal.{Refusal}
-use Rattle.monitor.specs.declared.refusal.Refusal.TheVariants.{Client, OtherPromise}
+use Rattle.monitor.specs.declared.monitor_refusal.Refusal.{Refusal}
+use Rattle.monitor.specs.declared.monitor_refusal.Refusal.TheVariants.{Client, OtherPromise}
 
 -- a refusal of the client keeps its own number
 abbrev pub monitor_refusal_number : Refusal → ℕ

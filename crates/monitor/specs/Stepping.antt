@@ -6,10 +6,10 @@ use Rattle.proofs.specs.Comparisons.{IsAcceptedReply, Refuses}
 use Rattle.proofs.specs.Replies.{Reply}
 use Rattle.proofs.specs.Views.{key_stated}
 use Rattle.proofs.specs.Watches.{Watch, expected}
-use Rattle.client.specs.declared.refusal.Refusal.TheVariants.{Root, Proof, UnknownRoot, RootDiffers, Memory, NoPromise}
+use Rattle.client.specs.declared.client_refusal.Refusal.TheVariants.{Root, Proof, UnknownRoot, RootDiffers, Memory, NoPromise}
 use Rattle.monitor.specs.Monitors.{Monitor, with_watched, IsNext}
-use Rattle.monitor.specs.declared.refusal.Refusal.{Refusal}
-use Rattle.monitor.specs.declared.refusal.Refusal.TheVariants.{Client, OtherPromise}
+use Rattle.monitor.specs.declared.monitor_refusal.Refusal.{Refusal}
+use Rattle.monitor.specs.declared.monitor_refusal.Refusal.TheVariants.{Client, OtherPromise}
 use Rattle.monitor.specs.declared.step.Step.{Step}
 use Rattle.monitor.specs.declared.step.Step.TheVariants.{Kept, Alarm}
 

@@ -20,10 +20,10 @@
 
 mod laws;
 mod monitor;
-mod refusal;
+mod monitor_refusal;
 mod step;
 
 pub use laws::what_was_seen_was_watched;
 pub use monitor::Monitor;
-pub use refusal::Refusal;
+pub use monitor_refusal::Refusal;
 pub use step::Step;

@@ -3,7 +3,7 @@ use Rattle.std.proofs.Common.{◌≡◌, ℕ, List, [], ◌∷◌, Option, Ok, r
 use Rattle.std.specs.Prelude.{is_none}
 use Rattle.commands.specs.Operations.{Operation, Query, Lookup}
 use Rattle.book.specs.declared.record.Record.{Record}
-use Rattle.book.specs.declared.refusal.Refusal.TheVariants.{NoSuchEpoch}
+use Rattle.book.specs.declared.directory_refusal.Refusal.TheVariants.{NoSuchEpoch}
 use Rattle.book.specs.declared.reply.Reply.{Reply}
 use Rattle.book.specs.declared.reply.Reply.TheVariants as reply_of
 use Rattle.book.specs.Answers.{Answer, Promised, Found, Told, Last, bad_name}

@@ -14,7 +14,7 @@ use Rattle.wire.specs.declared.frame.FrameView.{FrameView}
 use Rattle.wire.specs.declared.frame.Front.{Front}
 use Rattle.wire.specs.declared.frame.Front.TheVariants as front
 use Rattle.wire.specs.declared.frame.Front.TheVariants.{Short, Bad}
-use Rattle.wire.specs.declared.refusals.ReadRefusal.TheVariants.{BadKind, BadBody}
+use Rattle.wire.specs.declared.message_refusals.ReadRefusal.TheVariants.{BadKind, BadBody}
 use Rattle.wire.specs.Frames.{Frame, frame_bytes, read_frame, IsFrame}
 use Rattle.wire.specs.FrameViews.{frame_seen, BeginsWith}
 use Rattle.wire.specs.Laws.{FrameIsOneMessage, IsReadAs, RequestsAreOne}
@@ -22,7 +22,7 @@ use Rattle.wire.specs.Requests.{RequestContent, request_frame, Asks, IsAsked}
 use Rattle.wire.specs.Responses.{response_body, Refused, ResponseContent}
 use Rattle.wire.specs.Streams.{Remainder, Message, Rest, Whole, with_more, TellsMessages}
 use Rattle.book.specs.declared.keeper.NoKeeper.{NoKeeper}
-use Rattle.book.specs.declared.refusal.Refusal.TheVariants.{Memory}
+use Rattle.book.specs.declared.directory_refusal.Refusal.TheVariants.{Memory}
 use Rattle.book.specs.declared.reply.Reply.{Reply}
 use Rattle.book.specs.declared.reply.Reply.TheVariants as reply
 use Rattle.book.specs.Books.{Book}

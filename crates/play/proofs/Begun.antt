@@ -25,7 +25,7 @@ use Rattle.auditor.specs.Observing.{HoldsAfter, Observes}
 use Rattle.auditor.specs.declared.auditor.Observed.{Observed}
 use Rattle.client.specs.Clients.{Client}
 use Rattle.client.specs.Starting.{Starts}
-use Rattle.rootchain.specs.declared.refusal.Refusal.{Refusal}
+use Rattle.rootchain.specs.declared.root_refusal.Refusal.{Refusal}
 use Rattle.play.specs.Parties.{chain_under, AreAt}
 use Rattle.play.specs.Scripts.{token}
 use Rattle.play.proofs.Added.{one-signed}

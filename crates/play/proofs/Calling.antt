@@ -10,7 +10,7 @@ use Rattle.rootchain.specs.Promises.{promise_bytes, read_signed_promise, signed_
 use Rattle.rootchain.specs.Readable.{signed_promise_field}
 use Rattle.rootchain.specs.declared.body.Body.{Body}
 use Rattle.rootchain.specs.declared.evidence.RootEvidence.TheVariants.{Fork, Link, Skip}
-use Rattle.client.specs.declared.refusal.RootRefusal.TheVariants as root_refusal
+use Rattle.client.specs.declared.client_refusal.RootRefusal.TheVariants as root_refusal
 use Rattle.rootchain.specs.declared.signed_promise.SignedPromise.{SignedPromise}
 use Rattle.rootchain.specs.declared.signed_root.SignedRoot.{SignedRoot}
 use Rattle.rootchain.proofs.Agreement.{unique}
@@ -23,8 +23,8 @@ use Rattle.proofs.specs.Refusals.{IsFirstToFail, Passes, ReadsReply}
 use Rattle.proofs.specs.Replies.{Reply as Spelled, SpellsReply}
 use Rattle.proofs.specs.Watches.{expected}
 use Rattle.proofs.specs.declared.broken_promise.BrokenPromise.{BrokenPromise}
-use Rattle.proofs.specs.declared.refusal.Refusal.{Refusal as ProofRefusal}
-use Rattle.proofs.specs.declared.refusal.Refusal.TheVariants as proof
+use Rattle.proofs.specs.declared.reply_refusal.Refusal.{Refusal as ProofRefusal}
+use Rattle.proofs.specs.declared.reply_refusal.Refusal.TheVariants as proof
 use Rattle.proofs.specs.declared.statement.Statement.{Statement}
 use Rattle.proofs.proofs.Passing.{accepts-passed, nothing_left, one_reply, refused-accepts}
 use Rattle.commands.specs.Operations.{Operation, Query, Lookup}
@@ -49,15 +49,15 @@ use Rattle.client.specs.Looking.{IsAnswered, IsLookRoot, Looks}
 use Rattle.client.specs.Promising.{KeepsPromise, ReadsPromise}
 use Rattle.client.specs.declared.due.Due.{Due}
 use Rattle.client.specs.declared.due.Due.TheVariants as due_of
-use Rattle.client.specs.declared.refusal.Refusal.{Refusal}
-use Rattle.client.specs.declared.refusal.Refusal.TheVariants as client
+use Rattle.client.specs.declared.client_refusal.Refusal.{Refusal}
+use Rattle.client.specs.declared.client_refusal.Refusal.TheVariants as client
 use Rattle.client.proofs.Breaking.{all-at, due-holds, next-names}
 use Rattle.client.proofs.Keeping.{head-at}
 use Rattle.monitor.specs.Expecting.{Expects, MayExpect}
 use Rattle.monitor.specs.Monitors.{Monitor, with_change, IsNext}
 use Rattle.monitor.specs.Stepping.{IsFound, StepTells, Steps}
-use Rattle.monitor.specs.declared.refusal.Refusal.{Refusal as MonitorRefusal}
-use Rattle.monitor.specs.declared.refusal.Refusal.TheVariants as monitor
+use Rattle.monitor.specs.declared.monitor_refusal.Refusal.{Refusal as MonitorRefusal}
+use Rattle.monitor.specs.declared.monitor_refusal.Refusal.TheVariants as monitor
 use Rattle.monitor.specs.declared.step.Step.{Step}
 use Rattle.monitor.specs.declared.step.Step.TheVariants as step_of
 use Rattle.play.specs.Calls.{CallsAreHonest, ExpectsRight, IsFollowed, IsIssued, IsShown, WasPromised, IsDoubleIn, KeepsRight, LooksRight, MayRefuse, StepsRight}

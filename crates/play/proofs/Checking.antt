@@ -18,8 +18,8 @@ use Rattle.proofs.specs.Comparisons.{IsAcceptedReply, Refuses}
 use Rattle.proofs.specs.Refusals.{reply_refusal_number, IsFirstToFail, Passes}
 use Rattle.proofs.specs.Replies.{Reply as Spelled}
 use Rattle.proofs.specs.Watches.{Watch, expected}
-use Rattle.proofs.specs.declared.refusal.Refusal.{Refusal as ProofRefusal}
-use Rattle.proofs.specs.declared.refusal.Refusal.TheVariants as proof
+use Rattle.proofs.specs.declared.reply_refusal.Refusal.{Refusal as ProofRefusal}
+use Rattle.proofs.specs.declared.reply_refusal.Refusal.TheVariants as proof
 use Rattle.proofs.specs.declared.statement.Statement.{Statement}
 use Rattle.proofs.proofs.Passing.{accepts-passed, one_reply, refused-accepts}
 use Rattle.book.specs.Answers.{has_its_index}
@@ -38,12 +38,12 @@ use Rattle.book.proofs.Placed.{Alone}
 use Rattle.book.proofs.Sealing.{IsSealed, all-sealed, sealed-page}
 use Rattle.client.specs.Clients.{Client}
 use Rattle.client.specs.Looking.{IsAnswered, IsLookRoot, Looks}
-use Rattle.client.specs.declared.refusal.Refusal.{Refusal}
-use Rattle.client.specs.declared.refusal.Refusal.TheVariants as client
+use Rattle.client.specs.declared.client_refusal.Refusal.{Refusal}
+use Rattle.client.specs.declared.client_refusal.Refusal.TheVariants as client
 use Rattle.monitor.specs.Monitors.{Monitor, IsNext}
 use Rattle.monitor.specs.Stepping.{IsFound, StepTells, Steps}
-use Rattle.monitor.specs.declared.refusal.Refusal.{Refusal as MonitorRefusal}
-use Rattle.monitor.specs.declared.refusal.Refusal.TheVariants as monitor
+use Rattle.monitor.specs.declared.monitor_refusal.Refusal.{Refusal as MonitorRefusal}
+use Rattle.monitor.specs.declared.monitor_refusal.Refusal.TheVariants as monitor
 use Rattle.monitor.specs.declared.step.Step.{Step}
 use Rattle.monitor.specs.declared.step.Step.TheVariants as step_of
 use Rattle.play.specs.Checking.{step_text, TellsLook, TellsStep}

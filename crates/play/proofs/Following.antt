@@ -21,7 +21,7 @@ use Rattle.book.specs.Shows.{Provider, roots}
 use Rattle.book.proofs.Stretches.{consecutive-there}
 use Rattle.client.specs.Clients.{Client}
 use Rattle.client.specs.Updating.{told_as, Updates}
-use Rattle.client.specs.declared.refusal.Refusal.{Refusal}
+use Rattle.client.specs.declared.client_refusal.Refusal.{Refusal}
 use Rattle.play.specs.Calls.{IsFollowed, UpdatesRight}
 use Rattle.play.proofs.Lists.{all-in}
 

@@ -9,7 +9,7 @@ use Rattle.rootchain.specs.Bodies.{body_bytes}
 use Rattle.rootchain.specs.declared.signed_root.SignedRoot.{SignedRoot}
 use Rattle.commands.specs.Operations.{Operation, Query, Edit, Put, Turn}
 use Rattle.book.specs.declared.keeper.NoKeeper.{NoKeeper}
-use Rattle.book.specs.declared.refusal.Refusal.TheVariants.{EpochNotLater}
+use Rattle.book.specs.declared.directory_refusal.Refusal.TheVariants.{EpochNotLater}
 use Rattle.book.specs.declared.reply.Reply.{Reply}
 use Rattle.book.specs.Answers.{Answer, refusal}
 use Rattle.book.specs.Books.{Binding, Book, Page, pages}

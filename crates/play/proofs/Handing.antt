@@ -25,7 +25,7 @@ use Rattle.wire.specs.Requests as request
 use Rattle.hub.specs.Desks.{reply_frame}
 use Rattle.book.specs.declared.reply.Reply.{Reply}
 use Rattle.book.specs.declared.reply.Reply.TheVariants as reply
-use Rattle.book.specs.declared.refusal.Refusal.{Refusal}
+use Rattle.book.specs.declared.directory_refusal.Refusal.{Refusal}
 use Rattle.book.specs.Answers.{Answer, Promised, Found, Told, Last, with_pending}
 use Rattle.book.specs.Books.{Binding, Book, Page}
 use Rattle.book.specs.Honest.{IsKept}

@@ -5,13 +5,13 @@ use Rattle.std.specs.List.{AllByRecursion, AllZip, flat_map}
 use Rattle.rootchain.specs.declared.body.Body.{Body}
 use Rattle.rootchain.specs.declared.signed_root.SignedRoot.{SignedRoot}
 use Rattle.proofs.specs.Replies.{Reply as Spelled, SpellsReply}
-use Rattle.proofs.specs.declared.refusal.Refusal.TheVariants.{OtherRoot}
+use Rattle.proofs.specs.declared.reply_refusal.Refusal.TheVariants.{OtherRoot}
 use Rattle.proofs.proofs.Passing.{one_reply}
 use Rattle.commands.specs.Operations as ask
 use Rattle.commands.specs.Operations.{Operation, Question, Query, Edit, Put, Promise, Lookup, History, Head}
 use Rattle.wire.specs.Frames.{Frame}
-use Rattle.wire.specs.declared.refusals.ReadRefusal.{ReadRefusal}
-use Rattle.wire.specs.declared.refusals.ReadRefusal.TheVariants.{BadKind, BadBody}
+use Rattle.wire.specs.declared.message_refusals.ReadRefusal.{ReadRefusal}
+use Rattle.wire.specs.declared.message_refusals.ReadRefusal.TheVariants.{BadKind, BadBody}
 use Rattle.wire.specs.Refusals.{read_refusal_number}
 use Rattle.wire.specs.Requests.{RequestContent, read_request, request_body, request_frame, request_kind, Asks, IsAsked}
 use Rattle.wire.specs.Responses as response
@@ -19,7 +19,7 @@ use Rattle.wire.specs.Responses.{ResponseContent, response_frame}
 use Rattle.wire.specs.Streams.{Message, Whole, BadFrame}
 use Rattle.wire.proofs.Requests.{is_unknown, one_request, reads_more, reads_none, reads_whole}
 use Rattle.book.specs.declared.record.Record.{Record}
-use Rattle.book.specs.declared.refusal.Refusal.{Refusal}
+use Rattle.book.specs.declared.directory_refusal.Refusal.{Refusal}
 use Rattle.book.specs.declared.reply.Reply.{Reply}
 use Rattle.book.specs.declared.reply.Reply.TheVariants as reply_of
 use Rattle.book.specs.Answers.{Answer, Found, Last}

@@ -10,8 +10,8 @@ use Rattle.commands.specs.Operations.{Operation, Query, Edit, Put}
 use Rattle.wire.specs.Requests as request
 use Rattle.wire.specs.Requests.{RequestContent}
 use Rattle.wire.specs.Streams.{Message}
-use Rattle.book.specs.declared.refusal.Refusal.{Refusal}
-use Rattle.book.specs.declared.refusal.Refusal.TheVariants.{EpochNotLater}
+use Rattle.book.specs.declared.directory_refusal.Refusal.{Refusal}
+use Rattle.book.specs.declared.directory_refusal.Refusal.TheVariants.{EpochNotLater}
 use Rattle.book.specs.Answers.{refusal}
 use Rattle.book.specs.Books.{Binding, Book, Page, pages}
 use Rattle.book.specs.Maps.{Map, at, put_name}

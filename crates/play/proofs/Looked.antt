@@ -18,8 +18,8 @@ use Rattle.proofs.specs.Comparisons.{IsAcceptedReply}
 use Rattle.proofs.specs.Refusals.{reply_refusal_number}
 use Rattle.proofs.specs.Replies.{Reply as Spelled}
 use Rattle.proofs.specs.Views.{key_stated}
-use Rattle.proofs.specs.declared.refusal.Refusal.{Refusal as ProofRefusal}
-use Rattle.proofs.specs.declared.refusal.Refusal.TheVariants as proof
+use Rattle.proofs.specs.declared.reply_refusal.Refusal.{Refusal as ProofRefusal}
+use Rattle.proofs.specs.declared.reply_refusal.Refusal.TheVariants as proof
 use Rattle.proofs.specs.declared.statement.Statement.{Statement}
 use Rattle.proofs.proofs.Passing.{accepts-passed}
 use Rattle.commands.specs.Operations.{Lookup, Query}
@@ -42,8 +42,8 @@ use Rattle.book.proofs.Sealing.{IsSealed, all-sealed, sealed-page}
 use Rattle.book.proofs.Turning.{asked-page}
 use Rattle.client.specs.Clients.{Client}
 use Rattle.client.specs.Looking.{IsAnswered, IsLookRoot, Looks}
-use Rattle.client.specs.declared.refusal.Refusal.{Refusal}
-use Rattle.client.specs.declared.refusal.Refusal.TheVariants as client
+use Rattle.client.specs.declared.client_refusal.Refusal.{Refusal}
+use Rattle.client.specs.declared.client_refusal.Refusal.TheVariants as client
 use Rattle.play.specs.Answering.{IsUnchecked}
 use Rattle.play.specs.Calls.{CallsAreHonest, IsDoubleIn, IsFollowed, IsShown, LooksRight}
 use Rattle.play.specs.Checked.{HasChecked}

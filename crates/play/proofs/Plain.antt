@@ -15,7 +15,7 @@ use Rattle.textio.specs.Lines.{lines_of}
 use Rattle.wire.specs.Requests as request
 use Rattle.wire.specs.Requests.{RequestContent}
 use Rattle.wire.specs.Streams.{Message}
-use Rattle.book.specs.declared.refusal.Refusal.{Refusal}
+use Rattle.book.specs.declared.directory_refusal.Refusal.{Refusal}
 use Rattle.book.specs.Answers.{has_its_index, next_page, refusal, page_range as page_told, with_page}
 use Rattle.book.specs.Books.{Binding, Book, Page, page_at, pages}
 use Rattle.book.specs.Honest.{key_at}

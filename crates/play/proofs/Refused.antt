@@ -4,9 +4,9 @@ use Rattle.wire.specs.Frames.{Frame}
 use Rattle.rootchain.specs.Chains.{Verifies}
 use Rattle.rootchain.specs.Promises.{PromiseVerifies}
 use Rattle.rootchain.specs.SignedRoots.{SpellsRoot}
-use Rattle.rootchain.specs.declared.refusal.Refusal.{Refusal as RootRefusal}
-use Rattle.rootchain.specs.declared.refusal.Refusal.TheVariants as rooted
-use Rattle.client.specs.declared.refusal.RootRefusal.TheVariants as told
+use Rattle.rootchain.specs.declared.root_refusal.Refusal.{Refusal as RootRefusal}
+use Rattle.rootchain.specs.declared.root_refusal.Refusal.TheVariants as rooted
+use Rattle.client.specs.declared.client_refusal.RootRefusal.TheVariants as told
 use Rattle.rootchain.specs.declared.signed_promise.SignedPromise.{SignedPromise}
 use Rattle.rootchain.specs.declared.signed_root.SignedRoot.{SignedRoot}
 use Rattle.hub.specs.declared.hub_refusal.HubRefusal.{HubRefusal}
@@ -17,15 +17,15 @@ use Rattle.auditor.specs.Chains.{Chains}
 use Rattle.auditor.specs.Observing.{Observes}
 use Rattle.client.specs.Clients.{HasRootOf}
 use Rattle.client.specs.Starting.{Starts}
-use Rattle.client.specs.declared.refusal.Refusal.{Refusal}
-use Rattle.client.specs.declared.refusal.Refusal.TheVariants as client
+use Rattle.client.specs.declared.client_refusal.Refusal.{Refusal}
+use Rattle.client.specs.declared.client_refusal.Refusal.TheVariants as client
 use Rattle.monitor.specs.Expecting.{Expects, IsNewPromise, MayExpect}
 use Rattle.monitor.specs.Monitors.{Monitor, IsNext}
 use Rattle.monitor.specs.Stepping.{Steps}
-use Rattle.monitor.specs.declared.refusal.Refusal.{Refusal as MonitorRefusal}
-use Rattle.monitor.specs.declared.refusal.Refusal.TheVariants as monitor
-use Rattle.book.specs.declared.refusal.Refusal.{Refusal as BookRefusal}
-use Rattle.book.specs.declared.refusal.Refusal.TheVariants as book
+use Rattle.monitor.specs.declared.monitor_refusal.Refusal.{Refusal as MonitorRefusal}
+use Rattle.monitor.specs.declared.monitor_refusal.Refusal.TheVariants as monitor
+use Rattle.book.specs.declared.directory_refusal.Refusal.{Refusal as BookRefusal}
+use Rattle.book.specs.declared.directory_refusal.Refusal.TheVariants as book
 use Rattle.epochs.specs.Beginnings.{IsBeginRefusal}
 use Rattle.book.specs.Books.{Page}
 use Rattle.book.specs.Shows.{Provider}

@@ -13,8 +13,8 @@ use Rattle.rootchain.specs.declared.signed_root.SignedRoot.{SignedRoot}
 use Rattle.proofs.specs.Accepts.{stated}
 use Rattle.proofs.specs.Comparisons.{IsAcceptedReply, Refuses}
 use Rattle.proofs.specs.Replies.{Reply as Spelled}
-use Rattle.proofs.specs.declared.refusal.Refusal.{Refusal}
-use Rattle.proofs.specs.declared.refusal.Refusal.TheVariants as proof
+use Rattle.proofs.specs.declared.reply_refusal.Refusal.{Refusal}
+use Rattle.proofs.specs.declared.reply_refusal.Refusal.TheVariants as proof
 use Rattle.proofs.proofs.Passing.{accepts-passed}
 use Rattle.commands.specs.Operations.{Query, Lookup}
 use Rattle.book.specs.declared.record.Record.{Record}
@@ -33,7 +33,7 @@ use Rattle.book.proofs.Doubled.{doubled}
 use Rattle.book.proofs.Members.{first-or-later, first-there, later-there, none-there}
 use Rattle.book.proofs.Running.{ran, SeenFound}
 use Rattle.book.proofs.Sealing.{all-sealed, sealed-page, IsSealed}
-use Rattle.client.specs.declared.refusal.Refusal.TheVariants as client
+use Rattle.client.specs.declared.client_refusal.Refusal.TheVariants as client
 use Rattle.play.specs.Calls.{IsDoubleIn, MayRefuse}
 use Rattle.play.specs.Lines.{is_double}
 use Rattle.play.proofs.Ahead.{one-page}

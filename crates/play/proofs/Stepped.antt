@@ -16,13 +16,13 @@ use Rattle.proofs.specs.Accepts.{stated}
 use Rattle.proofs.specs.Refusals.{reply_refusal_number}
 use Rattle.proofs.specs.Views.{key_stated}
 use Rattle.proofs.specs.Watches.{Watch, expected}
-use Rattle.proofs.specs.declared.refusal.Refusal.{Refusal as ProofRefusal}
-use Rattle.proofs.specs.declared.refusal.Refusal.TheVariants as proof
+use Rattle.proofs.specs.declared.reply_refusal.Refusal.{Refusal as ProofRefusal}
+use Rattle.proofs.specs.declared.reply_refusal.Refusal.TheVariants as proof
 use Rattle.commands.specs.Operations.{Operation, Query, Lookup}
 use Rattle.wire.specs.Frames.{Frame, frame_bytes, IsFrame}
 use Rattle.wire.specs.Requests as request
 use Rattle.book.specs.declared.keeper.NoKeeper.{NoKeeper}
-use Rattle.book.specs.declared.refusal.Refusal.TheVariants.{BadName, NoSuchEpoch}
+use Rattle.book.specs.declared.directory_refusal.Refusal.TheVariants.{BadName, NoSuchEpoch}
 use Rattle.book.specs.declared.reply.Reply.{Reply}
 use Rattle.book.specs.declared.reply.Reply.TheVariants as reply
 use Rattle.book.specs.Answers.{Answer, Promised, Found, Told, Last, first, has_length_within, refusal}

@@ -10,7 +10,7 @@ use Rattle.rootchain.specs.RootLists.{SpellsRoots}
 use Rattle.rootchain.specs.Readable.{signed_root_field}
 use Rattle.rootchain.specs.SignedRoots.{read_signed_root, signed_root_bytes, IsSignedRoot}
 use Rattle.rootchain.specs.Taking.{with_root}
-use Rattle.rootchain.specs.declared.refusal.Refusal.{Refusal as RootRefusal}
+use Rattle.rootchain.specs.declared.root_refusal.Refusal.{Refusal as RootRefusal}
 use Rattle.rootchain.specs.TakingLists.{Takes}
 use Rattle.rootchain.specs.declared.signed_root.SignedRoot.{SignedRoot}
 use Rattle.rootchain.proofs.Chains.{ascend-linked}
@@ -27,8 +27,8 @@ use Rattle.auditor.specs.declared.auditor.Observed.TheVariants.{Extended}
 use Rattle.auditor.proofs.Following.{extends}
 use Rattle.client.specs.Clients.{Client}
 use Rattle.client.specs.Updating.{Updates}
-use Rattle.client.specs.declared.refusal.Refusal.{Refusal}
-use Rattle.client.specs.declared.refusal.Refusal.TheVariants as client
+use Rattle.client.specs.declared.client_refusal.Refusal.{Refusal}
+use Rattle.client.specs.declared.client_refusal.Refusal.TheVariants as client
 use Rattle.monitor.specs.Monitors.{Monitor}
 use Rattle.play.specs.Calls.{IsFollowed, UpdatesRight}
 use Rattle.play.specs.Parties.{chain_under, IsWatcher}

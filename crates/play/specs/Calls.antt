@@ -11,7 +11,7 @@ use Rattle.rootchain.specs.declared.signed_promise.SignedPromise.{SignedPromise}
 use Rattle.rootchain.specs.declared.signed_root.SignedRoot.{SignedRoot}
 use Rattle.proofs.specs.Views.{key_stated}
 use Rattle.proofs.specs.Watches as watch
-use Rattle.proofs.specs.declared.refusal.Refusal.TheVariants as proof
+use Rattle.proofs.specs.declared.reply_refusal.Refusal.TheVariants as proof
 use Rattle.proofs.specs.declared.statement.Statement.{Statement}
 use Rattle.commands.specs.Operations.{Operation, Query, Lookup}
 use Rattle.book.specs.declared.reply.Reply.{Reply}
@@ -33,13 +33,13 @@ use Rattle.client.specs.Promising.{KeepsPromise}
 use Rattle.client.specs.Updating.{Updates}
 use Rattle.client.specs.declared.due.Due.{Due}
 use Rattle.client.specs.declared.due.Due.TheVariants as due
-use Rattle.client.specs.declared.refusal.Refusal.{Refusal}
-use Rattle.client.specs.declared.refusal.Refusal.TheVariants as client
+use Rattle.client.specs.declared.client_refusal.Refusal.{Refusal}
+use Rattle.client.specs.declared.client_refusal.Refusal.TheVariants as client
 use Rattle.monitor.specs.Expecting.{Expects, MayExpect}
 use Rattle.monitor.specs.Monitors.{Monitor, with_change, IsNext}
 use Rattle.monitor.specs.Stepping.{Steps}
-use Rattle.monitor.specs.declared.refusal.Refusal as monitors
-use Rattle.monitor.specs.declared.refusal.Refusal.TheVariants as monitor
+use Rattle.monitor.specs.declared.monitor_refusal.Refusal as monitors
+use Rattle.monitor.specs.declared.monitor_refusal.Refusal.TheVariants as monitor
 use Rattle.monitor.specs.declared.step.Step.{Step}
 use Rattle.monitor.specs.declared.step.Step.TheVariants as step
 

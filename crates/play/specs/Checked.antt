@@ -16,8 +16,8 @@ use Rattle.book.specs.Maps.{at}
 use Rattle.book.specs.Shows.{index_of, roots, IsReplyOf, IsRootOf}
 use Rattle.book.specs.Sound.{IsSound}
 use Rattle.client.specs.Looking.{Looks}
-use Rattle.client.specs.declared.refusal.Refusal.{Refusal}
-use Rattle.client.specs.declared.refusal.Refusal.TheVariants as client
+use Rattle.client.specs.declared.client_refusal.Refusal.{Refusal}
+use Rattle.client.specs.declared.client_refusal.Refusal.TheVariants as client
 use Rattle.play.specs.Lines.{checked_text, numbered_text}
 use Rattle.play.specs.Messages.{comes_of, request_asks}
 use Rattle.play.specs.Parties.{book_of, chain_under, provider_of, HasAsked, Parties}

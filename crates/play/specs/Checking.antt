@@ -13,12 +13,12 @@ use Rattle.book.specs.Shows.{Provider, index_of, IsReplyOf, IsRootOf}
 use Rattle.book.specs.Sound.{IsSound}
 use Rattle.client.specs.Clients.{Client}
 use Rattle.client.specs.Looking.{IsLookRoot, Looks}
-use Rattle.client.specs.declared.refusal.Refusal.{Refusal}
-use Rattle.client.specs.declared.refusal.Refusal.TheVariants.{Root, Proof, UnknownRoot, RootDiffers, Memory, NoPromise}
+use Rattle.client.specs.declared.client_refusal.Refusal.{Refusal}
+use Rattle.client.specs.declared.client_refusal.Refusal.TheVariants.{Root, Proof, UnknownRoot, RootDiffers, Memory, NoPromise}
 use Rattle.monitor.specs.Monitors.{Monitor, IsNext}
 use Rattle.monitor.specs.Stepping.{Steps}
-use Rattle.monitor.specs.declared.refusal.Refusal as monitors
-use Rattle.monitor.specs.declared.refusal.Refusal.TheVariants as monitor
+use Rattle.monitor.specs.declared.monitor_refusal.Refusal as monitors
+use Rattle.monitor.specs.declared.monitor_refusal.Refusal.TheVariants as monitor
 use Rattle.monitor.specs.declared.step.Step.{Step}
 use Rattle.monitor.specs.declared.step.Step.TheVariants.{Kept, Alarm}
 use Rattle.play.specs.Lines.{checked_text, is_double, refused_proof, statement_text}

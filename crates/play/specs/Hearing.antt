@@ -8,7 +8,7 @@ use Rattle.wire.specs.Laws.{IsReadAs}
 use Rattle.wire.specs.Requests.{RequestContent, request_frame, IsAsked}
 use Rattle.wire.specs.Responses.{ResponseContent, Promise, Proof, Roots, Root, Refused as Refusing}
 use Rattle.wire.specs.Streams.{Message, Whole, BadFrame}
-use Rattle.book.specs.declared.refusal.Refusal.TheVariants.{Memory, KeepFailed}
+use Rattle.book.specs.declared.directory_refusal.Refusal.TheVariants.{Memory, KeepFailed}
 use Rattle.book.specs.declared.reply.Reply.{Reply}
 use Rattle.book.specs.Replies.{reply_content, Refused}
 use Rattle.commands.specs.Operations.{Operation}

@@ -1,9 +1,9 @@
 -- What the messages of sessions ask of the directory, and what comes of each.
 use Rattle.std.specs.Prelude.{ℕ, List, [], ◌∷◌, map, Option, Some, None, Result, Ok, Err}
 use Rattle.commands.specs.Operations.{Operation}
-use Rattle.wire.specs.declared.refusals.FeedRefusal.TheVariants as feed
-use Rattle.wire.specs.declared.refusals.ReadRefusal.{ReadRefusal}
-use Rattle.wire.specs.declared.refusals.ReadRefusal.TheVariants.{BadBody}
+use Rattle.wire.specs.declared.message_refusals.FeedRefusal.TheVariants as feed
+use Rattle.wire.specs.declared.message_refusals.ReadRefusal.{ReadRefusal}
+use Rattle.wire.specs.declared.message_refusals.ReadRefusal.TheVariants.{BadBody}
 use Rattle.wire.specs.Refusals.{feed_refusal_number, read_refusal_number}
 use Rattle.wire.specs.Requests.{RequestContent, read_request}
 use Rattle.wire.specs.Streams.{Remainder, Message, Whole, BadFrame}

@@ -11,7 +11,7 @@ use Rattle.wire.specs.Requests.{RequestContent, IsAsked}
 use Rattle.wire.specs.Responses.{ResponseContent}
 use Rattle.wire.specs.Streams.{Remainder, Rest, AreBytes}
 use Rattle.book.specs.declared.keeper.NoKeeper.{NoKeeper}
-use Rattle.book.specs.declared.refusal.Refusal.TheVariants.{Memory}
+use Rattle.book.specs.declared.directory_refusal.Refusal.TheVariants.{Memory}
 use Rattle.book.specs.declared.reply.Reply.{Reply}
 use Rattle.book.specs.declared.reply.Reply.TheVariants as reply
 use Rattle.book.specs.Books.{Book}

@@ -2,14 +2,14 @@
 use Rattle.std.specs.Prelude.{◌≡◌, ℕ, Bool, true, false, List, [], ◌∷◌, ◌++◌, codes, decimal, slice_get, slice_set, Some, Ok, Err}
 use Rattle.rand_core.specs.Stream.{Stream}
 use Rattle.proofs.specs.Refusals.{reply_refusal_number}
-use Rattle.proofs.specs.declared.refusal.Refusal.{Refusal}
+use Rattle.proofs.specs.declared.reply_refusal.Refusal.{Refusal}
 use Rattle.book.specs.Books.{Page, pages}
 use Rattle.book.specs.Shows.{index_of}
 use Rattle.epochs.specs.DirectoryStates.{HasKeysOf}
-use Rattle.client.specs.declared.refusal.Refusal.TheVariants.{Proof}
+use Rattle.client.specs.declared.client_refusal.Refusal.TheVariants.{Proof}
 use Rattle.monitor.specs.Monitors.{Monitor}
 use Rattle.monitor.specs.Stepping.{IsNextEpoch, Steps}
-use Rattle.monitor.specs.declared.refusal.Refusal.TheVariants.{Client}
+use Rattle.monitor.specs.declared.monitor_refusal.Refusal.TheVariants.{Client}
 use Rattle.monitor.specs.declared.step.Step.{Step}
 use Rattle.play.specs.Lines.{is_double, refused_proof}
 use Rattle.play.specs.Parties.{Parties, provider_of, HaveDone}

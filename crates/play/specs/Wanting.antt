@@ -8,8 +8,8 @@ use Rattle.hub.specs.declared.hub_refusal.HubRefusal.{HubRefusal}
 use Rattle.hub.specs.declared.hub_refusal.HubRefusal.TheVariants as hub
 use Rattle.client.specs.Clients.{Client}
 use Rattle.client.specs.Updating.{Updates}
-use Rattle.client.specs.declared.refusal.Refusal.{Refusal}
-use Rattle.client.specs.declared.refusal.Refusal.TheVariants.{Root, Proof, UnknownRoot, RootDiffers, Memory, NoPromise}
+use Rattle.client.specs.declared.client_refusal.Refusal.{Refusal}
+use Rattle.client.specs.declared.client_refusal.Refusal.TheVariants.{Root, Proof, UnknownRoot, RootDiffers, Memory, NoPromise}
 use Rattle.play.specs.Parties.{Parties}
 
 -- an event was refused since memory ran out

@@ -5,9 +5,9 @@ ghost use Rattle.std.specs.Prelude.{◌≡◌, ◌++◌, ◌∷◌, [], OnOk, co
 ghost use Rattle.hex.specs.Hex.{encode_lower};
 ghost use Rattle.proofs.specs.Refusals.{reply_refusal_number};
 ghost use Rattle.proofs.specs.Views.{key_stated};
-ghost use Rattle.proofs.specs.declared.refusal.Refusal.{Refusal as ProofRefusal};
+ghost use Rattle.proofs.specs.declared.reply_refusal.Refusal.{Refusal as ProofRefusal};
 ghost use Rattle.wire.specs.Responses.{response_seen, Roots};
-ghost use Rattle.client.specs.declared.refusal.Refusal.TheVariants as clients;
+ghost use Rattle.client.specs.declared.client_refusal.Refusal.TheVariants as clients;
 ghost use Rattle.play.specs.Lines.{statement_text};
 ghost use Rattle.play.specs.Watchers.{alarm_key};
 ghost use Rattle.play.specs.Hearing.{response_text};

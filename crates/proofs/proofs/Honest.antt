@@ -9,8 +9,8 @@ use Rattle.prefixtree.specs.Paths.{agreeing, end_of, Way}
 use Rattle.prefixtree.specs.Placement.{Item, Items}
 use Rattle.prefixtree.specs.declared.path.End.TheVariants as path
 use Rattle.prefixtree.proofs.PathLeads.{path-leads}
-use Rattle.proofs.specs.declared.refusal.Refusal.{Refusal}
-use Rattle.proofs.specs.declared.refusal.Refusal.TheVariants.{Malformed, Trailing, OtherRoot, BadVuf, SameIndex, OtherPrefix, PathMismatch}
+use Rattle.proofs.specs.declared.reply_refusal.Refusal.{Refusal}
+use Rattle.proofs.specs.declared.reply_refusal.Refusal.TheVariants.{Malformed, Trailing, OtherRoot, BadVuf, SameIndex, OtherPrefix, PathMismatch}
 use Rattle.proofs.specs.Accepts.{stated, Accepts}
 use Rattle.proofs.specs.Honest.{IsHonest}
 use Rattle.proofs.specs.PathEnds.{end_of_path, end_text}

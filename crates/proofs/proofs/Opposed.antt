@@ -4,7 +4,7 @@ use Rattle.encoding.specs.Bytes.{Is32Bytes}
 use Rattle.nodehash.specs.Collisions.{IsCollision}
 use Rattle.prefixtree.proofs.Ways.{folded-Way}
 use Rattle.rootchain.specs.declared.body.Body.{Body}
-use Rattle.proofs.specs.declared.refusal.Refusal.TheVariants.{SameIndex, PathMismatch}
+use Rattle.proofs.specs.declared.reply_refusal.Refusal.TheVariants.{SameIndex, PathMismatch}
 use Rattle.proofs.specs.Accepts.{stated, IsAccepted, NamedReply}
 use Rattle.proofs.specs.declared.comparing.SameOr.TheVariants.{Collision}
 use Rattle.proofs.specs.Comparisons.{opened, texts_of, Answers, AreComparable, AreOpposed, AreTwoValues, HaveOneIndex, StandFirst}

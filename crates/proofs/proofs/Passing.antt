@@ -4,8 +4,8 @@ use Rattle.std.proofs.lemmas.List.{append-nil}
 use Rattle.encoding.proofs.Fields.{one_spelling}
 use Rattle.prefixtree.specs.Paths.{Way}
 use Rattle.rootchain.specs.declared.body.Body.{Body}
-use Rattle.proofs.specs.declared.refusal.Refusal.{Refusal}
-use Rattle.proofs.specs.declared.refusal.Refusal.TheVariants.{Malformed, Trailing, OtherRoot, BadVuf, SameIndex, OtherPrefix, PathMismatch}
+use Rattle.proofs.specs.declared.reply_refusal.Refusal.{Refusal}
+use Rattle.proofs.specs.declared.reply_refusal.Refusal.TheVariants.{Malformed, Trailing, OtherRoot, BadVuf, SameIndex, OtherPrefix, PathMismatch}
 use Rattle.proofs.specs.Accepts.{stated, Accepts, EndStates, IsAccepted, States}
 use Rattle.proofs.specs.Comparisons.{Refuses}
 use Rattle.proofs.specs.Reading.{read_reply}

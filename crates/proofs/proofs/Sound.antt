@@ -3,8 +3,8 @@ use Rattle.std.proofs.Common.{◌≡◌, ◌↔◌, ℕ, List, Option, Result, O
 use Rattle.rootchain.specs.declared.body.Body.{Body}
 use Rattle.proofs.specs.declared.comparing.SameOr.{SameOr}
 use Rattle.proofs.specs.declared.comparing.SameOr.TheVariants.{NotComparable, Same, TwoValues, Collision}
-use Rattle.proofs.specs.declared.refusal.Refusal.{Refusal}
-use Rattle.proofs.specs.declared.refusal.Refusal.TheVariants.{Malformed, Trailing, OtherRoot, BadVuf, SameIndex, OtherPrefix, PathMismatch}
+use Rattle.proofs.specs.declared.reply_refusal.Refusal.{Refusal}
+use Rattle.proofs.specs.declared.reply_refusal.Refusal.TheVariants.{Malformed, Trailing, OtherRoot, BadVuf, SameIndex, OtherPrefix, PathMismatch}
 use Rattle.proofs.specs.Accepts.{stated, Accepts, HasIndex, IsAccepted, NamedReply}
 use Rattle.proofs.specs.Comparisons.{Answers, IsAcceptedReply, IsOnceAccepted, IsOneBindingOr, Refuses}
 use Rattle.proofs.specs.Refusals.{IsFirstToFail, Passes, ReadsReply}

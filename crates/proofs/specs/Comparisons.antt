@@ -10,7 +10,7 @@ use Rattle.proofs.specs.PathEnds.{end_text}
 use Rattle.proofs.specs.Refusals.{IsFirstToFail, Passes, ReadsReply}
 use Rattle.proofs.specs.Replies.{End, Present, Empty, Other, Reply, IsReply, SpellsReply}
 use Rattle.proofs.specs.WayTexts.{way_texts, AreFirstToDiffer}
-use Rattle.proofs.specs.declared.refusal.Refusal.{Refusal}
+use Rattle.proofs.specs.declared.reply_refusal.Refusal.{Refusal}
 use Rattle.proofs.specs.declared.comparing.RefusedReply.{RefusedReply}
 use Rattle.proofs.specs.declared.comparing.RefusedReply.TheVariants.{First, Second}
 use Rattle.proofs.specs.declared.comparing.SameOr.{SameOr}

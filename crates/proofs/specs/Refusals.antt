@@ -3,8 +3,8 @@ use Rattle.std.specs.Prelude.{◌≡◌, ◌≢◌, ℕ, ◌<◌, List, [], ◌+
 use Rattle.encoding.specs.Bits.{Agree}
 use Rattle.prefixtree.specs.Paths.{Way}
 use Rattle.rootchain.specs.declared.body.Body.{Body}
-use Rattle.proofs.specs.declared.refusal.Refusal.{Refusal}
-use Rattle.proofs.specs.declared.refusal.Refusal.TheVariants.{Malformed, Trailing, OtherRoot, BadVuf, SameIndex, OtherPrefix, PathMismatch}
+use Rattle.proofs.specs.declared.reply_refusal.Refusal.{Refusal}
+use Rattle.proofs.specs.declared.reply_refusal.Refusal.TheVariants.{Malformed, Trailing, OtherRoot, BadVuf, SameIndex, OtherPrefix, PathMismatch}
 use Rattle.proofs.specs.PathEnds.{end_text}
 use Rattle.proofs.specs.Replies.{End, Present, Empty, Other, Reply, SpellsReply}
 

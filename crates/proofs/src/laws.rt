@@ -4,7 +4,7 @@ ghost use Rattle.rootchain.specs.declared.body.Body.{Body};
 ghost use Rattle.proofs.specs.Accepts.{stated, Accepts, NamedReply};
 ghost use Rattle.proofs.specs.Comparisons.{Answers, Refuses};
 ghost use Rattle.proofs.specs.Honest.{IsHonest};
-ghost use Rattle.proofs.specs.declared.refusal.Refusal.{Refusal};
+ghost use Rattle.proofs.specs.declared.reply_refusal.Refusal.{Refusal};
 ghost use Rattle.proofs.specs.declared.comparing.SameOr.TheVariants.{TwoValues};
 ghost use Rattle.proofs.specs.Replies.{reply_bytes, Reply, SpellsReply};
 

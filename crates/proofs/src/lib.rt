@@ -22,7 +22,7 @@ mod end;
 mod kind_bytes;
 mod laws;
 mod making;
-mod refusal;
+mod reply_refusal;
 mod statement;
 mod view;
 
@@ -36,6 +36,6 @@ pub use laws::{
     refused_is_not_accepted, reply_has_one_spelling, unique_values_never_differ,
 };
 pub use making::{FRONT_ROOM, make, write_front};
-pub use refusal::Refusal;
+pub use reply_refusal::Refusal;
 pub use statement::Statement;
 pub use view::ReplyView;

@@ -2,8 +2,8 @@
 -- (CONIKS, section 3).
 use Rattle.std.specs.Prelude.{◌≡◌, ℕ, ◌-◌, ◌<◌, ◌≤◌, List, length, slice_get, Some, All, AllPairs, Contains}
 use Rattle.std.specs.List.{AllAdjacentBelow}
-use Rattle.rootchain.specs.declared.refusal.Refusal.{Refusal}
-use Rattle.rootchain.specs.declared.refusal.Refusal.TheVariants.{Malformed, BadSignature, NotLater, BadLink, Memory}
+use Rattle.rootchain.specs.declared.root_refusal.Refusal.{Refusal}
+use Rattle.rootchain.specs.declared.root_refusal.Refusal.TheVariants.{Malformed, BadSignature, NotLater, BadLink, Memory}
 use Rattle.rootchain.specs.declared.signed_root.SignedRoot.{SignedRoot}
 use Rattle.rootchain.specs.Bodies.{body_bytes}
 

@@ -1,7 +1,7 @@
 ghost use Rattle.std.specs.Prelude.{◌≡◌, length, IsOkUnless};
 ghost use Rattle.encoding.specs.Fields.{ReadsWhole};
 ghost use Rattle.rootchain.specs.declared.body.TheConstants.{BODY_LEN};
-ghost use Rattle.rootchain.specs.declared.refusal.Refusal.TheVariants.{Malformed};
+ghost use Rattle.rootchain.specs.declared.root_refusal.Refusal.TheVariants.{Malformed};
 ghost use Rattle.rootchain.specs.Bodies.{body_bytes, is_well_formed, read_body, IsBody, IsSized, IsWellFormed};
 
 use crate::Refusal;

@@ -1,7 +1,7 @@
 ghost use Rattle.std.specs.Prelude.{◌≡◌, ◌↔◌, ◌+◌, ◌≤◌, ◌∷◌, ◌++◌, [], length, IsOk, IsOkUnless, IsTrue, MatchOption, OnErr, OnOk, vec_capacity, vec_len};
 ghost use Rattle.encoding.specs.Fields.{ReadsWhole};
 ghost use Rattle.encoding.specs.Reading.{Gives};
-ghost use Rattle.rootchain.specs.declared.refusal.Refusal.TheVariants.{Malformed};
+ghost use Rattle.rootchain.specs.declared.root_refusal.Refusal.TheVariants.{Malformed};
 ghost use Rattle.rootchain.specs.declared.root_list.TheConstants.{MAX_LIST_LEN, MAX_ROOTS};
 ghost use Rattle.rootchain.specs.RootLists.{root_list_bytes, IsRootList, HasRoots, PassesRoots, read_root_count};
 

@@ -1,7 +1,7 @@
 ghost use Rattle.std.specs.Prelude.{◌≡◌, ◌≢◌, ◌≤◌, ◌↔◌, ◌+◌, length, IsOkUnless, IsTrue};
 ghost use Rattle.encoding.specs.Fields.{ReadsWhole};
 ghost use Rattle.rootchain.specs.declared.body.TheConstants.{BODY_LEN};
-ghost use Rattle.rootchain.specs.declared.refusal.Refusal.TheVariants.{Malformed};
+ghost use Rattle.rootchain.specs.declared.root_refusal.Refusal.TheVariants.{Malformed};
 ghost use Rattle.rootchain.specs.declared.signed_root.TheConstants.{MAX_SIGNED_ROOT_LEN};
 ghost use Rattle.rootchain.specs.Bodies.{IsWellFormed};
 ghost use Rattle.rootchain.specs.Chains.{Names, Verifies};

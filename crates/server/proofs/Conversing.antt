@@ -15,8 +15,8 @@ use Rattle.hub.proofs.Joining.{exchanges_joined, replies_append}
 use Rattle.hub.proofs.Others.{set_found}
 use Rattle.hub.proofs.Steps.{exchanges_tell}
 use Rattle.hub.proofs.Streaming.{told_all, told_of}
-use Rattle.server.specs.declared.fault.ServeFault.{ServeFault}
-use Rattle.server.specs.declared.fault.ServeFault.TheVariants.{CannotRead, CannotWrite, OutOfMemory}
+use Rattle.server.specs.declared.serve_fault.ServeFault.{ServeFault}
+use Rattle.server.specs.declared.serve_fault.ServeFault.TheVariants.{CannotRead, CannotWrite, OutOfMemory}
 use Rattle.server.specs.declared.serving.TheConstants.{PIECE_SIZE}
 use Rattle.server.specs.Pieces.{AnswersPiece}
 use Rattle.server.specs.Serving.{exchange_messages, AllReplied, AnswersEach, AnswersFirst, Serves}

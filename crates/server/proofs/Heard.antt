@@ -16,7 +16,7 @@ use Rattle.std.specs.Io.KnownBytes.{Appends}
 use Rattle.textio.specs.declared.stream_fault.StreamFault.{StreamFault}
 use Rattle.textio.specs.declared.stream_fault.StreamFault.TheVariants as stream
 use Rattle.textio.specs.Output.{WritesBeginning, WritesBut}
-use Rattle.server.specs.declared.fault.ServeFault.TheVariants.{OutOfMemory}
+use Rattle.server.specs.declared.serve_fault.ServeFault.TheVariants.{OutOfMemory}
 use Rattle.server.specs.Pieces.{AnswersPiece}
 
 -- a session of which no refusal is due is open

@@ -6,8 +6,8 @@ use Rattle.rand_chacha.specs.ChaCha.{ChaCha}
 use Rattle.epochs.specs.DirectoryStates.{book, DirectoryState}
 use Rattle.journal.specs.declared.opening.Opened.{Opened}
 use Rattle.journal.specs.declared.opening.Opened.TheVariants.{Nothing, Directory}
-use Rattle.journal.specs.declared.refusal.Refusal.{Refusal}
-use Rattle.journal.specs.declared.refusal.Refusal.TheVariants as refusal
+use Rattle.journal.specs.declared.open_refusal.Refusal.{Refusal}
+use Rattle.journal.specs.declared.open_refusal.Refusal.TheVariants as refusal
 use Rattle.journal.specs.Counting.{Counts}
 use Rattle.journal.specs.Opened.{IsOpenRefusal, Opens}
 use Rattle.journal.specs.Openings.{HasOtherKeys, IsCut, OpensTo}

@@ -6,8 +6,8 @@ use Rattle.book.specs.Keeps.{KeepsNothing, NeverFails}
 use Rattle.hub.specs.Desks.{DeskState}
 use Rattle.textio.specs.declared.program_fault.ProgramFault.{ProgramFault}
 use Rattle.textio.specs.declared.program_fault.ProgramFault.TheVariants.{BadHex}
-use Rattle.server.specs.declared.fault.ServeFault.{ServeFault}
-use Rattle.server.specs.declared.fault.ServeFault.TheVariants as fault
+use Rattle.server.specs.declared.serve_fault.ServeFault.{ServeFault}
+use Rattle.server.specs.declared.serve_fault.ServeFault.TheVariants as fault
 use Rattle.server.specs.Faults.{of_serving}
 use Rattle.server.specs.DirectoryOptions.{DirectoryOptions}
 use Rattle.server.specs.Directories.{keys_of, DirectoryKeys, HasBegun}

@@ -9,8 +9,8 @@ use Rattle.wire.specs.Frames.{Frame}
 use Rattle.wire.specs.Streams.{Remainder, with_more, IsSpent}
 use Rattle.hub.specs.Events.{HubState, at_session}
 use Rattle.hub.specs.Exchanges.{Exchange, Exchanges, replies}
-use Rattle.server.specs.declared.fault.ServeFault.{ServeFault}
-use Rattle.server.specs.declared.fault.ServeFault.TheVariants.{CannotRead, CannotWrite, OutOfMemory}
+use Rattle.server.specs.declared.serve_fault.ServeFault.{ServeFault}
+use Rattle.server.specs.declared.serve_fault.ServeFault.TheVariants.{CannotRead, CannotWrite, OutOfMemory}
 
 module _ {S : Type 0} (answers : S → Frame → List ℕ → S → Type 0) where
   -- the session, which held this, answers these messages of it and a piece, and then holds what is left

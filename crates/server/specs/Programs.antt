@@ -14,8 +14,8 @@ use Rattle.hub.specs.Exchanges.{Exchange}
 use Rattle.hub.specs.Runs.{AllAnswered, Line}
 use Rattle.textio.specs.declared.program_fault.ProgramFault.{ProgramFault}
 use Rattle.textio.specs.declared.program_fault.ProgramFault.TheVariants.{BadHex, BadItem, IndexRepeated, NotACommand, NotEvidence, BadRecord, OtherKeys, CannotRead, CannotWrite, CannotListen, OutOfMemory}
-use Rattle.server.specs.declared.fault.ServeFault.{ServeFault}
-use Rattle.server.specs.declared.fault.ServeFault.TheVariants as fault
+use Rattle.server.specs.declared.serve_fault.ServeFault.{ServeFault}
+use Rattle.server.specs.declared.serve_fault.ServeFault.TheVariants as fault
 use Rattle.journal.specs.Journals.{KeepsRecord, LosesRecord, JournalState}
 use Rattle.textio.specs.Output.{WritesBeginning}
 use Rattle.server.specs.declared.journal_file.DiskFile.{DiskFile}

@@ -9,8 +9,8 @@ use Rattle.book.specs.Fresh.{keyed_provider}
 use Rattle.book.specs.Shows.{index_of}
 use Rattle.epochs.specs.DirectoryStates.{book, DirectoryState}
 use Rattle.journal.specs.declared.beginning.Beginning.{Beginning}
-use Rattle.journal.specs.declared.refusal.Refusal.{Refusal}
-use Rattle.journal.specs.declared.refusal.Refusal.TheVariants as refusal
+use Rattle.journal.specs.declared.open_refusal.Refusal.{Refusal}
+use Rattle.journal.specs.declared.open_refusal.Refusal.TheVariants as refusal
 use Rattle.journal.specs.declared.opening.Opened.{Opened}
 use Rattle.journal.specs.Counting.{Counts}
 use Rattle.journal.specs.Opened.{Opens}

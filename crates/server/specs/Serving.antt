@@ -10,8 +10,8 @@ use Rattle.hub.specs.DeskRuns.{ShowHonestRun}
 use Rattle.hub.specs.Desks.{DeskState, DeskAnswers}
 use Rattle.hub.specs.Exchanges.{Exchange, replies}
 use Rattle.hub.specs.Runs.{lines, AllAnswered, Line}
-use Rattle.server.specs.declared.fault.ServeFault.{ServeFault}
-use Rattle.server.specs.declared.fault.ServeFault.TheVariants.{CannotRead, CannotWrite, OutOfMemory}
+use Rattle.server.specs.declared.serve_fault.ServeFault.{ServeFault}
+use Rattle.server.specs.declared.serve_fault.ServeFault.TheVariants.{CannotRead, CannotWrite, OutOfMemory}
 use Rattle.server.specs.declared.serving.TheConstants.{PIECE_SIZE}
 
 -- the messages that these bytes spell

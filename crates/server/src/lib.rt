@@ -7,7 +7,6 @@
 #![tactic(auto)]
 
 mod disk;
-mod fault;
 mod journal_file;
 mod keys;
 mod laws;
@@ -15,6 +14,7 @@ mod listening;
 mod opening;
 mod order;
 mod reopening;
+mod serve_fault;
 mod serving;
 mod sessions;
 mod sockets;
@@ -22,11 +22,11 @@ mod stopping;
 mod streams;
 mod telling;
 
-pub use fault::ServeFault;
 pub use journal_file::{DiskFile, JournalFile};
 pub use keys::{ServedDesk, ServedDirectory};
 pub use laws::{crowd_outputs_are_bounded, crowds_show_one_run, sessions_show_one_run};
 pub use listening::listen;
 pub use order::{DirectoryOrder, ListenOrder};
+pub use serve_fault::ServeFault;
 pub use serving::serve;
 pub use streams::{serve_directory, serve_unkept};

@@ -4,8 +4,8 @@ use Rattle.proofs.proofs.Sizes.{reply_few}
 use Rattle.rootchain.proofs.Sizes.{one_few, root_few, roots_few, signed_promise_few, AreFew}
 use Rattle.wire.specs.declared.answer.Answer.{Answer}
 use Rattle.wire.specs.declared.answer.Answer.TheVariants as answer
-use Rattle.wire.specs.declared.refusals.ReadRefusal.{ReadRefusal}
-use Rattle.wire.specs.declared.refusals.ReadRefusal.TheVariants.{BadKind, BadBody}
+use Rattle.wire.specs.declared.message_refusals.ReadRefusal.{ReadRefusal}
+use Rattle.wire.specs.declared.message_refusals.ReadRefusal.TheVariants.{BadKind, BadBody}
 use Rattle.wire.specs.declared.response.Response.{Response}
 use Rattle.wire.specs.Tables.{MessageParts, Of, Content, spelling, parts_frame, Allowed, IsCounted, MayHave}
 use Rattle.wire.specs.Frames.{Frame, IsFrame}

@@ -8,8 +8,8 @@ use Rattle.encoding.specs.Bytes.{IsBytes}
 use Rattle.encoding.specs.Fields.{IsField, Spells}
 use Rattle.encoding.specs.Reading.{Reading, read_as}
 use Rattle.encoding.proofs.Fields.{bind_ok, ok_is, one_spelling, whole-read, whole-refused, whole-left}
-use Rattle.wire.specs.declared.refusals.ReadRefusal.{ReadRefusal}
-use Rattle.wire.specs.declared.refusals.ReadRefusal.TheVariants.{BadKind, BadBody}
+use Rattle.wire.specs.declared.message_refusals.ReadRefusal.{ReadRefusal}
+use Rattle.wire.specs.declared.message_refusals.ReadRefusal.TheVariants.{BadKind, BadBody}
 use Rattle.wire.specs.Tables.{KindRow, MessageParts, Of, Content, kind_among, or_bad_body, parts_frame, parts_kind, parts_message, read_by, reader, spelling, Allowed, IsCounted, MayHave}
 use Rattle.wire.proofs.Forms.{any, form_field}
 

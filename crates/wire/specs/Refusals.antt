@@ -1,9 +1,9 @@
 -- Why a piece of a stream is not taken, or why a frame is not read.
 use Rattle.std.specs.Prelude.{ℕ}
-use Rattle.wire.specs.declared.refusals.FeedRefusal.{FeedRefusal}
-use Rattle.wire.specs.declared.refusals.FeedRefusal.TheVariants.{BadFrame, Memory}
-use Rattle.wire.specs.declared.refusals.ReadRefusal.{ReadRefusal}
-use Rattle.wire.specs.declared.refusals.ReadRefusal.TheVariants.{BadKind, BadBody}
+use Rattle.wire.specs.declared.message_refusals.FeedRefusal.{FeedRefusal}
+use Rattle.wire.specs.declared.message_refusals.FeedRefusal.TheVariants.{BadFrame, Memory}
+use Rattle.wire.specs.declared.message_refusals.ReadRefusal.{ReadRefusal}
+use Rattle.wire.specs.declared.message_refusals.ReadRefusal.TheVariants.{BadKind, BadBody}
 
 -- the number of a refusal
 abbrev pub feed_refusal_number : FeedRefusal → ℕ

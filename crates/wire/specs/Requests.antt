@@ -9,8 +9,8 @@ use Rattle.wire.specs.Frames.{Frame}
 use Rattle.wire.specs.declared.kind_bytes.TheConstants.{REGISTER, CHANGE, PROMISE, LOOKUP, HISTORY, HEAD, CLOSE, ROTATE}
 use Rattle.wire.specs.declared.request.Request.{Request}
 use Rattle.wire.specs.declared.request.Request.TheVariants as request
-use Rattle.wire.specs.declared.refusals.ReadRefusal.{ReadRefusal}
-use Rattle.wire.specs.declared.refusals.ReadRefusal.TheVariants.{BadKind, BadBody}
+use Rattle.wire.specs.declared.message_refusals.ReadRefusal.{ReadRefusal}
+use Rattle.wire.specs.declared.message_refusals.ReadRefusal.TheVariants.{BadKind, BadBody}
 
 -- a request, regardless of where its bytes lie: a command, where a new page has the operator's token beside it
 pub data RequestContent : Type 0 where

@@ -10,8 +10,8 @@ use Rattle.wire.specs.Frames.{Frame}
 use Rattle.wire.specs.declared.answer.Answer.{Answer}
 use Rattle.wire.specs.declared.answer.Answer.TheVariants as answer
 use Rattle.wire.specs.declared.kind_bytes.TheConstants.{PROMISED, PROOF, ROOTS, ROOT, REFUSED}
-use Rattle.wire.specs.declared.refusals.ReadRefusal.{ReadRefusal}
-use Rattle.wire.specs.declared.refusals.ReadRefusal.TheVariants.{BadKind, BadBody}
+use Rattle.wire.specs.declared.message_refusals.ReadRefusal.{ReadRefusal}
+use Rattle.wire.specs.declared.message_refusals.ReadRefusal.TheVariants.{BadKind, BadBody}
 use Rattle.wire.specs.declared.response.Response.{Response}
 use Rattle.wire.specs.declared.response.Response.TheVariants as response
 

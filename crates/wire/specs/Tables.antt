@@ -16,8 +16,8 @@ use Rattle.rootchain.specs.RootLists.{read_root_list, root_list_bytes, IsRootLis
 use Rattle.rootchain.specs.SignedRoots.{read_signed_root, signed_root_bytes, IsSignedRoot}
 use Rattle.wire.specs.Frames.{Frame}
 use Rattle.wire.specs.declared.request.TheConstants.{MAX_COUNTED_LEN}
-use Rattle.wire.specs.declared.refusals.ReadRefusal.{ReadRefusal}
-use Rattle.wire.specs.declared.refusals.ReadRefusal.TheVariants.{BadKind, BadBody}
+use Rattle.wire.specs.declared.message_refusals.ReadRefusal.{ReadRefusal}
+use Rattle.wire.specs.declared.message_refusals.ReadRefusal.TheVariants.{BadKind, BadBody}
 
 -- nothing; one byte; a number in so many bytes; so many bytes; a name or a key, behind its length in two
 -- bytes; two forms, one behind the other; and the forms of what a directory signs and proves

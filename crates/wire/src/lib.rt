@@ -21,7 +21,7 @@ mod feed;
 mod frame;
 mod kind_bytes;
 mod laws;
-mod refusals;
+mod message_refusals;
 mod request;
 mod response;
 mod writing;
@@ -34,7 +34,7 @@ pub use laws::{
     frames_are_read, kinds_have_their_bytes, limits_have_their_values, messages_are_computed,
     stream_splits_once,
 };
-pub use refusals::{FeedRefusal, ReadRefusal};
+pub use message_refusals::{FeedRefusal, ReadRefusal};
 pub use request::Request;
 pub use response::Response;
 pub use writing::{begin_proof, end_proof};

@@ -4,15 +4,15 @@
 ghost use Rattle.std.specs.Prelude.{◌≡◌, IfOk, None, Ok, OnOk};
 ghost use Rattle.rootchain.specs.Chains.{Verifies};
 ghost use Rattle.rootchain.specs.SignedRoots.{SpellsRoot};
-ghost use Rattle.rootchain.specs.declared.refusal.Refusal.TheVariants as roots;
+ghost use Rattle.rootchain.specs.declared.root_refusal.Refusal.TheVariants as roots;
 ghost use Rattle.rootchain.specs.declared.signed_root.SignedRoot.{SignedRoot};
 ghost use Rattle.hub.specs.Events.{due, event_seen};
 ghost use Rattle.hub.specs.Happenings.{Happens};
 ghost use Rattle.auditor.specs.Observing.{Observes};
 ghost use Rattle.auditor.specs.declared.auditor.Observed.{Observed};
 ghost use Rattle.client.specs.Starting.{Starts};
-ghost use Rattle.client.specs.declared.refusal.Refusal.TheVariants as clients;
-ghost use Rattle.monitor.specs.declared.refusal.Refusal.TheVariants as monitors;
+ghost use Rattle.client.specs.declared.client_refusal.Refusal.TheVariants as clients;
+ghost use Rattle.monitor.specs.declared.monitor_refusal.Refusal.TheVariants as monitors;
 ghost use Rattle.play.specs.Wanting.{IsMemory};
 
 use super::Checks;

@@ -3,7 +3,7 @@
 //! chain's root of the same epoch decides, or the first one after it, which passes over the epoch.
 ghost use Rattle.std.specs.Prelude.{◌≡◌, ◌≢◌, ◌↔◌, ◌+◌, ◌<◌, ◌≤◌, length, IfOk, IsOk, IsOkUnless, OnErr};
 ghost use Rattle.std.specs.List.Sorted.{IsPartitionPoint};
-ghost use Rattle.rootchain.specs.declared.refusal.Refusal.TheVariants.{BadSignature};
+ghost use Rattle.rootchain.specs.declared.root_refusal.Refusal.TheVariants.{BadSignature};
 ghost use Rattle.rootchain.specs.Chains.{Ascend, IsChain, IsHead, Verifies};
 ghost use Rattle.rootchain.specs.Places.{EvidenceHolds, IsFirst, IsHashed, IsPlace, IsPlaceAbove, IsPlaceBelow, IsPlaceWithin};
 

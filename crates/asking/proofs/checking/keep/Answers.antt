@@ -1,7 +1,7 @@
 use Rattle.std.proofs.Common.{Result, Err, inl}
 use Rattle.wire.specs.Responses as responds
 use Rattle.client.specs.Promising.{KeepsPromise}
-use Rattle.client.specs.declared.refusal.Refusal.{Refusal}
+use Rattle.client.specs.declared.client_refusal.Refusal.{Refusal}
 use Rattle.asking.specs.Checking.{promise_told, IsTellable}
 use Rattle.asking.proofs.Heard.{keeps_same}
 use Rattle.asking.proofs.Telling.{tells_known}

@@ -1,6 +1,6 @@
 use Rattle.std.proofs.Common.{ℕ, List, Result, Err, inl, subst}
 use Rattle.client.specs.Looking.{Looks}
-use Rattle.client.specs.declared.refusal.Refusal.{Refusal}
+use Rattle.client.specs.declared.client_refusal.Refusal.{Refusal}
 use Rattle.proofs.specs.declared.statement.Statement.{Statement}
 use Rattle.asking.specs.Checking.{look_told, IsTellable}
 use Rattle.asking.proofs.Heard.{looks_same}

@@ -3,7 +3,7 @@ use Rattle.std.proofs.lemmas.List.{get_or_default}
 use Rattle.monitor.specs.Monitors.{Monitor}
 use Rattle.asking.specs.Following.{MonitorUpdates}
 use Rattle.asking.specs.Reports.{report_of}
-use Rattle.asking.specs.declared.fault.AskFault.TheVariants.{Stopped}
+use Rattle.asking.specs.declared.ask_fault.AskFault.TheVariants.{Stopped}
 use Rattle.play.proofs.Moved.{moved-begin, moved-end, moved-step}
 use Rattle.asking.proofs.Stopped.{one_refuses}
 use Rattle.asking.proofs.following.update_all.Goals as goal

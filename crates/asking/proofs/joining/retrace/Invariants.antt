@@ -1,6 +1,6 @@
 use Rattle.std.proofs.Common.{ℕ, Result}
 use Rattle.client.specs.Clients.{Client}
-use Rattle.client.specs.declared.refusal.Refusal.{Refusal}
+use Rattle.client.specs.declared.client_refusal.Refusal.{Refusal}
 use Rattle.asking.specs.Joining.{Retraces}
 use Rattle.asking.proofs.joining.retrace.Given as goal
 

@@ -1,7 +1,7 @@
 use Rattle.std.proofs.Common.{◌∙◌, Result, Ok, Err, ap, subst}
 use Rattle.rootchain.specs.declared.chain.placing.Place.{Place}
 use Rattle.rootchain.specs.declared.chain.placing.Place.TheVariants.{Evidence}
-use Rattle.rootchain.specs.declared.refusal.Refusal.{Refusal}
+use Rattle.rootchain.specs.declared.root_refusal.Refusal.{Refusal}
 use Rattle.asking.specs.Checking.{place_told, Places}
 use Rattle.asking.proofs.Telling.{tells_answer}
 use Rattle.asking.proofs.placing.place_latest.Goals as goal

@@ -1,6 +1,6 @@
 use Rattle.std.proofs.Common.{codes, subst}
 use Rattle.std.specs.Prelude.{OnOk}
-use Rattle.client.specs.declared.refusal.Refusal.{Refusal}
+use Rattle.client.specs.declared.client_refusal.Refusal.{Refusal}
 use Rattle.asking.specs.Refused.{client_refuses}
 use Rattle.asking.specs.Reports.{Tells}
 use Rattle.asking.proofs.placing.refuse_chain.Goals as goal

@@ -1,6 +1,6 @@
 use Rattle.std.proofs.Common.{◌∙◌, Result, Err, ap, codes, refl, subst}
 use Rattle.monitor.specs.Stepping.{Steps}
-use Rattle.monitor.specs.declared.refusal.Refusal.{Refusal}
+use Rattle.monitor.specs.declared.monitor_refusal.Refusal.{Refusal}
 use Rattle.monitor.specs.declared.step.Step.{Step}
 use Rattle.asking.specs.Refused.{client_refuses}
 use Rattle.asking.proofs.watching.step_by.Goals as goal

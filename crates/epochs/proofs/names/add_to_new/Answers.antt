@@ -1,7 +1,7 @@
 use Rattle.std.proofs.Common.{rules, ◌≡◌, ◌∷◌, ap, sym, ◌∙◌, Some, None, []}
 use Rattle.std.specs.HashMap.Entry.{map_with_value}
 use Rattle.std.specs.declared.collections.hash_map.Entry.TheVariants.{Occupied, Vacant}
-use Rattle.book.specs.declared.refusal.Refusal.{Refusal}
+use Rattle.book.specs.declared.directory_refusal.Refusal.{Refusal}
 use Rattle.epochs.specs.Addresses.{named, with_history}
 use Rattle.epochs.specs.Versions.{IsUnkept}
 use Rattle.epochs.proofs.Hashed.{found_at}

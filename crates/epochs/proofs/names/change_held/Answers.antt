@@ -1,7 +1,7 @@
 use Rattle.std.proofs.Common.{rules, ◌≡◌, ap, refl, sym, inl, Option, Some}
 use Rattle.std.specs.Prelude.{is_some}
 use Rattle.std.specs.Map.{lookup}
-use Rattle.book.specs.declared.refusal.Refusal.{Refusal}
+use Rattle.book.specs.declared.directory_refusal.Refusal.{Refusal}
 use Rattle.epochs.specs.KeyChanges.{IsRefusedSo}
 use Rattle.epochs.specs.Versions.{in_order}
 use Rattle.epochs.proofs.Hashed.{test}

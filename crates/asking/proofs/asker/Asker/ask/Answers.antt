@@ -4,7 +4,7 @@ use Rattle.play.specs.Spoken.{ask_seen}
 use Rattle.asking.specs.Asking.{AsksSome}
 use Rattle.asking.specs.Exchanges.{ExchangesFrames}
 use Rattle.asking.specs.Scenes.{scene}
-use Rattle.asking.specs.declared.fault.AskFault.TheVariants.{NoReply, OutOfMemory, Stopped}
+use Rattle.asking.specs.declared.ask_fault.AskFault.TheVariants.{NoReply, OutOfMemory, Stopped}
 use Rattle.asking.proofs.Asked.{asks_all, notes_as}
 use Rattle.asking.proofs.Halted.{halts_catching, halts_going, halts_hearing, halts_here}
 use Rattle.asking.proofs.asker.Asker.ask.Goals as goal

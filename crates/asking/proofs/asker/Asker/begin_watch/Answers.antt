@@ -3,7 +3,7 @@ use Rattle.monitor.specs.Monitors.{Monitor}
 use Rattle.asking.specs.Exchanges.{ExchangesFrames}
 use Rattle.asking.specs.Joining.{BeginsSomeAt}
 use Rattle.asking.specs.Scenes.{scene}
-use Rattle.asking.specs.declared.fault.AskFault.TheVariants.{OutOfMemory}
+use Rattle.asking.specs.declared.ask_fault.AskFault.TheVariants.{OutOfMemory}
 use Rattle.asking.proofs.Halted.{halts_stepping, halts_untold}
 use Rattle.asking.proofs.Joined.{joins_not}
 use Rattle.asking.proofs.asker.Asker.begin_watch.Goals as goal

@@ -2,7 +2,7 @@ use Rattle.std.proofs.Common.{◌≡◌, ◌∙◌, suc, Bool, true, false, Err,
 use Rattle.asking.specs.Exchanges.{ExchangesFrames}
 use Rattle.asking.specs.Following.{TakesList, TakesSome}
 use Rattle.asking.specs.Scenes.{scene}
-use Rattle.asking.specs.declared.fault.AskFault.TheVariants.{NoReply, Stopped}
+use Rattle.asking.specs.declared.ask_fault.AskFault.TheVariants.{NoReply, Stopped}
 use Rattle.asking.proofs.Halted.{halts_here}
 use Rattle.asking.proofs.asker.Asker.follow.Goals as goal
 

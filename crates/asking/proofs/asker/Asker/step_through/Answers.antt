@@ -2,7 +2,7 @@ use Rattle.std.proofs.Common.{◌≡◌, ◌∙◌, suc, Bool, Err, true, false,
 use Rattle.asking.specs.Exchanges.{ExchangesFrames}
 use Rattle.asking.specs.Scenes.{scene}
 use Rattle.asking.specs.Watching.{StepsOnce, StepsSome}
-use Rattle.asking.specs.declared.fault.AskFault.TheVariants.{NoReply}
+use Rattle.asking.specs.declared.ask_fault.AskFault.TheVariants.{NoReply}
 use Rattle.asking.proofs.Halted.{halts_here}
 use Rattle.asking.proofs.asker.Asker.step_through.Goals as goal
 

@@ -2,7 +2,7 @@ use Rattle.std.proofs.Common.{◌≡◌, ◌≢◌, ◌∙◌, ◌+◌, ◌<◌,
 use Rattle.wire.specs.FrameViews.{frame_seen}
 use Rattle.asking.specs.Exchanges.{ExchangesFrames}
 use Rattle.asking.specs.Following.{no_roots}
-use Rattle.asking.specs.declared.fault.AskFault.TheVariants.{Stopped}
+use Rattle.asking.specs.declared.ask_fault.AskFault.TheVariants.{Stopped}
 use Rattle.asking.proofs.Listed.{stops_other, stops_refused, stops_unanswered, takes_none, takes_some}
 use Rattle.asking.proofs.asker.Asker.take_list.Goals as goal
 

@@ -2,7 +2,7 @@ use Rattle.std.proofs.Common.{◌≡◌, ◌∙◌, suc, Err, Some, None, refl, 
 use Rattle.asking.specs.Exchanges.{ExchangesFrames}
 use Rattle.asking.specs.Scenes.{scene}
 use Rattle.asking.specs.Visiting.{TestsSome}
-use Rattle.asking.specs.declared.fault.AskFault.TheVariants.{NoReply}
+use Rattle.asking.specs.declared.ask_fault.AskFault.TheVariants.{NoReply}
 use Rattle.asking.proofs.Halted.{halts_here}
 use Rattle.asking.proofs.Tested.{visits_as}
 use Rattle.asking.proofs.asker.Asker.test_promises.Goals as goal

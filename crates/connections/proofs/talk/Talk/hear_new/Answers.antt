@@ -1,6 +1,6 @@
 use Rattle.std.proofs.Common.{◌≢◌, ◌<◌, ◌≤◌, length, true, rules}
 use Rattle.std.specs.Prelude.{⊤}
-use Rattle.connections.specs.declared.limits.TheConstants.{FULL_OUTPUT}
+use Rattle.connections.specs.declared.loop_limits.TheConstants.{FULL_OUTPUT}
 use Rattle.connections.proofs.Hearing.{drop_some, heard_lost, only_full}
 use Rattle.connections.proofs.talk.Talk.hear_new.Goals as goal
 

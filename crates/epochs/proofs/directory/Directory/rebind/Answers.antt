@@ -1,5 +1,5 @@
 use Rattle.std.proofs.Common.{rules, arith, ◌≡◌, Option, length}
-use Rattle.book.specs.declared.refusal.Refusal.{Refusal}
+use Rattle.book.specs.declared.directory_refusal.Refusal.{Refusal}
 use Rattle.epochs.specs.Directories.{parts_of, state_of}
 use Rattle.epochs.specs.DirectoryStates.{provider}
 use Rattle.epochs.specs.KeyChanges.{IsRefusedSo}

@@ -1,5 +1,5 @@
 use Rattle.commit.specs.Commitments.{commitment_bytes}
-use Rattle.book.specs.declared.refusal.Refusal.{Refusal}
+use Rattle.book.specs.declared.directory_refusal.Refusal.{Refusal}
 use Rattle.epochs.specs.Addresses.{named}
 use Rattle.epochs.specs.KeyChanges.{IsRefusedSo, refused_before}
 use Rattle.epochs.specs.Versions.{in_order, versions_of}

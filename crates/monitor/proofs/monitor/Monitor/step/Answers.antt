@@ -2,7 +2,7 @@ use Rattle.std.proofs.Common.{Ok, Err, subst}
 use Rattle.monitor.specs.Monitors.{Monitor}
 use Rattle.monitor.specs.Stepping.{Steps}
 use Rattle.monitor.specs.Views.{monitor_of}
-use Rattle.monitor.specs.declared.refusal.Refusal.TheVariants as refusal
+use Rattle.monitor.specs.declared.monitor_refusal.Refusal.TheVariants as refusal
 use Rattle.monitor.proofs.Stepped.{step-refused, step-told, step-watching}
 use Rattle.monitor.proofs.monitor.Monitor.step.Goals as goal
 

@@ -2,13 +2,13 @@ use Rattle.std.proofs.Common.{◌≡◌, ◌≢◌, [], ◌∷◌, ◌++◌, Err
 use Rattle.std.specs.Prelude.{OnOk, Result, codes, decimal}
 use Rattle.proofs.specs.Refusals.{reply_refusal_number}
 use Rattle.proofs.specs.Views.{key_stated}
-use Rattle.proofs.specs.declared.refusal.Refusal.{Refusal as ProofRefusal}
+use Rattle.proofs.specs.declared.reply_refusal.Refusal.{Refusal as ProofRefusal}
 use Rattle.proofs.specs.declared.statement.Statement.{Statement}
 use Rattle.book.specs.Shows.{index_of}
 use Rattle.epochs.specs.DirectoryStates.{provider}
 use Rattle.client.specs.Looking.{Looks}
-use Rattle.client.specs.declared.refusal.Refusal.{Refusal}
-use Rattle.client.specs.declared.refusal.Refusal.TheVariants as client
+use Rattle.client.specs.declared.client_refusal.Refusal.{Refusal}
+use Rattle.client.specs.declared.client_refusal.Refusal.TheVariants as client
 use Rattle.play.specs.Checked.{HasLooked, HasLookedUp}
 use Rattle.play.specs.Lines.{found_text, statement_text}
 use Rattle.play.specs.Parties.{Parties}

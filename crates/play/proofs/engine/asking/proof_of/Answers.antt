@@ -1,5 +1,5 @@
 use Rattle.std.proofs.Common.{◌≡◌, Ok, Err, rules, sym}
-use Rattle.wire.specs.declared.refusals.ReadRefusal.TheVariants.{BadBody}
+use Rattle.wire.specs.declared.message_refusals.ReadRefusal.TheVariants.{BadBody}
 use Rattle.wire.specs.declared.response.Response.TheVariants.{Proof}
 use Rattle.wire.proofs.Responses.{no_proof}
 use Rattle.play.proofs.engine.asking.proof_of.Goals as goal

@@ -1,7 +1,7 @@
 use Rattle.std.proofs.Common.{ap, subst, ◌∙◌, Err, Result}
 use Rattle.monitor.specs.Stepping.{Steps}
-use Rattle.monitor.specs.declared.refusal.Refusal.{Refusal}
-use Rattle.monitor.specs.declared.refusal.Refusal.TheVariants as monitor
+use Rattle.monitor.specs.declared.monitor_refusal.Refusal.{Refusal}
+use Rattle.monitor.specs.declared.monitor_refusal.Refusal.TheVariants as monitor
 use Rattle.monitor.specs.declared.step.Step.{Step}
 use Rattle.play.proofs.Refused.{steps-well}
 use Rattle.play.proofs.engine.watching.watch_epoch.Goals as goal

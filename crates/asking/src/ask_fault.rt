@@ -16,7 +16,7 @@ pub enum AskFault {
 
 impl From<AllocError> for AskFault {
     ghost use Rattle.std.specs.Prelude.{◌≡◌};
-    ghost use Rattle.asking.specs.declared.fault.AskFault.TheVariants.{OutOfMemory};
+    ghost use Rattle.asking.specs.declared.ask_fault.AskFault.TheVariants.{OutOfMemory};
 
     ghost from_gives = { λ _ fault. fault ≡ OutOfMemory };
 
@@ -27,7 +27,7 @@ impl From<AllocError> for AskFault {
 
 impl<T: Drop> From<AllocFailed<T>> for AskFault {
     ghost use Rattle.std.specs.Prelude.{◌≡◌};
-    ghost use Rattle.asking.specs.declared.fault.AskFault.TheVariants.{OutOfMemory};
+    ghost use Rattle.asking.specs.declared.ask_fault.AskFault.TheVariants.{OutOfMemory};
 
     ghost from_gives = { λ _ fault. fault ≡ OutOfMemory };
 
@@ -47,7 +47,7 @@ pub(crate) enum RunFault {
 
 impl From<AskFault> for RunFault {
     ghost use Rattle.std.specs.Prelude.{◌≡◌};
-    ghost use Rattle.asking.specs.declared.fault.RunFault.TheVariants.{Ask};
+    ghost use Rattle.asking.specs.declared.ask_fault.RunFault.TheVariants.{Ask};
 
     ghost from_gives = { λ given fault. fault ≡ Ask given };
 
@@ -58,7 +58,7 @@ impl From<AskFault> for RunFault {
 
 impl From<ProgramFault> for RunFault {
     ghost use Rattle.std.specs.Prelude.{◌≡◌};
-    ghost use Rattle.asking.specs.declared.fault.RunFault.TheVariants.{Program};
+    ghost use Rattle.asking.specs.declared.ask_fault.RunFault.TheVariants.{Program};
 
     ghost from_gives = { λ given fault. fault ≡ Program given };
 
@@ -70,7 +70,7 @@ impl From<ProgramFault> for RunFault {
 impl From<AllocError> for RunFault {
     ghost use Rattle.std.specs.Prelude.{◌≡◌};
     ghost use Rattle.textio.specs.declared.program_fault.ProgramFault.TheVariants.{OutOfMemory};
-    ghost use Rattle.asking.specs.declared.fault.RunFault.TheVariants.{Program};
+    ghost use Rattle.asking.specs.declared.ask_fault.RunFault.TheVariants.{Program};
 
     ghost from_gives = { λ _ fault. fault ≡ Program OutOfMemory };
 
@@ -82,7 +82,7 @@ impl From<AllocError> for RunFault {
 impl<T: Drop> From<AllocFailed<T>> for RunFault {
     ghost use Rattle.std.specs.Prelude.{◌≡◌};
     ghost use Rattle.textio.specs.declared.program_fault.ProgramFault.TheVariants.{OutOfMemory};
-    ghost use Rattle.asking.specs.declared.fault.RunFault.TheVariants.{Program};
+    ghost use Rattle.asking.specs.declared.ask_fault.RunFault.TheVariants.{Program};
 
     ghost from_gives = { λ _ fault. fault ≡ Program OutOfMemory };
 

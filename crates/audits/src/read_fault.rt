@@ -15,7 +15,7 @@ pub enum ReadFault {
 
 impl From<AllocError> for ReadFault {
     ghost use Rattle.std.specs.Prelude.{◌≡◌};
-    ghost use Rattle.audits.specs.declared.fault.ReadFault.TheVariants.{OutOfMemory};
+    ghost use Rattle.audits.specs.declared.read_fault.ReadFault.TheVariants.{OutOfMemory};
 
     ghost from_gives = { λ _ fault. fault ≡ OutOfMemory };
 

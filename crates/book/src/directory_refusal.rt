@@ -69,7 +69,7 @@ impl Refusal {
 }
 
 impl<T: Drop> From<AllocFailed<T>> for Refusal {
-    ghost use Rattle.book.specs.declared.refusal.Refusal.TheVariants.{Memory};
+    ghost use Rattle.book.specs.declared.directory_refusal.Refusal.TheVariants.{Memory};
 
     ghost from_gives = { λ _ refusal. refusal ≡ Memory };
 
@@ -79,7 +79,7 @@ impl<T: Drop> From<AllocFailed<T>> for Refusal {
 }
 
 impl From<AllocError> for Refusal {
-    ghost use Rattle.book.specs.declared.refusal.Refusal.TheVariants.{Memory};
+    ghost use Rattle.book.specs.declared.directory_refusal.Refusal.TheVariants.{Memory};
 
     ghost from_gives = { λ _ refusal. refusal ≡ Memory };
 

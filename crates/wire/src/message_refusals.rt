@@ -29,7 +29,7 @@ impl FeedRefusal {
 }
 
 impl From<AllocError> for FeedRefusal {
-    ghost use Rattle.wire.specs.declared.refusals.FeedRefusal.TheVariants.{Memory};
+    ghost use Rattle.wire.specs.declared.message_refusals.FeedRefusal.TheVariants.{Memory};
 
     ghost from_gives = { λ _ refusal. refusal ≡ Memory };
 
@@ -63,7 +63,7 @@ impl ReadRefusal {
 }
 
 impl From<Fault> for ReadRefusal {
-    ghost use Rattle.wire.specs.declared.refusals.ReadRefusal.TheVariants.{BadBody};
+    ghost use Rattle.wire.specs.declared.message_refusals.ReadRefusal.TheVariants.{BadBody};
 
     ghost from_gives = { λ _ refusal. refusal ≡ BadBody };
 
