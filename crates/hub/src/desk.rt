@@ -1,6 +1,7 @@
 ghost use Rattle.std.specs.Prelude.{◌≡◌, ◌+◌, ◌≤◌, ◌++◌, ℕ, List, length, IfOk, vec_len, vec_capacity};
 ghost use Rattle.commands.specs.declared.edit.Verb.TheVariants.{Change, Register};
 ghost use Rattle.commands.specs.Operations.{question, Lookup, Promise};
+ghost use Rattle.rootchain.specs.declared.root_list.TheConstants.{MAX_ROOTS};
 ghost use Rattle.book.specs.declared.reply.Reply.{Reply};
 ghost use Rattle.book.specs.Shows.{IsRootOf};
 ghost use Rattle.epochs.specs.DirectoryStates.{book, provider};
@@ -201,7 +202,7 @@ fn write_promise(answer: Result<SignedPromise, Refusal>, output: &mut Vec<u8>)
 }
 
 fn write_roots(answer: Result<&[SignedRoot], Refusal>, output: &mut Vec<u8>)
-    requires few { IfOk answer (λ roots. length roots.now ≤ 64) }
+    requires few { IfOk answer (λ roots. length roots.now ≤ MAX_ROOTS) }
     requires room { vec_len output.old + MAX_ANSWER_LEN ≤ vec_capacity output.old }
     ensures { (told : Reply) → TellsRoots answer.entry told → output.new.items ≡ output.old.items ++ frame_bytes (reply_frame told) }
 {

@@ -30,4 +30,4 @@ pub use hub_refusal::HubRefusal;
 pub use laws::{events_join, limit_has_its_value, sessions_hear_their_own};
 pub use laws_desk::{cuts_do_not_matter, replies_are_honest};
 pub use service::Service;
-pub use sessions::Hub;
+pub use sessions::{Hub, MAX_SESSIONS};

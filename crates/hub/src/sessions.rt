@@ -33,7 +33,7 @@ use vrfiface::Vuf;
 use wire::Feed;
 
 /// The most sessions that are open at once.
-pub(crate) const MAX_SESSIONS: usize = 1024;
+pub const MAX_SESSIONS: usize = 1024;
 
 /// A service, and the sessions that are open, each with what its stream holds.
 #[derive(Drop)]

@@ -95,5 +95,5 @@ least_len Failed = 0
 -- what may be held: less than the number, or less than a root
 abbrev pub MayBeHeld : FeedState → Type 0
 MayBeHeld (Counts bytes) = length bytes < 2
-MayBeHeld (Owes left bytes) = (left ≤ 64) × (front bytes ≡ Part) × (left ≡ 0 → bytes ≡ [])
+MayBeHeld (Owes left bytes) = (left ≤ MAX_ROOTS) × (front bytes ≡ Part) × (left ≡ 0 → bytes ≡ [])
 MayBeHeld Failed = Unit

@@ -1,5 +1,6 @@
 -- How a server is asked to take connections.
 use Rattle.std.specs.Prelude.{ℕ, ◌*◌, ◌-◌, ◌^◌, min, max, Bool, List}
+use Rattle.hub.specs.declared.sessions.TheConstants.{MAX_SESSIONS}
 use Rattle.server.specs.declared.order.ListenOrder.{ListenOrder}
 
 -- how many, and how many at once; for how many seconds one may be idle; whether the end of the input is an order to
@@ -20,4 +21,4 @@ idle_limit taken = min (taken.idle * 1000) (2 ^ 64 - 1)
 
 -- how many connections are open at once at most
 abbrev pub most_open : ConnectionOptions → ℕ
-most_open taken = max 1 (min taken.sessions 1024)
+most_open taken = max 1 (min taken.sessions MAX_SESSIONS)

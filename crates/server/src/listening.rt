@@ -30,16 +30,13 @@ use crate::sessions::HubSessions;
 use crate::sockets::Sockets;
 use book::{Keeper, NoKeeper};
 use connections::{Connections, Limits, Places, answer_all};
-use hub::Hub;
+use hub::{Hub, MAX_SESSIONS};
 use std::alloc::Global;
 use std::fs::{File, Files};
 use std::io::{BufRead, Write};
 use std::net::{Net, SocketAddr};
 use std::time::Clock;
 use textio::{ProgramFault, write_text};
-
-/// The most connections that are open at once.
-const MOST_SESSIONS: u64 = 1024;
 
 /// Writes the line that says where a server listens.
 fn tell_address<E: Write>(
@@ -102,7 +99,7 @@ fn limits_of(order: ListenOrder<'_>) -> Limits
 fn most_open(order: ListenOrder<'_>) -> usize
     ensures { result ≡ most_open (connections_of order.entry) }
 {
-    order.sessions.clamp(1, MOST_SESSIONS) as usize
+    order.sessions.clamp(1, MAX_SESSIONS as u64) as usize
 }
 
 /// Listens on the address, and answers connections from the hub.
