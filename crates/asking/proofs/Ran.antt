@@ -3,6 +3,10 @@ use Rattle.std.proofs.Common.{◌≡◌, ◌∙◌, ◌⊎◌, ◌<◌, ℕ, tru
 use Rattle.std.specs.Prelude.{IfErr, IfOk, IfSome, OnOk}
 use Rattle.std.specs.Io.KnownBytes.{Appends}
 use Rattle.std.proofs.KnownBytes.{Appends-nil}
+use Rattle.std.specs.declared.net.tcp.TcpStream.{TcpStream}
+use Rattle.nodehash.specs.Sha256.{sha256}
+use Rattle.vrfiface.specs.StandIns.{KeyedAccepts}
+use Rattle.sigiface.specs.StandIn.{KeyedVerifies}
 use Rattle.rootchain.specs.declared.signed_promise.SignedPromise.{SignedPromise}
 use Rattle.textio.specs.Lines.{lines_of}
 use Rattle.wire.specs.Frames.{Frame}
@@ -14,9 +18,10 @@ use Rattle.asking.specs.declared.order.AskOrder.{AskOrder}
 use Rattle.asking.specs.declared.run.RunEnd.{RunEnd}
 use Rattle.asking.specs.declared.run.RunEnd.TheVariants.{Whole, Stopped}
 use Rattle.asking.specs.declared.said.Said.{Said}
-use Rattle.asking.specs.AskOptions.{AskOptions, ask_values}
+use Rattle.asking.specs.AskOptions.{AskOptions, ask_keys_of, ask_values}
+use Rattle.asking.specs.Exchanges.{ExchangesFrames}
 use Rattle.asking.specs.Reports.{Report, report_of}
-use Rattle.asking.specs.Runs.{AsksLine, AsksLines, emptied, Known, known_new, known_of, lines_asked, Prepares, RunsAs, RunsWhole, words_line, Writes, IsCutShort}
+use Rattle.asking.specs.Runs.{AsksLine, AsksLines, AsksOverSocket, emptied, end_status, Known, known_new, known_of, lines_asked, Prepares, RunsAs, RunsWhole, words_line, Writes, IsCutShort}
 use Rattle.asking.specs.Scenes.{Scene, scene, Remains, StartsAtHead}
 use Rattle.asking.proofs.Joined.{scene_of}
 
@@ -125,6 +130,24 @@ asks_words Asked (Ok done) input order word some asks =
     subst (λ (command : Option (Bor (List ℕ))). Asked (words_line (option_map (λ text. text.now) command ∷ option_map (λ text. text.now) order.first ∷ option_map (λ text. text.now) order.second ∷ []) ∷ [])
     → IfSome (lines_asked (option_map (λ text. text.now) command ∷ option_map (λ text. text.now) order.first ∷ option_map (λ text. text.now) order.second ∷ []) input) Asked) (sym some) (λ it. it) asks
 
+with_state : {T : Type 0} (hash : List ℕ → List ℕ) (accepted verified : List ℕ → List ℕ → List ℕ → Type 0) (exchanged : T → RequestContent → Frame → T → Type 0) (key token : List ℕ) (options : AskOptions) (NoState None' : Type 0)
+    (stream : T) (input old new : Option (List ℕ)) (status : ℕ) → (None' → NoState)
+    → RunsWhole hash accepted verified exchanged key token options NoState stream input status old new → RunsWhole hash accepted verified exchanged key token options None' stream input status old new
+with_state hash accepted verified exchanged key token options NoState None' stream input old new status without run = record {
+  known = run.known;
+  start = run.start;
+  silent = run.silent;
+  begins = run.begins;
+  knows = run.knows;
+  anew = λ none. run.anew (without none);
+  ready = run.ready;
+  now = run.now;
+  prepares = run.prepares;
+  last = run.last;
+  asks = run.asks;
+  status_is = run.status_is;
+}
+
 -- a run that came to its end is whole, and one that was stopped has another status than 0
 pub ends_so : {T E F : Type 0} (hash : List ℕ → List ℕ) (accepted verified : List ℕ → List ℕ → List ℕ → Type 0) (exchanged : T → RequestContent → Frame → T → Type 0) (key token : List ℕ) (options : AskOptions) (NoState None' : Type 0)
     (outcome : Result (Unit {0}) E) (result : Result RunEnd F) (stream : T) (input old new new' : Option (List ℕ)) (status : ℕ) (told : Report) → told ≡ emptied 0 → (None' → NoState)
@@ -135,20 +158,18 @@ ends_so hash accepted verified exchanged key token options NoState None' (Err fa
 ends_so hash accepted verified exchanged key token options NoState None' (Err fault) (Ok (Whole other)) stream input old new new' status told empty without runs ends stops = absurd stops
 ends_so hash accepted verified exchanged key token options NoState None' (Err fault) (Ok (Stopped other)) stream input old new new' status told empty without runs ends stops = stops
 ends_so {F = F} hash accepted verified exchanged key token options NoState None' (Ok done) result stream input old new new' status told empty without runs (is, same) stops =
-    let run = runs empty in
     subst (λ (r : Result RunEnd F). IfOk r (λ ended. RunsAs hash accepted verified exchanged key token options None' stream input ended old new')) (sym is) (
-    subst (λ (text : Option (List ℕ)). RunsWhole hash accepted verified exchanged key token options None' stream input status old text) (sym same) (record {
-      known = run.known;
-      start = run.start;
-      silent = run.silent;
-      begins = run.begins;
-      knows = run.knows;
-      anew = λ none. run.anew (without none);
-      ready = run.ready;
-      now = run.now;
-      prepares = run.prepares;
-      last = run.last;
-      asks = run.asks;
-      status_is = run.status_is;
-    })
-    )
+    subst (λ (text : Option (List ℕ)). RunsWhole hash accepted verified exchanged key token options None' stream input status old text) (sym same)
+    (with_state hash accepted verified exchanged key token options NoState None' stream input old new status without (runs empty)))
+
+none-before : {A B : Type 0} (f : A → B) (x : Option A) → option_map f x ≡ None → x ≡ None
+none-before f None is = refl
+none-before f (Some a) is = absurd cc
+
+pub over_socket : (order : AskOrder) (key token : List ℕ) (socket : TcpStream) (input old new : Option (List ℕ)) (ended : RunEnd) → ask_keys_of (ask_values order) ≡ Some (key, token)
+    → RunsAs sha256 KeyedAccepts KeyedVerifies (ExchangesFrames {TcpStream} (λ _. None) (λ _. None)) key token (ask_values order) (order.state ≡ None) socket input ended old new
+    → AsksOverSocket (ask_values order) input (end_status ended) old new
+over_socket order key token socket input old new (Stopped status) are high = inl high
+over_socket order key token socket input old new (Whole status) are run =
+    inr (key, token, are, socket, with_state sha256 KeyedAccepts KeyedVerifies (ExchangesFrames {TcpStream} (λ _. None) (λ _. None)) key token (ask_values order) (order.state ≡ None) ((ask_values order).state ≡ None)
+    socket input old new status (none-before (λ text. text.now) order.state) run)

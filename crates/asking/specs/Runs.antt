@@ -1,13 +1,18 @@
 -- What a run writes: all that is told of each line that it asks, one after another.
 use Rattle.std.specs.Prelude.{◌≡◌, ◌<◌, ◌⊎◌, ℕ, List, [], ◌∷◌, ◌++◌, Option, Some, None, IfSome, option_map}
 use Rattle.std.specs.Io.KnownBytes.{Appends}
+use Rattle.std.specs.declared.net.tcp.TcpStream.{TcpStream}
+use Rattle.nodehash.specs.Sha256.{sha256}
+use Rattle.vrfiface.specs.StandIns.{KeyedAccepts}
+use Rattle.sigiface.specs.StandIn.{KeyedVerifies}
 use Rattle.rootchain.specs.declared.signed_promise.SignedPromise.{SignedPromise}
 use Rattle.textio.specs.Lines.{lines_of}
 use Rattle.wire.specs.Frames.{Frame}
 use Rattle.wire.specs.Requests.{RequestContent}
 use Rattle.play.specs.Scripts.{ScriptLine, Pass, Ask, Watch, Piece, End, line_of}
-use Rattle.asking.specs.AskOptions.{AskOptions}
+use Rattle.asking.specs.AskOptions.{AskOptions, ask_keys_of}
 use Rattle.asking.specs.Asking.{AsksDirectory}
+use Rattle.asking.specs.Exchanges.{ExchangesFrames}
 use Rattle.asking.specs.Following.{Follows}
 use Rattle.asking.specs.Joining.{BeginsWatch}
 use Rattle.asking.specs.Reports.{Report}
@@ -119,3 +124,10 @@ module _ (hash : List ℕ → List ℕ) (accepted verified : List ℕ → List �
   abbrev pub RunsAs : List ℕ → List ℕ → AskOptions → Type 0 → T → Option (List ℕ) → RunEnd → Option (List ℕ) → Option (List ℕ) → Type 0
   RunsAs key token options HasNoState stream input (Whole status) old new = RunsWhole key token options HasNoState stream input status old new
   RunsAs key token options HasNoState stream input (Stopped status) old new = 0 < status
+
+-- A run over a socket. Definitions know neither what it took nor what it will give: with status 0 the run writes what is
+-- told of some frames that came.
+abbrev pub AsksOverSocket : AskOptions → Option (List ℕ) → ℕ → Option (List ℕ) → Option (List ℕ) → Type 0
+AsksOverSocket options input status old new = (0 < status)
+    ⊎ ((key token : List ℕ) × (ask_keys_of options ≡ Some (key, token)) × (socket : TcpStream)
+    × RunsWhole sha256 KeyedAccepts KeyedVerifies (ExchangesFrames {TcpStream} (λ _. None) (λ _. None)) key token options (options.state ≡ None) socket input status old new)

@@ -4,7 +4,7 @@ ghost use Rattle.std.specs.Io.KnownBytes.{Keeps};
 ghost use Rattle.textio.specs.declared.program_fault.ProgramFault.TheVariants.{BadHex};
 ghost use Rattle.asking.specs.AskOptions.{ask_keys_of, ask_values};
 ghost use Rattle.asking.specs.Exchanges.{ExchangesFrames};
-ghost use Rattle.asking.specs.Runs.{RunsAs};
+ghost use Rattle.asking.specs.Runs.{AsksOverSocket, RunsAs};
 
 use crate::run::{Run, RunEnd};
 use crate::said::REFUSED;
@@ -47,6 +47,7 @@ where
     E: Write,
     ensures bad_hex { ask_keys_of (ask_values order.entry) ≡ None
         → (result ≡ Err BadHex) × Keeps (W.contents writer.old) (W.contents writer.new) × Keeps (E.contents errors.old) (E.contents errors.new) }
+    ensures runs { IfOk result (λ status. AsksOverSocket (ask_values order.entry) (R.remaining reader.old) status (W.contents writer.old) (W.contents writer.new)) }
 {
     match keys_of(&order) {
         Ok(keys) => ask_under(alloc, system, keys, order, reader, writer, errors),
@@ -82,6 +83,8 @@ where
     R: BufRead,
     W: Write,
     E: Write,
+    ensures { ask_keys_of (ask_values order.entry) ≡ Some (keys.provider, keys.token)
+        → IfOk result (λ status. AsksOverSocket (ask_values order.entry) (R.remaining reader.old) status (W.contents writer.old) (W.contents writer.new)) }
 {
     let Ok(mut stream) = TcpStream::connect(system, order.address) else {
         write_text(errors, b"cannot connect\n")?;

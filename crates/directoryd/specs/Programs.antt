@@ -1,5 +1,5 @@
 -- What the programs do, and how the process ends.
-use Rattle.std.specs.Prelude.{◌≡◌, ◌⊎◌, ◌↔◌, ℕ, zero, suc, List, Bool, true, false, Option, None, Result, Ok, Err, Vec, String, map, string_bytes, codes, ⊤}
+use Rattle.std.specs.Prelude.{◌≡◌, ◌⊎◌, ◌↔◌, ℕ, zero, suc, List, Bool, true, false, Option, None, Result, Ok, Err, IfOk, Vec, String, map, string_bytes, codes, ⊤}
 use Rattle.std.specs.IoError.{error_kind}
 use Rattle.std.specs.declared.io.Error.{Error as IoError}
 use Rattle.std.specs.declared.io.ErrorKind.TheVariants as io
@@ -29,6 +29,7 @@ use Rattle.directoryd.specs.KeyFiles.{ask_with, directory_with, HasNoKeys, Uses}
 use Rattle.server.specs.ConnectionOptions.{ConnectionOptions}
 use Rattle.server.specs.DirectoryOptions.{DirectoryOptions}
 use Rattle.asking.specs.AskOptions.{AskOptions, ask_keys_of}
+use Rattle.asking.specs.Runs.{AsksOverSocket}
 
 -- a program gives a text for its input, and returns this status if the text was written
 abbrev pub EndsWithStatus : ℕ → (List ℕ → Result (List ℕ) ProgramFault → Type 0) → Option (List ℕ) → Option (List ℕ) → Option (List ℕ) → Result ℕ ProgramFault → Type 0
@@ -61,12 +62,13 @@ ListensKeyed asked taken keys err err-new result =
     (HasNoKeys keys result × Keeps err err-new)
     ⊎ ((used : DirectoryOptions) × Uses directory_with keys asked used × ((result ≡ Err BadHex) ↔ (keys_of used ≡ None)) × ListenTells used taken err result err-new)
 
--- a directory is asked with them: a text that is no key is a fault before all else
-abbrev pub AsksKeyed : AskOptions → Option Text → Option (List ℕ) → Option (List ℕ) → Option (List ℕ) → Option (List ℕ) → Result ℕ ProgramFault → Type 0
-AsksKeyed asked keys out out-new err err-new outcome =
+-- a directory is asked with them: a text that is no key is a fault before all else, and with status 0 all that is told is written
+abbrev pub AsksKeyed : AskOptions → Option Text → Option (List ℕ) → Option (List ℕ) → Option (List ℕ) → Option (List ℕ) → Option (List ℕ) → Result ℕ ProgramFault → Type 0
+AsksKeyed asked keys input out out-new err err-new outcome =
     (HasNoKeys keys outcome × Keeps out out-new × Keeps err err-new)
     ⊎ ((used : AskOptions) × Uses ask_with keys asked used
-    × (ask_keys_of used ≡ None → (outcome ≡ Err BadHex) × Keeps out out-new × Keeps err err-new))
+    × (ask_keys_of used ≡ None → (outcome ≡ Err BadHex) × Keeps out out-new × Keeps err err-new)
+    × IfOk outcome (λ status. AsksOverSocket used input status out out-new))
 
 -- What is ordered is done: a root is written, or the path of an index; an input is audited; a file is
 -- judged; a script is played; a directory begins, or goes on from its journal, and serves one session; one serves connections, and
@@ -84,7 +86,7 @@ Obeys (the_session asked keys) input out out-new err err-new outcome = IsZero ou
     × ServesKeyed asked keys input out out-new err err-new (without_status outcome)
 Obeys (the_connections asked taken keys) input out out-new err err-new outcome = IsZero outcome × Keeps out out-new
     × ListensKeyed asked taken keys err err-new (without_status outcome)
-Obeys (the_questions asked keys) input out out-new err err-new outcome = AsksKeyed asked keys out out-new err err-new outcome
+Obeys (the_questions asked keys) input out out-new err err-new outcome = AsksKeyed asked keys input out out-new err err-new outcome
 
 -- a text is written whole, and this status returned; or less of it if a write failed, or nothing if
 -- memory ran out

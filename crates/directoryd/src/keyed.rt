@@ -84,7 +84,7 @@ where
     R: BufRead,
     W: Write,
     E: Write,
-    ensures { AsksKeyed (ask_values order.entry) (option_map (λ path. path.now) keys.entry) (W.contents writer.old) (W.contents writer.new)
+    ensures { AsksKeyed (ask_values order.entry) (option_map (λ path. path.now) keys.entry) (R.remaining reader.old) (W.contents writer.old) (W.contents writer.new)
         (E.contents errors.old) (E.contents errors.new) result }
 {
     match keys {
