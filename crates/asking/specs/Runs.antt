@@ -1,6 +1,6 @@
 -- What a run writes: all that is told of each line that it asks, one after another.
 use Rattle.std.specs.Prelude.{◌≡◌, ◌<◌, ◌⊎◌, ℕ, List, [], ◌∷◌, ◌++◌, Option, Some, None, IfSome, option_map}
-use Rattle.std.specs.Io.KnownBytes.{Appends}
+use Rattle.std.specs.Io.KnownBytes.{Appends, Keeps}
 use Rattle.std.specs.declared.net.tcp.TcpStream.{TcpStream}
 use Rattle.nodehash.specs.Sha256.{sha256}
 use Rattle.vrfiface.specs.StandIns.{KeyedAccepts}
@@ -125,9 +125,9 @@ module _ (hash : List ℕ → List ℕ) (accepted verified : List ℕ → List �
   RunsAs key token options HasNoState stream input (Whole status) old new = RunsWhole key token options HasNoState stream input status old new
   RunsAs key token options HasNoState stream input (Stopped status) old new = 0 < status
 
--- A run over a socket. Definitions know neither what it took nor what it will give: with status 0 the run writes what is
--- told of some frames that came.
+-- A run over a socket, of which definitions know neither what it took nor what it will give: no connection came about, and
+-- nothing is written; or the run is one for some frames that came.
 abbrev pub AsksOverSocket : AskOptions → Option (List ℕ) → ℕ → Option (List ℕ) → Option (List ℕ) → Type 0
-AsksOverSocket options input status old new = (0 < status)
-    ⊎ ((key token : List ℕ) × (ask_keys_of options ≡ Some (key, token)) × (socket : TcpStream)
-    × RunsWhole sha256 KeyedAccepts KeyedVerifies (ExchangesFrames {TcpStream} (λ _. None) (λ _. None)) key token options (options.state ≡ None) socket input status old new)
+AsksOverSocket options input status old new = ((status ≡ 1) × Keeps old new)
+    ⊎ ((key token : List ℕ) × (ask_keys_of options ≡ Some (key, token)) × (socket : TcpStream) × (ended : RunEnd) × (status ≡ end_status ended)
+    × RunsAs sha256 KeyedAccepts KeyedVerifies (ExchangesFrames {TcpStream} (λ _. None) (λ _. None)) key token options (options.state ≡ None) socket input ended old new)

@@ -62,7 +62,7 @@ ListensKeyed asked taken keys err err-new result =
     (HasNoKeys keys result × Keeps err err-new)
     ⊎ ((used : DirectoryOptions) × Uses directory_with keys asked used × ((result ≡ Err BadHex) ↔ (keys_of used ≡ None)) × ListenTells used taken err result err-new)
 
--- a directory is asked with them: a text that is no key is a fault before all else, and with status 0 all that is told is written
+-- a directory is asked with them: a text that is no key is a fault before all else
 abbrev pub AsksKeyed : AskOptions → Option Text → Option (List ℕ) → Option (List ℕ) → Option (List ℕ) → Option (List ℕ) → Option (List ℕ) → Result ℕ ProgramFault → Type 0
 AsksKeyed asked keys input out out-new err err-new outcome =
     (HasNoKeys keys outcome × Keeps out out-new × Keeps err err-new)
