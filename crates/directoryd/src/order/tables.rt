@@ -102,7 +102,7 @@ Reads the frames of one session from standard input, and writes their replies to
 The directory is new, and nothing of it is kept at the end, unless --journal is given: then it goes on
 as the file has it, and everything is kept there.
 
-Example: directoryd serve --sign-key $SIGN --vuf-key $VUF --salt-key $SALT --token $TOKEN < requests";
+Example: directoryd serve --keys keys.txt < requests";
 
 /// What stands below the options of `listen`.
 const LISTEN_HELP: &str = "\
@@ -110,7 +110,7 @@ Answers many connections at once, all from one directory. A connection with a fa
 one that is idle for too long. The directory is new, and nothing of it is kept at the end, unless --journal
 is given: then it goes on as the file has it, and everything is kept there.
 
-Example: directoryd listen --sign-key $SIGN --vuf-key $VUF --salt-key $SALT --token $TOKEN 127.0.0.1:7000";
+Example: directoryd listen --keys keys.txt 127.0.0.1:7000";
 
 /// What stands below the options of `ask`.
 const ASK_HELP: &str = "\
