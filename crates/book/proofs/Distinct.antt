@@ -7,7 +7,7 @@ use Rattle.std.specs.Str.{bytes_eq}
 use Rattle.std.proofs.lemmas.Bool.{not-false, or_parts}
 use Rattle.std.proofs.lemmas.Cmp.{nat_list_eq_equiv}
 use Rattle.std.proofs.lemmas.Slice.Eq.{bytes_eq-Decides}
-use Rattle.book.specs.Answers.{Answer, bad_index, bad_verb, has_its_index, next_page, refusal, with_page, with_pending}
+use Rattle.book.specs.Steps.{Answer, bad_index, bad_verb, has_its_index, next_page, refusal, with_page, with_pending}
 use Rattle.commands.specs.declared.edit.Verb.{Verb}
 use Rattle.commands.specs.declared.edit.Verb.TheVariants.{Register, Change}
 use Rattle.commands.specs.Operations.{Operation, Query, Edit, Put, Turn}

@@ -5,7 +5,7 @@ use Rattle.rand_core.specs.Stream.{Stream}
 use Rattle.commands.specs.Operations.{Question, Promise, Lookup, History, Head}
 use Rattle.textio.specs.Lines.{lines_of}
 use Rattle.wire.specs.Requests.{RequestContent, Query, Put, Turn}
-use Rattle.book.specs.Answers.{page_range}
+use Rattle.book.specs.Steps.{page_range}
 use Rattle.book.specs.Books.{Binding, Book, Page, pages}
 use Rattle.book.specs.Sound.{IsSound}
 use Rattle.play.specs.Lines.{refused_proof}

@@ -14,7 +14,7 @@ use Rattle.encoding.specs.declared.name.TheConstants.{MAX_NAME_LEN}
 use Rattle.wire.specs.declared.frame.TheConstants.{MAX_FRAME_LEN}
 use Rattle.wire.specs.Frames.{frame_size}
 use Rattle.wire.specs.Requests.{RequestContent, Query, Put, Turn, request_frame}
-use Rattle.book.specs.Answers.{has_length_within}
+use Rattle.book.specs.Steps.{has_length_within}
 
 pub data ScriptLine : Type 0 where
   -- nothing: the line is empty, or a note
