@@ -7,15 +7,12 @@ ghost use Rattle.book.specs.Shows.{index_of};
 ghost use Rattle.epochs.specs.DirectoryStates.{book, provider, HasKeysOf};
 ghost use Rattle.book.specs.declared.record.Record.TheVariants.{Bound, Turned};
 ghost use Rattle.book.specs.Replays.{replayed};
-ghost use Rattle.journal.specs.Later.{later_seen};
+ghost use Rattle.journal.specs.Records.{later_seen, IsLater};
 ghost use Rattle.journal.specs.Opened.{BeginsSo, IsNotBegun, IsNotReplayed, IsOpenRefusal, Opens, OpensUpTo};
-ghost use Rattle.journal.specs.Records.{IsLater};
 
 use crate::Refusal;
 use crate::beginning::Beginning;
-use crate::later::{Later, later_size};
-use crate::reading::{read_later, read_start};
-use crate::text::START_SIZE;
+use crate::forms::{Later, START_SIZE, later_size, read_later, read_start};
 use book::Record;
 use commands::Verb;
 use encoding::{Cursor, Fault, Hash32, KeyData, Name};
