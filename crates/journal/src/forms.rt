@@ -10,33 +10,36 @@ ghost use Rattle.journal.specs.Records.{later_seen, read_bound, read_later, read
 use crate::beginning::Beginning;
 use book::Record;
 use commands::Verb;
-use encoding::{Cursor, Fault, Hash32, MAX_KEY_DATA_LEN, MAX_NAME_LEN, MIN_LEN, Text};
+use encoding::{
+    Cursor, Fault, Hash32, KeyData, MAX_KEY_DATA_LEN, MAX_NAME_LEN, MIN_LEN, Name, Text,
+};
 
 /// The kind byte of a start, the letter N.
-pub(crate) const START: u8 = 0x4e;
+const START: u8 = 0x4e;
 
 /// The version of the form of a start.
-pub(crate) const START_VERSION: u8 = 1;
+const START_VERSION: u8 = 1;
 
 /// The kind byte of a binding, the letter O.
-pub(crate) const BOUND: u8 = 0x4f;
+const BOUND: u8 = 0x4f;
 
 /// The kind byte of a new page, the letter C.
-pub(crate) const TURNED: u8 = 0x43;
+const TURNED: u8 = 0x43;
 
 /// The kind byte of a new page under a nonce of its own, the letter K.
-pub(crate) const ROTATED: u8 = 0x4b;
+const ROTATED: u8 = 0x4b;
 
 /// How many bytes a start has.
 pub(crate) const START_SIZE: usize = 106;
 
-/// How many bytes a binding has beside its name and its key, a new page, and one under a nonce of its
-/// own.
-pub(crate) const BOUND_SIZE: usize = 38;
+/// How many bytes a binding has beside its name and its key.
+const BOUND_SIZE: usize = 38;
 
-pub(crate) const TURNED_SIZE: usize = 9;
+/// How many bytes a new page has.
+const TURNED_SIZE: usize = 9;
 
-pub(crate) const ROTATED_SIZE: usize = 41;
+/// How many bytes a new page under a nonce of its own has.
+const ROTATED_SIZE: usize = 41;
 
 /// The record of a command, whose name and key stay where they were read. A `Record` has room for the longest
 /// of them, and is copied wherever it is handed on.
@@ -182,6 +185,38 @@ fn read_up_to<'a>(cursor: &mut Cursor<'a>, most: usize) -> Result<&'a [u8], Faul
     match cursor.copied().u8() {
         Ok(first) if usize::from(first) > most / 256 => Err(Fault::OutOfRange),
         _ => cursor.counted(MIN_LEN, most),
+    }
+}
+
+/// The record in a room of its own, with a copy of the name and of the key.
+pub(crate) fn later_record(what: &Later<'_>) -> Record
+    requires { IsLater (later_seen what.now) }
+    ensures { result ≡ later_seen what.now }
+{
+    match what {
+        Later::Bound {
+            verb,
+            salt,
+            name,
+            key,
+        } => {
+            let Ok(name) = Name::new(name) else {
+                unreachable!();
+            };
+            let Ok(key) = KeyData::new(key) else {
+                unreachable!();
+            };
+            Record::Bound {
+                verb: *verb,
+                salt: *salt,
+                name,
+                key,
+            }
+        }
+        Later::Turned { epoch, nonce } => Record::Turned {
+            epoch: *epoch,
+            nonce: *nonce,
+        },
     }
 }
 
