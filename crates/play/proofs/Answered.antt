@@ -38,8 +38,7 @@ use Rattle.play.specs.Messages.{comes_of, numbered, or_not_operator, request_ask
 use Rattle.play.specs.Parties.{book_of, chain_under, provider_of, HasAsked, Parties}
 use Rattle.play.specs.declared.ask.Ask.{Ask}
 use Rattle.play.specs.declared.ask.Ask.TheVariants as made
-use Rattle.play.specs.Scripts.{token}
-use Rattle.play.specs.Spoken.{ask_seen}
+use Rattle.play.specs.Scripts.{token, ask_seen}
 use Rattle.play.proofs.Answering.{lookups-shown, same-text}
 use Rattle.play.proofs.Comes.{turn_comes, Comes, HasCome}
 use Rattle.play.proofs.Turns.{found_epoch, unchecked_told}
