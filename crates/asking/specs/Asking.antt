@@ -10,7 +10,7 @@ use Rattle.monitor.specs.Monitors.{Monitor}
 use Rattle.monitor.specs.declared.monitor_refusal.Refusal.{Refusal}
 use Rattle.monitor.specs.declared.monitor_refusal.Refusal.TheVariants.{Client}
 use Rattle.wire.specs.Frames.{Frame}
-use Rattle.wire.specs.Requests.{RequestContent, Query, Put, Turn}
+use Rattle.wire.specs.Requests.{RequestContent, Put}
 use Rattle.wire.specs.Responses.{ResponseContent, Promise, Proof, Roots, Root, Refused, Responds, ReadsResponse}
 use Rattle.wire.specs.declared.message_refusals.ReadRefusal.{ReadRefusal}
 use Rattle.asking.specs.declared.asker.Mark.{Mark}
@@ -44,8 +44,7 @@ NotesLast promises noted noted' = (signed : SignedPromise) × (slice_get promise
 abbrev pub Notes : RequestContent → List SignedPromise → List SignedPromise → List SignedPromise → List SignedPromise → Type 0
 Notes (Put verb name key) before after noted noted' =
     ((length after ≤ length before) × (noted' ≡ noted)) ⊎ ((length before < length after) × NotesLast after noted noted')
-Notes (Query question) before after noted noted' = noted' ≡ noted
-Notes (Turn _ _ _) before after noted noted' = noted' ≡ noted
+Notes asked before after noted noted' = noted' ≡ noted
 
 module _ (hash : List ℕ → List ℕ) (accepted verified : List ℕ → List ℕ → List ℕ → Type 0) where
   -- a monitor of the promise's name is given it, and the others are left alone
@@ -59,8 +58,7 @@ module _ (hash : List ℕ → List ℕ) (accepted verified : List ℕ → List �
   Hands (Put verb name key) promise before after monitors monitors' =
       ((length after ≤ length before) × (monitors' ≡ monitors))
       ⊎ ((length before < length after) × ((signed : SignedPromise) × (slice_get after (length after - 1) ≡ Some signed) × AllZip (HandsTo signed promise) monitors monitors'))
-  Hands (Query question) promise before after monitors monitors' = monitors' ≡ monitors
-  Hands (Turn _ _ _) promise before after monitors monitors' = monitors' ≡ monitors
+  Hands asked promise before after monitors monitors' = monitors' ≡ monitors
 
   module _ {T : Type 0} (exchanged : T → RequestContent → Frame → T → Type 0) where
     -- the chain has a root of this epoch or a later one, or all roots that are new are taken

@@ -5,7 +5,7 @@ ghost use Rattle.wire.specs.Refusals.{read_refusal_number};
 ghost use Rattle.wire.specs.Requests.{request_seen};
 ghost use Rattle.wire.specs.Responses.{response_seen, Refused};
 ghost use Rattle.play.specs.Hearing.{response_text};
-ghost use Rattle.play.specs.Spoken.{ask_seen};
+ghost use Rattle.play.specs.Scripts.{ask_seen};
 ghost use Rattle.asking.specs.Answering.{with_token, IsAnswerTo};
 ghost use Rattle.asking.specs.Refused.{other_reply, refuses_text};
 ghost use Rattle.asking.specs.Scenes.{miss_told, GivesBody};

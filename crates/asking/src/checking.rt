@@ -10,7 +10,7 @@ ghost use Rattle.client.specs.declared.client_refusal.Refusal.{Refusal};
 ghost use Rattle.client.specs.declared.client_refusal.Refusal.TheVariants.{Memory};
 ghost use Rattle.proofs.specs.declared.statement.Statement.{Statement};
 ghost use Rattle.audits.specs.Files.{evidence_text};
-ghost use Rattle.play.specs.Spoken.{ask_seen};
+ghost use Rattle.play.specs.Scripts.{ask_seen};
 ghost use Rattle.asking.specs.Checking.{look_told, promise_told, HearsFrame, HearsResponse, IsTellable};
 ghost use Rattle.asking.specs.Refused.{client_refuses, evidence_before};
 ghost use Rattle.asking.specs.Reports.{report_of, Report, Tells};

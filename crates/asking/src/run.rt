@@ -2,7 +2,7 @@
 ghost use Rattle.std.specs.Prelude.{◌≡◌, ◌⊎◌, ◌<◌, [], Err, IfErr, IfOk, IfSome, None, Ok, OnOk, option_map};
 ghost use Rattle.std.specs.Io.KnownBytes.{Appends};
 ghost use Rattle.textio.specs.Lines.{lines_of};
-ghost use Rattle.play.specs.Spoken.{line_seen};
+ghost use Rattle.play.specs.Scripts.{line_seen};
 ghost use Rattle.asking.specs.AskOptions.{ask_values};
 ghost use Rattle.asking.specs.Exchanges.{ExchangesFrames};
 ghost use Rattle.asking.specs.Reports.{report_of};

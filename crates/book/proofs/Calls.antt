@@ -5,12 +5,11 @@ use Rattle.book.specs.declared.directory_refusal.Refusal.{Refusal}
 use Rattle.book.specs.declared.directory_refusal.Refusal.TheVariants.{Memory, KeepFailed}
 use Rattle.book.specs.declared.reply.Reply.{Reply}
 use Rattle.book.specs.declared.reply.Reply.TheVariants as reply
-use Rattle.book.specs.Answers.{Answer, refusal}
+use Rattle.book.specs.Steps.{Answer, refusal, Outcome, Answers, Refuses, step, kept_of}
 use Rattle.commands.specs.Operations.{Operation}
 use Rattle.book.specs.Books.{Book}
 use Rattle.book.specs.Shows.{Provider, index_of}
-use Rattle.book.specs.Steps.{Outcome, Answers, Refuses, step}
-use Rattle.book.specs.Turns.{Declines, KeepsOne, Shows, Turn, kept_of}
+use Rattle.book.specs.Turns.{Declines, KeepsOne, Shows, Turn}
 use Rattle.book.proofs.Stepping.{Does, does_steps, due_steps}
 
 module _ (provider : Provider) {K : Type 0} (kept failed : K → Record → K → Type 0) where

@@ -5,13 +5,12 @@ use Rattle.book.specs.declared.record.Record.{Record}
 use Rattle.book.specs.declared.directory_refusal.Refusal.{Refusal}
 use Rattle.book.specs.declared.reply.Reply.{Reply}
 use Rattle.book.specs.declared.reply.Reply.TheVariants as reply
-use Rattle.book.specs.Answers.{Answer}
+use Rattle.book.specs.Steps.{Answer, Outcome, Answers, Refuses, step, kept_of}
 use Rattle.commands.specs.Operations.{Operation}
 use Rattle.book.specs.Books.{Book}
 use Rattle.book.specs.Folds.{Fate, Done, Wanting, Lost, TellsOutcome, under_fate, step_under_fate, steps_under_fates}
 use Rattle.book.specs.Shows.{Provider, index_of}
-use Rattle.book.specs.Steps.{Outcome, Answers, Refuses, step}
-use Rattle.book.specs.Turns.{Declines, Run, Shows, Turn, kept_of}
+use Rattle.book.specs.Turns.{Declines, Run, Shows, Turn}
 use Rattle.book.proofs.Stepping.{due_steps, refused_due}
 
 -- what a step leaves with a reply, under some fate

@@ -8,8 +8,8 @@ use Rattle.commands.specs.Operations.{Operation}
 use Rattle.book.specs.Books.{Book}
 use Rattle.book.specs.Keeps.{fails_next, keeps_next}
 use Rattle.book.specs.Shows.{Provider, index_of}
-use Rattle.book.specs.Steps.{Outcome, Answers, Refuses, step}
-use Rattle.book.specs.Turns.{Declines, KeepsOne, Run, Turn, kept_of}
+use Rattle.book.specs.Steps.{Outcome, Answers, Refuses, step, kept_of}
+use Rattle.book.specs.Turns.{Declines, KeepsOne, Run, Turn}
 
 module _ (provider : Provider) {K : Type 0} (kept failed : K → Record → K → Type 0) where
   keeps-listed : (what : Option Record) (before after : K) (rest : List Bool) → KeepsOne provider kept failed before what after → (keeps : List Bool) × KeepsOne provider keeps_next fails_next keeps what rest

@@ -13,14 +13,13 @@ use Rattle.book.specs.declared.reply.Reply.{Reply}
 use Rattle.book.specs.declared.reply.Reply.TheVariants as reply
 use Rattle.book.specs.declared.directory_refusal.Refusal.{Refusal}
 use Rattle.book.specs.declared.directory_refusal.Refusal.TheVariants.{BadName, NoSuchEpoch, EpochNotLater}
-use Rattle.book.specs.Answers.{Answer, has_length_within, Promised, Found, Told, refusal, page_range, with_pending}
+use Rattle.book.specs.Steps.{Answer, has_length_within, Promised, Found, Told, refusal, page_range, with_pending, Answers, step}
 use Rattle.commands.specs.Operations.{Operation, IsCommand, Question, Query, Edit, Put, Promise, Lookup, History, Head, MayRead, IsAny}
 use Rattle.commands.specs.Operations as ask
 use Rattle.book.specs.Books.{Binding, Book, Page, page_at, pages}
 use Rattle.book.specs.Honest.{latest_after, AreConsecutive, IsAskedBy, IsPromisedBy, IsSaid, IsSaidAt}
 use Rattle.book.specs.Maps.{at}
 use Rattle.book.specs.Shows.{Provider, SignedPage, index_of, promise, roots, sealed_behind, sealed_pages, signed_promise, IsReplyOf, IsRootOf}
-use Rattle.book.specs.Steps.{Answers, step}
 use Rattle.book.specs.Turns.{Shows, Turn, Run}
 use Rattle.book.proofs.Entries.{at_put_same, found-entry}
 use Rattle.book.proofs.Found.{IsBinding}

@@ -11,14 +11,13 @@ use Rattle.book.specs.declared.directory_refusal.Refusal.{Refusal}
 use Rattle.book.specs.declared.directory_refusal.Refusal.TheVariants.{Memory, KeepFailed}
 use Rattle.book.specs.declared.reply.Reply.{Reply}
 use Rattle.book.specs.declared.reply.Reply.TheVariants as reply
-use Rattle.book.specs.Answers.{Answer, Promised, Found, Told, Last}
+use Rattle.book.specs.Steps.{Answer, Promised, Found, Told, Last, Outcome, Answers, Refuses, step, kept_of}
 use Rattle.commands.specs.Operations.{Operation}
 use Rattle.book.specs.Books.{Binding, Book, Page, pages}
 use Rattle.book.specs.Replies as seen
 use Rattle.book.specs.Replies.{ReplyContent, FailAlike, reply_content}
 use Rattle.book.specs.Shows.{Provider, index_of, placement, promise, reply_end, signed_promise, IsReplyOf, IsRootOf}
-use Rattle.book.specs.Steps.{Outcome, Answers, Refuses, step}
-use Rattle.book.specs.Turns.{Declines, Run, Shows, Turn, kept_of}
+use Rattle.book.specs.Turns.{Declines, Run, Shows, Turn}
 use Rattle.book.proofs.Growing.{run-grows}
 use Rattle.book.proofs.OneRoot.{one-root, same-roots}
 use Rattle.book.proofs.Soundness.{IsBefore}

@@ -9,7 +9,7 @@ use Rattle.std.proofs.lemmas.List.Elements.{All-from_recursion, All-push, All-we
 use Rattle.rand_core.specs.Stream.{Stream, fill_bytes}
 use Rattle.encoding.specs.Bytes.{bytes_cmp, Is32Bytes}
 use Rattle.encoding.specs.Limits.{IsKeyData, IsName}
-use Rattle.book.specs.Answers.{next_page, with_page, with_pending}
+use Rattle.book.specs.Steps.{next_page, with_page, with_pending}
 use Rattle.book.specs.Books.{Binding, Book, Page, pages}
 use Rattle.book.specs.Fresh.{fresh, IsEpoch}
 use Rattle.book.specs.Maps.{Map, at, overwritten, put_name}

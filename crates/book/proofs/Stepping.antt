@@ -3,12 +3,11 @@ use Rattle.std.proofs.Common.{◌≡◌, List, ℕ, [], ◌∷◌, false, Option
 use Rattle.std.specs.Prelude.{is_none, is_some}
 use Rattle.book.specs.declared.directory_refusal.Refusal.{Refusal}
 use Rattle.book.specs.declared.directory_refusal.Refusal.TheVariants.{BadName, BadKey, PendingExists, NoSuchEpoch, NoPromise}
-use Rattle.book.specs.Answers.{Answer, Promised, Found, Told, Last, bad_index, bad_verb, has_length_within, next_page, refusal, page_range, with_page, with_pending}
+use Rattle.book.specs.Steps.{Answer, Promised, Found, Told, Last, bad_index, bad_verb, has_length_within, next_page, refusal, page_range, with_page, with_pending, Outcome, Answers, Refuses, done, found_in, promise_outcome, read, step, unless_refused}
 use Rattle.commands.specs.declared.edit.Verb.{Verb}
 use Rattle.commands.specs.Operations.{Operation, Question, Query, Edit, Put, Turn, Promise, Lookup, History, Head}
 use Rattle.book.specs.Books.{Binding, Book, Page, page_at}
 use Rattle.book.specs.Maps.{at}
-use Rattle.book.specs.Steps.{Outcome, Answers, Refuses, done, found_in, promise_outcome, read, step, unless_refused}
 use Rattle.book.proofs.Turning.{passed, two-passed}
 
 -- what a book that does not refuse answers, and the book after it

@@ -6,7 +6,7 @@ use Rattle.std.proofs.lemmas.Bool.{leb-true, le-leb}
 use Rattle.std.proofs.lemmas.List.Elements.{All-from_recursion, Contains-append_left, Contains-append_right}
 use Rattle.std.proofs.lemmas.List.Kept.{AllPairs-cons}
 use Rattle.rootchain.specs.declared.signed_root.SignedRoot.{SignedRoot}
-use Rattle.book.specs.Answers.{page_range}
+use Rattle.book.specs.Steps.{page_range}
 use Rattle.book.specs.Books.{Book, Page, pages}
 use Rattle.book.specs.Honest.{AreConsecutive}
 use Rattle.book.specs.Shows.{Provider, roots, IsRootOf}

@@ -10,7 +10,7 @@ use Rattle.encoding.specs.Bytes.{bytes_cmp, Is32Bytes, IsBytes}
 use Rattle.encoding.specs.Limits.{IsWithin, IsName, IsKeyData}
 use Rattle.rootchain.specs.declared.signed_root.SignedRoot.{SignedRoot}
 use Rattle.book.specs.declared.directory_refusal.Refusal.{Refusal}
-use Rattle.book.specs.Answers.{first, has_length_within, with_pending, next_page, with_page}
+use Rattle.book.specs.Steps.{first, has_length_within, with_pending, next_page, with_page}
 use Rattle.book.specs.Books.{Binding, Book, Page, page_at, pages}
 use Rattle.book.specs.Honest.{key_at, IsAskedBy}
 use Rattle.book.specs.Maps.{at}

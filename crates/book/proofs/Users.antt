@@ -6,7 +6,7 @@ use Rattle.std.proofs.lemmas.List.Elements.{All-contains, All-from_recursion}
 use Rattle.rootchain.specs.declared.signed_root.SignedRoot.{SignedRoot}
 use Rattle.book.specs.declared.record.Record.{Record}
 use Rattle.book.specs.declared.reply.Reply.{Reply}
-use Rattle.book.specs.Answers.{Answer, with_pending, next_page, with_page}
+use Rattle.book.specs.Steps.{Answer, with_pending, next_page, with_page}
 use Rattle.commands.specs.Operations.{Operation, Query, Edit, Put, Turn}
 use Rattle.book.specs.Books.{Binding, Book, Page, pages}
 use Rattle.book.specs.Honest.{IsAbout, IsMentioned, IsSaid, UsersDiffer}

@@ -4,11 +4,9 @@ use Rattle.book.specs.declared.record.Record.{Record}
 use Rattle.book.specs.declared.directory_refusal.Refusal.TheVariants.{Memory, KeepFailed}
 use Rattle.book.specs.declared.reply.Reply.{Reply}
 use Rattle.book.specs.declared.reply.Reply.TheVariants as reply
-use Rattle.book.specs.Answers.{Promised, Found, Told, Last}
+use Rattle.book.specs.Steps.{Promised, Found, Told, Last, Outcome, Answers, Refuses, step, kept_of}
 use Rattle.commands.specs.Operations.{Operation}
 use Rattle.book.specs.Books.{Book}
-use Rattle.book.specs.Steps.{Outcome, Answers, Refuses, step}
-use Rattle.book.specs.Turns.{kept_of}
 
 -- what becomes of a command that the book does not refuse: it is done; or it has a record to keep, and memory
 -- is wanting or the keeper fails

@@ -13,11 +13,12 @@ use Rattle.proofs.specs.Replies.{Reply as ReplyRead, SpellsReply}
 use Rattle.proofs.specs.declared.reply_refusal.Refusal.TheVariants.{SameIndex}
 use Rattle.book.specs.declared.reply.Reply.{Reply}
 use Rattle.book.specs.declared.reply.Reply.TheVariants as reply
-use Rattle.commands.specs.Operations.{Operation, Query, Edit, Put, Turn, Promise, Lookup, History, Head}
+use Rattle.commands.specs.Operations.{Operation, Query, Edit, Put, Promise, Lookup}
 use Rattle.book.specs.Books.{Binding, Book, Page}
 use Rattle.rootchain.specs.Evidence.{AreEvidence}
 use Rattle.proofs.specs.BrokenPromises.{IsBrokenPromise}
 use Rattle.book.specs.Maps.{at}
+use Rattle.book.specs.Steps.{page_begun}
 use Rattle.book.specs.Shows.{Provider, index_of, roots, IsRootOf}
 use Rattle.book.specs.Sound.{HoldsName}
 use Rattle.proofs.specs.Watches.{Watch, expected}
@@ -32,15 +33,12 @@ IsSaid (asked ∷ more) (said ∷ replies) command answered = ((asked ≡ comman
 -- closing that is answered with a root makes a page
 abbrev pub latest_after : ℕ → Operation → Reply → ℕ
 latest_after latest (Query question) said = latest
-latest_after latest (Edit (Put verb name key)) said = latest
-latest_after latest (Edit (Turn epoch _)) said = closed said
+latest_after latest (Edit revision) said = after (page_begun revision) said
   where
-    closed : Reply → ℕ
-    closed (reply.Promised signed) = latest
-    closed (reply.Found text) = latest
-    closed (reply.Told told) = latest
-    closed (reply.Last root) = epoch
-    closed (reply.Refused why) = latest
+    after : Option ℕ → Reply → ℕ
+    after None said = latest
+    after (Some epoch) (reply.Last root) = epoch
+    after (Some epoch) other = latest
 
 -- this reply came to this command while the last page was of the epoch `latest`; before all the commands it
 -- is of the epoch `now`
@@ -82,20 +80,15 @@ ListsInOrder all (reply.Refused why) = ⊤
 abbrev pub IsAbout : Operation → List ℕ → Type 0
 IsAbout (Query (Promise name)) other = name ≡ other
 IsAbout (Query (Lookup name epoch)) other = name ≡ other
-IsAbout (Query (History from count)) other = ⊥
-IsAbout (Query Head) other = ⊥
 IsAbout (Edit (Put verb name key)) other = name ≡ other
-IsAbout (Edit (Turn epoch _)) other = ⊥
+IsAbout command other = ⊥
 
 -- a promise that answers the command is for this name and key: the command's name, and its key where it
 -- brings one
 abbrev pub IsPromisedBy : Operation → List ℕ → List ℕ → Type 0
 IsPromisedBy (Query (Promise name)) for bound = for ≡ name
-IsPromisedBy (Query (Lookup name epoch)) for bound = ⊥
-IsPromisedBy (Query (History from count)) for bound = ⊥
-IsPromisedBy (Query Head) for bound = ⊥
 IsPromisedBy (Edit (Put verb name key)) for bound = (for ≡ name) × (bound ≡ key)
-IsPromisedBy (Edit (Turn epoch _)) for bound = ⊥
+IsPromisedBy command for bound = ⊥
 
 -- the book holds the name, or a command is about it
 abbrev pub IsMentioned : Book → List Operation → List ℕ → Type 0

@@ -1,4 +1,3 @@
-pub mod Answers
 pub mod Books
 pub mod Folds
 pub mod Fresh

@@ -2,27 +2,19 @@
 -- stay.
 use Rattle.std.specs.Prelude.{◌≡◌, ◌⊎◌, ℕ, List, [], ◌∷◌, Option, Some, None, option_map, option_and_then}
 use Rattle.book.specs.declared.record.Record.{Record}
-use Rattle.book.specs.declared.record.Record.TheVariants.{Start, Bound, Turned}
+use Rattle.book.specs.declared.record.Record.TheVariants.{Bound}
 use Rattle.book.specs.declared.directory_refusal.Refusal.{Refusal}
 use Rattle.book.specs.declared.directory_refusal.Refusal.TheVariants.{Memory}
 use Rattle.commands.specs.declared.edit.Verb.{Verb}
-use Rattle.commands.specs.Operations.{Revision, Edit, Put, Turn}
-use Rattle.book.specs.Answers.{first, put_tests, refusal}
+use Rattle.commands.specs.Operations.{Edit}
+use Rattle.book.specs.Steps.{first, put_tests, refusal, Outcome, Answers, Refuses, step, kept_edit}
 use Rattle.book.specs.Books.{Binding, Book}
 use Rattle.book.specs.Maps.{put_name}
-use Rattle.book.specs.Steps.{Outcome, Answers, Refuses, step}
-
--- what a record was kept of; a start is kept of no command
-abbrev pub kept_edit : Record → Option Revision
-kept_edit (Start epoch nonce signing_key vuf_key) = None
-kept_edit (Bound verb salt name key) = Some (Put verb name key)
-kept_edit (Turned epoch nonce) = Some (Turn epoch nonce)
 
 -- the book whose next salt is the record's, where it has one
 abbrev pub with_salt_of : Record → Book → Book
-with_salt_of (Start epoch nonce signing_key vuf_key) book = book
 with_salt_of (Bound verb salt name key) book = record book { salt = salt }
-with_salt_of (Turned epoch _) book = book
+with_salt_of other book = book
 
 -- the book with the salts to come of another
 abbrev pub with_salts_of : Book → Book → Book

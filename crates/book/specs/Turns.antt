@@ -4,23 +4,14 @@ use Rattle.std.specs.Prelude.{◌≡◌, ◌⊎◌, ℕ, List, [], ◌∷◌, Op
 use Rattle.std.specs.List.{AllZip}
 use Rattle.rootchain.specs.declared.signed_root.SignedRoot.{SignedRoot}
 use Rattle.book.specs.declared.record.Record.{Record}
-use Rattle.book.specs.declared.record.Record.TheVariants as record_of_a
 use Rattle.book.specs.declared.directory_refusal.Refusal.{Refusal}
 use Rattle.book.specs.declared.directory_refusal.Refusal.TheVariants.{Memory, KeepFailed}
 use Rattle.book.specs.declared.reply.Reply.{Reply}
 use Rattle.book.specs.declared.reply.Reply.TheVariants as reply
-use Rattle.book.specs.Answers.{Answer, Promised, Found, Told, Last}
-use Rattle.commands.specs.Operations.{Operation, Query, Edit, Put}
-use Rattle.commands.specs.Operations as ask
+use Rattle.book.specs.Steps.{Answer, Promised, Found, Told, Last, Outcome, Answers, Refuses, step, kept_of}
+use Rattle.commands.specs.Operations.{Operation}
 use Rattle.book.specs.Books.{Binding, Book, Page}
-use Rattle.book.specs.Steps.{Outcome, Answers, Refuses, step}
 use Rattle.book.specs.Shows.{Provider, index_of, promise, signed_promise, IsReplyOf, IsRootOf}
-
--- what is kept of a command before it changes the book
-abbrev pub kept_of : Book → Operation → Option Record
-kept_of book (Query question) = None
-kept_of book (Edit (Put verb name key)) = Some (record_of_a.Bound verb book.salt name key)
-kept_of book (Edit (ask.Turn epoch nonce)) = Some (record_of_a.Turned epoch nonce)
 
 module _ (provider : Provider) where
   -- the reply shows the answer of a book, as the book is after it

@@ -2,7 +2,7 @@ ghost use Rattle.std.specs.Prelude.{◌≡◌, ℕ, ◌<◌, List, [], ◌∷◌
 ghost use Rattle.std.specs.List.{AllZip};
 ghost use Rattle.encoding.specs.Bytes.{Is32Bytes};
 ghost use Rattle.rand_core.specs.Stream.{fill_bytes, Stream};
-ghost use Rattle.book.specs.Answers.{Answer};
+ghost use Rattle.book.specs.Steps.{Answer, Answers, step};
 ghost use Rattle.commands.specs.Operations.{Operation, Edit, IsCommand, Turn};
 ghost use Rattle.rootchain.specs.declared.body.Body.{Body};
 ghost use Rattle.book.specs.Books.{Book, Page, pages};
@@ -15,7 +15,6 @@ ghost use Rattle.book.specs.Salted.{salted};
 ghost use Rattle.book.specs.Replies.{reply_content, FailAlike};
 ghost use Rattle.book.specs.Shows.{index_of, IsReplyOf, Provider};
 ghost use Rattle.book.specs.Sound.{IsSound};
-ghost use Rattle.book.specs.Steps.{Answers, step};
 ghost use Rattle.book.specs.Turns.{Run};
 ghost use Rattle.book.specs.declared.reply.Reply.{Reply};
 

@@ -7,7 +7,7 @@
 //! fn keep(&mut self, what: &Record) -> Result<(), KeepFailed> {
 //!     match what {
 //!         Record::Bound { verb, salt, name, key } => ..,
-//!         Record::Turned { epoch, nonce } => ..,
+//!         Record::Turned { .. } => ..,
 //!         Record::Start { .. } => Ok(()),
 //!     }
 //! }

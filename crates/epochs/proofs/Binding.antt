@@ -5,7 +5,7 @@ use Rattle.encoding.specs.Bytes.{Is32Bytes}
 use Rattle.encoding.specs.Limits.{IsKeyData, IsName}
 use Rattle.commit.specs.Commitments.{commitment_bytes}
 use Rattle.prefixtree.specs.Placement.{Items, commitment_of, put}
-use Rattle.book.specs.Answers.{with_pending}
+use Rattle.book.specs.Steps.{with_pending}
 use Rattle.book.specs.Books.{Book}
 use Rattle.book.specs.Maps.{Map, at, put_name}
 use Rattle.book.specs.Replays.{with_bound}

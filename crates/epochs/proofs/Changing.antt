@@ -16,7 +16,7 @@ use Rattle.rootchain.specs.declared.signed_root.SignedRoot.{SignedRoot}
 use Rattle.book.specs.declared.reply.Reply.TheVariants as reply
 use Rattle.book.specs.declared.directory_refusal.Refusal.{Refusal}
 use Rattle.book.specs.declared.directory_refusal.Refusal.TheVariants.{IndexTaken, NameTaken, PendingExists}
-use Rattle.book.specs.Answers.{first, has_its_index, with_pending, Promised}
+use Rattle.book.specs.Steps.{first, has_its_index, with_pending, Promised}
 use Rattle.book.specs.Books.{Binding}
 use Rattle.book.specs.Maps.{Map, at}
 use Rattle.book.specs.Replays.{put_refusal}

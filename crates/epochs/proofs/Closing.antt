@@ -10,7 +10,7 @@ use Rattle.rootchain.specs.Bodies.{body_bytes}
 use Rattle.rootchain.specs.declared.body.Body.{Body}
 use Rattle.rootchain.specs.declared.signed_root.SignedRoot.{SignedRoot}
 use Rattle.book.specs.declared.reply.Reply.TheVariants as reply
-use Rattle.book.specs.Answers.{next_page, with_page, Last}
+use Rattle.book.specs.Steps.{next_page, with_page, Last}
 use Rattle.book.specs.Books.{Book, Page}
 use Rattle.book.specs.Maps.{overwritten}
 use Rattle.book.specs.Shows.{Provider, placement, IsRootOf}

@@ -14,7 +14,7 @@ use Rattle.std.proofs.lemmas.List.Sorted.{searchable_from_sorted}
 use Rattle.std.proofs.lemmas.Option.{get_or_from_slice_get, slice_get_within}
 use Rattle.rootchain.specs.Bodies.{body_bytes}
 use Rattle.rootchain.specs.declared.signed_root.SignedRoot.{SignedRoot}
-use Rattle.book.specs.Answers.{page_range, with_page}
+use Rattle.book.specs.Steps.{page_range, with_page}
 use Rattle.book.specs.Books.{Book, Page, page_at, pages}
 use Rattle.epochs.specs.Ends.{all_but_last, final}
 use Rattle.book.specs.Shows.{Provider, SignedPage, body_behind, roots, sealed_behind, signed, IsRootOf}

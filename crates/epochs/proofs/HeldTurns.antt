@@ -7,7 +7,7 @@ use Rattle.book.specs.declared.record.Record.{Record}
 use Rattle.book.specs.declared.record.Record.TheVariants as record_of_a
 use Rattle.book.specs.declared.directory_refusal.Refusal.{Refusal}
 use Rattle.book.specs.declared.reply.Reply.TheVariants as reply
-use Rattle.book.specs.Answers.{refusal, with_pending, Promised}
+use Rattle.book.specs.Steps.{refusal, with_pending, Promised}
 use Rattle.book.specs.Books.{Book}
 use Rattle.book.specs.Replays.{put_refusal}
 use Rattle.book.specs.Shows.{Provider, index_of}

@@ -11,7 +11,7 @@ use Rattle.std.proofs.lemmas.Cmp.{nat_list_cmp_total}
 use Rattle.std.proofs.lemmas.Slice.Eq.{bytes_eq-Decides}
 use Rattle.prefixtree.specs.Placement.{Item, Items, commitment_of, put_all}
 use Rattle.prefixtree.proofs.Order.{equal-same, greater-less, same-equal}
-use Rattle.book.specs.Answers.{has_its_index}
+use Rattle.book.specs.Steps.{has_its_index}
 use Rattle.book.specs.Books.{Binding}
 use Rattle.book.specs.Maps.{Map, at, overwritten, put_name}
 use Rattle.book.specs.Shows.{Provider, index_of, placement}

@@ -23,12 +23,11 @@ use Rattle.proofs.specs.Replies.{reply_bytes}
 use Rattle.book.specs.declared.directory_refusal.Refusal.{Refusal}
 use Rattle.book.specs.declared.directory_refusal.Refusal.TheVariants.{BadName, NoPromise, NoSuchEpoch}
 use Rattle.book.specs.declared.reply.Reply.TheVariants as reply
-use Rattle.book.specs.Answers.{Found, Promised, Told, bad_name, first, has_length_within, refusal, page_range}
+use Rattle.book.specs.Steps.{Found, Promised, Told, bad_name, first, has_length_within, refusal, page_range, found_in, promise_outcome}
 use Rattle.commands.specs.Operations.{History, Lookup, Promise, Query}
 use Rattle.book.specs.Books.{Binding, Book, Page, page_at, pages}
 use Rattle.book.specs.Maps.{at}
 use Rattle.book.specs.Shows.{Provider, index_of, roots, reply_end, IsRootOf}
-use Rattle.book.specs.Steps.{found_in, promise_outcome}
 use Rattle.book.specs.Turns.{IsReadAnswer, IsRefused, ReadsOnly, Shows}
 use Rattle.book.proofs.Rooted.{rooted-part}
 use Rattle.book.proofs.Stepping.{does_steps, due_steps}

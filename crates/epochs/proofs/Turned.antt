@@ -7,12 +7,12 @@ use Rattle.book.specs.declared.record.Record.TheVariants as record_of_a
 use Rattle.book.specs.declared.directory_refusal.Refusal.{Refusal}
 use Rattle.book.specs.declared.reply.Reply.{Reply}
 use Rattle.book.specs.declared.reply.Reply.TheVariants as reply
-use Rattle.book.specs.Answers.{Answer, refusal, with_pending, Promised}
+use Rattle.book.specs.Steps.{Answer, refusal, with_pending, Promised, kept_of}
 use Rattle.commands.specs.declared.edit.Verb.{Verb}
 use Rattle.commands.specs.Operations.{Operation, Edit, Put}
 use Rattle.book.specs.Books.{Book}
 use Rattle.book.specs.Shows.{Provider, index_of}
-use Rattle.book.specs.Turns.{KeepsOne, Shows, Turn, kept_of}
+use Rattle.book.specs.Turns.{KeepsOne, Shows, Turn}
 use Rattle.book.proofs.Calls.{answers, fails, wants}
 use Rattle.book.proofs.Stepping.{Does}
 use Rattle.epochs.specs.Replied.{last, promised}

@@ -13,13 +13,11 @@ use Rattle.book.specs.declared.directory_refusal.Refusal.{Refusal}
 use Rattle.book.specs.declared.directory_refusal.Refusal.TheVariants.{BadRange}
 use Rattle.book.specs.declared.reply.Reply.{Reply}
 use Rattle.book.specs.declared.reply.Reply.TheVariants as reply
-use Rattle.book.specs.Answers.{Told as ToldPages, page_range}
+use Rattle.book.specs.Steps.{Told as ToldPages, page_range, Outcome, Answers, Refuses, unless_refused, step}
 use Rattle.commands.specs.Operations.{Operation, Question, Query, Edit, Head, History}
 use Rattle.commands.specs.Operations as ask
-use Rattle.book.specs.Books.{Book, Page}
-use Rattle.book.specs.Books.{pages as pages_of}
+use Rattle.book.specs.Books.{Book, Page, pages as pages_of}
 use Rattle.book.specs.Shows.{Provider, IsRootOf, index_of}
-use Rattle.book.specs.Steps.{Outcome, Answers, Refuses, unless_refused, step}
 use Rattle.book.specs.Turns.{IsReadAnswer, IsRefused, ReadsOnly, Turn}
 use Rattle.epochs.specs.DirectoryStates.{DirectoryState, HasKeysOf, book as book_kept, provider as provider_kept}
 use Rattle.epochs.specs.Replied.{TellsRoots}

@@ -11,15 +11,14 @@ use Rattle.book.specs.declared.directory_refusal.Refusal.{Refusal}
 use Rattle.book.specs.declared.directory_refusal.Refusal.TheVariants.{BadName, BadKey, NameTaken, NoSuchName, PendingExists, IndexTaken, NoSuchEpoch, EpochNotLater, NoPromise, Memory, BadRange, KeepFailed}
 use Rattle.book.specs.declared.reply.Reply.{Reply}
 use Rattle.book.specs.declared.reply.Reply.TheVariants as reply
-use Rattle.book.specs.Answers.{Answer}
-use Rattle.book.specs.Answers as answer
+use Rattle.book.specs.Steps.{Answer, Answers, step}
+use Rattle.book.specs.Steps as answer
 use Rattle.commands.specs.Operations as ask
 use Rattle.commands.specs.Operations.{Operation, Question, Query, Edit, Put, Promise, Lookup, History, Head}
 use Rattle.book.specs.Books.{Book, Page}
 use Rattle.book.specs.Honest.{key_at, IsAnswer, IsDouble, IsHonestRun, IsSaid}
 use Rattle.book.specs.Refusals.{book_refusal_number}
 use Rattle.book.specs.Shows.{Provider, index_of, roots, IsRootOf}
-use Rattle.book.specs.Steps.{Answers, step}
 use Rattle.book.specs.Turns.{Run, Turn}
 use Rattle.book.proofs.Members.{first-there, later-there}
 use Rattle.book.proofs.Running.{at-said}

@@ -9,11 +9,9 @@ use Rattle.book.specs.declared.record.Record.{Record}
 use Rattle.book.specs.declared.record.Record.TheVariants.{Start, Bound, Turned}
 use Rattle.std.proofs.Common.{Result}
 use Rattle.journal.specs.Counting.{HasLater}
-use Rattle.journal.specs.Later.{later_seen}
-use Rattle.journal.specs.declared.later.Later.{Later}
-use Rattle.journal.specs.Reading.{read_later, read_start}
+use Rattle.journal.specs.Records.{later_seen, read_later, read_start, record_bytes, records_bytes, start_bytes, IsLater, IsStart}
+use Rattle.journal.specs.declared.forms.Later.{Later}
 use Rattle.journal.specs.declared.beginning.Beginning.{Beginning}
-use Rattle.journal.specs.Records.{record_bytes, records_bytes, start_bytes, IsLater, IsStart}
 use Rattle.journal.proofs.Spelled.{later_field, start_field}
 
 -- what the readers give is what they read

@@ -15,7 +15,7 @@ use Rattle.encoding.proofs.ByteLists.{IsBytes-append, IsBytes-back, IsBytes-zero
 use Rattle.encoding.proofs.Fields.{bind_err, refused_read}
 use Rattle.encoding.proofs.NumberBytes.{bytes-of_number}
 use Rattle.journal.specs.Openings.{IsCut, IsNone}
-use Rattle.journal.specs.Reading.{read_mark}
+use Rattle.journal.specs.Records.{read_mark}
 
 pub record TellsCuts {A : Type 0} (read : List ℕ → Reading A) (spelling : A → List ℕ) (Allowed : A → Type 0) : Type 0 where
   pub cut : (bytes : List ℕ) → IsBytes bytes → read bytes ≡ Err Short → (x : A) × (more : List ℕ) × (spelling x ≡ bytes ++ more) × Allowed x

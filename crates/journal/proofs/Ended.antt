@@ -17,8 +17,7 @@ use Rattle.encoding.proofs.NumberBytes.{bytes-of_number}
 use Rattle.book.specs.declared.record.Record.{Record}
 use Rattle.book.specs.declared.record.Record.TheVariants.{Start, Bound, Turned}
 use Rattle.journal.specs.declared.beginning.Beginning.{Beginning}
-use Rattle.journal.specs.Reading.{beginning_of, bound_of, read_bound, read_later, read_later_of, read_rotated, read_start, read_turned, read_up_to, read_verb, rotated_of, turned_of, verb_of}
-use Rattle.journal.specs.Records.{record_bytes, start_bytes, verb_byte, IsLater, IsStart}
+use Rattle.journal.specs.Records.{beginning_of, bound_of, read_bound, read_later, read_later_of, read_rotated, read_start, read_turned, read_up_to, read_verb, rotated_of, turned_of, verb_of, record_bytes, start_bytes, verb_byte, IsLater, IsStart}
 use Rattle.journal.proofs.Cuts.{allowed_cuts, both_cuts, bytes_cuts, mark_cuts, numbers_cuts, renamed_cuts, refused, respelled_cuts, then_cuts, where_is, TellsCuts}
 use Rattle.journal.proofs.Spelled.{beginning_is, beginning_parts, binding_is, bound_parts, bound_same, counted_up_to, epoch_of, is_beginning, is_binding, is_rotated, is_turned, is_verb, kind_of, later_parts, length_byte, rotated_is, rotated_parts, rotated_same, spelled_beginning, spelled_bound, spelled_rotated, turned_is, turned_same, verb_again, verb_field, BeginningParts, BoundParts, IsBeginning, IsBinding, IsRotated, IsTurned, IsVerbByte, OfKind, RotatedParts}
 

@@ -11,13 +11,12 @@ use Rattle.book.specs.declared.record.Record.TheVariants.{Start, Bound, Turned}
 use Rattle.book.specs.declared.directory_refusal.Refusal.{Refusal}
 use Rattle.book.specs.declared.reply.Reply.{Reply}
 use Rattle.book.specs.declared.reply.Reply.TheVariants as reply
-use Rattle.book.specs.Answers.{Answer}
+use Rattle.book.specs.Steps.{Answer, Outcome, Answers, Refuses, step, unless_refused, kept_of}
 use Rattle.book.specs.Books.{Book}
 use Rattle.std.specs.List.{AllByRecursion}
 use Rattle.book.specs.Replays.{after_answer, replayed, replayed_all, with_salt_of, with_salts_of}
 use Rattle.book.specs.Shows.{Provider, index_of}
-use Rattle.book.specs.Steps.{Outcome, Answers, Refuses, step, unless_refused}
-use Rattle.book.specs.Turns.{kept_of, Declines, KeepsOne, Run, Turn as Turns}
+use Rattle.book.specs.Turns.{Declines, KeepsOne, Run, Turn as Turns}
 use Rattle.book.proofs.Stepping.{stepped}
 use Rattle.journal.specs.declared.beginning.Beginning.{Beginning}
 use Rattle.journal.specs.Journals.{KeepsRecord, LosesRecord, JournalState}

@@ -16,8 +16,7 @@ use Rattle.journal.specs.declared.open_refusal.Refusal.TheVariants.{BadRecord, O
 use Rattle.journal.specs.declared.beginning.Beginning.{Beginning}
 use Rattle.journal.specs.Opened.{BeginsSo, IsNotBegun, IsNotReplayed, IsOpenRefusal, OpensUpTo}
 use Rattle.journal.specs.Openings.{IsCut, IsNone, OpensTo, RecordsLead}
-use Rattle.journal.specs.Reading.{read_later, read_start}
-use Rattle.journal.specs.Records.{record_bytes, records_bytes, start_bytes, IsLater, IsStart}
+use Rattle.journal.specs.Records.{read_later, read_start, record_bytes, records_bytes, start_bytes, IsLater, IsStart}
 use Rattle.journal.proofs.Counted.{longer}
 use Rattle.journal.proofs.Cuts.{is_cut, is_none}
 use Rattle.journal.proofs.Ended.{later_cuts, start_cuts}

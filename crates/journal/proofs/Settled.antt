@@ -11,8 +11,7 @@ use Rattle.book.specs.Fresh.{fresh}
 use Rattle.book.specs.Replays.{replayed, replayed_all}
 use Rattle.journal.specs.declared.beginning.Beginning.{Beginning}
 use Rattle.journal.specs.Openings.{HasKeys, HasOtherKeys, IsBad, IsBadNext, IsCut, OpensTo, ReachesBook}
-use Rattle.journal.specs.Reading.{read_later, read_start}
-use Rattle.journal.specs.Records.{record_bytes, records_bytes, start_bytes, IsLater, IsStart}
+use Rattle.journal.specs.Records.{read_later, read_start, record_bytes, records_bytes, start_bytes, IsLater, IsStart}
 use Rattle.journal.proofs.Spelled.{later_field, start_field}
 
 -- where a spelling is whole, none is cut short

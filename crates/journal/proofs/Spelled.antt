@@ -17,8 +17,7 @@ use Rattle.commands.specs.declared.edit.Verb.TheVariants.{Register, Change}
 use Rattle.book.specs.declared.record.Record.{Record}
 use Rattle.book.specs.declared.record.Record.TheVariants.{Start, Bound, Turned}
 use Rattle.journal.specs.declared.beginning.Beginning.{Beginning}
-use Rattle.journal.specs.Reading.{beginning_of, bound_of, read_bound, read_later, read_later_of, read_mark, read_rotated, read_start, read_turned, read_up_to, read_verb, rotated_of, turned_of, verb_of}
-use Rattle.journal.specs.Records.{record_bytes, start_bytes, verb_byte, IsLater, IsStart}
+use Rattle.journal.specs.Records.{beginning_of, bound_of, read_bound, read_later, read_later_of, read_mark, read_rotated, read_start, read_turned, read_up_to, read_verb, rotated_of, turned_of, verb_of, record_bytes, start_bytes, verb_byte, IsLater, IsStart}
 
 -- ---- verbs
 

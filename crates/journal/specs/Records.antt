@@ -1,14 +1,21 @@
--- How records are written (the forms are this directory's own). A number has its highest byte first.
-use Rattle.std.specs.Prelude.{ℕ, ◌<◌, ◌^◌, List, ◌∷◌, ◌++◌, Some, None, flat_map}
-use Rattle.encoding.specs.Bytes.{Is32Bytes}
+-- The records: how they are written (the forms are this directory's own), and how they are read from the front of
+-- bytes. A number has its highest byte first.
+use Rattle.std.specs.Prelude.{ℕ, ◌<◌, ◌^◌, ◌==◌, nat_le, if◌then◌else◌, List, [], ◌∷◌, ◌++◌, Some, None, Err, flat_map}
 use Rattle.byteorder.specs.Endian.{big_bytes}
+use Rattle.encoding.specs.Bytes.{Is32Bytes}
 use Rattle.encoding.specs.Forms.{counted_bytes}
 use Rattle.encoding.specs.Limits.{IsName, IsKeyData}
+use Rattle.encoding.specs.Reading.{Reading, is_within, read_as, read_both, read_byte, read_bytes, read_counted, read_number, read_then, read_where}
+use Rattle.encoding.specs.declared.fault.Fault.TheVariants.{OutOfRange}
 use Rattle.commands.specs.declared.edit.Verb.{Verb}
 use Rattle.commands.specs.declared.edit.Verb.TheVariants.{Register, Change}
 use Rattle.book.specs.declared.record.Record.{Record}
 use Rattle.book.specs.declared.record.Record.TheVariants.{Start, Bound, Turned}
 use Rattle.journal.specs.declared.beginning.Beginning.{Beginning}
+use Rattle.journal.specs.declared.forms.Later.{Later}
+use Rattle.journal.specs.declared.forms.Later.TheVariants as later
+
+-- ---- written
 
 -- 01 for a registration, 02 for a change
 abbrev pub verb_byte : Verb → ℕ
@@ -50,3 +57,58 @@ abbrev pub IsLater : Record → Type 0
 IsLater (Start epoch nonce signing_key vuf_key) = ⊥
 IsLater (Bound verb salt name key) = IsRecord (Bound verb salt name key)
 IsLater (Turned epoch nonce) = IsRecord (Turned epoch nonce)
+
+-- ---- read
+
+abbrev pub verb_of : ℕ → Verb
+verb_of byte = if byte == 1 then Register else Change
+
+unfoldable pub read_verb : List ℕ → Reading Verb
+read_verb = read_as verb_of (read_where (is_within 1 2) read_byte)
+
+abbrev pub beginning_of : ℕ × (List ℕ × (List ℕ × List ℕ)) → Beginning
+beginning_of parts = record { epoch = parts.0; nonce = parts.1.0; signing_key = parts.1.1.0; vuf_key = parts.1.1.1 }
+
+abbrev pub bound_of : Verb × (List ℕ × (List ℕ × List ℕ)) → Record
+bound_of parts = Bound parts.0 parts.1.0 parts.1.1.0 parts.1.1.1
+
+-- a value behind one byte, as a kind or a version
+abbrev pub read_mark : {A : Type 0} → ℕ → (List ℕ → Reading A) → List ℕ → Reading A
+read_mark mark read bytes = read_then (read_where (λ byte. mark == byte) read_byte) (λ _. read) bytes
+
+-- a reader of what begins with no byte above this: where only one byte is left, it tells a beginning from what is none
+abbrev pub read_up_to : {A : Type 0} → ℕ → (List ℕ → Reading A) → List ℕ → Reading A
+read_up_to most read [] = read []
+read_up_to most read (byte ∷ rest) = if nat_le byte most then read (byte ∷ rest) else Err OutOfRange
+
+unfoldable pub read_start : List ℕ → Reading Beginning
+read_start = read_mark 0x4e (read_mark 1
+    (read_as beginning_of (read_both (read_number 8) (read_both (read_bytes 32) (read_both (read_bytes 32) (read_bytes 32))))))
+
+unfoldable pub read_bound : List ℕ → Reading Record
+read_bound = read_as bound_of (read_both read_verb (read_both (read_bytes 32) (read_both (read_up_to 0 (read_counted 1 255)) (read_up_to 8 (read_counted 1 2048)))))
+
+abbrev pub turned_of : ℕ → Record
+turned_of epoch = Turned epoch None
+
+abbrev pub read_turned : List ℕ → Reading Record
+read_turned = read_as turned_of (read_number 8)
+
+abbrev pub rotated_of : ℕ × List ℕ → Record
+rotated_of parts = Turned parts.0 (Some parts.1)
+
+abbrev pub read_rotated : List ℕ → Reading Record
+read_rotated = read_as rotated_of (read_both (read_number 8) (read_bytes 32))
+
+-- what follows the kind byte of a later record
+abbrev pub read_later_of : ℕ → List ℕ → Reading Record
+read_later_of kind bytes =
+    if kind == 0x4f then read_bound bytes else (if kind == 0x43 then read_turned bytes else (if kind == 0x4b then read_rotated bytes else Err OutOfRange))
+
+unfoldable pub read_later : List ℕ → Reading Record
+read_later = read_then read_byte read_later_of
+
+-- the record of a command, which is read with its name and its key where they stand
+abbrev pub later_seen : Later → Record
+later_seen (later.Bound verb salt name key) = Bound verb salt name.now key.now
+later_seen (later.Turned epoch nonce) = Turned epoch nonce

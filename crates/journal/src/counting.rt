@@ -1,7 +1,7 @@
 ghost use Rattle.std.specs.Prelude.{◌≡◌, ◌≤◌, length};
 ghost use Rattle.journal.specs.Counting.{Counts, HasLater};
 
-use crate::reading::{read_later, read_start};
+use crate::forms::{read_later, read_start};
 use encoding::Cursor;
 
 /// How many whole records of commands stand at the front of at most so many bytes.

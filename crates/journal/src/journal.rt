@@ -3,7 +3,7 @@ ghost use Rattle.std.specs.Io.KnownBytes.{Appends};
 ghost use Rattle.textio.specs.Output.{WritesBeginning};
 ghost use Rattle.journal.specs.Records.{record_bytes, IsRecord};
 
-use crate::text::record_text;
+use crate::forms::record_text;
 use book::{KeepFailed, Keeper, Record};
 use std::io::Write;
 use std::marker::Model;

@@ -17,13 +17,11 @@
 
 mod beginning;
 mod counting;
+mod forms;
 mod journal;
-mod later;
 mod laws;
 mod open_refusal;
 mod opening;
-mod reading;
-mod text;
 
 pub use counting::records;
 pub use journal::{Journal, write_record};

@@ -5,20 +5,15 @@ ghost use Rattle.std.specs.Prelude.{◌≡◌, ◌≤◌, length, MatchResult, S
 ghost use Rattle.book.specs.Fresh.{fresh, keyed_provider};
 ghost use Rattle.book.specs.Shows.{index_of};
 ghost use Rattle.epochs.specs.DirectoryStates.{book, provider, HasKeysOf};
-ghost use Rattle.book.specs.declared.record.Record.TheVariants.{Bound, Turned};
 ghost use Rattle.book.specs.Replays.{replayed};
-ghost use Rattle.journal.specs.Later.{later_seen};
+ghost use Rattle.journal.specs.Records.{later_seen, IsLater};
 ghost use Rattle.journal.specs.Opened.{BeginsSo, IsNotBegun, IsNotReplayed, IsOpenRefusal, Opens, OpensUpTo};
-ghost use Rattle.journal.specs.Records.{IsLater};
 
 use crate::Refusal;
 use crate::beginning::Beginning;
-use crate::later::{Later, later_size};
-use crate::reading::{read_later, read_start};
-use crate::text::START_SIZE;
+use crate::forms::{Later, START_SIZE, later_record, later_size, read_later, read_start};
 use book::Record;
-use commands::Verb;
-use encoding::{Cursor, Fault, Hash32, KeyData, Name};
+use encoding::{Cursor, Fault};
 use epochs::Directory;
 use nodehash::NodeHash;
 use rand_core::Rng;
@@ -92,52 +87,7 @@ fn replay<H: NodeHash, V: Vuf, S: Signer, R: Rng>(
     }
 }
 
-/// Carries out a binding.
-fn replay_bound<H: NodeHash, V: Vuf, S: Signer, R: Rng>(
-    directory: &mut Directory<H, V, S, R>,
-    verb: Verb,
-    salt: Hash32,
-    name: &[u8],
-    key: &[u8],
-) -> Result<(), Refusal>
-    requires { IsLater (Bound verb salt name.now key.now) }
-    ensures replays { let by = index_of (provider H.digest_of V.value_of S.signature_of directory.old) in MatchResult result
-        (λ _. replayed by (book R.stream directory.old) (Bound verb salt name.now key.now) ≡ Some (book R.stream directory.new))
-        (λ why. (book R.stream directory.new ≡ book R.stream directory.old) × IsNotReplayed by (book R.stream directory.old) (Bound verb salt name.now key.now) why) }
-    ensures keys { HasKeysOf directory.old directory.new }
-{
-    let Ok(name) = Name::new(name) else {
-        unreachable!();
-    };
-    let Ok(key) = KeyData::new(key) else {
-        unreachable!();
-    };
-    let what = Record::Bound {
-        verb,
-        salt,
-        name,
-        key,
-    };
-    replay(directory, &what)
-}
-
-/// Begins a page.
-fn replay_turned<H: NodeHash, V: Vuf, S: Signer, R: Rng>(
-    directory: &mut Directory<H, V, S, R>,
-    epoch: u64,
-    nonce: Option<Hash32>,
-) -> Result<(), Refusal>
-    requires { IsLater (Turned epoch nonce) }
-    ensures replays { let by = index_of (provider H.digest_of V.value_of S.signature_of directory.old) in MatchResult result
-        (λ _. replayed by (book R.stream directory.old) (Turned epoch nonce) ≡ Some (book R.stream directory.new))
-        (λ why. (book R.stream directory.new ≡ book R.stream directory.old) × IsNotReplayed by (book R.stream directory.old) (Turned epoch nonce) why) }
-    ensures keys { HasKeysOf directory.old directory.new }
-{
-    let what = Record::Turned { epoch, nonce };
-    replay(directory, &what)
-}
-
-/// Carries out a record that was read. Only here a binding's name and key get rooms of their own.
+/// Carries out a record that was read.
 fn replay_later<H: NodeHash, V: Vuf, S: Signer, R: Rng>(
     directory: &mut Directory<H, V, S, R>,
     what: &Later<'_>,
@@ -148,15 +98,7 @@ fn replay_later<H: NodeHash, V: Vuf, S: Signer, R: Rng>(
         (λ why. (book R.stream directory.new ≡ book R.stream directory.old) × IsNotReplayed by (book R.stream directory.old) (later_seen what.now) why) }
     ensures keys { HasKeysOf directory.old directory.new }
 {
-    match what {
-        Later::Bound {
-            verb,
-            salt,
-            name,
-            key,
-        } => replay_bound(directory, *verb, *salt, name, key),
-        Later::Turned { epoch, nonce } => replay_turned(directory, *epoch, *nonce),
-    }
+    replay(directory, &later_record(what))
 }
 
 /// Carries out the records at the front, of at most so many bytes, and returns how many bytes they have.

@@ -19,7 +19,7 @@ use Rattle.wire.specs.Requests as request
 use Rattle.book.specs.declared.keeper.NoKeeper.{NoKeeper}
 use Rattle.book.specs.declared.reply.Reply.{Reply}
 use Rattle.book.specs.declared.reply.Reply.TheVariants as reply
-use Rattle.book.specs.Answers.{Promised, Found, Told, Last}
+use Rattle.book.specs.Steps.{Promised, Found, Told, Last}
 use Rattle.book.specs.Books.{Binding, Book, Page, pages}
 use Rattle.book.specs.Fresh.{keyed_provider}
 use Rattle.book.specs.Keeps.{KeepsNothing, NeverFails}

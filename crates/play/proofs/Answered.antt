@@ -15,7 +15,7 @@ use Rattle.wire.specs.Responses.{ResponseContent}
 use Rattle.hub.specs.Desks.{command, IsResponseOf}
 use Rattle.book.specs.declared.reply.Reply.{Reply}
 use Rattle.book.specs.declared.reply.Reply.TheVariants as reply
-use Rattle.book.specs.Answers.{Answer, Promised, Found, Told, Last}
+use Rattle.book.specs.Steps.{Answer, Promised, Found, Told, Last, Outcome}
 use Rattle.book.specs.Books.{Binding, Book, Page, page_at, pages}
 use Rattle.book.specs.Fresh.{KeepsLaws}
 use Rattle.book.specs.Honest.{IsHonestRun}
@@ -24,7 +24,6 @@ use Rattle.book.specs.Maps.{at}
 use Rattle.book.specs.Refusals.{book_refusal_number}
 use Rattle.book.specs.Shows.{Provider, index_of, roots, IsReplyOf, IsRootOf}
 use Rattle.book.specs.Sound.{IsSound}
-use Rattle.book.specs.Steps.{Outcome}
 use Rattle.book.specs.Turns.{Turn}
 use Rattle.book.proofs.Growing.{run-grows}
 use Rattle.book.proofs.Soundness.{IsBefore}
@@ -39,8 +38,7 @@ use Rattle.play.specs.Messages.{comes_of, numbered, or_not_operator, request_ask
 use Rattle.play.specs.Parties.{book_of, chain_under, provider_of, HasAsked, Parties}
 use Rattle.play.specs.declared.ask.Ask.{Ask}
 use Rattle.play.specs.declared.ask.Ask.TheVariants as made
-use Rattle.play.specs.Scripts.{token}
-use Rattle.play.specs.Spoken.{ask_seen}
+use Rattle.play.specs.Scripts.{token, ask_seen}
 use Rattle.play.proofs.Answering.{lookups-shown, same-text}
 use Rattle.play.proofs.Comes.{turn_comes, Comes, HasCome}
 use Rattle.play.proofs.Turns.{found_epoch, unchecked_told}

@@ -6,12 +6,11 @@ use Rattle.book.specs.declared.record.Record.{Record}
 use Rattle.book.specs.declared.directory_refusal.Refusal.TheVariants.{NoSuchEpoch}
 use Rattle.book.specs.declared.reply.Reply.{Reply}
 use Rattle.book.specs.declared.reply.Reply.TheVariants as reply_of
-use Rattle.book.specs.Answers.{Answer, Promised, Found, Told, Last, bad_name}
+use Rattle.book.specs.Steps.{Answer, Promised, Found, Told, Last, bad_name, Outcome, Answers, Refuses, step, kept_of}
 use Rattle.book.specs.Books.{Binding, Book, Page, page_at}
 use Rattle.book.specs.Maps.{at}
 use Rattle.book.specs.Shows.{Provider, index_of, IsReplyOf}
-use Rattle.book.specs.Steps.{Outcome, Answers, Refuses, step}
-use Rattle.book.specs.Turns.{kept_of, Declines, Shows, Turn}
+use Rattle.book.specs.Turns.{Declines, Shows, Turn}
 use Rattle.book.proofs.Stepping.{finds, stepped}
 use Rattle.book.proofs.Turning.{is-name, passed}
 use Rattle.play.specs.Answering.{AnswersAreTold, IsUnchecked, LookupsAreShown}

@@ -43,8 +43,7 @@ use Rattle.hub.specs.Runs.{Line, AllAnswered}
 use Rattle.play.specs.declared.ask.Ask.{Ask}
 use Rattle.play.specs.declared.ask.Ask.TheVariants as ask
 use Rattle.play.specs.Parties.{book_of, provider_of, HasAsked, IsReady, Parties}
-use Rattle.play.specs.Scripts.{token}
-use Rattle.play.specs.Spoken.{ask_seen}
+use Rattle.play.specs.Scripts.{token, ask_seen}
 
 -- ---- frames
 

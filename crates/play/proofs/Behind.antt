@@ -12,13 +12,12 @@ use Rattle.wire.specs.Responses.{ResponseContent, Responds, Roots}
 use Rattle.book.specs.declared.keeper.NoKeeper.{NoKeeper}
 use Rattle.book.specs.declared.reply.Reply.{Reply}
 use Rattle.book.specs.declared.reply.Reply.TheVariants as reply
-use Rattle.book.specs.Answers.{page_range, Answer, Found, Last, Promised, Told}
+use Rattle.book.specs.Steps.{page_range, Answer, Found, Last, Promised, Told, Answers, Outcome}
 use Rattle.book.specs.Books.{Binding, Book, Page, pages}
 use Rattle.book.specs.Fresh.{keyed_provider}
 use Rattle.book.specs.Keeps.{KeepsNothing, NeverFails}
 use Rattle.book.specs.Shows.{Provider, index_of, roots, IsRootOf}
 use Rattle.book.specs.Sound.{IsSound}
-use Rattle.book.specs.Steps.{Answers, Outcome}
 use Rattle.book.specs.Turns.{Turn}
 use Rattle.book.proofs.OneRoot.{same-roots}
 use Rattle.book.proofs.Rooted.{all-rooted, zip-take}

@@ -22,7 +22,7 @@ use Rattle.proofs.specs.declared.reply_refusal.Refusal.{Refusal as ProofRefusal}
 use Rattle.proofs.specs.declared.reply_refusal.Refusal.TheVariants as proof
 use Rattle.proofs.specs.declared.statement.Statement.{Statement}
 use Rattle.proofs.proofs.Passing.{accepts-passed, one_reply, refused-accepts}
-use Rattle.book.specs.Answers.{has_its_index}
+use Rattle.book.specs.Steps.{has_its_index}
 use Rattle.book.specs.Books.{Binding, Book, Page, pages}
 use Rattle.book.specs.Fresh.{KeepsLaws}
 use Rattle.book.specs.Honest.{key_at}

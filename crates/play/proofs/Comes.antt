@@ -7,13 +7,12 @@ use Rattle.book.specs.declared.directory_refusal.Refusal.{Refusal}
 use Rattle.book.specs.declared.directory_refusal.Refusal.TheVariants.{Memory}
 use Rattle.book.specs.declared.reply.Reply.{Reply}
 use Rattle.book.specs.declared.reply.Reply.TheVariants as reply
-use Rattle.book.specs.Answers.{Answer}
+use Rattle.book.specs.Steps.{Answer, Outcome, Answers, Refuses, step, kept_of}
 use Rattle.book.specs.Books.{Book}
 use Rattle.book.specs.Keeps.{KeepsNothing, NeverFails}
 use Rattle.book.specs.Refusals.{book_refusal_number}
 use Rattle.book.specs.Shows.{Provider, index_of}
-use Rattle.book.specs.Steps.{Outcome, Answers, Refuses, step}
-use Rattle.book.specs.Turns.{Declines, Shows, Turn, kept_of}
+use Rattle.book.specs.Turns.{Declines, Shows, Turn}
 use Rattle.book.proofs.Stepping.{Does, due_steps, refused_due, stepped}
 use Rattle.play.specs.Messages as message
 use Rattle.play.specs.Messages.{comes_of, numbered}

@@ -10,9 +10,8 @@ use Rattle.textio.specs.Digits.{hex32}
 use Rattle.commands.specs.declared.edit.Verb.TheVariants.{Register, Change}
 use Rattle.commands.specs.Operations.{Promise, Lookup, History, Head}
 use Rattle.wire.specs.Requests.{RequestContent, Query, Put, Turn, request_frame}
-use Rattle.book.specs.Answers.{has_length_within}
-use Rattle.play.specs.Scripts.{ScriptLine, Pass, Ask, Watch, Piece, End, asking, count_word, epoch_word, hex_word, key_or_none, line_of, line_of_words, said_among, session_word, token, verbs, watching, with_no_word, with_one_word, with_two_words, words}
-use Rattle.play.specs.Spoken.{LineFits}
+use Rattle.book.specs.Steps.{has_length_within}
+use Rattle.play.specs.Scripts.{ScriptLine, Pass, Ask, Watch, Piece, End, asking, count_word, epoch_word, hex_word, key_or_none, line_of, line_of_words, said_among, session_word, token, verbs, watching, with_no_word, with_one_word, with_two_words, words, LineFits}
 
 some_same : {X : Type 0} (x y : X) → Some x ≡ Some y → x ≡ y
 some_same x y e = cc

@@ -11,7 +11,7 @@ use Rattle.commands.specs.Operations.{Operation, Query, Edit, Put, Turn}
 use Rattle.book.specs.declared.keeper.NoKeeper.{NoKeeper}
 use Rattle.book.specs.declared.directory_refusal.Refusal.TheVariants.{EpochNotLater}
 use Rattle.book.specs.declared.reply.Reply.{Reply}
-use Rattle.book.specs.Answers.{Answer, refusal}
+use Rattle.book.specs.Steps.{Answer, refusal}
 use Rattle.book.specs.Books.{Binding, Book, Page, pages}
 use Rattle.book.specs.Keeps.{KeepsNothing, NeverFails}
 use Rattle.book.specs.Maps.{Map, at, put_name}

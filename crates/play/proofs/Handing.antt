@@ -26,7 +26,7 @@ use Rattle.hub.specs.Desks.{reply_frame}
 use Rattle.book.specs.declared.reply.Reply.{Reply}
 use Rattle.book.specs.declared.reply.Reply.TheVariants as reply
 use Rattle.book.specs.declared.directory_refusal.Refusal.{Refusal}
-use Rattle.book.specs.Answers.{Answer, Promised, Found, Told, Last, with_pending}
+use Rattle.book.specs.Steps.{Answer, Promised, Found, Told, Last, with_pending}
 use Rattle.book.specs.Books.{Binding, Book, Page}
 use Rattle.book.specs.Honest.{IsKept}
 use Rattle.book.specs.Keeps.{KeepsNothing, NeverFails}

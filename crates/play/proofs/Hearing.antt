@@ -22,14 +22,13 @@ use Rattle.book.specs.declared.record.Record.{Record}
 use Rattle.book.specs.declared.directory_refusal.Refusal.{Refusal}
 use Rattle.book.specs.declared.reply.Reply.{Reply}
 use Rattle.book.specs.declared.reply.Reply.TheVariants as reply_of
-use Rattle.book.specs.Answers.{Answer, Found, Last}
+use Rattle.book.specs.Steps.{Answer, Found, Last, Outcome, Answers, Refuses, step, kept_of}
 use Rattle.book.specs.Books.{Binding, Book, Page, pages}
 use Rattle.book.specs.Honest.{key_at, latest_after, IsAskedBy, IsHonestRun, IsSaidAt}
 use Rattle.book.specs.Refusals.{book_refusal_number}
 use Rattle.book.specs.Replies.{Refused}
 use Rattle.book.specs.Shows.{Provider, index_of, sealed_behind, IsRootOf}
-use Rattle.book.specs.Steps.{Outcome, Answers, Refuses, step}
-use Rattle.book.specs.Turns.{kept_of, Declines, Run, Shows, Turn}
+use Rattle.book.specs.Turns.{Declines, Run, Shows, Turn}
 use Rattle.book.proofs.Growing.{run-grows}
 use Rattle.book.proofs.Members.{first-there, later-there}
 use Rattle.book.proofs.OneRoot.{one-root}

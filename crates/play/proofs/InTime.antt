@@ -12,10 +12,9 @@ use Rattle.wire.specs.Requests.{RequestContent}
 use Rattle.wire.specs.Streams.{Message}
 use Rattle.book.specs.declared.directory_refusal.Refusal.{Refusal}
 use Rattle.book.specs.declared.directory_refusal.Refusal.TheVariants.{EpochNotLater}
-use Rattle.book.specs.Answers.{refusal}
+use Rattle.book.specs.Steps.{refusal, done, step, unless_refused}
 use Rattle.book.specs.Books.{Binding, Book, Page, pages}
 use Rattle.book.specs.Maps.{Map, at, put_name}
-use Rattle.book.specs.Steps.{done, step, unless_refused}
 use Rattle.book.proofs.Entries.{at_put_other, at_put_same, is_name, is_no_name}
 use Rattle.book.proofs.Stepping.{put_passed}
 use Rattle.book.proofs.Turning.{above-last, passed}

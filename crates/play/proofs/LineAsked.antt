@@ -32,8 +32,7 @@ use Rattle.play.specs.Played.{after_promise, Stand}
 use Rattle.play.specs.Played as played
 use Rattle.play.specs.declared.ask.Ask.{Ask}
 use Rattle.play.specs.declared.ask.Ask.TheVariants as made
-use Rattle.play.specs.Scripts.{token}
-use Rattle.play.specs.Spoken.{ask_seen}
+use Rattle.play.specs.Scripts.{token, ask_seen}
 use Rattle.play.specs.Watchers.{all_through, Watcher}
 use Rattle.play.proofs.Answered.{come, request-comes}
 use Rattle.play.proofs.Comes.{Comes}

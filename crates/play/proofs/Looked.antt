@@ -26,7 +26,7 @@ use Rattle.commands.specs.Operations.{Lookup, Query}
 use Rattle.wire.specs.Requests.{RequestContent}
 use Rattle.book.specs.declared.reply.Reply.{Reply}
 use Rattle.book.specs.declared.reply.Reply.TheVariants as reply
-use Rattle.book.specs.Answers.{has_its_index}
+use Rattle.book.specs.Steps.{has_its_index}
 use Rattle.book.specs.Books.{Binding, Book, Page, page_at, pages}
 use Rattle.book.specs.Fresh.{KeepsLaws}
 use Rattle.book.specs.Honest.{key_at}

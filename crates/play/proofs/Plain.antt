@@ -16,12 +16,11 @@ use Rattle.wire.specs.Requests as request
 use Rattle.wire.specs.Requests.{RequestContent}
 use Rattle.wire.specs.Streams.{Message}
 use Rattle.book.specs.declared.directory_refusal.Refusal.{Refusal}
-use Rattle.book.specs.Answers.{has_its_index, next_page, refusal, page_range as page_told, with_page}
+use Rattle.book.specs.Steps.{has_its_index, next_page, refusal, page_range as page_told, with_page, Outcome, done, found_in, promise_outcome, step, unless_refused}
 use Rattle.book.specs.Books.{Binding, Book, Page, page_at, pages}
 use Rattle.book.specs.Honest.{key_at}
 use Rattle.book.specs.Maps.{at, Map}
 use Rattle.book.specs.Refusals.{book_refusal_number}
-use Rattle.book.specs.Steps.{Outcome, done, found_in, promise_outcome, step, unless_refused}
 use Rattle.book.proofs.Members.{first-there, later-there}
 use Rattle.play.specs.Laws.{after_lines, is_plain, script_after_line, IsChecked, IsCheckedIn, IsPlain, IsQuestioned, IsRequested, LinesArePlain, NothingIsRefused}
 use Rattle.play.specs.Lines.{checked_text, is_double, of_session, refused_proof, root_text, roots_text, statement_text, numbered_text}

@@ -19,7 +19,7 @@ use Rattle.proofs.proofs.Passing.{accepts-passed}
 use Rattle.commands.specs.Operations.{Query, Lookup}
 use Rattle.book.specs.declared.record.Record.{Record}
 use Rattle.book.specs.declared.reply.Reply.TheVariants as reply
-use Rattle.book.specs.Answers.{has_its_index}
+use Rattle.book.specs.Steps.{has_its_index}
 use Rattle.book.specs.Books.{Binding, Book, Page, pages}
 use Rattle.book.specs.Fresh.{KeepsLaws}
 use Rattle.book.specs.Honest.{key_at, IsHonestRun}

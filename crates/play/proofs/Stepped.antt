@@ -25,14 +25,13 @@ use Rattle.book.specs.declared.keeper.NoKeeper.{NoKeeper}
 use Rattle.book.specs.declared.directory_refusal.Refusal.TheVariants.{BadName, NoSuchEpoch}
 use Rattle.book.specs.declared.reply.Reply.{Reply}
 use Rattle.book.specs.declared.reply.Reply.TheVariants as reply
-use Rattle.book.specs.Answers.{Answer, Promised, Found, Told, Last, first, has_length_within, refusal}
+use Rattle.book.specs.Steps.{Answer, Promised, Found, Told, Last, first, has_length_within, refusal, Outcome, Answers, found_in, step}
 use Rattle.book.specs.Books.{Binding, Book, Page, page_at, pages}
 use Rattle.book.specs.Honest.{key_at, IsHonestRun}
 use Rattle.book.specs.Keeps.{KeepsNothing, NeverFails}
 use Rattle.book.specs.Maps.{at}
 use Rattle.book.specs.Shows.{Provider, SignedPage, index_of, roots, sealed_pages, IsRootOf}
 use Rattle.book.specs.Sound.{IsSound}
-use Rattle.book.specs.Steps.{Outcome, Answers, found_in, step}
 use Rattle.book.specs.Turns.{Declines, Turn}
 use Rattle.book.proofs.Begun.{climbs}
 use Rattle.book.proofs.Members.{mapped-from}

@@ -18,14 +18,13 @@ use Rattle.book.specs.declared.record.Record.{Record}
 use Rattle.book.specs.declared.directory_refusal.Refusal.{Refusal}
 use Rattle.book.specs.declared.reply.Reply.{Reply}
 use Rattle.book.specs.declared.reply.Reply.TheVariants as reply
-use Rattle.book.specs.Answers.{Answer, Promised, Found, Last}
+use Rattle.book.specs.Steps.{Answer, Promised, Found, Last, Outcome, Answers, Refuses, step, kept_of}
 use Rattle.book.specs.Books.{Binding, Book, Page, pages}
 use Rattle.book.specs.Keeps.{KeepsNothing, NeverFails}
 use Rattle.book.specs.Refusals.{book_refusal_number}
 use Rattle.book.specs.Shows.{Provider, body_behind, index_of, promise, sealed_behind, signed, signed_promise, IsReplyOf, IsRootOf}
 use Rattle.book.specs.Sound.{IsPage}
-use Rattle.book.specs.Steps.{Outcome, Answers, Refuses, step}
-use Rattle.book.specs.Turns.{Declines, Run, Turn, kept_of}
+use Rattle.book.specs.Turns.{Declines, Run, Turn}
 use Rattle.book.proofs.Growing.{run-grows}
 use Rattle.book.proofs.Members.{later-there}
 use Rattle.book.proofs.OneRoot.{one-root}

@@ -3,8 +3,7 @@ use Rattle.std.proofs.Common.{◌≡◌, ◌≢◌, ℕ, zero, suc, ◌<◌, Lis
 use Rattle.std.specs.List.{onto_first}
 use Rattle.std.proofs.lemmas.Bool.{ne_eqb}
 use Rattle.std.proofs.lemmas.List.Splits.{slice_split-cons_yes, slice_split-cons_no}
-use Rattle.play.specs.Scripts.{with_no_word, words, ScriptLine}
-use Rattle.play.specs.Spoken.{one_of}
+use Rattle.play.specs.Scripts.{with_no_word, words, ScriptLine, one_of}
 
 abbrev is_space : ℕ → Bool
 is_space byte = byte == 32

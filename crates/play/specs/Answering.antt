@@ -7,7 +7,7 @@ use Rattle.wire.specs.Responses.{ResponseContent}
 use Rattle.book.specs.declared.record.Record.{Record}
 use Rattle.book.specs.declared.reply.Reply.{Reply}
 use Rattle.book.specs.declared.reply.Reply.TheVariants as reply
-use Rattle.book.specs.Answers.{Found}
+use Rattle.book.specs.Steps.{Found}
 use Rattle.book.specs.Books.{Book, Page}
 use Rattle.book.specs.Maps.{at}
 use Rattle.book.specs.Shows.{Provider, index_of}

@@ -6,7 +6,7 @@ use Rattle.rootchain.specs.declared.signed_root.SignedRoot.{SignedRoot}
 use Rattle.proofs.specs.Refusals.{reply_refusal_number}
 use Rattle.proofs.specs.Views.{key_stated}
 use Rattle.proofs.specs.declared.statement.Statement.{Statement}
-use Rattle.book.specs.Answers.{Found}
+use Rattle.book.specs.Steps.{Found}
 use Rattle.book.specs.Books.{Book, Page}
 use Rattle.book.specs.Maps.{at}
 use Rattle.book.specs.Shows.{Provider, index_of, IsReplyOf, IsRootOf}

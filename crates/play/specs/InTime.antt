@@ -4,7 +4,7 @@ use Rattle.std.specs.List.{AllByRecursion}
 use Rattle.rand_core.specs.Stream.{Stream}
 use Rattle.commands.specs.declared.edit.Verb.{Verb}
 use Rattle.commands.specs.Operations.{Edit, Put}
-use Rattle.book.specs.Answers.{Answer}
+use Rattle.book.specs.Steps.{Answer}
 use Rattle.book.specs.Books.{Book}
 use Rattle.book.specs.Maps.{at}
 use Rattle.play.specs.Laws.{after_lines}

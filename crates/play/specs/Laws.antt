@@ -4,8 +4,8 @@ use Rattle.std.specs.List.{AllByRecursion}
 use Rattle.rand_core.specs.Stream.{Stream}
 use Rattle.commands.specs.Operations.{Question, Promise, Lookup, History, Head}
 use Rattle.textio.specs.Lines.{lines_of}
-use Rattle.wire.specs.Requests.{RequestContent, Query, Put, Turn}
-use Rattle.book.specs.Answers.{page_range}
+use Rattle.wire.specs.Requests.{RequestContent, Query}
+use Rattle.book.specs.Steps.{page_range}
 use Rattle.book.specs.Books.{Binding, Book, Page, pages}
 use Rattle.book.specs.Sound.{IsSound}
 use Rattle.play.specs.Lines.{refused_proof}
@@ -39,8 +39,7 @@ IsQuestioned Head other = ⊥
 
 abbrev pub IsRequested : RequestContent → List ℕ → Type 0
 IsRequested (Query question) other = IsQuestioned question other
-IsRequested (Put verb name key) other = ⊥
-IsRequested (Turn token epoch _) other = ⊥
+IsRequested requested other = ⊥
 
 abbrev pub IsChecked : Option ScriptLine → List ℕ → Type 0
 IsChecked (Some (Ask requested)) other = IsRequested requested other

@@ -1,5 +1,4 @@
 pub mod Answering
-pub mod AskedLines
 pub mod Beginnings
 pub mod Calls
 pub mod Checked
@@ -25,7 +24,6 @@ pub mod Rotations
 pub mod Rows
 pub mod Scripts
 pub mod SessionScripts
-pub mod Spoken
 pub mod Steps
 pub mod Stops
 pub mod Taking

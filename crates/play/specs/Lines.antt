@@ -2,7 +2,7 @@
 use Rattle.std.specs.Prelude.{ℕ, ◌&&◌, Bool, if◌then◌else◌, List, [], ◌∷◌, ◌++◌, Option, Some, None, Ok, Err, codes, decimal, is_none}
 use Rattle.std.specs.List.{flat_map}
 use Rattle.hex.specs.Hex.{encode_lower}
-use Rattle.book.specs.Answers.{Answer, Promised, Found, Told, Last, has_its_index}
+use Rattle.book.specs.Steps.{Answer, Promised, Found, Told, Last, has_its_index}
 use Rattle.book.specs.Books.{Book, Page}
 use Rattle.book.specs.Honest.{key_at}
 use Rattle.book.specs.Maps.{at}

@@ -7,10 +7,9 @@ use Rattle.wire.specs.declared.message_refusals.ReadRefusal.TheVariants.{BadBody
 use Rattle.wire.specs.Refusals.{feed_refusal_number, read_refusal_number}
 use Rattle.wire.specs.Requests.{RequestContent, read_request}
 use Rattle.wire.specs.Streams.{Remainder, Message, Whole, BadFrame}
-use Rattle.book.specs.Answers.{Answer}
+use Rattle.book.specs.Steps.{Answer, Outcome, Answers, Refuses, step}
 use Rattle.book.specs.Books.{Book}
 use Rattle.book.specs.Refusals.{book_refusal_number}
-use Rattle.book.specs.Steps.{Outcome, Answers, Refuses, step}
 use Rattle.hub.specs.Desks.{command}
 use Rattle.hub.specs.Events.{BySession, Happening}
 use Rattle.hub.specs.Runs.{after_events, commands, each, rest_of, unanswered}

@@ -1,8 +1,8 @@
 -- A script played: which lines each of its lines prints. There are books of pages and maps, no tree and no
 -- proof. Of hashes there is only the index of a name, by which two names are told apart.
-use Rattle.std.specs.Prelude.{ℕ, nat_lt, if◌then◌else◌, List, [], ◌∷◌, ◌++◌, length, map, Option, Ok, Err, replicate}
+use Rattle.std.specs.Prelude.{ℕ, nat_lt, if◌then◌else◌, List, [], ◌∷◌, ◌++◌, length, map, Option, Ok, replicate}
 use Rattle.rand_core.specs.Stream as salt
-use Rattle.wire.specs.Requests.{RequestContent, Query, Put, Turn}
+use Rattle.wire.specs.Requests.{RequestContent, Put}
 use Rattle.wire.specs.Streams.{Remainder, Message, Rest}
 use Rattle.book.specs.Books.{Book, pages}
 use Rattle.book.specs.Fresh as books
@@ -26,9 +26,7 @@ opening salts = record { book = books.fresh 1 (replicate 32 0) salts; sessions =
 -- only a registration or a change hands out its promise
 abbrev pub after_promise : RequestContent → ℕ → Numbered → List Watcher → List Watcher
 after_promise (Put verb name key) epoch (Ok answer) watchers = handed name epoch key watchers
-after_promise (Put verb name key) epoch (Err code) watchers = watchers
-after_promise (Query question) epoch said watchers = watchers
-after_promise (Turn token epoch_asked _) epoch said watchers = watchers
+after_promise requested epoch said watchers = watchers
 
 -- a piece of a session's stream: the session is opened, unless it is open or too many are, and takes it
 abbrev pub piece_events : ℕ → List ℕ → List Happening

@@ -1,5 +1,6 @@
--- What a line of a script says (the form is this directory's own).
-use Rattle.std.specs.Prelude.{ℕ, ◌^◌, ◌-◌, ◌==◌, ◌&&◌, nat_le, if◌then◌else◌, List, [], ◌∷◌, Option, Some, None, codes, decimal, option_and_then, replicate}
+-- What a line of a script says (the form is this directory's own), and what is seen of one that was read.
+use Rattle.std.specs.Prelude.{ℕ, ◌≤◌, ◌^◌, ◌-◌, ◌==◌, ◌&&◌, nat_le, if◌then◌else◌, List, [], ◌∷◌, drop, Option, Some, None, codes, decimal, option_and_then, replicate, ⊤}
+use Rattle.std.specs.Int.NonZero.{non_zero_u32_get}
 use Rattle.std.specs.List.{slice_split}
 use Rattle.std.specs.Str.{bytes_eq}
 use Rattle.std.specs.Result.{result_ok}
@@ -14,7 +15,11 @@ use Rattle.encoding.specs.declared.name.TheConstants.{MAX_NAME_LEN}
 use Rattle.wire.specs.declared.frame.TheConstants.{MAX_FRAME_LEN}
 use Rattle.wire.specs.Frames.{frame_size}
 use Rattle.wire.specs.Requests.{RequestContent, Query, Put, Turn, request_frame}
-use Rattle.book.specs.Answers.{has_length_within}
+use Rattle.book.specs.Steps.{has_length_within}
+use Rattle.play.specs.declared.ask.Ask.{Ask as AskMade}
+use Rattle.play.specs.declared.ask.Ask.TheVariants as ask
+use Rattle.play.specs.declared.line.Line.{Line as LineMade}
+use Rattle.play.specs.declared.line.Line.TheVariants as line
 
 pub data ScriptLine : Type 0 where
   -- nothing: the line is empty, or a note
@@ -117,3 +122,58 @@ line_of_words (verb ∷ behind) = said_among verbs verb behind
 abbrev pub line_of : List ℕ → Option ScriptLine
 line_of [] = Some Pass
 line_of (byte ∷ bytes) = if byte == 35 then Some Pass else line_of_words (words (byte ∷ bytes))
+
+-- ---- lines that were read, regardless of where their bytes lie
+
+abbrev pub ask_seen : AskMade → RequestContent
+ask_seen (ask.Put verb name key) = Put verb name.items key.items
+ask_seen (ask.Promise name) = Query (Promise name.items)
+ask_seen (ask.Lookup name epoch) = Query (Lookup name.items epoch)
+ask_seen (ask.History from count) = Query (History from count)
+ask_seen ask.Head = Query Head
+ask_seen (ask.Close epoch) = Turn token epoch None
+ask_seen (ask.Rotate epoch nonce) = Turn token epoch (Some nonce)
+
+abbrev pub line_seen : LineMade → ScriptLine
+line_seen line.Pass = Pass
+line_seen (line.Ask asked) = Ask (ask_seen asked)
+line_seen (line.Watch name key) = Watch name key
+line_seen (line.Piece session piece) = Piece (non_zero_u32_get session) piece.items
+line_seen (line.End session) = End (non_zero_u32_get session)
+
+-- a frame has room for the request
+abbrev pub RequestFits : RequestContent → Type 0
+RequestFits requested = frame_size (request_frame requested) ≤ MAX_FRAME_LEN
+
+-- and for what a line asks
+abbrev pub LineFits : ScriptLine → Type 0
+LineFits Pass = ⊤
+LineFits (Ask requested) = RequestFits requested
+LineFits (Watch name start) = ⊤
+LineFits (Piece session piece) = ⊤
+LineFits (End session) = ⊤
+
+-- the words that are left of a line, in the text behind the words before them, if there is one
+abbrev pub words_behind : Option (List ℕ) → List (List ℕ)
+words_behind None = []
+words_behind (Some text) = words text
+
+-- a word alone, and two words
+abbrev pub one_of : List (List ℕ) → Option (List ℕ)
+one_of [] = None
+one_of (one ∷ []) = Some one
+one_of (_ ∷ _ ∷ _) = None
+
+abbrev pub two_of : List (List ℕ) → Option (List ℕ × List ℕ)
+two_of [] = None
+two_of (_ ∷ []) = None
+two_of (one ∷ other ∷ []) = Some (one, other)
+two_of (_ ∷ _ ∷ _ ∷ _) = None
+
+-- the line that asks it
+abbrev pub asked_line : AskMade → ScriptLine
+asked_line asked = Ask (ask_seen asked)
+
+-- the commands that ask nothing, behind those that do
+abbrev pub other_verbs : List (List ℕ × (List (List ℕ) → Option ScriptLine))
+other_verbs = drop 8 verbs

@@ -1,17 +1,23 @@
-ghost use Rattle.std.specs.Prelude.{◌≡◌, ◌↔◌, ◌++◌, IsTrue, OnOk};
-ghost use Rattle.wire.specs.Frames.{frame_bytes, IsFrame};
-ghost use Rattle.wire.specs.Requests.{request_frame, IsAsked};
-ghost use Rattle.play.specs.Scripts as script;
-ghost use Rattle.play.specs.Spoken.{ask_seen, RequestFits};
+// What a line asks of the directory: how its words are read, and the request that asks it.
 
+ghost use Rattle.std.specs.Prelude.{◌≡◌, ◌↔◌, ◌++◌, IfOk, IsTrue, MatchOption, None, OnOk, Some, option_map};
+ghost use Rattle.commands.specs.Operations as asked;
+ghost use Rattle.wire.specs.Frames.{frame_bytes, IsFrame};
+ghost use Rattle.wire.specs.Requests as asks;
+ghost use Rattle.wire.specs.Requests.{request_frame, IsAsked};
+ghost use Rattle.textio.specs.Digits.{hex32};
+ghost use Rattle.play.specs.Scripts.{ask_seen, asked_line, asking, count_word, epoch_word, hex_word, other_verbs, said_among, token, verbs, with_no_word, with_one_word, with_two_words, words_behind, RequestFits};
+
+use crate::word::{one_word, read_bytes, read_count, read_epoch, two_words};
 use commands::{Put, Query, Verb};
 use encoding::Hash32;
-use std::alloc::AllocError;
+use std::alloc::{AllocError, Global};
+use textio::hex32;
 use wire::Request;
 
 /// The token of the operator.
 pub(crate) fn token() -> Hash32
-    ensures { result ≡ script.token }
+    ensures { result ≡ token }
 {
     Hash32::new([0; 32])
 }
@@ -114,4 +120,126 @@ impl Ask {
             .write(output),
         }
     }
+}
+
+/// What a verb asks with the words behind it, or `None` if it is none that asks.
+pub(crate) fn read_ask(
+    alloc: Global,
+    verb: &[u8],
+    behind: Option<&[u8]>,
+) -> Result<Option<Option<Ask>>, AllocError>
+    ensures { IfOk result (λ read. MatchOption read
+        (said_among verbs verb.now (words_behind (option_map (λ text. text.now) behind.entry)) ≡ said_among other_verbs verb.now (words_behind (option_map (λ text. text.now) behind.entry)))
+        (λ ask. option_map asked_line ask ≡ said_among verbs verb.now (words_behind (option_map (λ text. text.now) behind.entry)))) }
+{
+    // Tests one after another, as the definition has them: a `match` on byte strings does not prove.
+    if verb == b"register".as_slice() {
+        return Ok(Some(read_put(alloc, Verb::Register, behind)?));
+    }
+    if verb == b"change".as_slice() {
+        return Ok(Some(read_put(alloc, Verb::Change, behind)?));
+    }
+    if verb == b"promise".as_slice() {
+        return Ok(Some(read_promise(alloc, behind)?));
+    }
+    if verb == b"close".as_slice() {
+        return Ok(Some(read_close(behind)));
+    }
+    if verb == b"rotate".as_slice() {
+        return Ok(Some(read_rotate(behind)));
+    }
+    if verb == b"head".as_slice() {
+        return Ok(Some(read_head(behind)));
+    }
+    if verb == b"lookup".as_slice() {
+        return Ok(Some(read_lookup(alloc, behind)?));
+    }
+    if verb == b"history".as_slice() {
+        return Ok(Some(read_history(behind)));
+    }
+    Ok(None)
+}
+
+/// `head`
+fn read_head(behind: Option<&[u8]>) -> Option<Ask>
+    ensures { option_map asked_line result ≡ with_no_word (asking (asks.Query asked.Head)) (words_behind (option_map (λ text. text.now) behind.entry)) }
+{
+    match behind {
+        None => fitting(Ask::Head),
+        Some(_) => None,
+    }
+}
+
+/// `promise NAME`
+fn read_promise(alloc: Global, behind: Option<&[u8]>) -> Result<Option<Ask>, AllocError>
+    ensures { IfOk result (λ read. option_map asked_line read ≡ with_one_word hex_word (λ name. asking (asks.Query (asked.Promise name))) (words_behind (option_map (λ text. text.now) behind.entry))) }
+{
+    let Some(name) = one_word(behind) else {
+        return Ok(None);
+    };
+    match read_bytes(alloc, name)? {
+        Some(name) => Ok(fitting(Ask::Promise { name })),
+        None => Ok(None),
+    }
+}
+
+/// `close EPOCH`
+fn read_close(behind: Option<&[u8]>) -> Option<Ask>
+    ensures { option_map asked_line result ≡ with_one_word epoch_word (λ epoch. asking (asks.Turn token epoch None)) (words_behind (option_map (λ text. text.now) behind.entry)) }
+{
+    let epoch = read_epoch(one_word(behind)?)?;
+    fitting(Ask::Close { epoch })
+}
+
+/// `rotate EPOCH NONCE`
+fn read_rotate(behind: Option<&[u8]>) -> Option<Ask>
+    ensures { option_map asked_line result ≡ with_two_words epoch_word hex32 (λ epoch nonce. asking (asks.Turn token epoch (Some nonce))) (words_behind (option_map (λ text. text.now) behind.entry)) }
+{
+    let (epoch, nonce) = two_words(behind)?;
+    let epoch = read_epoch(epoch)?;
+    let nonce = Hash32::new(hex32(nonce)?);
+    fitting(Ask::Rotate { epoch, nonce })
+}
+
+/// `register NAME KEY`, `change NAME KEY`
+fn read_put(alloc: Global, verb: Verb, behind: Option<&[u8]>) -> Result<Option<Ask>, AllocError>
+    ensures { IfOk result (λ read. option_map asked_line read ≡ with_two_words hex_word hex_word (λ name key. asking (asks.Put verb name key)) (words_behind (option_map (λ text. text.now) behind.entry))) }
+{
+    let Some((name, key)) = two_words(behind) else {
+        return Ok(None);
+    };
+    match (read_bytes(alloc, name)?, read_bytes(alloc, key)?) {
+        (Some(name), Some(key)) => Ok(fitting(Ask::Put { verb, name, key })),
+        _ => Ok(None),
+    }
+}
+
+/// `lookup NAME EPOCH`
+fn read_lookup(alloc: Global, behind: Option<&[u8]>) -> Result<Option<Ask>, AllocError>
+    ensures { IfOk result (λ read. option_map asked_line read ≡ with_two_words hex_word epoch_word (λ name epoch. asking (asks.Query (asked.Lookup name epoch))) (words_behind (option_map (λ text. text.now) behind.entry))) }
+{
+    let Some((name, epoch)) = two_words(behind) else {
+        return Ok(None);
+    };
+    match (read_bytes(alloc, name)?, read_epoch(epoch)) {
+        (Some(name), Some(epoch)) => Ok(fitting(Ask::Lookup { name, epoch })),
+        _ => Ok(None),
+    }
+}
+
+/// `history FROM COUNT`
+fn read_history(behind: Option<&[u8]>) -> Option<Ask>
+    ensures { option_map asked_line result ≡ with_two_words epoch_word count_word (λ from count. asking (asks.Query (asked.History from count))) (words_behind (option_map (λ text. text.now) behind.entry)) }
+{
+    let (from, count) = two_words(behind)?;
+    let from = read_epoch(from)?;
+    let count = read_count(count)?;
+    fitting(Ask::History { from, count })
+}
+
+/// What is asked, if a frame has room for it.
+fn fitting(ask: Ask) -> Option<Ask>
+    ensures { option_map asked_line result ≡ asking (ask_seen ask) }
+{
+    if ask.fits() { Some(ask) } else { None }
 }

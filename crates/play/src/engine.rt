@@ -16,7 +16,7 @@ ghost use Rattle.hub.specs.DeskRuns.{IsSoundDesk};
 ghost use Rattle.play.specs.Checked.{HasAnsweredLine};
 ghost use Rattle.play.specs.Parties.{AreAt, HaveDone};
 ghost use Rattle.play.specs.Played.{line_played, Stand};
-ghost use Rattle.play.specs.Spoken.{line_seen, LineFits};
+ghost use Rattle.play.specs.Scripts.{line_seen, LineFits};
 
 use self::wanting::{happen, observe, start};
 use crate::ask::token;

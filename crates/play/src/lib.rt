@@ -18,6 +18,7 @@ mod line;
 mod lines;
 mod playing;
 mod telling;
+mod word;
 mod worked;
 
 pub use ask::Ask;

@@ -5,7 +5,7 @@ ghost use Rattle.commands.specs.Operations.{History, Lookup, Promise as PromiseO
 ghost use Rattle.encoding.specs.declared.fixed_text.TheConstants.{PROOF_TEXT_ROOM};
 ghost use Rattle.book.specs.declared.reply.Reply.TheVariants.{Found};
 ghost use Rattle.proofs.specs.Views.{end_given};
-ghost use Rattle.book.specs.Answers.{Told, bad_name, first};
+ghost use Rattle.book.specs.Steps.{Told, bad_name, first};
 ghost use Rattle.book.specs.declared.directory_refusal.Refusal.TheVariants.{NoSuchEpoch};
 ghost use Rattle.book.specs.Books.{Page, page_at, pages};
 ghost use Rattle.book.specs.Maps.{at};

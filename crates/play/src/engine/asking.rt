@@ -16,7 +16,7 @@ ghost use Rattle.play.specs.Lines.{found_text};
 ghost use Rattle.play.specs.Parties.{AreAt, HasAsked, HaveDone, IsReady, Parties};
 ghost use Rattle.play.specs.Played as played;
 ghost use Rattle.play.specs.Played.{Stand};
-ghost use Rattle.play.specs.Spoken.{ask_seen, RequestFits};
+ghost use Rattle.play.specs.Scripts.{ask_seen, RequestFits};
 ghost use Rattle.play.specs.Watchers.{Watcher};
 
 use super::handing::hand_all;

@@ -1,7 +1,7 @@
 use Rattle.std.proofs.Common.{codes, inr, refl}
 use Rattle.wire.specs.FrameViews.{frame_seen}
 use Rattle.wire.specs.Refusals.{read_refusal_number}
-use Rattle.play.specs.Spoken.{ask_seen}
+use Rattle.play.specs.Scripts.{ask_seen}
 use Rattle.asking.specs.Checking.{HearsFrame}
 use Rattle.asking.specs.Refused.{refuses_text}
 use Rattle.asking.specs.Reports.{refused}

@@ -5,7 +5,7 @@ use Rattle.wire.specs.Responses as response
 use Rattle.wire.specs.Responses.{response_seen, Refused}
 use Rattle.wire.specs.declared.response.Response.{Response}
 use Rattle.play.specs.Hearing.{response_text}
-use Rattle.play.specs.Spoken.{ask_seen}
+use Rattle.play.specs.Scripts.{ask_seen}
 use Rattle.play.specs.declared.ask.Ask.{Ask}
 use Rattle.asking.specs.Answering.{IsAnswerTo}
 use Rattle.asking.specs.Checking.{HearsResponse}

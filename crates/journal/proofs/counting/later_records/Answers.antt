@@ -1,7 +1,6 @@
 use Rattle.std.proofs.Common.{arith, ap, sym, ◌∙◌, Ok, Err}
 use Rattle.journal.proofs.Counted.{counted_all, counted_out, counting_on, later_is}
-use Rattle.journal.specs.Later.{later_seen}
-use Rattle.journal.specs.Reading.{read_later}
+use Rattle.journal.specs.Records.{later_seen, read_later}
 use Rattle.journal.proofs.counting.later_records.Goals as goal
 
 pub loop-preserved : goal.loop-preserved

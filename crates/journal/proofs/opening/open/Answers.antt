@@ -5,7 +5,7 @@ use Rattle.book.specs.Fresh.{keyed_provider}
 use Rattle.book.specs.Shows.{index_of}
 use Rattle.epochs.specs.DirectoryStates.{book}
 use Rattle.journal.specs.Opened.{OpensUpTo}
-use Rattle.journal.specs.Reading.{read_start}
+use Rattle.journal.specs.Records.{read_start}
 use Rattle.journal.proofs.Counted.{start_is}
 use Rattle.journal.proofs.Replaying.{begun_index, not_begun, not_replayed, opened, start_cut, start_none, start_size}
 use Rattle.journal.proofs.opening.open.Goals as goal

@@ -4,9 +4,7 @@ use Rattle.book.specs.Replays.{replayed}
 use Rattle.epochs.specs.DirectoryStates.{book, provider}
 use Rattle.encoding.specs.declared.fault.Fault.TheVariants.{Trailing, OutOfRange}
 use Rattle.journal.specs.Opened.{IsNotReplayed}
-use Rattle.journal.specs.Later.{later_seen}
-use Rattle.journal.specs.Reading.{read_later}
-use Rattle.journal.specs.Records.{record_bytes}
+use Rattle.journal.specs.Records.{later_seen, read_later, record_bytes}
 use Rattle.journal.proofs.Counted.{later_is}
 use Rattle.journal.proofs.Replaying.{later_cut, later_none, leads_here, nothing_cut, replaying_on, same_index, stopped}
 use Rattle.journal.proofs.opening.replay_all.Goals as goal

@@ -1,5 +1,5 @@
 use Rattle.std.proofs.Common.{ap, option_map, sym, ◌∙◌}
-use Rattle.play.specs.Spoken.{line_seen}
+use Rattle.play.specs.Scripts.{line_seen}
 use Rattle.play.proofs.Fitting.{line_fits}
 use Rattle.play.proofs.playing.play_text.Goals as goal
 

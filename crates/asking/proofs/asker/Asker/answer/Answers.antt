@@ -1,7 +1,7 @@
 use Rattle.std.proofs.Common.{◌≡◌, ◌<◌, List, ap, arith, length, rules, subst}
 use Rattle.rootchain.specs.declared.signed_promise.SignedPromise.{SignedPromise}
 use Rattle.client.specs.Clients.{Client}
-use Rattle.play.specs.Spoken.{ask_seen}
+use Rattle.play.specs.Scripts.{ask_seen}
 use Rattle.asking.proofs.Asked.{hands_kept, notes_kept, IsPut}
 use Rattle.asking.proofs.asker.Asker.answer.Goals as goal
 use Rattle.asking.proofs.asker.Asker.answer.Goals.{in-Put, in_default}

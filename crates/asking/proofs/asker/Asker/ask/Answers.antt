@@ -1,6 +1,6 @@
 use Rattle.std.proofs.Common.{◌≡◌, ◌≢◌, ◌∙◌, Err, inl, refl, rules, sym}
 use Rattle.wire.specs.FrameViews.{frame_seen}
-use Rattle.play.specs.Spoken.{ask_seen}
+use Rattle.play.specs.Scripts.{ask_seen}
 use Rattle.asking.specs.Asking.{AsksSome}
 use Rattle.asking.specs.Exchanges.{ExchangesFrames}
 use Rattle.asking.specs.Scenes.{scene}

@@ -1,6 +1,5 @@
 use Rattle.std.proofs.Common.{◌≡◌, Some, sym}
-use Rattle.play.specs.Scripts.{line_of}
-use Rattle.play.specs.Spoken.{line_seen}
+use Rattle.play.specs.Scripts.{line_of, line_seen}
 use Rattle.asking.specs.Exchanges.{ExchangesFrames}
 use Rattle.asking.specs.Runs.{AsksLine, known_of}
 use Rattle.asking.specs.Scenes.{scene}

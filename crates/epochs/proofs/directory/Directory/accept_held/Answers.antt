@@ -1,5 +1,5 @@
 use Rattle.std.proofs.Common.{◌≡◌, List, ℕ, Ok, ap, subst, ◌∙◌}
-use Rattle.book.specs.Answers.{Promised}
+use Rattle.book.specs.Steps.{Promised}
 use Rattle.book.specs.Fresh.{keyed_provider}
 use Rattle.book.specs.Replays.{with_bound}
 use Rattle.book.specs.Shows.{Provider}

@@ -1,5 +1,5 @@
 use Rattle.std.proofs.Common.{◌≡◌, ap, rules}
-use Rattle.book.specs.Answers.{refusal}
+use Rattle.book.specs.Steps.{refusal}
 use Rattle.book.specs.Replays.{put_refusal}
 use Rattle.book.specs.Shows.{index_of}
 use Rattle.commands.specs.declared.edit.Verb.TheVariants.{Change}

@@ -1,6 +1,6 @@
 use Rattle.std.proofs.Common.{refl, rules}
 use Rattle.book.specs.declared.record.Record.TheVariants as kept_as
-use Rattle.book.specs.Answers.{next_page, with_page, Last}
+use Rattle.book.specs.Steps.{next_page, with_page, Last}
 use Rattle.commands.specs.Operations.{Edit, Turn}
 use Rattle.epochs.specs.DirectoryStates.{book, provider}
 use Rattle.epochs.proofs.Turned.{last_turn}

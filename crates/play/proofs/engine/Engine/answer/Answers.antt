@@ -1,7 +1,7 @@
 use Rattle.std.proofs.Common.{◌≡◌, ◌<◌, ◌∙◌, ap, arith}
 use Rattle.book.specs.Books.{Book}
 use Rattle.play.specs.Parties.{Parties}
-use Rattle.play.specs.Spoken.{ask_seen}
+use Rattle.play.specs.Scripts.{ask_seen}
 use Rattle.play.proofs.Looked.{checked_stays}
 use Rattle.play.proofs.LineAsked.{asks_on, asks_only, behind, keys, knowing, may-hand}
 use Rattle.play.proofs.engine.Engine.answer.Goals as goal

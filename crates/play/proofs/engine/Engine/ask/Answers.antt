@@ -5,7 +5,7 @@ use Rattle.wire.specs.Laws.{IsReadAs}
 use Rattle.wire.specs.Requests.{request_frame}
 use Rattle.hub.specs.Desks.{reply_frame}
 use Rattle.play.specs.Parties.{HasAsked, Parties}
-use Rattle.play.specs.Spoken.{ask_seen}
+use Rattle.play.specs.Scripts.{ask_seen}
 use Rattle.play.proofs.Asking.{bytes-due, command_of, not_memory, served}
 use Rattle.play.proofs.engine.Engine.ask.Goals as goal
 

@@ -1,7 +1,7 @@
 use Rattle.std.proofs.Common.{◌≡◌, ap, ap₂, sym, subst, ◌∙◌, List, ℕ}
 use Rattle.wire.specs.Requests.{Put, RequestContent}
 use Rattle.play.specs.Handed.{MayHand}
-use Rattle.play.specs.Spoken.{ask_seen}
+use Rattle.play.specs.Scripts.{ask_seen}
 use Rattle.play.proofs.LineAsked.{no_put, none-handed}
 use Rattle.play.proofs.engine.Engine.hand_on.Goals as goal
 

@@ -10,7 +10,7 @@ use Rattle.hub.specs.Desks.{reply_frame}
 use Rattle.book.specs.declared.reply.Reply.{Reply}
 use Rattle.book.specs.declared.reply.Reply.TheVariants.{Found}
 use Rattle.play.specs.Checked.{HasChecked, HasLooked}
-use Rattle.play.specs.Spoken.{ask_seen}
+use Rattle.play.specs.Scripts.{ask_seen}
 use Rattle.play.proofs.Answered.{asked-lookup, found-of, has-found, no-lookup, unchecked-line, unchecked-of}
 use Rattle.play.proofs.Looked.{unchecked_stays}
 use Rattle.play.proofs.engine.Engine.tell_checked.Goals as goal

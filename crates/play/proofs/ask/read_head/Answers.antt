@@ -2,9 +2,9 @@ use Rattle.std.proofs.Common.{Some, ap, sym, ◌∙◌, option_map}
 use Rattle.commands.specs.Operations as asked
 use Rattle.wire.specs.Requests as asks
 use Rattle.play.specs.Scripts as script
-use Rattle.play.specs.Spoken.{words_behind}
+use Rattle.play.specs.Scripts.{words_behind}
 use Rattle.play.proofs.Words.{with_none_some}
-use Rattle.play.proofs.line.read_head.Goals as goal
+use Rattle.play.proofs.ask.read_head.Goals as goal
 
 pub returns-in-Some : goal.returns-in-Some
 returns-in-Some c =

@@ -1,8 +1,7 @@
 use Rattle.std.proofs.Common.{◌≡◌, ◌∷◌, ap, sym, ◌∙◌, option_map}
-use Rattle.play.specs.Scripts.{words}
-use Rattle.play.specs.Spoken.{one_of, words_behind}
+use Rattle.play.specs.Scripts.{words, one_of, words_behind}
 use Rattle.play.proofs.Words.{none_alone}
-use Rattle.play.proofs.line.one_word.Goals as goal
+use Rattle.play.proofs.word.one_word.Goals as goal
 
 pub returns-in_default-Some : goal.returns-in_default-Some
 returns-in_default-Some c =

@@ -2,8 +2,8 @@ use Rattle.std.proofs.Common.{◌≡◌, ◌≢◌, ℕ, ◌≤◌, Ok, ap, sym,
 use Rattle.std.specs.Fmt.{decimal}
 use Rattle.std.specs.Str.{IsUtf8}
 use Rattle.play.proofs.Numbers.{decimal_is_utf8, is_number, is_parsed, no_number, the_number}
-use Rattle.play.proofs.line.read_number.Goals as goal
-use Rattle.play.proofs.line.read_number.Goals.{else-number-most-via-then-number-most+else-eq, else-number-most-via-else-number-most}
+use Rattle.play.proofs.word.read_number.Goals as goal
+use Rattle.play.proofs.word.read_number.Goals.{else-number-most-via-then-number-most+else-eq, else-number-most-via-else-number-most}
 
 pub returns-in_err-ok : goal.returns-in_err-ok
 returns-in_err-ok c =

@@ -1,7 +1,7 @@
 use Rattle.std.proofs.Common.{◌≡◌, ◌≢◌, ℕ, ◌<◌, ◌∷◌, ap, sym, ◌∙◌, get_or, length, rules, drop}
 use Rattle.play.specs.Scripts.{words}
 use Rattle.play.proofs.Words.{words_at, words_none}
-use Rattle.play.proofs.line.first_word.Goals as goal
+use Rattle.play.proofs.word.first_word.Goals as goal
 
 pub returns-in-Some : goal.returns-in-Some
 returns-in-Some c =
