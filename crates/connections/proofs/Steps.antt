@@ -13,7 +13,7 @@ use Rattle.connections.specs.Fitting.{Adds, IsOfConnection, KeepsCourse, KeepsTa
 use Rattle.connections.specs.declared.ending.SessionFault.{SessionFault}
 use Rattle.connections.specs.Histories.{NoneWaits, On, Deed, Comes, Opens, Refuses, Reads, IsOver, IsSilent, Hears, Misses, Lacks, Takes, TakesNone, Fails, Ends, Closes, History, Course, IfThere, Telling, clock, course, done_at, if_answered, of_connections, stage, went_on}
 use Rattle.connections.specs.Telling.{losses, lost}
-use Rattle.connections.specs.Rounds.{changes, closes, gives_turn, offers, reads, was_busy, InRound, IsUnread}
+use Rattle.connections.specs.Rounds.{does_something, closes, gives_turn, offers, reads, was_busy, InRound, IsUnread}
 use Rattle.connections.specs.Soundness.{Here, AreNext, HasRoom, IsDue, IsHearing, IsOnce, IsReason, IsWell, MayBeOffered, MayBeRead, MayHear}
 
 -- ---- where a connection is
@@ -265,7 +265,7 @@ module _ {C : Type 0} (has : C → History → Type 0) where
   -- what comes of a deed of a connection
   abbrev pub Comes-to : ℕ → ℕ → History → Deed → C → (Course → Type 0) → Type 0
   Comes-to idle place acts deed new P = (after : History) × Adds place acts after × Knows has idle new after × Here (course after place) P
-      × ((is : Deed → Bool) → is deed ≡ true → InRound is after place) × (was_busy after ≡ changes deed || was_busy acts)
+      × ((is : Deed → Bool) → is deed ≡ true → InRound is after place) × (was_busy after ≡ does_something deed || was_busy acts)
 
   pub come_to : (idle place : ℕ) (acts : History) (old new : C) (deed : Deed) (P : Course → Type 0) → IsOfConnection deed
       → (has old (of_connections acts) → has new (of_connections (On place deed ∷ acts))) → Knows has idle old acts → Next idle acts place deed P

@@ -71,21 +71,21 @@ closes Ends = false
 closes (Closes why) = true
 
 -- something is done: a read that finds nothing does nothing, nor does an offer of which nothing is taken
-abbrev pub changes : Deed → Bool
-changes Comes = true
-changes Opens = true
-changes (Refuses why) = true
-changes (Reads bytes) = true
-changes IsOver = true
-changes IsSilent = false
-changes (Hears part reply) = true
-changes (Misses part why) = true
-changes Lacks = true
-changes (Takes bytes) = true
-changes TakesNone = false
-changes Fails = true
-changes Ends = true
-changes (Closes why) = true
+abbrev pub does_something : Deed → Bool
+does_something Comes = true
+does_something Opens = true
+does_something (Refuses why) = true
+does_something (Reads bytes) = true
+does_something IsOver = true
+does_something IsSilent = false
+does_something (Hears part reply) = true
+does_something (Misses part why) = true
+does_something Lacks = true
+does_something (Takes bytes) = true
+does_something TakesNone = false
+does_something Fails = true
+does_something Ends = true
+does_something (Closes why) = true
 
 -- in this round something was done, or no round began yet
 abbrev pub was_busy : History → Bool
@@ -95,7 +95,7 @@ was_busy (Ordered ∷ before) = was_busy before
 was_busy (Syncs kept ∷ before) = was_busy before
 was_busy (GoesOn ∷ before) = was_busy before
 was_busy (NoneWaits ∷ before) = was_busy before
-was_busy (On place deed ∷ before) = changes deed || was_busy before
+was_busy (On place deed ∷ before) = does_something deed || was_busy before
 
 -- in this round, such a deed happened at a place
 abbrev pub InRound : (Deed → Bool) → History → ℕ → Type 0
