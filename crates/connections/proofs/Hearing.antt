@@ -191,8 +191,11 @@ module _ {S : Type 0} (opens : S → ℕ → S → Type 0) (refuses : S → ℕ 
           stays_none place 0 acts,
           subst (λ (s : S). Has opens refuses hears misses ends has idle start connections s acts) (sym (same refl).1) known,
           kept,
-          (attended (course acts place) acts place talk_new.input.items talk_new.output.items talk_new.active talk_new.is_over all
-              (or_full talk_new.is_over acts place talk_new.output.items (not_read talk_new.input.items talk_new.output.items talk_new.is_over still all)) kept, refl),
+          (
+            attended (course acts place) acts place talk_new.input.items talk_new.output.items talk_new.active talk_new.is_over all
+                (or_full talk_new.is_over acts place talk_new.output.items (not_read talk_new.input.items talk_new.output.items talk_new.is_over still all)) kept,
+            refl,
+          ),
         )
 
     -- what a read of a connection comes to: this is then so of it, or there is a reason to close it

@@ -11,7 +11,7 @@ use Rattle.connections.specs.declared.loop_limits.TheConstants.{LAST_MILLISECOND
 use Rattle.connections.specs.declared.talk.Talk.{Talk}
 use Rattle.connections.specs.Endings.{AreInside, AreWithin, HasEnded, IsClosing, IsFinished, IsStopped, comers, most_comers, rounds}
 use Rattle.connections.specs.Fairness.{AreAttended, AreHeard, AreUsed, IsAttended, IsFair, IsServed, IsUsed, IsWhole, NoneOrdered, NoneWaited}
-use Rattle.connections.specs.Rounds.{gives_turn, offers, was_busy, InRound, IsUnread}
+use Rattle.connections.specs.Rounds.{gives_turn, offers, InRound, IsUnread}
 use Rattle.connections.specs.Fitting.{AreUnread, Fits, FitAll, Has, HasWholeRounds, IsKnownBusy, KeepsTalk, KnowsPause, KnowsPauseAt, MayOrder, ServesPlace, Stays, StaysInRound, Tours, Turns}
 use Rattle.connections.specs.Histories.{At, History, Course, Hearing, IfThere, Telling, Stage, clock, course, stage, stopped, Leads}
 use Rattle.connections.specs.Pauses.{IsPause, MayStay, pause_of, until_due, until_idle, until_stopped}
@@ -260,8 +260,9 @@ more_paused idle place came wanting wanting_new longest pause pause_new is_busy 
             (b.0, below_more (λ other. IfThere (course after other) (MayStay idle after most)) place (λ other less. there_stays before after other (MayStay idle before most) (MayStay idle after most) (stays.others other (λ same. absurd (omega arith))) (on most) (b.1 other less)) a.1),
         λ both.
             one.1 (
-            so_far.1 (both.0, λ other less. there_stays after before other (MayStay idle after most) (MayStay idle before most) (sym (stays.others other (λ same. absurd (omega arith)))) (back most) (both.1 other (omega arith))),
-            both.1 place (omega arith)),
+              so_far.1 (both.0, λ other less. there_stays after before other (MayStay idle after most) (MayStay idle before most) (sym (stays.others other (λ same. absurd (omega arith)))) (back most) (both.1 other (omega arith))),
+              both.1 place (omega arith),
+            ),
       ),
 )
   where

@@ -1,5 +1,5 @@
 -- Each round gives each connection its turn.
-use Rattle.std.specs.Prelude.{◌≡◌, ◌≢◌, ◌⊎◌, ◌+◌, ◌<◌, ℕ, [], ◌∷◌, length, true, Option, Some, None, ⊤}
+use Rattle.std.specs.Prelude.{◌≡◌, ◌≢◌, ◌⊎◌, ◌+◌, ◌<◌, ℕ, [], ◌∷◌, length, true, None, ⊤}
 use Rattle.connections.specs.declared.ending.Ending.{Ending}
 use Rattle.connections.specs.declared.loop_limits.TheConstants.{FULL_OUTPUT}
 use Rattle.connections.specs.Endings.{IsClosing, IsFinished, IsStopped}

@@ -1,8 +1,8 @@
 use Rattle.std.proofs.Common.{◌≡◌, ℕ, length, subst, arith, ◌+◌, refl, rules}
 use Rattle.connections.specs.Fairness.{AreServed, IsServed}
-use Rattle.connections.specs.Fitting.{FitAll, IsKnownBusy, KnowsPause, KnowsPauseAt}
+use Rattle.connections.specs.Fitting.{IsKnownBusy, KnowsPause, KnowsPauseAt}
 use Rattle.connections.specs.Histories.{Telling, History}
-use Rattle.connections.proofs.Touring.{Below, Served, all_there, more_told, toured, toured_none, toured_so}
+use Rattle.connections.proofs.Touring.{Below, Served, all_there, more_told, toured, toured_so}
 use Rattle.connections.proofs.places.tell_all.Goals as goal
 
 pub loop-place-preserved : goal.loop-place-preserved
@@ -25,6 +25,7 @@ returns g c =
     (λ (acts : History). AreServed idle acts × KnowsPause idle (length c.args.places.now) c.args.work.now.pause c.loop-place.work.is_busy c.loop-place.work.pause acts)
     c.args.connections.now c.loop-place.connections c.args.sessions.now c.loop-place.sessions c.args.places.now c.loop-place.places
     (λ acts fit told. (
-    all_there c.loop-place.places acts (IsServed idle acts) fit (λ place less. told.0 place (omega arith)),
-    subst (λ (n : ℕ). KnowsPause idle n c.args.work.now.pause c.loop-place.work.is_busy c.loop-place.work.pause acts) end told.1))
+      all_there c.loop-place.places acts (IsServed idle acts) fit (λ place less. told.0 place (omega arith)),
+      subst (λ (n : ℕ). KnowsPause idle n c.args.work.now.pause c.loop-place.work.is_busy c.loop-place.work.pause acts) end told.1,
+    ))
     c.loop-place.invariant

@@ -1,4 +1,4 @@
-use Rattle.std.proofs.Common.{◌≡◌, ◌≢◌, ◌+◌, ◌∷◌, length, false, ℕ, refl, subst, sym, ◌∙◌, arith}
+use Rattle.std.proofs.Common.{◌≡◌, ◌≢◌, ◌+◌, ◌∷◌, length, false, ℕ, refl, subst, sym, ◌∙◌}
 use Rattle.connections.specs.declared.loop_limits.TheConstants.{LONGEST_WAIT}
 use Rattle.connections.specs.Endings.{AreInside, comers, most_comers}
 use Rattle.connections.specs.Fairness.{AreHeard, IsFair}
