@@ -9,9 +9,9 @@ use Rattle.connections.specs.declared.loop_limits.TheConstants.{LAST_MILLISECOND
 use Rattle.connections.specs.declared.talk.Talk.{Talk}
 use Rattle.connections.specs.Fairness.{IsNotDue, IsUsed}
 use Rattle.connections.specs.Fitting.{Fits, Has, IsDone, IsIdleDue, IsJudged, IsStopDue, ending_of, Judged, KeepsCourse, KeepsTalk, Stays}
-use Rattle.connections.specs.Histories.{On, Comes, Opens, Refuses, Ends, Closes, History, Course, Hearing, Telling, clock, course, done_at, of_connections, stage, stopped, taken_at, went_on}
-use Rattle.connections.specs.Rounds.{IsUnread}
-use Rattle.connections.specs.Soundness.{Here, IsDue, IsFaultless, IsNew, IsReason, IsWell}
+use Rattle.connections.specs.Histories.{On, Comes, Opens, Refuses, Ends, Closes, History, Course, Telling, clock, course, done_at, of_connections, stage, stopped, taken_at, went_on}
+use Rattle.connections.specs.Rounds.{was_busy, IsUnread}
+use Rattle.connections.specs.Soundness.{Here, IsDue, IsFaultless, IsHearing, IsNew, IsReason, IsWell}
 use Rattle.connections.specs.Telling.{lost_by}
 use Rattle.connections.proofs.Steps.{here_at, here_of, here_one, here_so, none_left, some_there, stays_both, stays_counted, stays_one, still_unread, went}
 
@@ -130,7 +130,7 @@ module _ {S : Type 0} (opens : S → ℕ → S → Type 0) (refuses : S → ℕ 
   abbrev pub ClosesAt : ℕ → Ending → C → S → C → S → Type 0
   ClosesAt place why connections old connections_new new = (idle : ℕ) (start : S) (acts : History) → Has opens refuses hears misses ends has idle start connections old acts
       → Here (course acts place) (λ of. (of.is_open ≡ true) × IsReason idle acts why of)
-      → (after : History) × Stays place 0 0 (lost_by why) acts after × Has opens refuses hears misses ends has idle start connections_new new after × (course after place ≡ None)
+      → (after : History) × Stays place 0 0 (lost_by why) acts after × Has opens refuses hears misses ends has idle start connections_new new after × (course after place ≡ None) × (was_busy after ≡ true)
 
   pub closed : (place : ℕ) (why : Ending) (connections connections_new : C) (old new : S) → ends old place new
       → ((acts : History) → has connections acts → has connections_new (On place (Closes why) ∷ acts)) → ClosesAt place why connections old connections_new new
@@ -147,33 +147,35 @@ module _ {S : Type 0} (opens : S → ℕ → S → Type 0) (refuses : S → ℕ 
         stays_both place 0 0 0 0 (lost_by why) acts once (On place (Closes why) ∷ once) (stays_one place Ends acts) (stays_one place (Closes why) once),
         (step (of_connections acts) known.0, (old, known.1, ended), ((due_close, λ so. absurd (false≢true so)), ((due_end, λ so. absurd (false≢true so)), known.2))),
         went place (Closes why) once shut there,
+        refl,
       )
 
   -- ---- the beginning of one
 
   module _ (idle : ℕ) (start : S) (acts : History) (place : ℕ) (connections connections_taken : C) (old : S) (known : Has opens refuses hears misses ends has idle start connections old acts)
-      (hearing : stage acts ≡ Hearing) (goes : stopped acts ≡ None) (free : course acts place ≡ None) (unread : IsUnread place acts)
+      (hearing : IsHearing acts) (free : course acts place ≡ None) (unread : IsUnread place acts)
       (step : has connections (of_connections acts) → has connections_taken (On place Comes ∷ of_connections acts)) where
     there : course (On place Comes ∷ acts) place ≡ Some (taken_at (clock acts))
     there = here_one place Comes acts ∙ ap (done_at Comes (clock acts)) free
 
     pub opened : (now wanting : ℕ) → clock acts ≡ now → (new : S) → opens old place new
-        → (after : History) × Stays place 1 wanting wanting acts after × Has opens refuses hears misses ends has idle start connections_taken new after × Here (course after place) (KeepsCourse [] [] now false) × IsUsed after place × IsUnread place after
+        → (after : History) × Stays place 1 wanting wanting acts after × Has opens refuses hears misses ends has idle start connections_taken new after × Here (course after place) (KeepsCourse [] [] now false) × IsUsed after place × IsUnread place after × (was_busy after ≡ true)
     opened now wanting time new does =
         let due : IsDue idle (On place Comes ∷ acts) Opens (course (On place Comes ∷ acts) place) =
         here_at (course (On place Comes ∷ acts) place) (taken_at (clock acts)) IsNew there refl in (
           On place Opens ∷ On place Comes ∷ acts,
           stays_counted place 1 0 wanting wanting acts (On place Opens ∷ On place Comes ∷ acts) (omega arith)
               (stays_both place 1 0 0 0 0 acts (On place Comes ∷ acts) (On place Opens ∷ On place Comes ∷ acts) (stays_one place Comes acts) (stays_one place Opens (On place Comes ∷ acts))),
-          (step known.0, (old, known.1, does), ((due, λ so. absurd (false≢true so)), (((free, hearing, goes), λ so. absurd (false≢true so)), known.2))),
+          (step known.0, (old, known.1, does), ((due, λ so. absurd (false≢true so)), (((free, hearing), λ so. absurd (false≢true so)), known.2))),
           here_at (course (On place Opens ∷ On place Comes ∷ acts) place) (record (taken_at (clock acts)) { is_open = true }) (KeepsCourse [] [] now false) (went place Opens (On place Comes ∷ acts) (taken_at (clock acts)) there)
               (record { fine = (refl, (refl, refl, refl)); input_rest = refl; output_rest = refl; last = time; end = refl }),
           inl (λ (none : course (On place Opens ∷ On place Comes ∷ acts) place ≡ None). some_there _ (sym (went place Opens (On place Comes ∷ acts) (taken_at (clock acts)) there) ∙ none)),
           still_unread place Opens (On place Comes ∷ acts) refl (still_unread place Comes acts refl unread),
+          refl,
         )
 
     pub refused : (fault : SessionFault) (wanting wanting_new : ℕ) → wanting_new ≡ wanting + lost_by (ending_of fault) → refuses old place fault → (connections_new : C) → ((acts : History) → has connections_taken acts → has connections_new (On place (Closes (ending_of fault)) ∷ acts))
-        → (after : History) × Stays place 1 wanting wanting_new acts after × Has opens refuses hears misses ends has idle start connections_new old after × (course after place ≡ None) × IsUsed after place × IsUnread place after
+        → (after : History) × Stays place 1 wanting wanting_new acts after × Has opens refuses hears misses ends has idle start connections_new old after × (course after place ≡ None) × IsUsed after place × IsUnread place after × (was_busy after ≡ true)
     refused fault wanting wanting_new more refuses connections_new close =
         let came : History = On place Comes ∷ acts in
         let shut : History = On place (Refuses fault) ∷ came in
@@ -187,8 +189,9 @@ module _ {S : Type 0} (opens : S → ℕ → S → Type 0) (refuses : S → ℕ 
           On place (Closes why) ∷ shut,
           stays_counted place 1 (lost_by why) wanting wanting_new acts (On place (Closes why) ∷ shut) more
               (stays_both place 1 0 0 0 (lost_by why) acts shut (On place (Closes why) ∷ shut) (stays_both place 1 0 0 0 0 acts came shut (stays_one place Comes acts) (stays_one place (Refuses fault) came)) (stays_one place (Closes why) shut)),
-          (close (On place Comes ∷ of_connections acts) (step known.0), (known.1, refuses), ((due_close, λ so. absurd (false≢true so)), ((due, λ so. absurd (false≢true so)), (((free, hearing, goes), λ so. absurd (false≢true so)), known.2)))),
+          (close (On place Comes ∷ of_connections acts) (step known.0), (known.1, refuses), ((due_close, λ so. absurd (false≢true so)), ((due, λ so. absurd (false≢true so)), (((free, hearing), λ so. absurd (false≢true so)), known.2)))),
           went place (Closes why) shut on.0 is,
           inr (inl (refl, refl)),
           still_unread place (Closes why) shut refl (still_unread place (Refuses fault) came refl (still_unread place Comes acts refl unread)),
+          refl,
         )

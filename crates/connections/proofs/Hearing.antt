@@ -1,5 +1,5 @@
 -- Several parts that are heard, and both sides of an attendance.
-use Rattle.std.proofs.Common.{◌≡◌, ◌≢◌, ◌⊎◌, ℕ, ◌<◌, ◌≤◌, List, [], ◌∷◌, length, drop, ◌+◌, ◌-◌, Bool, true, false, Result, Ok, Err, IfOk, refl, sym, ap, subst, ◌∙◌, inl, inr, arith}
+use Rattle.std.proofs.Common.{◌≡◌, ◌≢◌, ◌⊎◌, ◌||◌, ℕ, ◌<◌, ◌≤◌, List, [], ◌∷◌, length, drop, ◌+◌, ◌-◌, Bool, true, false, Result, Ok, Err, IfOk, refl, sym, ap, subst, ◌∙◌, inl, inr, arith}
 use Rattle.std.proofs.lemmas.Bool.{false≢true}
 use Rattle.std.proofs.lemmas.Grind.{common_steps}
 use Rattle.connections.specs.declared.ending.Ending.{Ending}
@@ -9,11 +9,11 @@ use Rattle.connections.specs.declared.ending.SessionFault.{SessionFault}
 use Rattle.connections.specs.declared.loop_limits.TheConstants.{FULL_OUTPUT}
 use Rattle.connections.specs.Endings.{newcomers}
 use Rattle.connections.specs.Telling.{lost}
-use Rattle.connections.specs.Rounds.{gives_turn, InRound, IsUnread}
-use Rattle.connections.specs.Fitting.{Adds, Attends, GoesOrCloses, Hearkens, HearsFrom, IsOfConnection, KeepsCourse, KeepsTalk, Knows, Stays}
-use Rattle.connections.specs.Histories.{On, Deed, Comes, Opens, Refuses, Reads, IsOver, IsSilent, Hears, Misses, Lacks, Takes, TakesNone, Fails, Ends, Closes, History, Course, Hearing, course, stage, Leads}
-use Rattle.connections.specs.Soundness.{Here}
-use Rattle.connections.proofs.Steps.{attended, next_lack, not_read, stays_both, stays_counted, stays_none, stays_one}
+use Rattle.connections.specs.Rounds.{gives_turn, was_busy, InRound, IsUnread}
+use Rattle.connections.specs.Fitting.{Adds, Attends, GoesOrCloses, Has, Hearkens, HearsFrom, IsOfConnection, KeepsCourse, KeepsTalk, Knows, Stays}
+use Rattle.connections.specs.Histories.{On, Deed, Comes, Opens, Refuses, Reads, IsOver, IsSilent, Hears, Misses, Lacks, Takes, TakesNone, Fails, Ends, Closes, History, Course, course, Leads}
+use Rattle.connections.specs.Soundness.{Here, IsHearing}
+use Rattle.connections.proofs.Steps.{attended, next_lack, not_read, stays_both, stays_counted, stays_none, stays_one, still_hearing}
 
 drops : (n m : ℕ) (bytes : List ℕ) → drop m (drop n bytes) ≡ drop (n + m) bytes
 drops n m bytes = grind (arith, common_steps)
@@ -93,7 +93,7 @@ module _ {S : Type 0} (opens : S → ℕ → S → Type 0) (refuses : S → ℕ 
     more_few heard count input one.0 two.0,
     λ over idle start acts held hearing time here.
         let a = one.1 over idle start acts held hearing time here in
-        let b = two.1 over idle start a.0 a.3 (a.1.same_stage ∙ hearing) (a.1.same_clock ∙ time) a.4 in
+        let b = two.1 over idle start a.0 a.3 (still_hearing place 0 0 0 acts a.0 a.1 hearing) (a.1.same_clock ∙ time) a.4 in
         (b.0, stays_both place 0 0 0 0 0 acts a.0 b.0 a.1 b.1, b.2 ∙ a.2, b.3, subst (λ (t : List ℕ). Here (course b.0 place) (KeepsCourse t output_new active_new over)) (drops heard count input) b.4, λ so. b.5 refl),
   )
 
@@ -106,7 +106,7 @@ module _ {S : Type 0} (opens : S → ℕ → S → Type 0) (refuses : S → ℕ 
     tt,
     λ over idle start acts held hearing time here.
         let a = one.1 over idle start acts held hearing time here in
-        let b = two.1 over idle start a.0 a.3 (a.1.same_stage ∙ hearing) (a.1.same_clock ∙ time) a.4 in
+        let b = two.1 over idle start a.0 a.3 (still_hearing place 0 0 0 acts a.0 a.1 hearing) (a.1.same_clock ∙ time) a.4 in
         (b.0, stays_both place 0 0 0 0 0 acts a.0 b.0 a.1 b.1, b.2 ∙ a.2, b.3, b.4, tt),
   )
 
@@ -130,7 +130,7 @@ module _ {S : Type 0} (opens : S → ℕ → S → Type 0) (refuses : S → ℕ 
       → Hearkens opens refuses hears misses ends {X = X} test place now old (KeepsCourse input output active over) (Err Memory) new Then
   heard_lost test place now old input output active over count new output_new active_new Then one some full = λ idle start acts held hearing time here.
       let a = one.1 over idle start acts held hearing time here in
-      let next = next_lack idle a.0 place (drop count input) output_new active_new over (a.1.same_stage ∙ hearing) some full a.4 in (
+      let next = next_lack idle a.0 place (drop count input) output_new active_new over (still_hearing place 0 0 0 acts a.0 a.1 hearing) some full a.4 in (
         On place Lacks ∷ a.0,
         stays_both place 0 0 0 0 0 acts a.0 (On place Lacks ∷ a.0) a.1 (stays_one place Lacks a.0),
         a.2,
@@ -168,82 +168,85 @@ module _ {S : Type 0} (opens : S → ℕ → S → Type 0) (refuses : S → ℕ 
     pub attends_last : (place now : ℕ) (connections : C) (old : S) (talk : Talk) (result : Result Bool Ending) (new : S) (talk_new : Talk)
         → Hearkens opens refuses hears misses ends {X = Bool} (λ done. done) place now old (KeepsTalk talk) result new (λ _. KeepsTalk talk_new)
         → IfOk result (λ done. (talk_new.input.items ≡ []) ⊎ (FULL_OUTPUT < length talk_new.output.items))
-        → (result ≡ Ok false → talk_new ≡ talk)
+        → (result ≡ Ok false → (talk_new ≡ talk) × (new ≡ old))
         → ¬ ((talk.input.items ≡ []) × (talk.is_over ≡ false) × (length talk.output.items ≤ FULL_OUTPUT))
-        → Attends opens refuses hears misses ends has {X = Bool} Hearing place now connections old talk result connections new talk_new
+        → Attends opens refuses hears misses ends has place now connections old talk result connections new talk_new
     attends_last place now connections old talk (Err why) new talk_new two all same busy = λ idle start acts known hearing time unread here.
         let b = two idle start acts (known.1, known.2) hearing time here in
         (b.0, b.1, (subst (has connections) (sym b.2) known.0, b.3.0, b.3.1), b.4, tt)
     attends_last place now connections old talk (Ok true) new talk_new two all same busy = λ idle start acts known hearing time unread here.
         let b = two idle start acts (known.1, known.2) hearing time here in
-        let asked : InRound gives_turn b.0 place = b.5 refl in (
+        let asked : InRound gives_turn b.0 place = (b.5 refl).0 in (
           b.0,
           b.1,
           (subst (has connections) (sym b.2) known.0, b.3.0, b.3.1),
           b.4,
-          attended (course b.0 place) b.0 place talk_new.input.items talk_new.output.items talk_new.active talk_new.is_over all (inr (inl asked)) b.4,
+          (attended (course b.0 place) b.0 place talk_new.input.items talk_new.output.items talk_new.active talk_new.is_over all (inr (inl asked)) b.4, (b.5 refl).1),
         )
     attends_last place now connections old talk (Ok false) new talk_new two all same busy = λ idle start acts known hearing time unread here.
-        let b = two idle start acts (known.1, known.2) hearing time here in
         let still : ¬ ((talk_new.input.items ≡ []) × (talk_new.is_over ≡ false) × (length talk_new.output.items ≤ FULL_OUTPUT)) =
-        subst (λ (t : Talk). ¬ ((t.input.items ≡ []) × (t.is_over ≡ false) × (length t.output.items ≤ FULL_OUTPUT))) (sym (same refl)) busy in (
-          b.0,
-          b.1,
-          (subst (has connections) (sym b.2) known.0, b.3.0, b.3.1),
-          b.4,
-          attended (course b.0 place) b.0 place talk_new.input.items talk_new.output.items talk_new.active talk_new.is_over all
-              (or_full talk_new.is_over b.0 place talk_new.output.items (not_read talk_new.input.items talk_new.output.items talk_new.is_over still all)) b.4,
+        subst (λ (t : Talk). ¬ ((t.input.items ≡ []) × (t.is_over ≡ false) × (length t.output.items ≤ FULL_OUTPUT))) (sym (same refl).0) busy in
+        let kept : Here (course acts place) (KeepsTalk talk_new) = subst (λ (t : Talk). Here (course acts place) (KeepsTalk t)) (sym (same refl).0) here in (
+          acts,
+          stays_none place 0 acts,
+          subst (λ (s : S). Has opens refuses hears misses ends has idle start connections s acts) (sym (same refl).1) known,
+          kept,
+          (
+            attended (course acts place) acts place talk_new.input.items talk_new.output.items talk_new.active talk_new.is_over all
+                (or_full talk_new.is_over acts place talk_new.output.items (not_read talk_new.input.items talk_new.output.items talk_new.is_over still all)) kept,
+            refl,
+          ),
         )
 
     -- what a read of a connection comes to: this is then so of it, or there is a reason to close it
     abbrev pub ReadsFirst : ℕ → C → Talk → C → Result Bool Ending → (Course → Type 0) → Type 0
-    ReadsFirst place connections talk connections_new result Kept = (idle : ℕ) (acts : History) → Knows has idle connections acts → stage acts ≡ Hearing → IsUnread place acts → Here (course acts place) (KeepsTalk talk)
-        → (after : History) × Adds place acts after × Knows has idle connections_new after × GoesOrCloses idle after place result (λ _. Kept) × IfOk result (λ done. InRound gives_turn after place)
+    ReadsFirst place connections talk connections_new result Kept = (idle : ℕ) (acts : History) → Knows has idle connections acts → IsHearing acts → IsUnread place acts → Here (course acts place) (KeepsTalk talk)
+        → (after : History) × Adds place acts after × Knows has idle connections_new after × GoesOrCloses idle after place result (λ _. Kept) × IfOk result (λ done. InRound gives_turn after place × (was_busy after ≡ done || was_busy acts))
 
     -- what happened to the connection, and then to its session
     pub attends_both : (place now : ℕ) (connections : C) (old : S) (talk : Talk) (connections_new : C) (Kept : Course → Type 0) (new : S) (talk_new : Talk)
         → ReadsFirst place connections talk connections_new (Ok true) Kept
         → Hearkens opens refuses hears misses ends {X = Unit {0}} (λ _. true) place now old Kept (Ok tt) new (λ _. KeepsTalk talk_new)
         → (talk_new.input.items ≡ []) ⊎ (FULL_OUTPUT < length talk_new.output.items)
-        → Attends opens refuses hears misses ends has {X = Bool} Hearing place now connections old talk (Ok true) connections_new new talk_new
+        → Attends opens refuses hears misses ends has place now connections old talk (Ok true) connections_new new talk_new
     attends_both place now connections old talk connections_new Kept new talk_new one two all = λ idle start acts known hearing time unread here.
         let a = one idle acts (known.0, known.2) hearing unread here in
         let stays : Stays place 0 0 0 acts a.0 = stays_adds place 0 acts a.0 a.1 in
         let leads : Leads opens refuses hears misses ends start a.0 old = leads_adds start acts a.0 old place a.1 known.1 in
-        let b = two idle start a.0 (leads, a.2.1) (stays.same_stage ∙ hearing) (stays.same_clock ∙ time) a.3 in
-        let asked : InRound gives_turn b.0 place = b.1.lasts.turns gives_turn place a.4 in (
+        let b = two idle start a.0 (leads, a.2.1) (still_hearing place 0 0 0 acts a.0 stays hearing) (stays.same_clock ∙ time) a.3 in
+        let asked : InRound gives_turn b.0 place = b.1.lasts.turns gives_turn place a.4.0 in (
           b.0,
           stays_both place 0 0 0 0 0 acts a.0 b.0 stays b.1,
           (subst (has connections_new) (sym b.2) a.2.0, b.3.0, b.3.1),
           b.4,
-          attended (course b.0 place) b.0 place talk_new.input.items talk_new.output.items talk_new.active talk_new.is_over all (inr (inl asked)) b.4,
+          (attended (course b.0 place) b.0 place talk_new.input.items talk_new.output.items talk_new.active talk_new.is_over all (inr (inl asked)) b.4, (b.5 refl).1),
         )
 
     pub attends_stop : (place now : ℕ) (connections : C) (old : S) (talk : Talk) (connections_new : C) (Kept : Course → Type 0) (why : Ending) (new : S) (talk_new : Talk)
         → ReadsFirst place connections talk connections_new (Ok true) Kept
         → Hearkens opens refuses hears misses ends {X = Unit {0}} (λ _. true) place now old Kept (Err why) new (λ _. KeepsTalk talk_new)
-        → Attends opens refuses hears misses ends has {X = Bool} Hearing place now connections old talk (Err why) connections_new new talk_new
+        → Attends opens refuses hears misses ends has place now connections old talk (Err why) connections_new new talk_new
     attends_stop place now connections old talk connections_new Kept why new talk_new one two = λ idle start acts known hearing time unread here.
         let a = one idle acts (known.0, known.2) hearing unread here in
         let stays : Stays place 0 0 0 acts a.0 = stays_adds place 0 acts a.0 a.1 in
         let leads : Leads opens refuses hears misses ends start a.0 old = leads_adds start acts a.0 old place a.1 known.1 in
-        let b = two idle start a.0 (leads, a.2.1) (stays.same_stage ∙ hearing) (stays.same_clock ∙ time) a.3 in
+        let b = two idle start a.0 (leads, a.2.1) (still_hearing place 0 0 0 acts a.0 stays hearing) (stays.same_clock ∙ time) a.3 in
         (b.0, stays_both place 0 0 0 0 0 acts a.0 b.0 stays b.1, (subst (has connections_new) (sym b.2) a.2.0, b.3.0, b.3.1), b.4, tt)
 
     -- only what happened to the connection
     pub attends_first : (place now : ℕ) (connections : C) (old : S) (talk : Talk) (connections_new : C) (result : Result Bool Ending) (talk_new : Talk)
         → ReadsFirst place connections talk connections_new result (KeepsTalk talk_new)
         → IfOk result (λ done. talk_new.input.items ≡ [])
-        → Attends opens refuses hears misses ends has {X = Bool} Hearing place now connections old talk result connections_new old talk_new
+        → Attends opens refuses hears misses ends has place now connections old talk result connections_new old talk_new
     attends_first place now connections old talk connections_new (Err why) talk_new one none = λ idle start acts known hearing time unread here.
         let a = one idle acts (known.0, known.2) hearing unread here in
         (a.0, stays_adds place 0 acts a.0 a.1, (a.2.0, leads_adds start acts a.0 old place a.1 known.1, a.2.1), a.3, tt)
     attends_first place now connections old talk connections_new (Ok done) talk_new one none = λ idle start acts known hearing time unread here.
         let a = one idle acts (known.0, known.2) hearing unread here in
-        let asked : InRound gives_turn a.0 place = a.4 in (
+        let asked : InRound gives_turn a.0 place = a.4.0 in (
           a.0,
           stays_adds place 0 acts a.0 a.1,
           (a.2.0, leads_adds start acts a.0 old place a.1 known.1, a.2.1),
           a.3,
-          attended (course a.0 place) a.0 place talk_new.input.items talk_new.output.items talk_new.active talk_new.is_over (inl none) (inr (inl asked)) a.3,
+          (attended (course a.0 place) a.0 place talk_new.input.items talk_new.output.items talk_new.active talk_new.is_over (inl none) (inr (inl asked)) a.3, a.4.1),
         )

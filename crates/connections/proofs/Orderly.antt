@@ -54,11 +54,11 @@ at_place idle acts deed other place false is due order = rw is order
 
 pub in_order : (idle : ℕ) (acts : History) (place : ℕ) → IsSoundHistory idle acts → AreInOrder (course acts place)
 in_order idle [] place sound = tt
-in_order idle (At now ∷ acts) place sound = in_order idle acts place sound
+in_order idle (At pause now ∷ acts) place sound = in_order idle acts place sound.1
 in_order idle (Ordered ∷ acts) place sound = in_order idle acts place sound
 in_order idle (Syncs kept ∷ acts) place sound = in_order idle acts place sound.1
 in_order idle (GoesOn ∷ acts) place sound = in_order idle acts place sound.1
-in_order idle (NoneWaits ∷ acts) place sound = in_order idle acts place sound.2
+in_order idle (NoneWaits ∷ acts) place sound = in_order idle acts place sound.1
 in_order idle (On other deed ∷ acts) place sound = at_place idle acts deed other place (other == place) refl sound.0.0 (in_order idle acts place sound.1)
 
 whole : (idle : ℕ) (acts : History) (there : Option Course) → IsDue idle acts (Closes Done) there → Here there (λ of. IsHeard of × IsTaken of)

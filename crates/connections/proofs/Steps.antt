@@ -1,5 +1,5 @@
 -- One deed more at a place.
-use Rattle.std.proofs.Common.{◌≡◌, ◌≢◌, ℕ, ◌+◌, ◌<◌, ◌≤◌, List, [], ◌∷◌, ◌++◌, ◌⊎◌, length, Bool, true, false, Option, Some, None, Result, Ok, Err, IfOk, refl, sym, ap, ◌∙◌, append_assoc, arith, inl, inr}
+use Rattle.std.proofs.Common.{◌≡◌, ◌≢◌, ℕ, ◌+◌, ◌<◌, ◌≤◌, List, [], ◌∷◌, ◌++◌, ◌⊎◌, ◌||◌, length, Bool, true, false, Option, Some, None, Result, Ok, Err, IfOk, refl, sym, ap, ◌∙◌, append_assoc, arith, inl, inr}
 use Rattle.std.proofs.lemmas.Bool.{cases_lt, eq-eqb, eqb-true, false≢true, ne_eqb}
 use Rattle.std.proofs.lemmas.List.{append-nil, length-append}
 use Rattle.std.specs.Prelude.{◌==◌}
@@ -8,13 +8,13 @@ use Rattle.connections.specs.declared.ending.SessionFault.TheVariants as fault
 use Rattle.connections.specs.declared.loop_limits.TheConstants.{PIECE_SIZE, FULL_OUTPUT}
 use Rattle.connections.specs.declared.talk.Talk.{Talk}
 use Rattle.connections.specs.Endings.{comers, newcomers}
-use Rattle.connections.specs.Fairness.{IfThere, IsAttended, IsFull, IsNotDue, IsServed, IsUsed}
+use Rattle.connections.specs.Fairness.{IsAttended, IsFull, IsNotDue, IsServed, IsUsed}
 use Rattle.connections.specs.Fitting.{Adds, IsOfConnection, KeepsCourse, KeepsTalk, Knows, Lasts, Stays, ending_of}
 use Rattle.connections.specs.declared.ending.SessionFault.{SessionFault}
-use Rattle.connections.specs.Histories.{NoneWaits, On, Deed, Comes, Opens, Refuses, Reads, IsOver, IsSilent, Hears, Misses, Lacks, Takes, TakesNone, Fails, Ends, Closes, History, Course, Hearing, Telling, clock, course, done_at, if_answered, of_connections, stage, went_on}
+use Rattle.connections.specs.Histories.{NoneWaits, On, Deed, Comes, Opens, Refuses, Reads, IsOver, IsSilent, Hears, Misses, Lacks, Takes, TakesNone, Fails, Ends, Closes, History, Course, IfThere, Telling, clock, course, done_at, if_answered, of_connections, stage, went_on}
 use Rattle.connections.specs.Telling.{losses, lost}
-use Rattle.connections.specs.Rounds.{closes, gives_turn, offers, reads, InRound, IsUnread}
-use Rattle.connections.specs.Soundness.{Here, AreNext, HasRoom, IsDue, IsOnce, IsReason, IsWell, MayBeOffered, MayBeRead, MayHear}
+use Rattle.connections.specs.Rounds.{does_something, closes, gives_turn, offers, reads, was_busy, InRound, IsUnread}
+use Rattle.connections.specs.Soundness.{Here, AreNext, HasRoom, IsDue, IsHearing, IsOnce, IsReason, IsWell, MayBeOffered, MayBeRead, MayHear}
 
 -- ---- where a connection is
 
@@ -166,14 +166,14 @@ not_told of input output active over some keeps same = some (none_left of.answer
 abbrev pub Next : ℕ → History → ℕ → Deed → (Course → Type 0) → Type 0
 Next idle acts place deed P = (IsDue idle acts deed (course acts place) × IsOnce acts place deed) × Here (course (On place deed ∷ acts) place) P
 
-pub next_read : (idle : ℕ) (acts : History) (place : ℕ) (bytes input output : List ℕ) (active : ℕ) (over : Bool) → IsUnread place acts → stage acts ≡ Hearing → 1 ≤ length bytes → length bytes ≤ PIECE_SIZE
+pub next_read : (idle : ℕ) (acts : History) (place : ℕ) (bytes input output : List ℕ) (active : ℕ) (over : Bool) → IsUnread place acts → IsHearing acts → 1 ≤ length bytes → length bytes ≤ PIECE_SIZE
     → Here (course acts place) (λ of. KeepsCourse input output active over of × MayBeRead of) → Next idle acts place (Reads bytes) (KeepsCourse bytes output active over)
 next_read idle acts place bytes input output active over unread hearing some few here =
     let found = here_of (course acts place) (λ (of : Course). KeepsCourse input output active over of × MayBeRead of) here in
     let of : Course = found.0 in
     let keeps : KeepsCourse input output active over of = found.2.0 in
     let may : MayBeRead of = found.2.1 in (
-      (here_at (course acts place) of (λ (of : Course). MayBeRead of × (stage acts ≡ Hearing) × (1 ≤ length bytes) × (length bytes ≤ PIECE_SIZE)) found.1 (may, hearing, some, few), λ so. unread),
+      (here_at (course acts place) of (λ (of : Course). MayBeRead of × IsHearing acts × (1 ≤ length bytes) × (length bytes ≤ PIECE_SIZE)) found.1 (may, hearing, some, few), λ so. unread),
       here_at (course (On place (Reads bytes) ∷ acts) place) (record of { read = of.read ++ bytes }) (KeepsCourse bytes output active over) (went place (Reads bytes) acts of found.1)
           (record {
             fine = keeps.fine;
@@ -184,13 +184,13 @@ next_read idle acts place bytes input output active over unread hearing some few
           }),
     )
 
-pub next_over : (idle : ℕ) (acts : History) (place : ℕ) (input output : List ℕ) (active : ℕ) (over : Bool) → IsUnread place acts → stage acts ≡ Hearing
+pub next_over : (idle : ℕ) (acts : History) (place : ℕ) (input output : List ℕ) (active : ℕ) (over : Bool) → IsUnread place acts → IsHearing acts
     → Here (course acts place) (λ of. KeepsCourse input output active over of × MayBeRead of) → Next idle acts place IsOver (KeepsCourse input output active true)
 next_over idle acts place input output active over unread hearing here =
     let found = here_of (course acts place) (λ (of : Course). KeepsCourse input output active over of × MayBeRead of) here in
     let of : Course = found.0 in
     let keeps : KeepsCourse input output active over of = found.2.0 in (
-      (here_at (course acts place) of (λ (of : Course). MayBeRead of × (stage acts ≡ Hearing)) found.1 (found.2.1, hearing), λ so. unread),
+      (here_at (course acts place) of (λ (of : Course). MayBeRead of × IsHearing acts) found.1 (found.2.1, hearing), λ so. unread),
       here_at (course (On place IsOver ∷ acts) place) (record of { is_over = true }) (KeepsCourse input output active true) (went place IsOver acts of found.1)
           (record {
             fine = keeps.fine;
@@ -201,18 +201,18 @@ next_over idle acts place input output active over unread hearing here =
           }),
     )
 
-pub next_silent : (idle : ℕ) (acts : History) (place : ℕ) (input output : List ℕ) (active : ℕ) (over : Bool) → IsUnread place acts → stage acts ≡ Hearing
+pub next_silent : (idle : ℕ) (acts : History) (place : ℕ) (input output : List ℕ) (active : ℕ) (over : Bool) → IsUnread place acts → IsHearing acts
     → Here (course acts place) (λ of. KeepsCourse input output active over of × MayBeRead of) → Next idle acts place IsSilent (KeepsCourse input output active over)
 next_silent idle acts place input output active over unread hearing here =
     let found = here_of (course acts place) (λ (of : Course). KeepsCourse input output active over of × MayBeRead of) here in
     let of : Course = found.0 in (
-      (here_at (course acts place) of (λ (of : Course). MayBeRead of × (stage acts ≡ Hearing)) found.1 (found.2.1, hearing), λ so. unread),
+      (here_at (course acts place) of (λ (of : Course). MayBeRead of × IsHearing acts) found.1 (found.2.1, hearing), λ so. unread),
       here_at (course (On place IsSilent ∷ acts) place) of (KeepsCourse input output active over) (went place IsSilent acts of found.1) found.2.0,
     )
 
 -- a read fails, where the connection may be read, or a write does, where it may take
 abbrev pub MayFail : History → Course → Type 0
-MayFail acts of = (MayBeRead of × (stage acts ≡ Hearing)) ⊎ (MayBeOffered of × (stage acts ≡ Telling true))
+MayFail acts of = (MayBeRead of × IsHearing acts) ⊎ (MayBeOffered of × (stage acts ≡ Telling true))
 
 pub next_fail : (idle : ℕ) (acts : History) (place : ℕ) (input output : List ℕ) (active : ℕ) (over : Bool) → Here (course acts place) (λ of. KeepsCourse input output active over of × MayFail acts of)
     → Next idle acts place Fails (λ of. (of.is_open ≡ true) × (of.has_failed ≡ true))
@@ -265,12 +265,12 @@ module _ {C : Type 0} (has : C → History → Type 0) where
   -- what comes of a deed of a connection
   abbrev pub Comes-to : ℕ → ℕ → History → Deed → C → (Course → Type 0) → Type 0
   Comes-to idle place acts deed new P = (after : History) × Adds place acts after × Knows has idle new after × Here (course after place) P
-      × ((is : Deed → Bool) → is deed ≡ true → InRound is after place)
+      × ((is : Deed → Bool) → is deed ≡ true → InRound is after place) × (was_busy after ≡ does_something deed || was_busy acts)
 
   pub come_to : (idle place : ℕ) (acts : History) (old new : C) (deed : Deed) (P : Course → Type 0) → IsOfConnection deed
       → (has old (of_connections acts) → has new (of_connections (On place deed ∷ acts))) → Knows has idle old acts → Next idle acts place deed P
       → Comes-to idle place acts deed new P
-  come_to idle place acts old new deed P is step knows next = (On place deed ∷ acts, inr (deed, is, refl), (step knows.0, (next.0, knows.1)), next.1, λ test so. inl (refl, so))
+  come_to idle place acts old new deed P is step knows next = (On place deed ∷ acts, inr (deed, is, refl), (step knows.0, (next.0, knows.1)), next.1, λ test so. inl (refl, so), refl)
 
 -- ---- a part that is heard
 
@@ -284,7 +284,7 @@ active_is (x ∷ reply) out grown now active result is longer same =
     let e : length out < length grown = rw (is, length-append) (omega arith) in
     sym (longer e)
 
-pub next_hear : (idle : ℕ) (acts : History) (place : ℕ) (part rest reply input output : List ℕ) (active : ℕ) (over : Bool) → stage acts ≡ Hearing → 1 ≤ length part → input ≡ part ++ rest
+pub next_hear : (idle : ℕ) (acts : History) (place : ℕ) (part rest reply input output : List ℕ) (active : ℕ) (over : Bool) → IsHearing acts → 1 ≤ length part → input ≡ part ++ rest
     → length output ≤ FULL_OUTPUT → Here (course acts place) (KeepsCourse input output active over)
     → Next idle acts place (Hears part reply) (KeepsCourse rest (output ++ reply) (if_answered reply (clock acts) active) over)
 next_hear idle acts place part rest reply input output active over hearing some split few here =
@@ -294,7 +294,7 @@ next_hear idle acts place part rest reply input output active over hearing some 
     let read : of.read ≡ of.heard ++ (part ++ rest) = keeps.input_rest ∙ ap (λ (t : List ℕ). of.heard ++ t) split in
     let size : length of.answered ≡ length of.taken + length output = ap length keeps.output_rest ∙ length-append of.taken output in
     let room : HasRoom of = omega arith in (
-      (here_at (course acts place) of (λ (of : Course). MayHear of part × (stage acts ≡ Hearing)) found.1 ((keeps.fine, room, some, (rest, read)), hearing), λ so. absurd (false≢true so)),
+      (here_at (course acts place) of (λ (of : Course). MayHear of part × IsHearing acts) found.1 ((keeps.fine, room, some, (rest, read)), hearing), λ so. absurd (false≢true so)),
       here_at (course (On place (Hears part reply) ∷ acts) place) (record of { heard = of.heard ++ part; answered = of.answered ++ reply; active = if_answered reply (clock acts) of.active })
           (KeepsCourse rest (output ++ reply) (if_answered reply (clock acts) active) over) (went place (Hears part reply) acts of found.1)
           (record {
@@ -312,7 +312,7 @@ missed : (idle : ℕ) (acts : History) (part : List ℕ) (why : SessionFault) (n
 missed idle acts part fault.Memory now of opened = (record of { is_wanting = true }, refl, opened, refl)
 missed idle acts part fault.Refused now of opened = (record of { is_refused = true }, refl, opened, refl)
 
-pub next_miss : (idle : ℕ) (acts : History) (place : ℕ) (part rest input output : List ℕ) (active : ℕ) (over : Bool) (why : SessionFault) → stage acts ≡ Hearing → 1 ≤ length part → input ≡ part ++ rest
+pub next_miss : (idle : ℕ) (acts : History) (place : ℕ) (part rest input output : List ℕ) (active : ℕ) (over : Bool) (why : SessionFault) → IsHearing acts → 1 ≤ length part → input ≡ part ++ rest
     → length output ≤ FULL_OUTPUT → Here (course acts place) (KeepsCourse input output active over)
     → Next idle acts place (Misses part why) (λ of. (of.is_open ≡ true) × IsReason idle (On place (Misses part why) ∷ acts) (ending_of why) of)
 next_miss idle acts place part rest input output active over why hearing some split few here =
@@ -323,13 +323,13 @@ next_miss idle acts place part rest input output active over why hearing some sp
     let size : length of.answered ≡ length of.taken + length output = ap length keeps.output_rest ∙ length-append of.taken output in
     let room : HasRoom of = omega arith in
     let then = missed idle (On place (Misses part why) ∷ acts) part why (clock acts) of keeps.fine.0 in (
-      (here_at (course acts place) of (λ (of : Course). MayHear of part × (stage acts ≡ Hearing)) found.1 ((keeps.fine, room, some, (rest, read)), hearing), λ so. absurd (false≢true so)),
+      (here_at (course acts place) of (λ (of : Course). MayHear of part × IsHearing acts) found.1 ((keeps.fine, room, some, (rest, read)), hearing), λ so. absurd (false≢true so)),
       here_at (course (On place (Misses part why) ∷ acts) place) then.0 (λ (of : Course). (of.is_open ≡ true) × IsReason idle (On place (Misses part why) ∷ acts) (ending_of why) of)
           (went place (Misses part why) acts of found.1 ∙ then.1) (then.2, then.3),
     )
 
 -- what waits to be heard cannot be kept
-pub next_lack : (idle : ℕ) (acts : History) (place : ℕ) (input output : List ℕ) (active : ℕ) (over : Bool) → stage acts ≡ Hearing → input ≢ [] → FULL_OUTPUT < length output
+pub next_lack : (idle : ℕ) (acts : History) (place : ℕ) (input output : List ℕ) (active : ℕ) (over : Bool) → IsHearing acts → input ≢ [] → FULL_OUTPUT < length output
     → Here (course acts place) (KeepsCourse input output active over) → Next idle acts place Lacks (λ of. (of.is_open ≡ true) × (of.is_wanting ≡ true))
 next_lack idle acts place input output active over hearing some full here =
     let found = here_of (course acts place) (KeepsCourse input output active over) here in
@@ -338,7 +338,7 @@ next_lack idle acts place input output active over hearing some full here =
     let size : length of.answered ≡ length of.taken + length output = ap length keeps.output_rest ∙ length-append of.taken output in
     let no_room : ¬ HasRoom of = λ (room : length of.answered ≤ length of.taken + FULL_OUTPUT). absurd (omega arith) in (
       (
-        here_at (course acts place) of (λ (of : Course). IsWell of × (of.read ≢ of.heard) × (¬ HasRoom of) × (stage acts ≡ Hearing)) found.1
+        here_at (course acts place) of (λ (of : Course). IsWell of × (of.read ≢ of.heard) × (¬ HasRoom of) × IsHearing acts) found.1
             (keeps.fine, (λ same. some (none_left of.read of.heard input keeps.input_rest same)), no_room, hearing),
         λ so. absurd (false≢true so),
       ),
@@ -346,6 +346,10 @@ next_lack idle acts place input output active over hearing some full here =
     )
 
 -- ---- several deeds
+
+-- connections are still heard
+pub still_hearing : (place came wanting wanting_new : ℕ) (acts after : History) → Stays place came wanting wanting_new acts after → IsHearing acts → IsHearing after
+still_hearing place came wanting wanting_new acts after stays (hearing, goes) = (stays.same_stage ∙ hearing, stays.same_stop ∙ goes)
 
 pub stays_none : (place wanting : ℕ) (acts : History) → Stays place 0 wanting wanting acts acts
 stays_none place wanting acts = record { others = λ other differs. refl; same_clock = refl; same_stage = refl; same_stop = refl; same_rounds = refl; lasts = lasts_none acts; more_came = omega arith; more_lost = refl; unread = λ other differs none. none; inside = λ size less inside. inside }
@@ -438,10 +442,10 @@ not_read input output false not (inl none) = by_size (cases_lt FULL_OUTPUT (leng
 pub synced_by : (one other : Bool) → Telling one ≡ Telling other → one ≡ other
 synced_by one other same = cc
 
-pub offered : (result : Result Bool Ending) (acts : History) (place : ℕ) (output : List ℕ) → IfOk result (λ done. InRound offers acts place)
-    → IfOk result (λ done. (output ≡ []) ⊎ InRound offers acts place)
-offered (Ok done) acts place output found = inr found
-offered (Err why) acts place output none = tt
+pub offered : (result : Result Bool Ending) (acts after : History) (place : ℕ) (output : List ℕ) → IfOk result (λ done. InRound offers after place × (was_busy after ≡ done || was_busy acts))
+    → IfOk result (λ done. ((output ≡ []) ⊎ InRound offers after place) × (was_busy after ≡ done || was_busy acts))
+offered (Ok done) acts after place output (found, busy) = (inr found, busy)
+offered (Err why) acts after place output none = tt
 
 pub served : (idle : ℕ) (acts : History) (place : ℕ) (there : Option Course) (talk : Talk) → Here there (KeepsTalk talk) → (talk.output.items ≡ []) ⊎ InRound offers acts place
     → Here there (IsNotDue idle acts) → Here there (IsServed idle acts place)

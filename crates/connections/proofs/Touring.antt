@@ -1,19 +1,21 @@
 -- How a round begins, and what comes of rounds.
 use Rattle.std.proofs.Common.{◌≡◌, ◌≢◌, ◌⊎◌, ℕ, zero, suc, ◌+◌, ◌-◌, ◌^◌, ◌<◌, ◌≤◌, List, [], ◌∷◌, length, get_or, set, Bool, true, false, Option, None, Some, refl, sym, ap, subst, ◌∙◌, arith, inl, inr, below_more, get_or-set_same, get_or-set_other}
-use Rattle.std.proofs.lemmas.Bool.{cases_lt, eqb-true, eqb-false}
+use Rattle.std.proofs.Math.Nat.{le-min, min-le_left, min-le_right}
+use Rattle.std.proofs.lemmas.Bool.{cases_lt, eqb-true, eqb-false, false≢true}
 use Rattle.std.proofs.lemmas.List.{get_or_past, get_or_read}
-use Rattle.std.specs.Prelude.{◌==◌}
+use Rattle.std.specs.Prelude.{◌==◌, ◌↔◌, if◌then◌else◌, min}
 use Rattle.connections.specs.declared.ending.Ending.{Ending}
 use Rattle.connections.specs.declared.ending.Ending.TheVariants.{Done, Fault, Idle, Stopped, Unsynced, Memory, Refused}
 use Rattle.connections.specs.declared.ending.SessionFault.{SessionFault}
-use Rattle.connections.specs.declared.loop_limits.TheConstants.{LAST_MILLISECONDS}
+use Rattle.connections.specs.declared.loop_limits.TheConstants.{LAST_MILLISECONDS, LONGEST_WAIT}
 use Rattle.connections.specs.declared.talk.Talk.{Talk}
 use Rattle.connections.specs.Endings.{AreInside, AreWithin, HasEnded, IsClosing, IsFinished, IsStopped, comers, most_comers, rounds}
-use Rattle.connections.specs.Fairness.{AreAttended, AreHeard, AreUsed, IfThere, IsAttended, IsFair, IsServed, IsUsed, IsWhole, NoneOrdered, NoneWaited}
+use Rattle.connections.specs.Fairness.{AreAttended, AreHeard, AreUsed, IsAttended, IsFair, IsServed, IsUsed, IsWhole, NoneOrdered, NoneWaited}
 use Rattle.connections.specs.Rounds.{gives_turn, offers, InRound, IsUnread}
-use Rattle.connections.specs.Fitting.{AreUnread, Fits, FitAll, Has, HasWholeRounds, MayOrder, ServesPlace, Stays, StaysInRound, Tours, Turns}
-use Rattle.connections.specs.Histories.{At, History, Course, Hearing, Telling, Stage, clock, course, stage, stopped, Leads}
-use Rattle.connections.specs.Soundness.{IsReason, IsTaken}
+use Rattle.connections.specs.Fitting.{AreUnread, Fits, FitAll, Has, HasWholeRounds, IsKnownBusy, KeepsTalk, KnowsPause, KnowsPauseAt, MayOrder, ServesPlace, Stays, StaysInRound, Tours, Turns}
+use Rattle.connections.specs.Histories.{At, History, Course, Hearing, IfThere, Telling, Stage, clock, course, stage, stopped, Leads}
+use Rattle.connections.specs.Pauses.{IsPause, MayStay, pause_of, until_due, until_idle, until_stopped}
+use Rattle.connections.specs.Soundness.{Here, IsReason, IsTaken}
 use Rattle.connections.specs.Telling.{losses, TellsLosses, TellsTimes}
 use Rattle.connections.proofs.Closing.{fits_none, fits_used}
 use Rattle.connections.proofs.Steps.{lasts_both, lasts_none, some_there}
@@ -105,14 +107,14 @@ more_used place came wanting wanting_new before after stays below here = below_m
 abbrev pub UnreadFrom : ℕ → History → Type 0
 UnreadFrom place acts = (other : ℕ) → place ≤ other → IsUnread other acts
 
-pub more_heard : (place came wanting wanting_new : ℕ) (before after : History) → Stays place came wanting wanting_new before after → Below Attended place before × UnreadFrom place before → Attended place after
-    → Below Attended (place + 1) after × UnreadFrom (place + 1) after
-more_heard place came wanting wanting_new before after stays (below, unread) here =
-    (more_attended place came wanting wanting_new before after stays below here, λ other past. stays.unread other (λ same. absurd (omega arith)) (unread other (omega arith)))
+pub more_heard : (place came wanting wanting_new : ℕ) (is_busy is_busy_new : Bool) (before after : History) → Stays place came wanting wanting_new before after → Below Attended place before × UnreadFrom place before × IsKnownBusy is_busy before
+    → Attended place after × IsKnownBusy is_busy_new after → Below Attended (place + 1) after × UnreadFrom (place + 1) after × IsKnownBusy is_busy_new after
+more_heard place came wanting wanting_new is_busy is_busy_new before after stays (below, unread, busy) (here, busy_new) =
+    (more_attended place came wanting wanting_new before after stays below here, λ other past. stays.unread other (λ same. absurd (omega arith)) (unread other (omega arith)), busy_new)
 
-pub more_taken : (place came wanting wanting_new : ℕ) (before after : History) → Stays place came wanting wanting_new before after → AreUsed place before × AreUnread before → IsUsed after place × IsUnread place after
-    → AreUsed (place + 1) after × AreUnread after
-more_taken place came wanting wanting_new before after stays (below, unread) (used, none) = (more_used place came wanting wanting_new before after stays below used, unread_all place came wanting wanting_new before after stays unread none)
+pub more_taken : (place came wanting wanting_new : ℕ) (is_busy is_busy_new : Bool) (before after : History) → Stays place came wanting wanting_new before after → AreUsed place before × AreUnread before × IsKnownBusy is_busy before
+    → IsUsed after place × IsUnread place after × IsKnownBusy is_busy_new after → AreUsed (place + 1) after × AreUnread after × IsKnownBusy is_busy_new after
+more_taken place came wanting wanting_new is_busy is_busy_new before after stays (below, unread, busy) (used, none, busy_new) = (more_used place came wanting wanting_new before after stays below used, unread_all place came wanting wanting_new before after stays unread none, busy_new)
 
 -- a place that has a connection is used
 pub used_here : (places : List (Option Talk)) (place : ℕ) (acts : History) → get_or places place None ≢ None → FitAll places acts → AreUsed place acts → AreUsed (place + 1) acts
@@ -190,18 +192,128 @@ all_there places acts P fit below place = by_size (cases_lt place (length places
         let none : course acts place ≡ None = fits_none (course acts place) (subst (λ (slot : Option Talk). Fits slot (course acts place)) (get_or_past places place None past) (fit place)) in
         subst (λ (there : Option Course). IfThere there (P place)) (sym none) tt
 
+-- ---- what is counted in a round
+
+pub all_lost : (acts begun taken heard told none one two last : ℕ) → begun ≡ acts → none ≡ 0 → taken + none ≡ begun + one → heard + one ≡ taken + two → told + two ≡ heard + last → told ≡ acts + last
+all_lost acts begun taken heard told none one two last same no_loss in_taking in_hearing in_telling = omega arith
+
+pub few_taken : (acts begun taken before left most : ℕ) → begun ≡ acts → acts + before ≡ most → taken + left ≡ begun + before → taken + left ≡ most
+few_taken acts begun taken before left most same all fewer = omega arith
+
+pub few_told : (taken heard told left most : ℕ) → taken + left ≡ most → heard + 0 ≡ taken + 0 → told + 0 ≡ heard + 0 → told + left ≡ most
+few_told taken heard told left most all one two = omega arith
+
+-- ---- for how long the next round may wait
+
+-- at most so long, and no longer than something else allows
+abbrev pub Caps : (ℕ → ℕ) → Type 0
+Caps cap = (longest most : ℕ) → (most ≤ cap longest) ↔ ((most ≤ longest) × (most ≤ cap most))
+
+caps_none : Caps (λ most. most)
+caps_none longest most = (λ few. (few, omega arith), λ both. both.0)
+
+caps_min : (left : ℕ) → Caps (λ most. min most left)
+caps_min left longest most = (
+  λ few.
+      let one : min longest left ≤ longest = min-le_left longest left in
+      let other : min longest left ≤ left = min-le_right longest left in
+      (omega arith, le-min (omega arith) (omega arith)),
+  λ both. let other : min most left ≤ left = min-le_right most left in le-min both.0 (omega arith),
+)
+
+caps_both : (one other : ℕ → ℕ) → Caps one → Caps other → Caps (λ most. other (one most))
+caps_both one other first second longest most = (
+  λ few.
+      let a = (second (one longest) most).0 few in
+      let b = (first longest most).0 a.0 in
+      (b.0, (second (one most) most).1 (b.1, a.1)),
+  λ both.
+      let a = (second (one most) most).0 both.1 in
+      (second (one longest) most).1 ((first longest most).1 (both.0, a.0), a.1),
+)
+
+caps_stopped : (now : ℕ) (stop : Option ℕ) → Caps (until_stopped now stop)
+caps_stopped now None = caps_none
+caps_stopped now (Some since) = caps_min (LAST_MILLISECONDS - (now - since))
+
+caps_idle : (now idle active : ℕ) → Caps (until_idle now idle active)
+caps_idle now idle active = by_test (idle == 0)
+  where
+    by_test : (never : Bool) → Caps (λ most. if never then most else min most (idle - (now - active)))
+    by_test true = caps_none
+    by_test false = caps_min (idle - (now - active))
+
+pub caps_due : (now idle : ℕ) (stop : Option ℕ) (active : ℕ) → Caps (until_due now idle stop active)
+caps_due now idle stop active = caps_both (until_stopped now stop) (until_idle now idle active) (caps_stopped now stop) (caps_idle now idle active)
+
+-- one place more
+pub more_paused : (idle place came wanting wanting_new longest pause pause_new : ℕ) (is_busy is_busy_new : Bool) (before after : History) → Stays place came wanting wanting_new before after → KnowsPause idle place longest is_busy pause before
+    → KnowsPauseAt idle place is_busy pause is_busy_new pause_new after → KnowsPause idle (place + 1) longest is_busy_new pause_new after
+more_paused idle place came wanting wanting_new longest pause pause_new is_busy is_busy_new before after stays known here = (
+  here.0,
+  λ free most.
+      let so_far = known.1 (here.1 free).0 most in
+      let one = (here.1 free).1 most in (
+        λ few.
+            let a = one.0 few in
+            let b = so_far.0 a.0 in
+            (b.0, below_more (λ other. IfThere (course after other) (MayStay idle after most)) place (λ other less. there_stays before after other (MayStay idle before most) (MayStay idle after most) (stays.others other (λ same. absurd (omega arith))) (on most) (b.1 other less)) a.1),
+        λ both.
+            one.1 (
+              so_far.1 (both.0, λ other less. there_stays after before other (MayStay idle after most) (MayStay idle before most) (sym (stays.others other (λ same. absurd (omega arith)))) (back most) (both.1 other (omega arith))),
+              both.1 place (omega arith),
+            ),
+      ),
+)
+  where
+    on : (most : ℕ) (of : Course) → MayStay idle before most of → MayStay idle after most of
+    on most of stay = rw (stays.same_clock, stays.same_stop) stay
+
+    back : (most : ℕ) (of : Course) → MayStay idle after most of → MayStay idle before most of
+    back most of stay = rw (stays.same_clock, stays.same_stop) at stay
+
+pub more_told : (idle place came wanting wanting_new longest pause pause_new : ℕ) (is_busy is_busy_new : Bool) (before after : History) → Stays place came wanting wanting_new before after
+    → Below (Served idle) place before × KnowsPause idle place longest is_busy pause before → Served idle place after × KnowsPauseAt idle place is_busy pause is_busy_new pause_new after
+    → Below (Served idle) (place + 1) after × KnowsPause idle (place + 1) longest is_busy_new pause_new after
+more_told idle place came wanting wanting_new longest pause pause_new is_busy is_busy_new before after stays (below, known) (here, paused) =
+    (more_served idle place came wanting wanting_new before after stays below here, more_paused idle place came wanting wanting_new longest pause pause_new is_busy is_busy_new before after stays known paused)
+
+-- what is known of the place of a connection that was told
+pub pause_told : (idle place now : ℕ) (stop : Option ℕ) (pause pause_new : ℕ) (is_busy is_busy_new : Bool) (acts : History) (talk : Talk) → clock acts ≡ now → stopped acts ≡ stop → Here (course acts place) (KeepsTalk talk)
+    → IsKnownBusy is_busy_new acts → (is_busy_new ≡ false → is_busy ≡ false) → pause_new ≡ until_due now idle stop talk.active pause → KnowsPauseAt idle place is_busy pause is_busy_new pause_new acts
+pause_told idle place now stop pause pause_new is_busy is_busy_new acts talk time order here busy free_before is = (busy, λ free. (free_before free, by_there (course acts place) here))
+  where
+    by_there : (there : Option Course) → Here there (KeepsTalk talk) → (most : ℕ) → (most ≤ pause_new) ↔ ((most ≤ pause) × IfThere there (MayStay idle acts most))
+    by_there None here most = absurd here
+    by_there (Some of) keeps most = rw (is, time, order, keeps.last) (caps_due now idle stop talk.active pause most)
+
+-- nor does a free place bring anything
+pub pause_free : (idle place pause : ℕ) (is_busy : Bool) (acts : History) → course acts place ≡ None → IsKnownBusy is_busy acts → KnowsPauseAt idle place is_busy pause is_busy pause acts
+pause_free idle place pause is_busy acts gone busy = (busy, λ free. (free, λ most. (λ few. (few, rw gone tt), λ both. both.0)))
+
+-- what is known of all places is known of the next round
+pub paused : (idle longest pause : ℕ) (is_busy : Bool) (places : List (Option Talk)) (acts : History) → FitAll places acts → longest ≡ LONGEST_WAIT → KnowsPause idle (length places) longest is_busy pause acts → IsPause idle acts (pause_of is_busy pause)
+paused idle longest pause true places acts fit same known = (λ so. refl, λ none. absurd (false≢true (sym none ∙ known.0)))
+paused idle longest pause false places acts fit same known = (
+  λ so. absurd (false≢true (sym known.0 ∙ so)),
+  λ none most. (
+    λ few. let all = (known.1 refl most).0 few in (subst (λ (n : ℕ). most ≤ n) same all.0, all_there places acts (λ place. MayStay idle acts most) fit all.1),
+    λ may. (known.1 refl most).1 (subst (λ (n : ℕ). most ≤ n) (sym same) may.0, λ place less. may.1 place),
+  ),
+)
+
 module _ {S : Type 0} (opens : S → ℕ → S → Type 0) (refuses : S → ℕ → SessionFault → Type 0) (hears : S → ℕ → List ℕ → List ℕ → S → Type 0) (misses : S → ℕ → List ℕ → SessionFault → S → Type 0) (ends : S → ℕ → S → Type 0) where
   -- what is so when a round has begun
   abbrev pub Begun : S → S → History → ℕ → History → Type 0
   Begun start sessions acts now after = Leads opens refuses hears misses ends start after sessions × (stage after ≡ Hearing) × (clock after ≡ now) × ((place : ℕ) → course after place ≡ course acts place)
       × (comers after ≡ comers acts) × (rounds after ≡ rounds acts + 1)
       × ((idle count size : ℕ) → IsFair idle count size acts → IsWhole idle acts → ¬ IsFinished count acts → IsFair idle count size after)
-      × AreUnread after × ((size : ℕ) → AreInside size acts → AreInside size after) × (losses after ≡ losses acts)
+      × (AreUnread after × IsKnownBusy false after) × ((size : ℕ) → AreInside size acts → AreInside size after) × (losses after ≡ losses acts)
 
-  pub begun : (start sessions : S) (acts : History) (now : ℕ) (after : History) → MayOrder (At now ∷ acts) after → Leads opens refuses hears misses ends start acts sessions → Begun start sessions acts now after
-  begun start sessions acts now after (inl same) leads = subst (Begun start sessions acts now) (sym same) (leads, refl, refl, λ place. refl, refl, refl, λ idle count size fair whole more. (whole, more, fair), λ place found. found, λ size inside. inside, refl)
-  begun start sessions acts now after (inr (inl same)) leads = subst (Begun start sessions acts now) (sym same) (leads, refl, refl, λ place. refl, refl, refl, λ idle count size fair whole more. (whole, more, fair), λ place found. found, λ size inside. inside, refl)
-  begun start sessions acts now after (inr (inr same)) leads = subst (Begun start sessions acts now) (sym same) (leads, refl, refl, λ place. refl, refl, refl, λ idle count size fair whole more. (whole, more, fair), λ place found. found, λ size inside. inside, refl)
+  pub begun : (start sessions : S) (acts : History) (pause now : ℕ) (after : History) → MayOrder (At pause now ∷ acts) after → Leads opens refuses hears misses ends start acts sessions → Begun start sessions acts now after
+  begun start sessions acts pause now after (inl same) leads = subst (Begun start sessions acts now) (sym same) (leads, refl, refl, λ place. refl, refl, refl, λ idle count size fair whole more. (whole, more, fair), (λ place found. found, refl), λ size inside. inside, refl)
+  begun start sessions acts pause now after (inr (inl same)) leads = subst (Begun start sessions acts now) (sym same) (leads, refl, refl, λ place. refl, refl, refl, λ idle count size fair whole more. (whole, more, fair), (λ place found. found, refl), λ size inside. inside, refl)
+  begun start sessions acts pause now after (inr (inr same)) leads = subst (Begun start sessions acts now) (sym same) (leads, refl, refl, λ place. refl, refl, refl, λ idle count size fair whole more. (whole, more, fair), (λ place found. found, refl), λ size inside. inside, refl)
 
   pub fit_begun : (start sessions : S) (acts : History) (now : ℕ) (after : History) (places : List (Option Talk)) → Begun start sessions acts now after → FitAll places acts → FitAll places after
   fit_begun start sessions acts now after places begun fit = λ place. subst (λ (there : Option Course). Fits (get_or places place None) there) (sym (begun.3 place)) (fit place)
@@ -264,19 +376,19 @@ module _ {S : Type 0} (opens : S → ℕ → S → Type 0) (refuses : S → ℕ 
     -- ---- rounds, one after another
 
     -- how the loop stands after so many rounds, when so many more connections may be taken, and what it wrote
-    abbrev pub Stands : ℕ → ℕ → ℕ → S → Option (List ℕ) → Option (List ℕ) → C → S → List (Option Talk) → Option ℕ → ℕ → ℕ → Type 0
-    Stands idle count size start written errors connections sessions places stop left turns = (acts : History) × Has opens refuses hears misses ends has idle start connections sessions acts
-        × (stopped acts ≡ stop) × FitAll places acts × (rounds acts ≡ turns) × TellsLosses acts written errors × HasWholeRounds idle count size left acts
+    abbrev pub Stands : ℕ → ℕ → ℕ → S → Option (List ℕ) → Option (List ℕ) → C → S → List (Option Talk) → Option ℕ → ℕ → ℕ → ℕ → Type 0
+    Stands idle count size start written errors connections sessions places stop left pause turns = (acts : History) × Has opens refuses hears misses ends has idle start connections sessions acts
+        × (stopped acts ≡ stop) × FitAll places acts × (rounds acts ≡ turns) × TellsLosses acts written errors × HasWholeRounds idle count size left pause acts
 
     -- one round more
-    pub turned : (idle idle_now count size left left_new turns wanting : ℕ) (stop stop_new : Option ℕ) (connections connections_new : C) (sessions new : S) (places places_new : List (Option Talk))
-        → idle_now ≡ idle → length places ≡ size → MayGoOn left stop places → (start : S) (written errors errors_new : Option (List ℕ)) → Stands idle count size start written errors connections sessions places stop left turns
+    pub turned : (idle idle_now count size left left_new pause pause_new turns wanting : ℕ) (stop stop_new : Option ℕ) (connections connections_new : C) (sessions new : S) (places places_new : List (Option Talk))
+        → idle_now ≡ idle → length places ≡ size → MayGoOn left stop places → (start : S) (written errors errors_new : Option (List ℕ)) → Stands idle count size start written errors connections sessions places stop left pause turns
         → TellsTimes wanting errors errors_new
-        → Turns opens refuses hears misses ends has idle_now stop left connections sessions places stop_new left_new wanting connections_new new places_new
-        → Stands idle count size start written errors_new connections_new new places_new stop_new left_new (turns + 1)
-    turned idle idle_now count size left left_new turns wanting stop stop_new connections connections_new sessions new places places_new same_idle same_size goes start written errors errors_new (acts, known, order, fit, began, told, whole) lines one =
-        let turns_now = subst (λ (i : ℕ). Turns opens refuses hears misses ends has i stop left connections sessions places stop_new left_new wanting connections_new new places_new) same_idle one in
-        let t = turns_now count start acts known order fit (subst (λ (n : ℕ). HasWholeRounds idle count n left acts) (sym same_size) whole)
+        → Turns opens refuses hears misses ends has idle_now stop left pause connections sessions places stop_new left_new pause_new wanting connections_new new places_new
+        → Stands idle count size start written errors_new connections_new new places_new stop_new left_new pause_new (turns + 1)
+    turned idle idle_now count size left left_new pause pause_new turns wanting stop stop_new connections connections_new sessions new places places_new same_idle same_size goes start written errors errors_new (acts, known, order, fit, began, told, whole) lines one =
+        let turns_now = subst (λ (i : ℕ). Turns opens refuses hears misses ends has i stop left pause connections sessions places stop_new left_new pause_new wanting connections_new new places_new) same_idle one in
+        let t = turns_now count start acts known order fit (subst (λ (n : ℕ). HasWholeRounds idle count n left pause acts) (sym same_size) whole)
         (not_finished count left stop acts places order fit whole.0 goes) in
         let round : rounds t.0 ≡ rounds acts + 1 = t.4 in
         let lost : losses t.0 ≡ losses acts + wanting = t.5 in (
@@ -286,7 +398,7 @@ module _ {S : Type 0} (opens : S → ℕ → S → Type 0) (refuses : S → ℕ 
           t.3,
           round ∙ ap (λ (n : ℕ). n + 1) began,
           subst (λ (n : ℕ). TellsTimes n written errors_new) (sym lost) (tells_times (losses acts) wanting written errors errors_new told lines),
-          subst (λ (n : ℕ). HasWholeRounds idle count n left_new t.0) same_size t.6,
+          subst (λ (n : ℕ). HasWholeRounds idle count n left_new pause_new t.0) same_size t.6,
         )
 
     -- what is so when the loop ends
@@ -299,10 +411,10 @@ module _ {S : Type 0} (opens : S → ℕ → S → Type 0) (refuses : S → ℕ 
     closing count left None acts order most (inr some) = absurd (some refl)
     closing count left (Some since) acts order most (inr some) = inl (since, order)
 
-    pub ended : (idle count size left turns : ℕ) (stop : Option ℕ) (start : S) (written errors : Option (List ℕ)) (connections : C) (sessions : S) (places : List (Option Talk))
-        → Stands idle count size start written errors connections sessions places stop left turns → (left ≡ 0) ⊎ (stop ≢ None) → ((place : ℕ) → get_or places place None ≡ None)
+    pub ended : (idle count size left pause turns : ℕ) (stop : Option ℕ) (start : S) (written errors : Option (List ℕ)) (connections : C) (sessions : S) (places : List (Option Talk))
+        → Stands idle count size start written errors connections sessions places stop left pause turns → (left ≡ 0) ⊎ (stop ≢ None) → ((place : ℕ) → get_or places place None ≡ None)
         → EndsWell idle count size start written errors connections sessions
-    ended idle count size left turns stop start written errors connections sessions places (acts, known, order, fit, began, told, whole) closes free = (
+    ended idle count size left pause turns stop start written errors connections sessions places (acts, known, order, fit, began, told, whole) closes free = (
       acts,
       known,
       let m : comers acts + left ≡ most_comers count = whole.0 in omega arith,
@@ -313,9 +425,9 @@ module _ {S : Type 0} (opens : S → ℕ → S → Type 0) (refuses : S → ℕ 
       told,
     )
 
-    pub ended_late : (idle count size left turns : ℕ) (stop : Option ℕ) (start : S) (written errors : Option (List ℕ)) (connections : C) (sessions : S) (places : List (Option Talk))
-        → Stands idle count size start written errors connections sessions places stop left turns → turns ≡ 2 ^ 64 - 1 → EndsWell idle count size start written errors connections sessions
-    ended_late idle count size left turns stop start written errors connections sessions places (acts, known, order, fit, began, told, whole) last = (
+    pub ended_late : (idle count size left pause turns : ℕ) (stop : Option ℕ) (start : S) (written errors : Option (List ℕ)) (connections : C) (sessions : S) (places : List (Option Talk))
+        → Stands idle count size start written errors connections sessions places stop left pause turns → turns ≡ 2 ^ 64 - 1 → EndsWell idle count size start written errors connections sessions
+    ended_late idle count size left pause turns stop start written errors connections sessions places (acts, known, order, fit, began, told, whole) last = (
       acts,
       known,
       let m : comers acts + left ≡ most_comers count = whole.0 in omega arith,

@@ -55,11 +55,11 @@ at_place idle most acts deed other place false is due few waits = rw is waits
 
 waits_now : (idle most : ℕ) (acts : History) (place : ℕ) → IsSoundHistory idle acts → AreAnsweredWithin most acts → WaitsWithin most (course acts place)
 waits_now idle most [] place sound few = tt
-waits_now idle most (At now ∷ acts) place sound few = waits_now idle most acts place sound few
+waits_now idle most (At pause now ∷ acts) place sound few = waits_now idle most acts place sound.1 few
 waits_now idle most (Ordered ∷ acts) place sound few = waits_now idle most acts place sound few
 waits_now idle most (Syncs kept ∷ acts) place sound few = waits_now idle most acts place sound.1 few
 waits_now idle most (GoesOn ∷ acts) place sound few = waits_now idle most acts place sound.1 few
-waits_now idle most (NoneWaits ∷ acts) place sound few = waits_now idle most acts place sound.2 few
+waits_now idle most (NoneWaits ∷ acts) place sound few = waits_now idle most acts place sound.1 few
 waits_now idle most (On other deed ∷ acts) place sound few =
     at_place idle most acts deed other place (other == place) refl sound.0.0 few.0 (waits_now idle most acts place sound.1 few.1)
 
@@ -67,16 +67,16 @@ waits_now idle most (On other deed ∷ acts) place sound few =
 
 pub sound_before : (idle : ℕ) (later earlier : History) → IsSoundHistory idle (later ++ earlier) → IsSoundHistory idle earlier
 sound_before idle [] earlier sound = sound
-sound_before idle (At now ∷ later) earlier sound = sound_before idle later earlier sound
+sound_before idle (At pause now ∷ later) earlier sound = sound_before idle later earlier sound.1
 sound_before idle (Ordered ∷ later) earlier sound = sound_before idle later earlier sound
 sound_before idle (Syncs kept ∷ later) earlier sound = sound_before idle later earlier sound.1
 sound_before idle (GoesOn ∷ later) earlier sound = sound_before idle later earlier sound.1
-sound_before idle (NoneWaits ∷ later) earlier sound = sound_before idle later earlier sound.2
+sound_before idle (NoneWaits ∷ later) earlier sound = sound_before idle later earlier sound.1
 sound_before idle (On place deed ∷ later) earlier sound = sound_before idle later earlier sound.1
 
 few_before : (most : ℕ) (later earlier : History) → AreAnsweredWithin most (later ++ earlier) → AreAnsweredWithin most earlier
 few_before most [] earlier few = few
-few_before most (At now ∷ later) earlier few = few_before most later earlier few
+few_before most (At pause now ∷ later) earlier few = few_before most later earlier few
 few_before most (Ordered ∷ later) earlier few = few_before most later earlier few
 few_before most (Syncs kept ∷ later) earlier few = few_before most later earlier few
 few_before most (GoesOn ∷ later) earlier few = few_before most later earlier few

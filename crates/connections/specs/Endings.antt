@@ -22,7 +22,7 @@ newcomers (Closes why) = 0
 -- how many connections were taken
 abbrev pub comers : History → ℕ
 comers [] = 0
-comers (At now ∷ before) = comers before
+comers (At pause now ∷ before) = comers before
 comers (Ordered ∷ before) = comers before
 comers (Syncs kept ∷ before) = comers before
 comers (GoesOn ∷ before) = comers before
@@ -32,7 +32,7 @@ comers (On place deed ∷ before) = comers before + newcomers deed
 -- how many rounds began
 abbrev pub rounds : History → ℕ
 rounds [] = 0
-rounds (At now ∷ before) = rounds before + 1
+rounds (At pause now ∷ before) = rounds before + 1
 rounds (Ordered ∷ before) = rounds before
 rounds (Syncs kept ∷ before) = rounds before
 rounds (GoesOn ∷ before) = rounds before
@@ -51,7 +51,7 @@ AreWithin count acts = comers acts ≤ most_comers count
 -- all happened at places below so many
 abbrev pub AreInside : ℕ → History → Type 0
 AreInside size [] = ⊤
-AreInside size (At now ∷ before) = AreInside size before
+AreInside size (At pause now ∷ before) = AreInside size before
 AreInside size (Ordered ∷ before) = AreInside size before
 AreInside size (Syncs kept ∷ before) = AreInside size before
 AreInside size (GoesOn ∷ before) = AreInside size before

@@ -1,9 +1,9 @@
 -- Each round gives each connection its turn.
-use Rattle.std.specs.Prelude.{◌≡◌, ◌≢◌, ◌⊎◌, ◌+◌, ◌<◌, ℕ, [], ◌∷◌, length, true, Option, Some, None, ⊤}
+use Rattle.std.specs.Prelude.{◌≡◌, ◌≢◌, ◌⊎◌, ◌+◌, ◌<◌, ℕ, [], ◌∷◌, length, true, None, ⊤}
 use Rattle.connections.specs.declared.ending.Ending.{Ending}
 use Rattle.connections.specs.declared.loop_limits.TheConstants.{FULL_OUTPUT}
 use Rattle.connections.specs.Endings.{IsClosing, IsFinished, IsStopped}
-use Rattle.connections.specs.Histories.{At, Ordered, GoesOn, Syncs, NoneWaits, On, History, Course, Hearing, course, stage}
+use Rattle.connections.specs.Histories.{At, Ordered, GoesOn, Syncs, NoneWaits, On, History, Course, Hearing, IfThere, course, stage}
 use Rattle.connections.specs.Rounds.{closes, gives_turn, offers, InRound}
 use Rattle.connections.specs.Soundness.{IsHeard, IsReason, IsTaken}
 
@@ -12,7 +12,7 @@ use Rattle.connections.specs.Soundness.{IsHeard, IsReason, IsTaken}
 -- in this round, no connection waited to be taken
 abbrev pub NoneWaited : History → Type 0
 NoneWaited [] = ⊥
-NoneWaited (At now ∷ before) = ⊥
+NoneWaited (At pause now ∷ before) = ⊥
 NoneWaited (Ordered ∷ before) = NoneWaited before
 NoneWaited (Syncs kept ∷ before) = NoneWaited before
 NoneWaited (GoesOn ∷ before) = NoneWaited before
@@ -22,7 +22,7 @@ NoneWaited (On place deed ∷ before) = NoneWaited before
 -- in this round, no stop was ordered so far
 abbrev pub NoneOrdered : History → Type 0
 NoneOrdered [] = ⊥
-NoneOrdered (At now ∷ before) = ⊥
+NoneOrdered (At pause now ∷ before) = ⊥
 NoneOrdered (Ordered ∷ before) = NoneOrdered before
 NoneOrdered (GoesOn ∷ before) = ⊤
 NoneOrdered (Syncs kept ∷ before) = NoneOrdered before
@@ -30,11 +30,6 @@ NoneOrdered (NoneWaits ∷ before) = NoneOrdered before
 NoneOrdered (On place deed ∷ before) = NoneOrdered before
 
 -- ---- the turn of one connection
-
--- if there is a connection, this is so of it
-abbrev pub IfThere : Option Course → (Course → Type 0) → Type 0
-IfThere None P = ⊤
-IfThere (Some of) P = P of
 
 -- so much that was answered waits for the connection that nothing is read or heard
 abbrev pub IsFull : Course → Type 0
@@ -83,7 +78,7 @@ IsWhole idle acts = (stage acts ≢ Hearing) × AreServed idle acts
 -- may be taken and one may be idle for so long.
 abbrev pub IsFair : ℕ → ℕ → ℕ → History → Type 0
 IsFair idle count size [] = ⊤
-IsFair idle count size (At now ∷ before) = IsWhole idle before × (¬ IsFinished count before) × IsFair idle count size before
+IsFair idle count size (At pause now ∷ before) = IsWhole idle before × (¬ IsFinished count before) × IsFair idle count size before
 IsFair idle count size (Ordered ∷ before) = IsFair idle count size before
 IsFair idle count size (Syncs kept ∷ before) = AreHeard count size before × IsFair idle count size before
 IsFair idle count size (GoesOn ∷ before) = IsFair idle count size before

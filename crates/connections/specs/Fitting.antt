@@ -1,5 +1,5 @@
 -- What the loop keeps of a place, and the history that it stands for.
-use Rattle.std.specs.Prelude.{◌≡◌, ◌≢◌, ◌⊎◌, ◌+◌, ◌<◌, ◌≤◌, ℕ, List, [], ◌∷◌, ◌++◌, Bool, true, false, Option, Some, None, Result, Ok, Err, IfOk, drop, get_or, length, ⊤}
+use Rattle.std.specs.Prelude.{◌≡◌, ◌≢◌, ◌⊎◌, ◌↔◌, ◌+◌, ◌||◌, ◌<◌, ◌≤◌, ℕ, List, [], ◌∷◌, ◌++◌, Bool, true, false, Option, Some, None, Result, Ok, Err, IfOk, drop, get_or, length, ⊤}
 use Rattle.connections.specs.declared.ending.Ending.{Ending}
 use Rattle.connections.specs.declared.ending.Ending.TheVariants.{Done, Fault, Idle, Stopped, Unsynced, Memory, Refused}
 use Rattle.connections.specs.declared.ending.SessionFault.{SessionFault}
@@ -9,10 +9,11 @@ use Rattle.connections.specs.declared.places.Places.{Places}
 use Rattle.connections.specs.declared.talk.Talk.{Talk}
 use Rattle.connections.specs.Endings.{AreInside, IsFinished, comers, most_comers, rounds}
 use Rattle.connections.specs.Fairness.{IsAttended, IsFair, IsUsed, IsWhole, NoneOrdered, NoneWaited}
-use Rattle.connections.specs.Histories.{Stage, Hearing, Ordered, GoesOn, On, Deed, Comes, Opens, Refuses, Reads, IsOver, IsSilent, Hears, Misses, Lacks, Takes, TakesNone, Fails, Ends, Closes, History, Course, clock, course, of_connections, stage, stopped, Leads}
-use Rattle.connections.specs.Rounds.{gives_turn, InRound, IsUnread}
+use Rattle.connections.specs.Histories.{Stage, Ordered, GoesOn, On, Deed, Comes, Opens, Refuses, Reads, IsOver, IsSilent, Hears, Misses, Lacks, Takes, TakesNone, Fails, Ends, Closes, History, Course, IfThere, clock, course, of_connections, stage, stopped, Leads}
+use Rattle.connections.specs.Pauses.{IsPause, MayStay}
+use Rattle.connections.specs.Rounds.{gives_turn, was_busy, InRound, IsUnread}
 use Rattle.connections.specs.Telling.{losses}
-use Rattle.connections.specs.Soundness.{Here, IsReason, IsSoundHistory, IsWell}
+use Rattle.connections.specs.Soundness.{Here, IsHearing, IsReason, IsSoundHistory, IsWell}
 
 -- what was read and not heard, what was answered and not taken, and when the connection was last active
 pub record KeepsCourse (input output : List ℕ) (active : ℕ) (over : Bool) (of : Course) : Type 0 where
@@ -92,6 +93,21 @@ pub record StaysInRound (size left left_new wanting wanting_new : ℕ) (before a
   pub more_lost : losses after + wanting ≡ losses before + wanting_new
   pub inside : AreInside size before → AreInside size after
 
+-- whether something was done in the round so far
+abbrev pub IsKnownBusy : Bool → History → Type 0
+IsKnownBusy is_busy acts = was_busy acts ≡ is_busy
+
+-- the same, and, if nothing was, for how long the next round may wait: at most so long, and as long as each connection
+-- at so many places may stay as it is
+abbrev pub KnowsPause : ℕ → ℕ → ℕ → Bool → ℕ → History → Type 0
+KnowsPause idle size longest is_busy pause acts = IsKnownBusy is_busy acts
+    × (is_busy ≡ false → (most : ℕ) → (most ≤ pause) ↔ ((most ≤ longest) × ((place : ℕ) → place < size → IfThere (course acts place) (MayStay idle acts most))))
+
+-- the same with the connection at one place more
+abbrev pub KnowsPauseAt : ℕ → ℕ → Bool → ℕ → Bool → ℕ → History → Type 0
+KnowsPauseAt idle place is_busy pause is_busy_new pause_new acts = IsKnownBusy is_busy_new acts
+    × (is_busy_new ≡ false → (is_busy ≡ false) × ((most : ℕ) → (most ≤ pause_new) ↔ ((most ≤ pause) × IfThere (course acts place) (MayStay idle acts most))))
+
 -- a stop may be ordered, or none is so far
 abbrev pub MayOrder : History → History → Type 0
 MayOrder before after = (after ≡ before) ⊎ (after ≡ Ordered ∷ before) ⊎ (after ≡ GoesOn ∷ before)
@@ -164,9 +180,9 @@ MayHearFrom input output = (input ≢ []) × (length output ≤ FULL_OUTPUT)
 abbrev pub Knows : {C : Type 0} → (C → History → Type 0) → ℕ → C → History → Type 0
 Knows has idle connections acts = has connections (of_connections acts) × IsSoundHistory idle acts
 
--- the rounds so far are whole, and of so many connections so many more may be taken
-abbrev pub HasWholeRounds : ℕ → ℕ → ℕ → ℕ → History → Type 0
-HasWholeRounds idle count size left acts = (comers acts + left ≡ most_comers count) × IsFair idle count size acts × IsWhole idle acts × AreInside size acts
+-- the rounds so far are whole, of so many connections so many more may be taken, and the next round waits so long
+abbrev pub HasWholeRounds : ℕ → ℕ → ℕ → ℕ → ℕ → History → Type 0
+HasWholeRounds idle count size left pause acts = (comers acts + left ≡ most_comers count) × IsFair idle count size acts × IsWhole idle acts × AreInside size acts × IsPause idle acts pause
 
 -- ---- sessions, and both
 
@@ -178,10 +194,10 @@ module _ {S : Type 0} (opens : S → ℕ → S → Type 0) (refuses : S → ℕ 
   -- what happens to the session of a place while connections are heard, from what is kept of it to what is then kept;
   -- by the test, whether it heard anything
   abbrev pub Hearkens : {X : Type 0} → (X → Bool) → ℕ → ℕ → S → (Course → Type 0) → Result X Ending → S → (X → Course → Type 0) → Type 0
-  Hearkens hears_some place now old Kept result new Then = (idle : ℕ) (start : S) (acts : History) → Held idle start old acts → stage acts ≡ Hearing → clock acts ≡ now
+  Hearkens hears_some place now old Kept result new Then = (idle : ℕ) (start : S) (acts : History) → Held idle start old acts → IsHearing acts → clock acts ≡ now
       → Here (course acts place) Kept
       → (after : History) × Stays place 0 0 0 acts after × (of_connections after ≡ of_connections acts) × Held idle start new after × GoesOrCloses idle after place result Then
-      × IfOk result (λ done. hears_some done ≡ true → InRound gives_turn after place)
+      × IfOk result (λ done. hears_some done ≡ true → InRound gives_turn after place × (was_busy after ≡ true))
 
   -- the session hears so many bytes, at least one, of those that wait to be heard
   abbrev pub HearsFrom : ℕ → ℕ → S → List ℕ → List ℕ → ℕ → Result ℕ Ending → S → List ℕ → ℕ → Type 0
@@ -193,12 +209,13 @@ module _ {S : Type 0} (opens : S → ℕ → S → Type 0) (refuses : S → ℕ 
     abbrev pub Has : ℕ → S → C → S → History → Type 0
     Has idle start connections sessions acts = has connections (of_connections acts) × Leads opens refuses hears misses ends start acts sessions × IsSoundHistory idle acts
 
-    -- what happens to a connection and its session, at this stage of a round, and what is then kept
-    abbrev pub Attends : {X : Type 0} → Stage → ℕ → ℕ → C → S → Talk → Result X Ending → C → S → Talk → Type 0
-    Attends when place now connections old talk result connections_new new talk_new = (idle : ℕ) (start : S) (acts : History) → Has idle start connections old acts
-        → stage acts ≡ when → clock acts ≡ now → IsUnread place acts → Here (course acts place) (KeepsTalk talk)
+    -- what happens to a connection and its session while connections are heard, whether anything is done, and what is
+    -- then kept
+    abbrev pub Attends : ℕ → ℕ → C → S → Talk → Result Bool Ending → C → S → Talk → Type 0
+    Attends place now connections old talk result connections_new new talk_new = (idle : ℕ) (start : S) (acts : History) → Has idle start connections old acts
+        → IsHearing acts → clock acts ≡ now → IsUnread place acts → Here (course acts place) (KeepsTalk talk)
         → (after : History) × Stays place 0 0 0 acts after × Has idle start connections_new new after × Judged idle after place result talk_new
-        × IfOk result (λ done. Here (course after place) (IsAttended after place))
+        × IfOk result (λ done. Here (course after place) (IsAttended after place) × (was_busy after ≡ done || was_busy acts))
 
     -- what happens at a place at this stage of a round that is ready for it, whatever is there, where so many
     -- connections come, and so many are counted as lost before and after, and what is then kept, and so of the round
@@ -214,8 +231,8 @@ module _ {S : Type 0} (opens : S → ℕ → S → Type 0) (refuses : S → ℕ 
         → (after : History) × StaysInRound (length places) left left_new wanting wanting_new acts after × Has idle start connections_new new after × FitAll places_new after × Turn after
 
     -- one round, in which so many connections are closed for want of memory
-    abbrev pub Turns : ℕ → Option ℕ → ℕ → C → S → List (Option Talk) → Option ℕ → ℕ → ℕ → C → S → List (Option Talk) → Type 0
-    Turns idle stop left connections old places stop_new left_new wanting connections_new new places_new = (count : ℕ) (start : S) (acts : History) → Has idle start connections old acts
-        → stopped acts ≡ stop → FitAll places acts → HasWholeRounds idle count (length places) left acts → ¬ IsFinished count acts
+    abbrev pub Turns : ℕ → Option ℕ → ℕ → ℕ → C → S → List (Option Talk) → Option ℕ → ℕ → ℕ → ℕ → C → S → List (Option Talk) → Type 0
+    Turns idle stop left pause connections old places stop_new left_new pause_new wanting connections_new new places_new = (count : ℕ) (start : S) (acts : History) → Has idle start connections old acts
+        → stopped acts ≡ stop → FitAll places acts → HasWholeRounds idle count (length places) left pause acts → ¬ IsFinished count acts
         → (after : History) × Has idle start connections_new new after × (stopped after ≡ stop_new) × FitAll places_new after
-        × (rounds after ≡ rounds acts + 1) × (losses after ≡ losses acts + wanting) × HasWholeRounds idle count (length places) left_new after
+        × (rounds after ≡ rounds acts + 1) × (losses after ≡ losses acts + wanting) × HasWholeRounds idle count (length places) left_new pause_new after

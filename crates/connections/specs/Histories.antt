@@ -1,5 +1,5 @@
 -- What happens to connections and to their sessions, and what a history of it leads to.
-use Rattle.std.specs.Prelude.{◌≡◌, ℕ, List, [], ◌∷◌, ◌++◌, ◌==◌, Bool, true, false, Option, Some, None, if◌then◌else◌}
+use Rattle.std.specs.Prelude.{◌≡◌, ℕ, List, [], ◌∷◌, ◌++◌, ◌==◌, Bool, true, false, Option, Some, None, if◌then◌else◌, ⊤}
 use Rattle.connections.specs.declared.ending.Ending.{Ending}
 use Rattle.connections.specs.declared.ending.SessionFault.{SessionFault}
 use Rattle.connections.specs.declared.ending.SessionFault.TheVariants.{Memory, Refused}
@@ -35,10 +35,10 @@ pub data Deed : Type 0 where
   -- the connection is closed
   Closes : Ending → Deed
 
--- what happens: a round begins, at a time; a stop is ordered, or none is so far; what was answered is put on its disk,
+-- what happens: a round begins that waited for at most so many milliseconds, at a time; a stop is ordered, or none is so far; what was answered is put on its disk,
 -- or is not; no connection waits that can be taken; or something happens at a place
 pub data Act : Type 0 where
-  At : ℕ → Act
+  At : ℕ → ℕ → Act
   Ordered : Act
   GoesOn : Act
   Syncs : Bool → Act
@@ -119,7 +119,7 @@ done_at (Closes why) now None = None
 -- when the latest round began
 abbrev pub clock : History → ℕ
 clock [] = 0
-clock (At now ∷ before) = now
+clock (At pause now ∷ before) = now
 clock (Ordered ∷ before) = clock before
 clock (Syncs kept ∷ before) = clock before
 clock (GoesOn ∷ before) = clock before
@@ -133,7 +133,7 @@ pub data Stage : Type 0 where
 
 abbrev pub stage : History → Stage
 stage [] = Telling false
-stage (At now ∷ before) = Hearing
+stage (At pause now ∷ before) = Hearing
 stage (Ordered ∷ before) = stage before
 stage (Syncs kept ∷ before) = Telling kept
 stage (GoesOn ∷ before) = stage before
@@ -147,7 +147,7 @@ or_now None now = Some now
 
 abbrev pub stopped : History → Option ℕ
 stopped [] = None
-stopped (At now ∷ before) = stopped before
+stopped (At pause now ∷ before) = stopped before
 stopped (Ordered ∷ before) = or_now (stopped before) (clock before)
 stopped (Syncs kept ∷ before) = stopped before
 stopped (GoesOn ∷ before) = stopped before
@@ -157,19 +157,24 @@ stopped (On place deed ∷ before) = stopped before
 -- the connection at a place, if one is there
 abbrev pub course : History → ℕ → Option Course
 course [] place = None
-course (At now ∷ before) place = course before place
+course (At pause now ∷ before) place = course before place
 course (Ordered ∷ before) place = course before place
 course (Syncs kept ∷ before) place = course before place
 course (GoesOn ∷ before) place = course before place
 course (NoneWaits ∷ before) place = course before place
 course (On other deed ∷ before) place = if other == place then done_at deed (clock before) (course before place) else course before place
 
+-- if there is a connection, this is so of it
+abbrev pub IfThere : Option Course → (Course → Type 0) → Type 0
+IfThere None P = ⊤
+IfThere (Some of) P = P of
+
 -- ---- whose acts these are
 
 -- what happens to connections, without what happens to sessions
 abbrev pub of_connections : History → History
 of_connections [] = []
-of_connections (At now ∷ before) = At now ∷ of_connections before
+of_connections (At pause now ∷ before) = At pause now ∷ of_connections before
 of_connections (Ordered ∷ before) = Ordered ∷ of_connections before
 of_connections (Syncs kept ∷ before) = Syncs kept ∷ of_connections before
 of_connections (GoesOn ∷ before) = GoesOn ∷ of_connections before
@@ -193,7 +198,7 @@ of_connections (On place (Closes why) ∷ before) = On place (Closes why) ∷ of
 module _ {S : Type 0} (opens : S → ℕ → S → Type 0) (refuses : S → ℕ → SessionFault → Type 0) (hears : S → ℕ → List ℕ → List ℕ → S → Type 0) (misses : S → ℕ → List ℕ → SessionFault → S → Type 0) (ends : S → ℕ → S → Type 0) where
   abbrev pub Leads : S → History → S → Type 0
   Leads start [] after = after ≡ start
-  Leads start (At now ∷ before) after = Leads start before after
+  Leads start (At pause now ∷ before) after = Leads start before after
   Leads start (Ordered ∷ before) after = Leads start before after
   Leads start (Syncs kept ∷ before) after = Leads start before after
   Leads start (GoesOn ∷ before) after = Leads start before after

@@ -30,7 +30,7 @@ IsAnsweredWithin most (Closes why) = ⊤
 -- each part that is heard is answered with at most so many bytes
 abbrev pub AreAnsweredWithin : ℕ → History → Type 0
 AreAnsweredWithin most [] = ⊤
-AreAnsweredWithin most (At now ∷ before) = AreAnsweredWithin most before
+AreAnsweredWithin most (At pause now ∷ before) = AreAnsweredWithin most before
 AreAnsweredWithin most (Ordered ∷ before) = AreAnsweredWithin most before
 AreAnsweredWithin most (Syncs kept ∷ before) = AreAnsweredWithin most before
 AreAnsweredWithin most (GoesOn ∷ before) = AreAnsweredWithin most before

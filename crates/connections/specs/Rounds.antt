@@ -1,5 +1,5 @@
 -- What happened in a round so far.
-use Rattle.std.specs.Prelude.{◌≡◌, ◌⊎◌, ℕ, [], ◌∷◌, Bool, true, false}
+use Rattle.std.specs.Prelude.{◌≡◌, ◌⊎◌, ℕ, [], ◌∷◌, Bool, true, false, ◌||◌}
 use Rattle.connections.specs.Histories.{At, Ordered, GoesOn, Syncs, NoneWaits, On, Deed, Comes, Opens, Refuses, Reads, IsOver, IsSilent, Hears, Misses, Lacks, Takes, TakesNone, Fails, Ends, Closes, History}
 
 -- a connection was asked for what it sends, or its session heard some of it
@@ -70,10 +70,37 @@ closes Fails = false
 closes Ends = false
 closes (Closes why) = true
 
+-- something is done: a read that finds nothing does nothing, nor does an offer of which nothing is taken
+abbrev pub does_something : Deed → Bool
+does_something Comes = true
+does_something Opens = true
+does_something (Refuses why) = true
+does_something (Reads bytes) = true
+does_something IsOver = true
+does_something IsSilent = false
+does_something (Hears part reply) = true
+does_something (Misses part why) = true
+does_something Lacks = true
+does_something (Takes bytes) = true
+does_something TakesNone = false
+does_something Fails = true
+does_something Ends = true
+does_something (Closes why) = true
+
+-- in this round something was done, or no round began yet
+abbrev pub was_busy : History → Bool
+was_busy [] = true
+was_busy (At pause now ∷ before) = false
+was_busy (Ordered ∷ before) = was_busy before
+was_busy (Syncs kept ∷ before) = was_busy before
+was_busy (GoesOn ∷ before) = was_busy before
+was_busy (NoneWaits ∷ before) = was_busy before
+was_busy (On place deed ∷ before) = does_something deed || was_busy before
+
 -- in this round, such a deed happened at a place
 abbrev pub InRound : (Deed → Bool) → History → ℕ → Type 0
 InRound is [] place = ⊥
-InRound is (At now ∷ before) place = ⊥
+InRound is (At pause now ∷ before) place = ⊥
 InRound is (Ordered ∷ before) place = InRound is before place
 InRound is (Syncs kept ∷ before) place = InRound is before place
 InRound is (GoesOn ∷ before) place = InRound is before place

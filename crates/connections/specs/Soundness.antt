@@ -4,6 +4,7 @@ use Rattle.connections.specs.declared.ending.Ending.{Ending}
 use Rattle.connections.specs.declared.ending.Ending.TheVariants.{Done, Fault, Idle, Stopped, Unsynced, Memory, Refused}
 use Rattle.connections.specs.declared.loop_limits.TheConstants.{PIECE_SIZE, FULL_OUTPUT, LAST_MILLISECONDS}
 use Rattle.connections.specs.Histories.{At, Ordered, GoesOn, Syncs, NoneWaits, On, Deed, Comes, Opens, Refuses, Reads, IsOver, IsSilent, Hears, Misses, Lacks, Takes, TakesNone, Fails, Ends, Closes, History, Course, Hearing, Telling, clock, course, stage, stopped, taken_at}
+use Rattle.connections.specs.Pauses.{IsPause}
 use Rattle.connections.specs.Rounds.{reads, IsUnread}
 
 -- there is a connection, and this is so of it
@@ -61,20 +62,25 @@ IsReason idle before Unsynced course = IsFaultless course × (stage before ≡ T
 IsReason idle before Memory course = course.is_wanting ≡ true
 IsReason idle before Refused course = course.is_refused ≡ true
 
+-- Connections are heard: it is their time in the round, and no stop was ordered. After an order to stop none is taken
+-- or read, and what was read and not heard stays unheard.
+abbrev pub IsHearing : History → Type 0
+IsHearing before = (stage before ≡ Hearing) × (stopped before ≡ None)
+
 -- this is the time of a deed, at a place with this connection, after what happened
 abbrev pub IsDue : ℕ → History → Deed → Option Course → Type 0
-IsDue idle before Comes there = (there ≡ None) × (stage before ≡ Hearing) × (stopped before ≡ None)
+IsDue idle before Comes there = (there ≡ None) × IsHearing before
 IsDue idle before Opens there = Here there IsNew
 IsDue idle before (Refuses why) there = Here there IsNew
-IsDue idle before (Reads bytes) there = Here there (λ course. MayBeRead course × (stage before ≡ Hearing) × (1 ≤ length bytes) × (length bytes ≤ PIECE_SIZE))
-IsDue idle before IsOver there = Here there (λ course. MayBeRead course × (stage before ≡ Hearing))
-IsDue idle before IsSilent there = Here there (λ course. MayBeRead course × (stage before ≡ Hearing))
-IsDue idle before (Hears part reply) there = Here there (λ course. MayHear course part × (stage before ≡ Hearing))
-IsDue idle before (Misses part why) there = Here there (λ course. MayHear course part × (stage before ≡ Hearing))
-IsDue idle before Lacks there = Here there (λ course. IsWell course × (course.read ≢ course.heard) × (¬ HasRoom course) × (stage before ≡ Hearing))
+IsDue idle before (Reads bytes) there = Here there (λ course. MayBeRead course × IsHearing before × (1 ≤ length bytes) × (length bytes ≤ PIECE_SIZE))
+IsDue idle before IsOver there = Here there (λ course. MayBeRead course × IsHearing before)
+IsDue idle before IsSilent there = Here there (λ course. MayBeRead course × IsHearing before)
+IsDue idle before (Hears part reply) there = Here there (λ course. MayHear course part × IsHearing before)
+IsDue idle before (Misses part why) there = Here there (λ course. MayHear course part × IsHearing before)
+IsDue idle before Lacks there = Here there (λ course. IsWell course × (course.read ≢ course.heard) × (¬ HasRoom course) × IsHearing before)
 IsDue idle before (Takes bytes) there = Here there (λ course. MayBeOffered course × (stage before ≡ Telling true) × (1 ≤ length bytes) × AreNext bytes course.answered course.taken)
 IsDue idle before TakesNone there = Here there (λ course. MayBeOffered course × (stage before ≡ Telling true))
-IsDue idle before Fails there = Here there (λ course. (MayBeRead course × (stage before ≡ Hearing)) ⊎ (MayBeOffered course × (stage before ≡ Telling true)))
+IsDue idle before Fails there = Here there (λ course. (MayBeRead course × IsHearing before) ⊎ (MayBeOffered course × (stage before ≡ Telling true)))
 IsDue idle before Ends there = Here there (λ course. course.is_open ≡ true)
 IsDue idle before (Closes why) there = Here there (λ course. (course.is_open ≡ false) × IsReason idle before why course)
 
@@ -82,12 +88,13 @@ IsDue idle before (Closes why) there = Here there (λ course. (course.is_open �
 abbrev pub IsOnce : History → ℕ → Deed → Type 0
 IsOnce before place deed = reads deed ≡ true → IsUnread place before
 
--- Each deed had its time. What was answered is put on its disk at most once in a round, once all are heard.
+-- Each deed had its time, and each round waited for as long as it may at most. What was answered is put on its disk at
+-- most once in a round, once all are heard.
 abbrev pub IsSoundHistory : ℕ → History → Type 0
 IsSoundHistory idle [] = ⊤
-IsSoundHistory idle (At now ∷ before) = IsSoundHistory idle before
+IsSoundHistory idle (At pause now ∷ before) = IsPause idle before pause × IsSoundHistory idle before
 IsSoundHistory idle (Ordered ∷ before) = IsSoundHistory idle before
 IsSoundHistory idle (Syncs kept ∷ before) = (stage before ≡ Hearing) × IsSoundHistory idle before
 IsSoundHistory idle (GoesOn ∷ before) = (stopped before ≡ None) × IsSoundHistory idle before
-IsSoundHistory idle (NoneWaits ∷ before) = (stage before ≡ Hearing) × (stopped before ≡ None) × IsSoundHistory idle before
+IsSoundHistory idle (NoneWaits ∷ before) = IsHearing before × IsSoundHistory idle before
 IsSoundHistory idle (On place deed ∷ before) = (IsDue idle before deed (course before place) × IsOnce before place deed) × IsSoundHistory idle before

@@ -46,7 +46,7 @@ lost (Closes why) = lost_by why
 -- how many were closed so
 abbrev pub losses : History → ℕ
 losses [] = 0
-losses (At now ∷ before) = losses before
+losses (At pause now ∷ before) = losses before
 losses (Ordered ∷ before) = losses before
 losses (Syncs kept ∷ before) = losses before
 losses (GoesOn ∷ before) = losses before

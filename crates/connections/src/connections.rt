@@ -36,7 +36,7 @@ pub trait Connections {
     /// Waits until a connection may be taken, read or written, or a stop may have been ordered, but for
     /// at most so many milliseconds. Returns the time, in milliseconds since some start.
     fn wait(&mut self, most: u64) -> u64
-        ensures { (acts : List Act) → has self.old acts → has self.new (At result ∷ acts) };
+        ensures { (acts : List Act) → has self.old acts → has self.new (At most result ∷ acts) };
 
     /// Whether a stop has been ordered.
     fn is_stopped(&mut self) -> bool

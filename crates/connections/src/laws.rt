@@ -3,14 +3,16 @@ ghost use Rattle.connections.specs.Histories.{History, On, Closes, course};
 ghost use Rattle.connections.specs.Soundness.{Here, IsHeard, IsSoundHistory, IsTaken};
 ghost use Rattle.connections.specs.Laws.{AlwaysWaitWithin, AreAnsweredWithin, AreInOrder};
 ghost use Rattle.connections.specs.declared.ending.Ending.TheVariants.{Done};
-ghost use Rattle.connections.specs.declared.loop_limits.TheConstants.{FULL_OUTPUT, LAST_MILLISECONDS, PIECE_SIZE};
+ghost use Rattle.connections.specs.declared.loop_limits.TheConstants.{FULL_OUTPUT, LAST_MILLISECONDS, LONGEST_WAIT, PIECE_SIZE};
 
 /// A read gives at most 4,096 bytes, nothing is read or heard while more than 65,536 bytes of answers wait,
-/// and for 5,000 milliseconds after an order to stop answers may still be taken.
+/// for 5,000 milliseconds after an order to stop answers may still be taken, and a round waits for at most
+/// 1,000.
 pub fn limits_have_their_values()
     ensures piece { PIECE_SIZE ≡ 4096 }
     ensures output { FULL_OUTPUT ≡ 65536 }
     ensures last { LAST_MILLISECONDS ≡ 5000 }
+    ensures wait { LONGEST_WAIT ≡ 1000 }
 {}
 
 /// In a sound history, each connection has taken a beginning of what its session was answered, and the

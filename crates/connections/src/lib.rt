@@ -4,11 +4,12 @@
 //! Callers can rely on this, whatever the connections do: a session hears a beginning of what was read of its
 //! connection, in order and each byte once, and a connection takes a beginning of what its session was
 //! answered; both are whole if it was closed as done. Nothing is read or heard while more than 64 KiB of
-//! answers wait; nothing more is read, heard or taken once a read or write failed, memory was wanting, or the
-//! session refused a part; and no answer of a round leaves before the sync of that round (`IsSoundHistory`). Each
-//! round gives each connection its turn to send and to take, and none that waits finds a place left free
-//! (`IsFair`). The loop returns once it is over (`HasEnded`), and each want of memory has its line
-//! (`TellsLosses`).
+//! answers wait, or once a stop was ordered; nothing more is read, heard or taken once a read or write failed,
+//! memory was wanting, or the session refused a part; no answer of a round leaves before the sync of that round;
+//! and the loop waits only after a round in which nothing was done, for a second at most and never past the time
+//! to close a connection (`IsSoundHistory`). Each round gives each connection its turn to send and to take, and
+//! none that waits finds a place left free (`IsFair`). The loop returns once it is over (`HasEnded`), and each
+//! want of memory has its line (`TellsLosses`).
 #![tactic(auto)]
 
 mod connections;

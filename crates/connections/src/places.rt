@@ -2,7 +2,7 @@
 
 ghost use Rattle.std.specs.Prelude.{◌≡◌, ◌⊎◌, ◌↔◌, ◌+◌, ◌^◌, ◌<◌, ◌≤◌, ℕ, None, IsTrue, IfOk, get_or, length, ⊤};
 ghost use Rattle.connections.specs.Fairness.{AreAttended, AreServed, AreUsed, NoneWaited};
-ghost use Rattle.connections.specs.Fitting.{AreFree, AreUnread, Tours, size_of};
+ghost use Rattle.connections.specs.Fitting.{AreFree, AreUnread, IsKnownBusy, KnowsPause, Tours, size_of};
 ghost use Rattle.connections.specs.Histories.{Hearing, Telling};
 
 use crate::Sessions;
@@ -69,8 +69,9 @@ pub(crate) fn take_all<S: Sessions, C: Connections>(
 ) -> u64
     requires goes_on { round.stopped ≡ None }
     requires few { work.old.wanting + length places.old < 2 ^ 64 }
-    ensures tours { Tours S.opens S.refuses S.hears S.misses S.ends C.has Hearing round.idle round.now round.stopped left result work.old.wanting work.new.wanting AreUnread (λ after. ((result ≡ 0) ⊎ NoneWaited after ⊎ AreUsed (length places.old) after) × AreUnread after) connections.old sessions.old places.old connections.new sessions.new places.new }
+    ensures tours { Tours S.opens S.refuses S.hears S.misses S.ends C.has Hearing round.idle round.now round.stopped left result work.old.wanting work.new.wanting (λ before. AreUnread before × IsKnownBusy work.old.is_busy before) (λ after. ((result ≡ 0) ⊎ NoneWaited after ⊎ AreUsed (length places.old) after) × AreUnread after × IsKnownBusy work.new.is_busy after) connections.old sessions.old places.old connections.new sessions.new places.new }
     ensures few { work.new.wanting ≤ work.old.wanting + length places.old }
+    ensures pause { work.new.pause ≡ work.old.pause }
 {
     let mut left = left;
     for place in 0..places.len() {
@@ -106,9 +107,11 @@ pub(crate) fn hear_all<S: Sessions, C: Connections>(
     room: &mut [u8; PIECE_SIZE],
     work: &mut Work,
 )
-    requires { work.old.wanting + length places.old < 2 ^ 64 }
-    ensures tours { Tours S.opens S.refuses S.hears S.misses S.ends C.has Hearing round.idle round.now round.stopped 0 0 work.old.wanting work.new.wanting AreUnread AreAttended connections.old sessions.old places.old connections.new sessions.new places.new }
+    requires goes_on { round.stopped ≡ None }
+    requires few { work.old.wanting + length places.old < 2 ^ 64 }
+    ensures tours { Tours S.opens S.refuses S.hears S.misses S.ends C.has Hearing round.idle round.now round.stopped 0 0 work.old.wanting work.new.wanting (λ before. AreUnread before × IsKnownBusy work.old.is_busy before) (λ after. AreAttended after × IsKnownBusy work.new.is_busy after) connections.old sessions.old places.old connections.new sessions.new places.new }
     ensures few { work.new.wanting ≤ work.old.wanting + length places.old }
+    ensures pause { work.new.pause ≡ work.old.pause }
 {
     for place in 0..places.len() {
         hear_at(
@@ -133,7 +136,7 @@ pub(crate) fn tell_all<S: Sessions, C: Connections>(
     round: Round,
     work: &mut Work,
 )
-    ensures { Tours S.opens S.refuses S.hears S.misses S.ends C.has (Telling round.is_synced) round.idle round.now round.stopped 0 0 work.old.wanting work.new.wanting (λ _. ⊤) (AreServed round.idle) connections.old sessions.old places.old connections.new sessions.new places.new }
+    ensures { Tours S.opens S.refuses S.hears S.misses S.ends C.has (Telling round.is_synced) round.idle round.now round.stopped 0 0 work.old.wanting work.new.wanting (IsKnownBusy work.old.is_busy) (λ after. AreServed round.idle after × KnowsPause round.idle (length places.old) work.old.pause work.new.is_busy work.new.pause after) connections.old sessions.old places.old connections.new sessions.new places.new }
 {
     for place in 0..places.len() {
         tell_at(

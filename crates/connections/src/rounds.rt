@@ -2,11 +2,12 @@
 //! its disk, and then tells each. A round that did anything is followed by one that does not wait: a place may
 //! have become free, and there may be more to read.
 
-ghost use Rattle.std.specs.Prelude.{◌≡◌, ◌≢◌, ◌⊎◌, ◌↔◌, ◌+◌, ◌^◌, ◌<◌, ◌≤◌, ℕ, [], ◌∷◌, None, IsTrue, get_or, if◌then◌else◌, length};
+ghost use Rattle.std.specs.Prelude.{◌≡◌, ◌≢◌, ◌⊎◌, ◌↔◌, ◌+◌, ◌^◌, ◌<◌, ◌≤◌, ℕ, [], ◌∷◌, None, IsTrue, get_or, length};
 ghost use Rattle.connections.specs.Endings.{AreInside, AreWithin, HasEnded, IsStopped, most_comers};
 ghost use Rattle.connections.specs.Fairness.{AreAttended, AreUsed, IsFair, IsWhole, NoneOrdered, NoneWaited};
-ghost use Rattle.connections.specs.Fitting.{AreFree, AreUnread, Has, Knows, MayOrder, Tours, Turns, size_of};
+ghost use Rattle.connections.specs.Fitting.{AreFree, AreUnread, Has, IsKnownBusy, Knows, MayOrder, Tours, Turns, size_of};
 ghost use Rattle.connections.specs.Histories.{History, Hearing, clock, stopped};
+ghost use Rattle.connections.specs.Pauses.{pause_of};
 ghost use Rattle.connections.specs.Telling.{TellsLosses, TellsMemory, TellsTimes};
 
 use crate::connections::Connections;
@@ -45,8 +46,9 @@ fn take_new<S: Sessions, C: Connections>(
     work: &mut Work,
 ) -> u64
     requires { work.old.wanting + length places.old < 2 ^ 64 }
-    ensures tours { Tours S.opens S.refuses S.hears S.misses S.ends C.has Hearing round.idle round.now round.stopped left result work.old.wanting work.new.wanting AreUnread (λ after. (IsStopped after ⊎ (result ≡ 0) ⊎ NoneWaited after ⊎ AreUsed (length places.old) after) × AreUnread after) connections.old sessions.old places.old connections.new sessions.new places.new }
+    ensures tours { Tours S.opens S.refuses S.hears S.misses S.ends C.has Hearing round.idle round.now round.stopped left result work.old.wanting work.new.wanting (λ before. AreUnread before × IsKnownBusy work.old.is_busy before) (λ after. (IsStopped after ⊎ (result ≡ 0) ⊎ NoneWaited after ⊎ AreUsed (length places.old) after) × AreUnread after × IsKnownBusy work.new.is_busy after) connections.old sessions.old places.old connections.new sessions.new places.new }
     ensures few { work.new.wanting ≤ work.old.wanting + length places.old }
+    ensures pause { work.new.pause ≡ work.old.pause }
 {
     if round.stopped.is_some() {
         return left;
@@ -65,7 +67,8 @@ fn hear_new<S: Sessions, C: Connections>(
     work: &mut Work,
 )
     requires { work.old.wanting + length places.old < 2 ^ 64 }
-    ensures { Tours S.opens S.refuses S.hears S.misses S.ends C.has Hearing round.idle round.now round.stopped 0 0 work.old.wanting work.new.wanting AreUnread (λ after. IsStopped after ⊎ AreAttended after) connections.old sessions.old places.old connections.new sessions.new places.new }
+    ensures tours { Tours S.opens S.refuses S.hears S.misses S.ends C.has Hearing round.idle round.now round.stopped 0 0 work.old.wanting work.new.wanting (λ before. AreUnread before × IsKnownBusy work.old.is_busy before) (λ after. (IsStopped after ⊎ AreAttended after) × IsKnownBusy work.new.is_busy after) connections.old sessions.old places.old connections.new sessions.new places.new }
+    ensures pause { work.new.pause ≡ work.old.pause }
 {
     if round.stopped.is_some() {
         return;
@@ -97,6 +100,7 @@ impl State {
     fn new(limits: Limits) -> Self
         ensures round { (result.round.idle ≡ limits.idle) × (result.round.stopped ≡ None) }
         ensures left { result.left ≡ most_comers limits.count }
+        ensures pause { pause_of result.work.is_busy result.work.pause ≡ 0 }
     {
         State {
             round: Round {
@@ -116,7 +120,7 @@ impl State {
 
     /// How many milliseconds the next round may wait: none after one that did anything.
     fn pause(self) -> u64
-        ensures { result ≡ (if self.work.is_busy then 0 else self.work.pause) }
+        ensures { result ≡ pause_of self.work.is_busy self.work.pause }
     {
         if self.work.is_busy {
             0
@@ -149,7 +153,7 @@ fn turn<S: Sessions, C: Connections>(
     last: State,
     room: &mut [u8; PIECE_SIZE],
 ) -> State
-    ensures turns { Turns S.opens S.refuses S.hears S.misses S.ends C.has last.round.idle last.round.stopped last.left connections.old sessions.old places.old result.round.stopped result.left result.work.wanting connections.new sessions.new places.new }
+    ensures turns { Turns S.opens S.refuses S.hears S.misses S.ends C.has last.round.idle last.round.stopped last.left (pause_of last.work.is_busy last.work.pause) connections.old sessions.old places.old result.round.stopped result.left (pause_of result.work.is_busy result.work.pause) result.work.wanting connections.new sessions.new places.new }
     ensures same { result.round.idle ≡ last.round.idle }
 {
     let now = connections.wait(last.pause());

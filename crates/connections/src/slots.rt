@@ -1,10 +1,10 @@
 //! One place: what happens to the connection there, if there is one, in each part of a round.
 
 ghost use Rattle.std.specs.Prelude.{◌≡◌, ◌↔◌, ◌+◌, ◌-◌, ◌^◌, ◌<◌, ◌≤◌, ℕ, List, [], true, false, None, Some, IsTrue, IfOk, IfErr, ⊤};
-ghost use Rattle.connections.specs.Rounds.{IsUnread};
-ghost use Rattle.connections.specs.Fairness.{IfThere, IsAttended, IsNotDue, IsServed};
-ghost use Rattle.connections.specs.Fitting.{Adds, Has, HasTried, Judged, KeepsTalk, Knows, ServesPlace, Stays, came_by};
-ghost use Rattle.connections.specs.Histories.{History, Hearing, Telling, clock, course, stage, stopped};
+ghost use Rattle.connections.specs.Rounds.{IsUnread, was_busy};
+ghost use Rattle.connections.specs.Fairness.{IsAttended, IsNotDue, IsServed};
+ghost use Rattle.connections.specs.Fitting.{Adds, Has, HasTried, IsKnownBusy, Judged, KeepsTalk, Knows, KnowsPauseAt, ServesPlace, Stays, came_by};
+ghost use Rattle.connections.specs.Histories.{History, Hearing, IfThere, Telling, clock, course, stage, stopped};
 ghost use Rattle.connections.specs.Pauses.{until_due};
 ghost use Rattle.connections.specs.Soundness.{Here, IsReason};
 ghost use Rattle.connections.specs.Telling.{lost_by};
@@ -42,7 +42,8 @@ pub(crate) struct Round {
 
 impl Work {
     pub(crate) fn new(pause: u64) -> Self
-        ensures { result.wanting ≡ 0 }
+        ensures none { (result.wanting ≡ 0) × (result.is_busy ≡ false) }
+        ensures pause { result.pause ≡ pause }
     {
         Work {
             is_busy: false,
@@ -54,7 +55,8 @@ impl Work {
     /// A connection was closed, so its place is free for another.
     fn close(&mut self, why: Ending)
         requires { self.old.wanting < 2 ^ 64 - 1 }
-        ensures { self.new.wanting ≡ self.old.wanting + lost_by why }
+        ensures wanting { self.new.wanting ≡ self.old.wanting + lost_by why }
+        ensures busy { (self.new.is_busy ≡ true) × (self.new.pause ≡ self.old.pause) }
     {
         self.is_busy = true;
         if why == Ending::Memory {
@@ -72,7 +74,7 @@ fn close<S: Sessions, C: Connections>(
 )
     ensures { (idle : ℕ) (start : S) (acts : History) → Has S.opens S.refuses S.hears S.misses S.ends C.has idle start connections.old sessions.old acts
         → Here (course acts place) (λ of. (of.is_open ≡ true) × IsReason idle acts why of)
-        → (after : History) × Stays place 0 0 (lost_by why) acts after × Has S.opens S.refuses S.hears S.misses S.ends C.has idle start connections.new sessions.new after × (course after place ≡ None) }
+        → (after : History) × Stays place 0 0 (lost_by why) acts after × Has S.opens S.refuses S.hears S.misses S.ends C.has idle start connections.new sessions.new after × (course after place ≡ None) × (was_busy after ≡ true) }
 {
     sessions.end(place);
     connections.close(place, why);
@@ -92,8 +94,9 @@ pub(crate) fn take_at<S: Sessions, C: Connections>(
     requires free { slot.old ≡ None }
     requires goes_on { round.stopped ≡ None }
     requires few { work.old.wanting < 2 ^ 64 - 1 }
-    ensures serves { ServesPlace S.opens S.refuses S.hears S.misses S.ends C.has Hearing round.idle round.now round.stopped place (came_by result) work.old.wanting work.new.wanting (IsUnread place) (λ after. HasTried result place after × IsUnread place after) connections.old sessions.old slot.old connections.new sessions.new slot.new }
+    ensures serves { ServesPlace S.opens S.refuses S.hears S.misses S.ends C.has Hearing round.idle round.now round.stopped place (came_by result) work.old.wanting work.new.wanting (λ before. IsUnread place before × IsKnownBusy work.old.is_busy before) (λ after. HasTried result place after × IsUnread place after × IsKnownBusy work.new.is_busy after) connections.old sessions.old slot.old connections.new sessions.new slot.new }
     ensures few { work.new.wanting ≤ work.old.wanting + 1 }
+    ensures pause { work.new.pause ≡ work.old.pause }
 {
     if !connections.take(place) {
         return false;
@@ -124,9 +127,11 @@ pub(crate) fn hear_at<S: Sessions, C: Connections>(
     room: &mut [u8; PIECE_SIZE],
     work: &mut Work,
 )
-    requires { work.old.wanting < 2 ^ 64 - 1 }
-    ensures serves { ServesPlace S.opens S.refuses S.hears S.misses S.ends C.has Hearing round.idle round.now round.stopped place 0 work.old.wanting work.new.wanting (IsUnread place) (λ after. IfThere (course after place) (IsAttended after place)) connections.old sessions.old slot.old connections.new sessions.new slot.new }
+    requires goes_on { round.stopped ≡ None }
+    requires few { work.old.wanting < 2 ^ 64 - 1 }
+    ensures serves { ServesPlace S.opens S.refuses S.hears S.misses S.ends C.has Hearing round.idle round.now round.stopped place 0 work.old.wanting work.new.wanting (λ before. IsUnread place before × IsKnownBusy work.old.is_busy before) (λ after. IfThere (course after place) (IsAttended after place) × IsKnownBusy work.new.is_busy after) connections.old sessions.old slot.old connections.new sessions.new slot.new }
     ensures few { work.new.wanting ≤ work.old.wanting + 1 }
+    ensures pause { work.new.pause ≡ work.old.pause }
 {
     let Some(talk) = slot else {
         return;
@@ -151,7 +156,7 @@ pub(crate) fn tell_at<S: Sessions, C: Connections>(
     round: Round,
     work: &mut Work,
 )
-    ensures { ServesPlace S.opens S.refuses S.hears S.misses S.ends C.has (Telling round.is_synced) round.idle round.now round.stopped place 0 work.old.wanting work.new.wanting (λ _. ⊤) (λ after. IfThere (course after place) (IsServed round.idle after place)) connections.old sessions.old slot.old connections.new sessions.new slot.new }
+    ensures { ServesPlace S.opens S.refuses S.hears S.misses S.ends C.has (Telling round.is_synced) round.idle round.now round.stopped place 0 work.old.wanting work.new.wanting (IsKnownBusy work.old.is_busy) (λ after. IfThere (course after place) (IsServed round.idle after place) × KnowsPauseAt round.idle place work.old.is_busy work.old.pause work.new.is_busy work.new.pause after) connections.old sessions.old slot.old connections.new sessions.new slot.new }
 {
     let Some(talk) = slot else {
         return;
@@ -178,10 +183,11 @@ fn tell<C: Connections>(
     ensures happens { (acts : History) → Knows C.has round.idle connections.old acts → stage acts ≡ Telling round.is_synced → clock acts ≡ round.now → stopped acts ≡ round.stopped
         → Here (course acts place) (KeepsTalk talk.old)
         → (after : History) × Adds place acts after × Knows C.has round.idle connections.new after × Judged round.idle after place result talk.new
-        × IfOk result (λ _. Here (course after place) (IsServed round.idle after place)) }
+        × IfOk result (λ _. Here (course after place) (IsServed round.idle after place) × (IsKnownBusy work.old.is_busy acts → IsKnownBusy work.new.is_busy after)) }
     ensures other { IfErr result (λ why. lost_by why ≡ 0) }
     ensures same { work.new.wanting ≡ work.old.wanting }
     ensures pause { IfOk result (λ _. work.new.pause ≡ until_due round.now round.idle round.stopped talk.new.active work.old.pause) }
+    ensures busy { work.new.is_busy ≡ false → work.old.is_busy ≡ false }
 {
     if talk.tell(alloc, connections, place, round.now, round.is_synced)? {
         work.is_busy = true;

@@ -1,10 +1,10 @@
 //! What is kept of an open connection. What was read is heard part by part, as long as the output is not full;
 //! the rest waits, and nothing is read before it is heard.
 
-ghost use Rattle.std.specs.Prelude.{◌≡◌, ◌≢◌, ◌⊎◌, ◌↔◌, ◌<◌, ◌≤◌, ◌++◌, [], ℕ, List, length, drop, IsTrue, IfOk, IfErr, OnOk, Some, true, false};
-ghost use Rattle.connections.specs.Rounds.{InRound, gives_turn, offers};
+ghost use Rattle.std.specs.Prelude.{◌≡◌, ◌≢◌, ◌⊎◌, ◌↔◌, ◌<◌, ◌≤◌, ◌++◌, ◌||◌, [], ℕ, List, length, drop, IsTrue, IfOk, IfErr, OnOk, Some, true, false};
+ghost use Rattle.connections.specs.Rounds.{InRound, gives_turn, offers, was_busy};
 ghost use Rattle.connections.specs.Fitting.{Adds, Attends, Hearkens, HearsFrom, IsDone, IsIdleDue, IsJudged, IsStopDue, Judged, KeepsCourse, KeepsTalk, Knows, MayHearFrom};
-ghost use Rattle.connections.specs.Histories.{History, Hearing, Telling, clock, course, stage, stopped};
+ghost use Rattle.connections.specs.Histories.{History, Telling, clock, course, stage, stopped};
 ghost use Rattle.connections.specs.Pauses.{until_due, until_idle, until_stopped};
 ghost use Rattle.connections.specs.Soundness.{Here, MayBeRead};
 ghost use Rattle.connections.specs.Telling.{lost_by};
@@ -74,7 +74,7 @@ impl Talk {
     ) -> Result<bool, Ending>
         ensures hears { Hearkens S.opens S.refuses S.hears S.misses S.ends (λ done. done) place now sessions.old (KeepsTalk self.old) result sessions.new (λ _. KeepsTalk self.new) }
         ensures all { IfOk result (λ _. (self.new.input.items ≡ []) ⊎ (FULL_OUTPUT < length self.new.output.items)) }
-        ensures nothing { result ≡ Ok false → self.new ≡ self.old }
+        ensures nothing { result ≡ Ok false → (self.new ≡ self.old) × (sessions.new ≡ sessions.old) }
     {
         if self.input.is_empty() || !self.has_room() {
             return Ok(false);
@@ -137,7 +137,7 @@ impl Talk {
         now: u64,
         room: &mut [u8; PIECE_SIZE],
     ) -> Result<bool, Ending>
-        ensures { Attends S.opens S.refuses S.hears S.misses S.ends C.has Hearing place now connections.old sessions.old self.old result connections.new sessions.new self.new }
+        ensures { Attends S.opens S.refuses S.hears S.misses S.ends C.has place now connections.old sessions.old self.old result connections.new sessions.new self.new }
     {
         if !self.may_read() {
             return self.hear_rest(sessions, place, now);
@@ -167,7 +167,7 @@ impl Talk {
         ensures writes { (idle : ℕ) (acts : History) → Knows C.has idle connections.old acts → stage acts ≡ Telling true → clock acts ≡ now
             → Here (course acts place) (KeepsTalk self.old)
             → (after : History) × Adds place acts after × Knows C.has idle connections.new after × Judged idle after place result self.new
-            × IfOk result (λ _. InRound offers after place) }
+            × IfOk result (λ done. InRound offers after place × (was_busy after ≡ done || was_busy acts)) }
         ensures other { IfErr result (λ why. lost_by why ≡ 0) }
     {
         match connections.write(place, &self.output) {
@@ -193,7 +193,7 @@ impl Talk {
         ensures tells { (idle : ℕ) (acts : History) → Knows C.has idle connections.old acts → stage acts ≡ Telling is_synced → clock acts ≡ now
             → Here (course acts place) (KeepsTalk self.old)
             → (after : History) × Adds place acts after × Knows C.has idle connections.new after × Judged idle after place result self.new
-            × IfOk result (λ _. (self.new.output.items ≡ []) ⊎ InRound offers after place) }
+            × IfOk result (λ done. ((self.new.output.items ≡ []) ⊎ InRound offers after place) × (was_busy after ≡ done || was_busy acts)) }
         ensures unsynced { IfOk result (λ _. is_synced ≡ false → self.new.output.items ≡ []) }
         ensures other { IfErr result (λ why. lost_by why ≡ 0) }
     {

@@ -95,7 +95,7 @@ module _ {S : Type 0} (answers : S → Frame → List ℕ → S → Type 0) wher
 
     pub crowd_answered : (start : X) (acts : History) (after : X) → HubLeads answers hub_of start acts after → Told start acts after
     crowd_answered start [] after same = ([], (ap hub_of same, refl), ap (λ (x : X). (hub_of x).service) same)
-    crowd_answered start (At now ∷ acts) after leads = crowd_answered start acts after leads
+    crowd_answered start (At pause now ∷ acts) after leads = crowd_answered start acts after leads
     crowd_answered start (Ordered ∷ acts) after leads = crowd_answered start acts after leads
     crowd_answered start (Syncs kept ∷ acts) after leads = crowd_answered start acts after leads
     crowd_answered start (GoesOn ∷ acts) after leads = crowd_answered start acts after leads

@@ -21,7 +21,7 @@ module _ {S : Type 0} (answers : S → Frame → List ℕ → S → Type 0) wher
 
   lines_before : (start : HubState S) (later earlier : History) (after : HubState S) (all : List Line) → AreLines answers start (later ++ earlier) after all → LinesSoFar start earlier all
   lines_before start [] earlier after all are = (after, all, [], sym (append-nil all), are)
-  lines_before start (At now ∷ later) earlier after all are = lines_before start later earlier after all are
+  lines_before start (At pause now ∷ later) earlier after all are = lines_before start later earlier after all are
   lines_before start (Ordered ∷ later) earlier after all are = lines_before start later earlier after all are
   lines_before start (Syncs kept ∷ later) earlier after all are = lines_before start later earlier after all are
   lines_before start (GoesOn ∷ later) earlier after all are = lines_before start later earlier after all are

@@ -292,11 +292,11 @@ module _ {S : Type 0} (answers : S → Frame → List ℕ → S → Type 0) wher
 
   pub all_follow : (start : HubState S) (idle : ℕ) (acts : History) (after : HubState S) (all : List Line) → AreLines answers start acts after all → IsSoundHistory idle acts → AllFollow after all acts
   all_follow start idle [] after all are sound = λ place. tt
-  all_follow start idle (At now ∷ acts) after all are sound = all_follow start idle acts after all are sound
+  all_follow start idle (At pause now ∷ acts) after all are sound = all_follow start idle acts after all are sound.1
   all_follow start idle (Ordered ∷ acts) after all are sound = all_follow start idle acts after all are sound
   all_follow start idle (Syncs kept ∷ acts) after all are sound = all_follow start idle acts after all are sound.1
   all_follow start idle (GoesOn ∷ acts) after all are sound = all_follow start idle acts after all are sound.1
-  all_follow start idle (NoneWaits ∷ acts) after all are sound = all_follow start idle acts after all are sound.2
+  all_follow start idle (NoneWaits ∷ acts) after all are sound = all_follow start idle acts after all are sound.1
   all_follow start idle (On other Comes ∷ acts) after all are sound = still_at after all Comes acts other tt (all_follow start idle acts after all are sound.1)
   all_follow start idle (On other Opens ∷ acts) after all (middle, are, opened) sound = opened_at middle after all acts other opened sound.0.0 (all_follow start idle acts middle all are sound.1)
   all_follow start idle (On other (Refuses why) ∷ acts) after all (are, refuses) sound = still_at after all (Refuses why) acts other tt (all_follow start idle acts after all are sound.1)

@@ -48,11 +48,11 @@ module _ {S : Type 0} (answers : S → Frame → List ℕ → S → Type 0) wher
 
   answered_within : (start : HubState S) (idle : ℕ) (acts : History) (after : HubState S) (all : List Line) → AreLines answers start acts after all → IsSoundHistory idle acts → AreShort all → AreAnsweredWithin MAX_ANSWER_LEN acts
   answered_within start idle [] after all lines sound short = tt
-  answered_within start idle (At now ∷ acts) after all lines sound short = answered_within start idle acts after all lines sound short
+  answered_within start idle (At pause now ∷ acts) after all lines sound short = answered_within start idle acts after all lines sound.1 short
   answered_within start idle (Ordered ∷ acts) after all lines sound short = answered_within start idle acts after all lines sound short
   answered_within start idle (Syncs kept ∷ acts) after all lines sound short = answered_within start idle acts after all lines sound.1 short
   answered_within start idle (GoesOn ∷ acts) after all lines sound short = answered_within start idle acts after all lines sound.1 short
-  answered_within start idle (NoneWaits ∷ acts) after all lines sound short = answered_within start idle acts after all lines sound.2 short
+  answered_within start idle (NoneWaits ∷ acts) after all lines sound short = answered_within start idle acts after all lines sound.1 short
   answered_within start idle (On place Comes ∷ acts) after all lines sound short = (tt, answered_within start idle acts after all lines sound.1 short)
   answered_within start idle (On place Opens ∷ acts) after all (middle, lines, opened) sound short = (tt, answered_within start idle acts middle all lines sound.1 short)
   answered_within start idle (On place (Refuses why) ∷ acts) after all (lines, refuses) sound short = (tt, answered_within start idle acts after all lines sound.1 short)

@@ -88,7 +88,7 @@ module _ {S : Type 0} (answers : S → Frame → List ℕ → S → Type 0) wher
   -- wanting for a part, its replies reach nobody.
   abbrev pub AreLines : HubState S → History → HubState S → List Line → Type 0
   AreLines start [] after all = (after ≡ start) × (all ≡ [])
-  AreLines start (At now ∷ before) after all = AreLines start before after all
+  AreLines start (At pause now ∷ before) after all = AreLines start before after all
   AreLines start (Ordered ∷ before) after all = AreLines start before after all
   AreLines start (GoesOn ∷ before) after all = AreLines start before after all
   AreLines start (Syncs kept ∷ before) after all = AreLines start before after all

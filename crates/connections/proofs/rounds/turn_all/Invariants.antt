@@ -1,4 +1,5 @@
 use Rattle.std.specs.Prelude.{◌≡◌, [], length}
+use Rattle.connections.specs.Pauses.{pause_of}
 use Rattle.connections.specs.Telling.{TellsMemory}
 use Rattle.connections.proofs.Touring.{MayGoOn, Stands}
 use Rattle.connections.proofs.rounds.turn_all.Given as goal
@@ -8,4 +9,4 @@ invariant-loop-round g l = (l.state.round.idle ≡ l.fn.limits.idle)
     × MayGoOn l.state.left l.state.round.stopped l.places
     × TellsMemory (g.E.Write.contents l.fn.errors) (g.E.Write.contents l.errors)
     × (g.C.Connections.has l.fn.connections []
-    → Stands g.S.Sessions.opens g.S.Sessions.refuses g.S.Sessions.hears g.S.Sessions.misses g.S.Sessions.ends g.C.Connections.has l.fn.limits.idle l.fn.limits.count (length l.fn.places) l.fn.sessions (g.E.Write.contents l.fn.errors) (g.E.Write.contents l.errors) l.connections l.sessions l.places l.state.round.stopped l.state.left l._round)
+    → Stands g.S.Sessions.opens g.S.Sessions.refuses g.S.Sessions.hears g.S.Sessions.misses g.S.Sessions.ends g.C.Connections.has l.fn.limits.idle l.fn.limits.count (length l.fn.places) l.fn.sessions (g.E.Write.contents l.fn.errors) (g.E.Write.contents l.errors) l.connections l.sessions l.places l.state.round.stopped l.state.left (pause_of l.state.work.is_busy l.state.work.pause) l._round)

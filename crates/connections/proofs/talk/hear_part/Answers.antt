@@ -47,6 +47,6 @@ returns g c = (
         refl,
         ((c.args.sessions.now, held.0, ok.3), (next.0, held.1)),
         rw (sym {A = List ℕ} ok.4, active) at next.1,
-        λ so. inl (refl, refl),
+        λ so. (inl (refl, refl), refl),
       ),
 )

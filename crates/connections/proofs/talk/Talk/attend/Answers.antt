@@ -30,7 +30,7 @@ returns-in_err-hear_new-in-Bytes g c =
     let a = come_to g.C.Connections.has idle c.args.place acts c.args.connections.now c.read.new.self (Reads bytes) _ tt
     (c.read.ensures.bytes c.in-Bytes.count c.in-Bytes.is (of_connections acts)) knows
     (next_read idle acts c.args.place bytes c.args.self.now.input.items _ _ _ unread hearing some few (may_read _ _ _ _ _ ready.0 ready.1 ready.2 here)) in
-    (a.0, a.1, a.2, a.3, a.4 gives_turn refl))
+    (a.0, a.1, a.2, a.3, (a.4 gives_turn refl, a.5)))
     c.in_err-hear_new-in-Bytes.ensures.hears)
 
 pub returns-in_ok-hear_new-in-Bytes : goal.returns-in_ok-hear_new-in-Bytes
@@ -48,7 +48,7 @@ returns-in_ok-hear_new-in-Bytes g c =
     let a = come_to g.C.Connections.has idle c.args.place acts c.args.connections.now c.read.new.self (Reads bytes) _ tt
     (c.read.ensures.bytes c.in-Bytes.count c.in-Bytes.is (of_connections acts)) knows
     (next_read idle acts c.args.place bytes c.args.self.now.input.items _ _ _ unread hearing some few (may_read _ _ _ _ _ ready.0 ready.1 ready.2 here)) in
-    (a.0, a.1, a.2, a.3, a.4 gives_turn refl))
+    (a.0, a.1, a.2, a.3, (a.4 gives_turn refl, a.5)))
     c.in_ok-hear_new-in-Bytes.ensures.hears c.in_ok-hear_new-in-Bytes.ensures.all
 
 pub returns-in-End : goal.returns-in-End
@@ -60,7 +60,7 @@ returns-in-End g c =
     let a = come_to g.C.Connections.has idle c.args.place acts c.args.connections.now c.read.new.self IsOver _ tt
     (c.read.ensures.end c.in-End.is (of_connections acts)) knows
     (next_over idle acts c.args.place _ _ _ _ unread hearing (may_read _ _ _ _ _ ready.0 ready.1 ready.2 here)) in
-    (a.0, a.1, a.2, a.3, a.4 gives_turn refl))
+    (a.0, a.1, a.2, a.3, (a.4 gives_turn refl, a.5)))
     ready.0
 
 pub returns-in-Wait : goal.returns-in-Wait
@@ -72,7 +72,7 @@ returns-in-Wait g c =
     let a = come_to g.C.Connections.has idle c.args.place acts c.args.connections.now c.read.new.self IsSilent _ tt
     (c.read.ensures.wait c.in-Wait.is (of_connections acts)) knows
     (next_silent idle acts c.args.place _ _ _ _ unread hearing (may_read _ _ _ _ _ ready.0 ready.1 ready.2 here)) in
-    (a.0, a.1, a.2, a.3, a.4 gives_turn refl))
+    (a.0, a.1, a.2, a.3, (a.4 gives_turn refl, a.5)))
     ready.0
 
 pub returns-in-Fault : goal.returns-in-Fault

@@ -16,4 +16,4 @@ pub returns-clause-tells : goal.returns-clause-tells
 returns-clause-tells g c = λ idle acts knows telling time here.
     let yes : c.args.is_synced ≡ true = search rules in
     let a = c.write.ensures.writes idle acts knows (telling ∙ ap (λ (b : Bool). Telling b) yes) time here in
-    (a.0, a.1, a.2, a.3, offered c.write.result a.0 c.args.place c.write.new.self.output.items a.4)
+    (a.0, a.1, a.2, a.3, offered c.write.result acts a.0 c.args.place c.write.new.self.output.items a.4)

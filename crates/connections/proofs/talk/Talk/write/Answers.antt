@@ -21,14 +21,14 @@ returns-in-Took-clause-writes g c = λ idle acts knows telling time here.
     let next = next_take idle acts c.args.place bytes c.drop_front.new.bytes.items c.args.self.now.input.items output c.args.self.now.active c.args.self.now.is_over c.args.now time telling some split here in
     let a = come_to g.C.Connections.has idle c.args.place acts c.args.connections.now c.write.new.self (Takes bytes) _ tt
     (rw seen at (c.write.ensures.bytes c.in-Took.count c.in-Took.is (of_connections acts))) knows next in
-    (a.0, a.1, a.2, a.3, a.4 offers refl)
+    (a.0, a.1, a.2, a.3, (a.4 offers refl, a.5))
 
 pub returns-in-Wait-clause-writes : goal.returns-in-Wait-clause-writes
 returns-in-Wait-clause-writes g c = λ idle acts knows telling time here.
     let a = come_to g.C.Connections.has idle c.args.place acts c.args.connections.now c.write.new.self TakesNone _ tt
     (c.write.ensures.wait c.in-Wait.is (of_connections acts)) knows
     (next_take_none idle acts c.args.place _ _ _ _ telling c.requires here) in
-    (a.0, a.1, a.2, a.3, a.4 offers refl)
+    (a.0, a.1, a.2, a.3, (a.4 offers refl, a.5))
 
 pub returns-in-Fault-clause-writes : goal.returns-in-Fault-clause-writes
 returns-in-Fault-clause-writes g c = λ idle acts knows telling time here.
