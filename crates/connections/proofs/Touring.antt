@@ -287,9 +287,9 @@ pause_told idle place now stop pause pause_new is_busy is_busy_new acts talk tim
     by_there None here most = absurd here
     by_there (Some of) keeps most = rw (is, time, order, keeps.last) (caps_due now idle stop talk.active pause most)
 
--- nor does a free place bring anything
-pub pause_free : (idle place pause : ℕ) (is_busy : Bool) (acts : History) → course acts place ≡ None → IsKnownBusy is_busy acts → KnowsPauseAt idle place is_busy pause is_busy pause acts
-pause_free idle place pause is_busy acts gone busy = (busy, λ free. (free, λ most. (λ few. (few, rw gone tt), λ both. both.0)))
+-- once something was done, nothing else is known
+pub pause_busy : (idle place pause pause_new : ℕ) (is_busy : Bool) (acts : History) → IsKnownBusy true acts → KnowsPauseAt idle place is_busy pause true pause_new acts
+pause_busy idle place pause pause_new is_busy acts busy = (busy, λ free. absurd (false≢true (sym free)))
 
 -- what is known of all places is known of the next round
 pub paused : (idle longest pause : ℕ) (is_busy : Bool) (places : List (Option Talk)) (acts : History) → FitAll places acts → longest ≡ LONGEST_WAIT → KnowsPause idle (length places) longest is_busy pause acts → IsPause idle acts (pause_of is_busy pause)
