@@ -2,7 +2,7 @@ ghost use Rattle.std.specs.Prelude.{◌≡◌, ◌+◌, ◌<◌, ◌≤◌, [], 
 ghost use Rattle.std.specs.Option.{option_map};
 ghost use Rattle.commit.specs.Commitments.{commitment_bytes};
 ghost use Rattle.book.specs.Maps.{at};
-ghost use Rattle.epochs.specs.Addresses.{named, with_name, NamesContent};
+ghost use Rattle.epochs.specs.Addresses.{named, with_name};
 ghost use Rattle.epochs.specs.Histories.{binding_at};
 ghost use Rattle.epochs.specs.KeyChanges.{AreChangedNames, FitsNames, IsRefusedSo, refused_before};
 ghost use Rattle.epochs.specs.Versions.{AllBefore, AreHistories, IsUnkept, in_order, versions_of};
@@ -28,7 +28,7 @@ pub(crate) struct Names {
 }
 
 impl Model for Names {
-    ghost use Rattle.epochs.specs.Addresses.{named};
+    ghost use Rattle.epochs.specs.Addresses.{named, NamesContent};
     ghost use Rattle.epochs.specs.Versions.{AreHistories};
 
     ghost Value = { NamesContent };
