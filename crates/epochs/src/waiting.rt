@@ -12,7 +12,7 @@ use crate::seeded::Seeded;
 use book::{Keeper, Record, Refusal};
 use encoding::{Hash32, Index, KeyData, Name};
 use nodehash::NodeHash;
-use prefixtree::{Item, placed};
+use prefixtree::{Item, placed_within};
 use std::alloc::{AllocError, Global};
 use std::collections::HashMap;
 use std::collections::hash_map::Entry;
@@ -57,7 +57,7 @@ impl Waiting {
         ensures { IfOk result (λ items. items.items ≡ self.now) }
     {
         let entries = listed(self.alloc, &self.commitments)?;
-        match placed(self.alloc, &entries)? {
+        match placed_within(entries) {
             Some(items) => Ok(items),
             None => unreachable!(),
         }

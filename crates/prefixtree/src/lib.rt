@@ -25,7 +25,7 @@ mod tree;
 mod walk;
 mod way;
 
-pub use items::{Item, placed};
+pub use items::{Item, placed, placed_within};
 pub use laws::{
     changes_join, made_at_most_all, made_for_one_change, path_ends, path_is_unique, path_is_way,
     way_is_fold, worked_roots,
