@@ -27,7 +27,7 @@ module _ {X : Type 0} (q : ℕ → Bool) where
     where
       by_test : (b : Bool) → q e.0 ≡ b → lookup q (cond b es (e ∷ remove_entry q es)) ≡ None → lookup q (cond b fs (e ∷ remove_entry q fs)) ≡ None
       by_test true is o = same ∙ o
-      by_test false is o = rw is (next (rw is at_session o))
+      by_test false is o = rw is (next (rw is at o))
 
   skipped : (e : ℕ × X) (es : List (ℕ × X)) → q e.0 ≡ false → lookup q (remove_entry q (e ∷ es)) ≡ lookup q (remove_entry q es)
   skipped e es other =
