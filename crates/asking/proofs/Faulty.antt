@@ -1,5 +1,5 @@
 -- The faults of a run, as they are passed on, and what is written before them.
-use Rattle.std.proofs.Common.{◌≡◌, ◌⊎◌, ◌++◌, ℕ, ◌+◌, true, List, [], ◌∷◌, Option, None, Some, Result, Ok, Err, Bor, inl, inr, refl, subst, sym}
+use Rattle.std.proofs.Common.{◌≡◌, ◌∙◌, ◌⊎◌, ◌↔◌, ◌++◌, ℕ, ◌+◌, true, List, [], ◌∷◌, Option, None, Some, Result, Ok, Err, Bor, inl, inr, refl, rules, subst, sym}
 use Rattle.std.specs.Prelude.{IfErr, IfOk, IfSome, OnOk}
 use Rattle.std.specs.Io.KnownBytes.{Appends}
 use Rattle.std.proofs.KnownBytes.{Appends-nil, Appends-trans}
@@ -14,7 +14,7 @@ use Rattle.wire.specs.Frames.{Frame}
 use Rattle.wire.specs.Requests.{RequestContent}
 use Rattle.play.specs.Reading.{TakesWholeLine}
 use Rattle.play.specs.Scripts.{ScriptLine, Pass, Ask, Watch, Piece, End, line_of}
-use Rattle.asking.specs.AskOptions.{ask_values}
+use Rattle.asking.specs.AskOptions.{AskOptions, ask_keys_of, ask_values}
 use Rattle.asking.specs.Runs.{AsksLine, DoesLine, Grows, Known, lines_asked, words_line, Writes}
 use Rattle.asking.specs.RunFaults.{CannotBeAsked, IsFaultOfSaving, IsFaultOfState, IsFaultWith, IsFirstUnasked, IsRunFault, StopsOr}
 use Rattle.asking.specs.Scenes.{Scene}
@@ -113,7 +113,7 @@ line_fault input left left' place line (run.Program fault) counts takes (inr (is
 -- a line that was asked is one that can be
 pub asked_can : (hash : List ℕ → List ℕ) (accepted verified : List ℕ → List ℕ → List ℕ → Type 0) {T : Type 0} (exchanged : T → RequestContent → Frame → T → Type 0) (known : Known) (before after : Scene T)
     (old new : Option (List ℕ)) (line : List ℕ) → Writes (AsksLine hash accepted verified exchanged known line) before old new after → ¬ CannotBeAsked (line_of line)
-asked_can hash accepted verified {T} exchanged known before after old new line (done, (said, is, does), wrote) = λ cannot. by done said does (subst (λ (s : Option ScriptLine). CannotBeAsked s) is cannot)
+asked_can hash accepted verified {T} exchanged known before after old new line (done, (said, is, does), appends, same) = λ cannot. by done said does (subst (λ (s : Option ScriptLine). CannotBeAsked s) is cannot)
   where
     by : (done : Scene T) (said : ScriptLine) → DoesLine hash accepted verified exchanged known said before done → CannotBeAsked (Some said) → ⊥
     by done Pass does cannot = cannot
@@ -160,6 +160,21 @@ given_so (Err given) outcome order state input without stops (inr is) =
     other-with (¬ (state ≡ None)) (¬ ((ask_values order).state ≡ None)) (λ number. IfSome (lines_asked (ask_values order).words input) (λ lines. IsFirstUnasked 1 lines number))
     (λ number. IfSome (lines_asked (ask_values order).words input) (λ lines. IsFirstUnasked 1 lines number)) given (λ has none. has (without (none_before (λ text. text.now) order.state none))) (λ number first. first) found
 
+some-none : (keys : List ℕ × List ℕ) (found : Option (List ℕ × List ℕ)) → found ≡ Some keys → found ≡ None → ⊥
+some-none keys found some none = search (rules, sym some ∙ none)
+
+module _ {A : Type 0} (result : Result A ProgramFault) (options : AskOptions) (input : Option (List ℕ)) where
+  -- a run is not ended by a text that is no key
+  pub not_hex : IfErr result (IsRunFault options input) → result ≡ Err BadHex → ⊥
+  not_hex faults bad = subst (λ (r : Result A ProgramFault). IfErr r (IsRunFault options input)) bad faults
+
+  pub hex_so : (keys : List ℕ × List ℕ) → ask_keys_of options ≡ Some keys → IfErr result (IsRunFault options input) → (result ≡ Err BadHex) ↔ (ask_keys_of options ≡ None)
+  hex_so keys are faults = ((λ bad. absurd (not_hex faults bad)), λ none. absurd (some-none keys (ask_keys_of options) are none))
+
+pub hex_or : {A : Type 0} (result : Result A ProgramFault) (options : AskOptions) (input : Option (List ℕ)) → IfErr result (IsRunFault options input) → IfErr result (λ fault. (fault ≡ BadHex) ⊎ IsRunFault options input fault)
+hex_or (Ok done) options input faults = tt
+hex_or (Err fault) options input faults = inr faults
+
 -- ---- what is written
 
 pub grows_not : (old : Option (List ℕ)) → Grows old old
@@ -172,4 +187,4 @@ grows_on old now new (text, appends) (more, further) = (text ++ more, Appends-tr
 pub grows_by : (result : Result (Unit {0}) StreamFault) (old new : Option (List ℕ)) (text : List ℕ) → OnOk result (Appends old new text)
     → IfErr result (λ fault. (fault ≡ stream.CannotWrite) × WritesBeginning old new text) → Grows old new
 grows_by (Ok done) old new text appends begins = (text, appends)
-grows_by (Err fault) old new text appends (is, rest, some, front, parts, wrote) = (front, wrote)
+grows_by (Err fault) old new text appends (is, (rest, some, (front, parts, wrote))) = (front, wrote)

@@ -176,9 +176,9 @@ none_before f None is = refl
 none_before f (Some a) is = absurd cc
 
 pub over_socket : (order : AskOrder) (key token : List ℕ) (socket : TcpStream) (input old new : Option (List ℕ)) (ended : RunEnd) → ask_keys_of (ask_values order) ≡ Some (key, token)
-    → RunsAs sha256 KeyedAccepts KeyedVerifies (ExchangesFrames {TcpStream} (λ _. None) (λ _. None)) key token (ask_values order) (order.state ≡ None) socket input ended old new
+    → RunsAs sha256 KeyedAccepts KeyedVerifies (ExchangesFrames {T = TcpStream} (λ _. None) (λ _. None)) key token (ask_values order) (order.state ≡ None) socket input ended old new
     → AsksOverSocket (ask_values order) input (end_status ended) old new
 over_socket order key token socket input old new (Stopped status) are high = inr (key, token, are, socket, Stopped status, refl, high)
 over_socket order key token socket input old new (Whole status) are run =
-    inr (key, token, are, socket, Whole status, refl, with_state sha256 KeyedAccepts KeyedVerifies (ExchangesFrames {TcpStream} (λ _. None) (λ _. None)) key token (ask_values order) (order.state ≡ None) ((ask_values order).state ≡ None)
+    inr (key, token, are, socket, Whole status, refl, with_state sha256 KeyedAccepts KeyedVerifies (ExchangesFrames {T = TcpStream} (λ _. None) (λ _. None)) key token (ask_values order) (order.state ≡ None) ((ask_values order).state ≡ None)
     socket input old new status (none_before (λ text. text.now) order.state) run)

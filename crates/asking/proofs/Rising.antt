@@ -90,8 +90,8 @@ module _ (hash : List ℕ → List ℕ) (accepted verified : List ℕ → List �
   visits-rises : (marks : List Mark) (place : ℕ) (next : Option ℕ) (before after : Scene T) → Visits hash accepted exchanged marks before place next after → Rises before after
   visits-rises marks place None before after (gone, same) = same-scene before after same
   visits-rises marks place (Some next) before after (signed, at, inl (awaits, is, same)) = same-scene before after same
-  visits-rises marks place (Some next) before after (signed, at, inr (free, kept, inl (none, is, same), to)) = same-scene before after same
-  visits-rises marks place (Some next) before after (signed, at, inr (free, kept, inr asks, to)) = more-told before after asks.told asks.tells
+  visits-rises marks place (Some next) before after (signed, at, inr (free, (kept, inl (none, is, same), to))) = same-scene before after same
+  visits-rises marks place (Some next) before after (signed, at, inr (free, (kept, inr asks, to))) = more-told before after asks.told asks.tells
 
   tests-rise : (marks : List Mark) (count : ℕ) (before : Scene T) (place : ℕ) (after : Scene T) → TestsFrom hash accepted exchanged marks count before place after → Rises before after
   tests-rise marks zero before place after visits = visits-rises marks place None before after visits
@@ -145,12 +145,12 @@ module _ (hash : List ℕ → List ℕ) (accepted verified : List ℕ → List �
 
   module _ (marks : List Mark) (key : List ℕ) (earlier : List SignedPromise) (name : List ℕ) (given : Option (List ℕ)) where
     begins-at-rises : (first : SignedRoot) (before after : Scene T) → BeginsAt hash accepted verified exchanged marks key earlier name given first before after → Rises before after
-    begins-at-rises first before after (inl (monitor, joined, count, steps)) = through-rises count (record before { monitors = before.monitors ++ monitor ∷ [] }) (length before.monitors) after steps
+    begins-at-rises first before after (inl (monitor, joined, (count, steps))) = through-rises count (record before { monitors = before.monitors ++ monitor ∷ [] }) (length before.monitors) after steps
     begins-at-rises first before after (inr (why, not, starts, same)) = subst (λ (s : Scene T). before.told.status ≤ s.told.status) (sym same) (worse-above before.told.status 1)
 
     pub begins_rises : (before after : Scene T) → BeginsWatch hash accepted verified exchanged marks key earlier name given before after → Rises before after
     begins_rises before after (inl (none, same)) = same-scene before after same
-    begins_rises before after (inr (first, is, middle, begins, tests)) = then-rises before middle after (begins-at-rises first before middle begins) (all-tests-rise marks middle after tests)
+    begins_rises before after (inr (first, is, (middle, begins, tests))) = then-rises before middle after (begins-at-rises first before middle begins) (all-tests-rise marks middle after tests)
 
     pub begins_some_rises : (before after : Scene T) → BeginsSome hash accepted verified exchanged marks key earlier name given before after → Rises before after
     begins_some_rises before after (first, is, inl (inl same)) = same-scene before after same
@@ -161,7 +161,7 @@ module _ (hash : List ℕ → List ℕ) (accepted verified : List ℕ → List �
 
   catches-rises : (epoch : ℕ) (before after : Scene T) → CatchesUp hash accepted verified exchanged epoch before after → Rises before after
   catches-rises epoch before after (head, is, inl (low, same)) = same-scene before after same
-  catches-rises epoch before after (head, is, inr (high, count, follows)) = follows-rises count before after follows
+  catches-rises epoch before after (head, is, inr (high, (count, follows))) = follows-rises count before after follows
 
   above-rises : (marks : List Mark) (epoch : ℕ) (before after : Scene T) → GoesOnAbove hash accepted verified exchanged marks epoch before after → Rises before after
   above-rises marks epoch before after (head, is, inl (low, same)) = same-scene before after same
@@ -171,7 +171,7 @@ module _ (hash : List ℕ → List ℕ) (accepted verified : List ℕ → List �
       → HearsSome hash accepted verified exchanged marks epoch asked frame noted noted' before after → Rises before after
   hears-some-rises marks epoch asked frame noted noted' before after (inl (none, same)) = same-scene before after same
   hears-some-rises marks epoch asked frame noted noted' before after (inr (inl (notes, told, hears, tells, monitors, stream))) = more-told before after told tells
-  hears-some-rises marks epoch asked frame noted noted' before after (inr (inr (heard, hears, notes, head, is, high, goes))) =
+  hears-some-rises marks epoch asked frame noted noted' before after (inr (inr (heard, hears, notes, (head, is, high, goes)))) =
       then-rises before heard after (more-told before heard hears.told hears.tells) (goes-some-rises marks heard after goes)
 
   module _ (marks : List Mark) (token : List ℕ) (asked : RequestContent) (noted noted' : List SignedPromise) (before after : Scene T) where
@@ -185,7 +185,7 @@ module _ (hash : List ℕ → List ℕ) (accepted verified : List ℕ → List �
         by : ((noted' ≡ noted) × CatchesSome hash accepted verified exchanged asks.epoch (record before { stream = asks.stream }) after)
             ⊎ ((ready : Scene T) × CatchesUp hash accepted verified exchanged asks.epoch (record before { stream = asks.stream }) ready × HearsSome hash accepted verified exchanged marks asks.head.body.epoch asked asks.frame noted noted' ready after)
             → Rises before after
-        by (inl (none, head, is, high, some)) = some-rise (record before { stream = asks.stream }) after some
+        by (inl (none, (head, is, high, some))) = some-rise (record before { stream = asks.stream }) after some
         by (inr (ready, catches, hears)) = then-rises before ready after (catches-rises asks.epoch (record before { stream = asks.stream }) ready catches)
             (hears-some-rises marks asks.head.body.epoch asked asks.frame noted noted' ready after hears)
 
@@ -194,13 +194,13 @@ module _ (hash : List ℕ → List ℕ) (accepted verified : List ℕ → List �
     asks_some_rises (inr asks) = on-rises asks
 
   pub stops_asking_rises : (token : List ℕ) (asked : RequestContent) (before after : Scene T) → StopsAsking hash accepted verified exchanged token asked before after → Rises before after
-  stops_asking_rises token asked before after asks = let (head, is, high, count, stops) = asks.stops in stops-rises count (record before { stream = asks.stream }) after stops
+  stops_asking_rises token asked before after asks = let (head, is, high, (count, stops)) = asks.stops in stops-rises count (record before { stream = asks.stream }) after stops
 
   -- ---- however it ends
 
   halted : {H V S : Type 0} (Reached : Scene T → Type 0) (before : Scene T) (fault : AskFault) (asker : Asker H V S) (said : Said) → ((reached : Scene T) → Reached reached → Rises before reached)
       → HaltsAfter Reached fault asker said → before.told.status ≤ said.status
-  halted Reached before fault asker said rises (reached, is, same, still) = subst (λ (r : Report). before.told.status ≤ r.status) (sym same) (rises reached is)
+  halted Reached before fault asker said rises (reached, is, (same, still)) = subst (λ (r : Report). before.told.status ≤ r.status) (sym same) (rises reached is)
 
   -- the roots are taken, and then the promises tested
   pub follow_rises : {H V S A : Type 0} (result : Result A AskFault) (before after : Scene T) (asker : Asker H V S) (said : Said) → report_of said ≡ after.told
@@ -244,6 +244,6 @@ pub start_rises : {A T : Type 0} (verified : List ℕ → List ℕ → List ℕ 
     → said.status ≤ said'.status
 start_rises verified exchanged key result said said' before after starts stops halts = rises_ever said.status said'.status result
     (ok_then {Q = said.status ≤ said'.status} result starts (λ same. subst (λ (s : Said). said.status ≤ s.status) (sym same) (at-most said.status)))
-    (λ stopped. let (frame, exchange, now, none, told) = stops stopped in subst (λ (r : Report). said.status ≤ r.status) (sym told) (worse-above said.status now.status))
+    (λ stopped. let (frame, exchange, (now, none, told)) = stops stopped in subst (λ (r : Report). said.status ≤ r.status) (sym told) (worse-above said.status now.status))
     (err-then (λ fault. fault ≢ Stopped → report_of said' ≡ report_of said) (λ fault. fault ≢ Stopped → said.status ≤ said'.status) result halts (λ fault halts unstopped.
     subst (λ (r : Report). said.status ≤ r.status) (sym (halts unstopped)) (at-most said.status)))

@@ -144,4 +144,4 @@ module _ (hash : List ℕ → List ℕ) (accepted verified : List ℕ → List �
 abbrev pub AsksOverSocket : AskOptions → Option (List ℕ) → ℕ → Option (List ℕ) → Option (List ℕ) → Type 0
 AsksOverSocket options input status old new = ((status ≡ 1) × Keeps old new)
     ⊎ ((key token : List ℕ) × (ask_keys_of options ≡ Some (key, token)) × (socket : TcpStream) × (ended : RunEnd) × (status ≡ end_status ended)
-    × RunsAs sha256 KeyedAccepts KeyedVerifies (ExchangesFrames {TcpStream} (λ _. None) (λ _. None)) key token options (options.state ≡ None) socket input ended old new)
+    × RunsAs sha256 KeyedAccepts KeyedVerifies (ExchangesFrames {T = TcpStream} (λ _. None) (λ _. None)) key token options (options.state ≡ None) socket input ended old new)
