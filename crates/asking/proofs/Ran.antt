@@ -7,7 +7,12 @@ use Rattle.std.specs.declared.net.tcp.TcpStream.{TcpStream}
 use Rattle.nodehash.specs.Sha256.{sha256}
 use Rattle.vrfiface.specs.StandIns.{KeyedAccepts}
 use Rattle.sigiface.specs.StandIn.{KeyedVerifies}
+use Rattle.rootchain.specs.Chains.{KeyedRoots}
+use Rattle.rootchain.specs.TakingLists.{PassesOrAdds, Takes}
 use Rattle.rootchain.specs.declared.signed_promise.SignedPromise.{SignedPromise}
+use Rattle.rootchain.specs.declared.signed_root.SignedRoot.{SignedRoot}
+use Rattle.client.specs.Clients.{Client}
+use Rattle.client.specs.Updating.{Updates}
 use Rattle.textio.specs.Lines.{lines_of}
 use Rattle.wire.specs.Frames.{Frame}
 use Rattle.wire.specs.Requests.{RequestContent}
@@ -88,6 +93,18 @@ written_so (Ok done) Leads before asker said said' stream old new leads (appends
 pub ok_before : {A E B F : Type 0} (P : Type 0) (result : Result A E) (first : Result B F) (done : B) → OnOk result (first ≡ Ok done) → OnOk first P → OnOk result P
 ok_before P (Err why) first done same holds = tt
 ok_before {B = B} {F = F} P (Ok it) first done same holds = subst (λ (r : Result B F). OnOk r P) same holds
+
+passed-key : (hash : List ℕ → List ℕ) (verified : List ℕ → List ℕ → List ℕ → Type 0) (chain : KeyedRoots) (root : SignedRoot) (after : KeyedRoots) → PassesOrAdds hash verified chain root after → after.key ≡ chain.key
+passed-key hash verified chain root after (verifies, inl (known, same)) = ap (λ (c : KeyedRoots). c.key) same
+passed-key hash verified chain root after (verifies, inr (next, same)) = ap (λ (c : KeyedRoots). c.key) same
+
+taken-key : (hash : List ℕ → List ℕ) (verified : List ℕ → List ℕ → List ℕ → Type 0) (chain : KeyedRoots) (roots : List SignedRoot) (after : KeyedRoots) → Takes hash verified chain roots after → after.key ≡ chain.key
+taken-key hash verified chain [] after same = ap (λ (c : KeyedRoots). c.key) same
+taken-key hash verified chain (root ∷ roots) after (middle, passes, more) = taken-key hash verified middle roots after more ∙ passed-key hash verified chain root middle passes
+
+-- a client that takes roots stays with its provider
+pub updated_key : (hash : List ℕ → List ℕ) (verified : List ℕ → List ℕ → List ℕ → Type 0) (before after : Client) (list : List ℕ) → Updates hash verified before list {A = Unit {0}} (Ok tt) after → after.chain.key ≡ before.chain.key
+updated_key hash verified before after list (roots, chain, spells, takes, same) = ap (λ (c : Client). c.chain.key) same ∙ taken-key hash verified before.chain roots chain takes
 
 -- it begins with the directory's head
 pub begins_at_head : {H V S T E : Type 0} (hash : List ℕ → List ℕ) (accepted verified : List ℕ → List ℕ → List ℕ → Type 0) (exchanged : T → RequestContent → Frame → T → Type 0) (key token : List ℕ) (HasNoState : Type 0)
