@@ -240,10 +240,11 @@ module _ (hash : List ℕ → List ℕ) (accepted verified : List ℕ → List �
 
 -- a client starts with the head, or does not
 pub start_rises : {A T : Type 0} (verified : List ℕ → List ℕ → List ℕ → Type 0) (exchanged : T → RequestContent → Frame → T → Type 0) (key : List ℕ) (result : Result A AskFault) (said said' : Said) (before after : T) → OnOk result (said' ≡ said)
-    → (result ≡ Err Stopped → StopsAtHead verified exchanged key before (report_of said) after (report_of said')) → IfErr result (λ fault. fault ≢ Stopped → report_of said' ≡ report_of said)
+    → IfErr result (λ fault. fault ≡ Stopped → StopsAtHead verified exchanged key before (report_of said) after (report_of said')) → IfErr result (λ fault. fault ≢ Stopped → report_of said' ≡ report_of said)
     → said.status ≤ said'.status
-start_rises verified exchanged key result said said' before after starts stops halts = rises_ever said.status said'.status result
-    (ok_then {Q = said.status ≤ said'.status} result starts (λ same. subst (λ (s : Said). said.status ≤ s.status) (sym same) (at-most said.status)))
-    (λ stopped. let (frame, exchange, (now, none, told)) = stops stopped in subst (λ (r : Report). said.status ≤ r.status) (sym told) (worse-above said.status now.status))
-    (err-then (λ fault. fault ≢ Stopped → report_of said' ≡ report_of said) (λ fault. fault ≢ Stopped → said.status ≤ said'.status) result halts (λ fault halts unstopped.
-    subst (λ (r : Report). said.status ≤ r.status) (sym (halts unstopped)) (at-most said.status)))
+start_rises verified exchanged key (Ok done) said said' before after starts stops halts = subst (λ (s : Said). said.status ≤ s.status) (sym starts) (at-most said.status)
+start_rises verified exchanged key (Err NoReply) said said' before after starts stops halts = subst (λ (r : Report). said.status ≤ r.status) (sym (halts no-reply)) (at-most said.status)
+start_rises verified exchanged key (Err OutOfMemory) said said' before after starts stops halts = subst (λ (r : Report). said.status ≤ r.status) (sym (halts no-memory)) (at-most said.status)
+start_rises verified exchanged key (Err Stopped) said said' before after starts stops halts =
+    let (frame, exchange, (now, none, told)) = stops refl in
+    subst (λ (r : Report). said.status ≤ r.status) (sym told) (worse-above said.status now.status)
