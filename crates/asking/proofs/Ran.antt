@@ -197,5 +197,13 @@ pub over_socket : (order : AskOrder) (key token : List ℕ) (socket : TcpStream)
     → AsksOverSocket (ask_values order) input (end_status ended) old new
 over_socket order key token socket input old new (Stopped status) are high = inr (key, token, are, socket, Stopped status, refl, high)
 over_socket order key token socket input old new (Whole status) are run =
-    inr (key, token, are, socket, Whole status, refl, with_state sha256 KeyedAccepts KeyedVerifies (ExchangesFrames {T = TcpStream} (λ _. None) (λ _. None)) key token (ask_values order) (order.state ≡ None) ((ask_values order).state ≡ None)
-    socket input old new status (none_before (λ text. text.now) order.state) run)
+    inr (
+      key,
+      token,
+      are,
+      socket,
+      Whole status,
+      refl,
+      with_state sha256 KeyedAccepts KeyedVerifies (ExchangesFrames {T = TcpStream} (λ _. None) (λ _. None)) key token (ask_values order) (order.state ≡ None) ((ask_values order).state ≡ None)
+          socket input old new status (none_before (λ text. text.now) order.state) run,
+    )

@@ -53,4 +53,3 @@ returns-in_err-ask_line-clause-faults g c =
 pub returns-in_err-ask_line-clause-grows : goal.returns-in_err-ask_line-clause-grows
 returns-in_err-ask_line-clause-grows g c =
     grows_on (g.W.Write.contents c.args.writer.now) (g.W.Write.contents c.loop-number.writer) (g.W.Write.contents c.ask_line.new.writer) c.loop-number.invariant.grows c.ask_line.ensures.grows
-
