@@ -1,4 +1,5 @@
 pub mod Asked
+pub mod Faulty
 pub mod Going
 pub mod Halted
 pub mod Heard
@@ -6,6 +7,7 @@ pub mod Joined
 pub mod Listed
 pub mod Placed
 pub mod Ran
+pub mod Rising
 pub mod Stepped
 pub mod Stopped
 pub mod Telling

@@ -7,7 +7,12 @@ use Rattle.std.specs.declared.net.tcp.TcpStream.{TcpStream}
 use Rattle.nodehash.specs.Sha256.{sha256}
 use Rattle.vrfiface.specs.StandIns.{KeyedAccepts}
 use Rattle.sigiface.specs.StandIn.{KeyedVerifies}
+use Rattle.rootchain.specs.Chains.{KeyedRoots}
+use Rattle.rootchain.specs.TakingLists.{PassesOrAdds, Takes}
 use Rattle.rootchain.specs.declared.signed_promise.SignedPromise.{SignedPromise}
+use Rattle.rootchain.specs.declared.signed_root.SignedRoot.{SignedRoot}
+use Rattle.client.specs.Clients.{Client}
+use Rattle.client.specs.Updating.{Updates}
 use Rattle.textio.specs.Lines.{lines_of}
 use Rattle.wire.specs.Frames.{Frame}
 use Rattle.wire.specs.Requests.{RequestContent}
@@ -21,7 +26,7 @@ use Rattle.asking.specs.declared.said.Said.{Said}
 use Rattle.asking.specs.AskOptions.{AskOptions, ask_keys_of, ask_values}
 use Rattle.asking.specs.Exchanges.{ExchangesFrames}
 use Rattle.asking.specs.Reports.{Report, report_of}
-use Rattle.asking.specs.Runs.{AsksLine, AsksLines, AsksOverSocket, emptied, end_status, Known, known_new, known_of, lines_asked, Prepares, RunsAs, RunsWhole, words_line, Writes, IsCutShort}
+use Rattle.asking.specs.Runs.{AsksLine, AsksLines, AsksOverSocket, BeginsAsking, emptied, end_status, Grows, Known, known_new, known_of, lines_asked, Prepares, RunsAs, RunsWhole, words_line, Writes, IsCutShort}
 use Rattle.asking.specs.Scenes.{Scene, scene, Remains, StartsAtHead}
 use Rattle.asking.proofs.Joined.{scene_of}
 
@@ -89,22 +94,40 @@ pub ok_before : {A E B F : Type 0} (P : Type 0) (result : Result A E) (first : R
 ok_before P (Err why) first done same holds = tt
 ok_before {B = B} {F = F} P (Ok it) first done same holds = subst (λ (r : Result B F). OnOk r P) same holds
 
+passed-key : (hash : List ℕ → List ℕ) (verified : List ℕ → List ℕ → List ℕ → Type 0) (chain : KeyedRoots) (root : SignedRoot) (after : KeyedRoots) → PassesOrAdds hash verified chain root after → after.key ≡ chain.key
+passed-key hash verified chain root after (verifies, inl (known, same)) = ap (λ (c : KeyedRoots). c.key) same
+passed-key hash verified chain root after (verifies, inr (next, same)) = ap (λ (c : KeyedRoots). c.key) same
+
+taken-key : (hash : List ℕ → List ℕ) (verified : List ℕ → List ℕ → List ℕ → Type 0) (chain : KeyedRoots) (roots : List SignedRoot) (after : KeyedRoots) → Takes hash verified chain roots after → after.key ≡ chain.key
+taken-key hash verified chain [] after same = ap (λ (c : KeyedRoots). c.key) same
+taken-key hash verified chain (root ∷ roots) after (middle, passes, more) = taken-key hash verified middle roots after more ∙ passed-key hash verified chain root middle passes
+
+-- a client that takes roots stays with its provider
+pub updated_key : (hash : List ℕ → List ℕ) (verified : List ℕ → List ℕ → List ℕ → Type 0) (before after : Client) (list : List ℕ) → Updates hash verified before list {A = Unit {0}} (Ok tt) after → after.chain.key ≡ before.chain.key
+updated_key hash verified before after list (roots, chain, spells, takes, same) = ap (λ (c : Client). c.chain.key) same ∙ taken-key hash verified before.chain roots chain takes
+
+-- it begins with the directory's head
+pub begins_at_head : {H V S T E : Type 0} (hash : List ℕ → List ℕ) (accepted verified : List ℕ → List ℕ → List ℕ → Type 0) (exchanged : T → RequestContent → Frame → T → Type 0) (key token : List ℕ) (HasNoState : Type 0)
+    (result : Result (Asker H V S) E) (stream stream' : T) → IfOk result (λ asker. StartsAtHead verified exchanged key stream asker.client stream')
+    → IfOk result (λ asker. (known_of asker ≡ known_new key token) × (asker.monitors.items ≡ []))
+    → IfOk result (λ asker. BeginsAsking hash accepted verified exchanged key token HasNoState stream (known_of asker) asker.client stream')
+begins_at_head hash accepted verified exchanged key token HasNoState (Ok asker) stream stream' starts knows = inl (starts, knows.0)
+begins_at_head hash accepted verified exchanged key token HasNoState (Err why) stream stream' starts knows = tt
+
 -- a run is whole, where its lines are asked to the end
 pub whole : {T E : Type 0} (hash : List ℕ → List ℕ) (accepted verified : List ℕ → List ℕ → List ℕ → Type 0) (exchanged : T → RequestContent → Frame → T → Type 0) (key token : List ℕ) (options : AskOptions) (HasNoState : Type 0)
     (result : Result (Unit {0}) E) (known known' : Known) (stream : T) (start ready last : Scene T) (input old now new : Option (List ℕ)) (first : Report) → start.told ≡ first
-    → StartsAtHead verified exchanged key stream start.client start.stream ⊎ (start.stream ≡ stream) → (known.key ≡ key) × (known.token ≡ token) × (start.monitors ≡ [])
-    → (HasNoState → StartsAtHead verified exchanged key stream start.client start.stream × (known ≡ known_new key token))
+    → BeginsAsking hash accepted verified exchanged key token HasNoState stream known start.client start.stream → (known.key ≡ key) × (known.token ≡ token) × (start.monitors ≡ [])
     → Writes (Prepares hash accepted verified exchanged known) start old now ready → known' ≡ known
     → OnOk result (IfSome (lines_asked options.words input) (λ lines. AsksLines hash accepted verified exchanged known' lines ready now new last))
     → OnOk result (first ≡ emptied 0 → RunsWhole hash accepted verified exchanged key token options HasNoState stream input last.told.status old new)
-whole hash accepted verified exchanged key token options HasNoState (Err why) known known' stream start ready last input old now new first told begins knows anew prepares same asks = tt
-whole hash accepted verified exchanged key token options HasNoState (Ok done) known known' stream start ready last input old now new first told begins knows anew prepares same asks = λ none. record {
+whole hash accepted verified exchanged key token options HasNoState (Err why) known known' stream start ready last input old now new first told begins knows prepares same asks = tt
+whole hash accepted verified exchanged key token options HasNoState (Ok done) known known' stream start ready last input old now new first told begins knows prepares same asks = λ none. record {
   known = known;
   start = start;
   silent = told ∙ none;
   begins = begins;
   knows = knows;
-  anew = anew;
   ready = ready;
   now = now;
   prepares = prepares;
@@ -137,9 +160,8 @@ with_state hash accepted verified exchanged key token options NoState None' stre
   known = run.known;
   start = run.start;
   silent = run.silent;
-  begins = run.begins;
+  begins = begun run.begins;
   knows = run.knows;
-  anew = λ none. run.anew (without none);
   ready = run.ready;
   now = run.now;
   prepares = run.prepares;
@@ -147,29 +169,41 @@ with_state hash accepted verified exchanged key token options NoState None' stre
   asks = run.asks;
   status_is = run.status_is;
 }
+  where
+    begun : BeginsAsking hash accepted verified exchanged key token NoState stream run.known run.start.client run.start.stream → BeginsAsking hash accepted verified exchanged key token None' stream run.known run.start.client run.start.stream
+    begun (inl head) = inl head
+    begun (inr (state, same, sound)) = inr ((λ none. state (without none)), same, sound)
 
--- a run that came to its end is whole, and one that was stopped has another status than 0
+-- a run that came to its end is whole, and one that was stopped only wrote
 pub ends_so : {T E F : Type 0} (hash : List ℕ → List ℕ) (accepted verified : List ℕ → List ℕ → List ℕ → Type 0) (exchanged : T → RequestContent → Frame → T → Type 0) (key token : List ℕ) (options : AskOptions) (NoState None' : Type 0)
     (outcome : Result (Unit {0}) E) (result : Result RunEnd F) (stream : T) (input old new new' : Option (List ℕ)) (status : ℕ) (told : Report) → told ≡ emptied 0 → (None' → NoState)
     → OnOk outcome (told ≡ emptied 0 → RunsWhole hash accepted verified exchanged key token options NoState stream input status old new)
-    → OnOk outcome ((result ≡ Ok (Whole status)) × (new' ≡ new)) → IfErr outcome (λ fault. IfOk result IsCutShort)
+    → OnOk outcome ((result ≡ Ok (Whole status)) × (new' ≡ new)) → IfErr outcome (λ fault. IfOk result IsCutShort) → Grows old new'
     → IfOk result (λ ended. RunsAs hash accepted verified exchanged key token options None' stream input ended old new')
-ends_so hash accepted verified exchanged key token options NoState None' (Err fault) (Err why) stream input old new new' status told empty without runs ends stops = tt
-ends_so hash accepted verified exchanged key token options NoState None' (Err fault) (Ok (Whole other)) stream input old new new' status told empty without runs ends stops = absurd stops
-ends_so hash accepted verified exchanged key token options NoState None' (Err fault) (Ok (Stopped other)) stream input old new new' status told empty without runs ends stops = stops
-ends_so {F = F} hash accepted verified exchanged key token options NoState None' (Ok done) result stream input old new new' status told empty without runs (is, same) stops =
+ends_so hash accepted verified exchanged key token options NoState None' (Err fault) (Err why) stream input old new new' status told empty without runs ends stops grows = tt
+ends_so hash accepted verified exchanged key token options NoState None' (Err fault) (Ok (Whole other)) stream input old new new' status told empty without runs ends stops grows = absurd stops
+ends_so hash accepted verified exchanged key token options NoState None' (Err fault) (Ok (Stopped other)) stream input old new new' status told empty without runs ends stops grows = (stops, grows)
+ends_so {F = F} hash accepted verified exchanged key token options NoState None' (Ok done) result stream input old new new' status told empty without runs (is, same) stops grows =
     subst (λ (r : Result RunEnd F). IfOk r (λ ended. RunsAs hash accepted verified exchanged key token options None' stream input ended old new')) (sym is) (
     subst (λ (text : Option (List ℕ)). RunsWhole hash accepted verified exchanged key token options None' stream input status old text) (sym same)
     (with_state hash accepted verified exchanged key token options NoState None' stream input old new status without (runs empty)))
 
-none-before : {A B : Type 0} (f : A → B) (x : Option A) → option_map f x ≡ None → x ≡ None
-none-before f None is = refl
-none-before f (Some a) is = absurd cc
+pub none_before : {A B : Type 0} (f : A → B) (x : Option A) → option_map f x ≡ None → x ≡ None
+none_before f None is = refl
+none_before f (Some a) is = absurd cc
 
 pub over_socket : (order : AskOrder) (key token : List ℕ) (socket : TcpStream) (input old new : Option (List ℕ)) (ended : RunEnd) → ask_keys_of (ask_values order) ≡ Some (key, token)
-    → RunsAs sha256 KeyedAccepts KeyedVerifies (ExchangesFrames {TcpStream} (λ _. None) (λ _. None)) key token (ask_values order) (order.state ≡ None) socket input ended old new
+    → RunsAs sha256 KeyedAccepts KeyedVerifies (ExchangesFrames {T = TcpStream} (λ _. None) (λ _. None)) key token (ask_values order) (order.state ≡ None) socket input ended old new
     → AsksOverSocket (ask_values order) input (end_status ended) old new
 over_socket order key token socket input old new (Stopped status) are high = inr (key, token, are, socket, Stopped status, refl, high)
 over_socket order key token socket input old new (Whole status) are run =
-    inr (key, token, are, socket, Whole status, refl, with_state sha256 KeyedAccepts KeyedVerifies (ExchangesFrames {TcpStream} (λ _. None) (λ _. None)) key token (ask_values order) (order.state ≡ None) ((ask_values order).state ≡ None)
-    socket input old new status (none-before (λ text. text.now) order.state) run)
+    inr (
+      key,
+      token,
+      are,
+      socket,
+      Whole status,
+      refl,
+      with_state sha256 KeyedAccepts KeyedVerifies (ExchangesFrames {T = TcpStream} (λ _. None) (λ _. None)) key token (ask_values order) (order.state ≡ None) ((ask_values order).state ≡ None)
+          socket input old new status (none_before (λ text. text.now) order.state) run,
+    )

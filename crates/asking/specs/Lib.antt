@@ -10,6 +10,7 @@ pub mod Scenes
 pub mod Stopping
 pub mod Testing
 pub mod Reports
+pub mod RunFaults
 pub mod Runs
 pub mod Visiting
 pub mod Watching

@@ -1,11 +1,13 @@
 -- What a run writes: all that is told of each line that it asks, one after another.
-use Rattle.std.specs.Prelude.{◌≡◌, ◌<◌, ◌⊎◌, ℕ, List, [], ◌∷◌, ◌++◌, Option, Some, None, IfSome, option_map}
+use Rattle.std.specs.Prelude.{◌≡◌, ◌⊎◌, ℕ, List, [], ◌∷◌, ◌++◌, Option, Some, None, IfSome, option_map}
 use Rattle.std.specs.Io.KnownBytes.{Appends, Keeps}
 use Rattle.std.specs.declared.net.tcp.TcpStream.{TcpStream}
 use Rattle.nodehash.specs.Sha256.{sha256}
 use Rattle.vrfiface.specs.StandIns.{KeyedAccepts}
 use Rattle.sigiface.specs.StandIn.{KeyedVerifies}
+use Rattle.rootchain.specs.Chains.{IsChain}
 use Rattle.rootchain.specs.declared.signed_promise.SignedPromise.{SignedPromise}
+use Rattle.client.specs.Clients.{Client, IsSoundClient}
 use Rattle.textio.specs.Lines.{lines_of}
 use Rattle.wire.specs.Frames.{Frame}
 use Rattle.wire.specs.Requests.{RequestContent}
@@ -23,14 +25,14 @@ use Rattle.asking.specs.declared.asker.Mark.{Mark}
 use Rattle.asking.specs.declared.run.RunEnd.{RunEnd}
 use Rattle.asking.specs.declared.run.RunEnd.TheVariants.{Whole, Stopped}
 
--- the status of the program, and that of a run that was stopped: not 0
+-- the status of the program; a run that was stopped has that of a refusal, or of an alarm
 abbrev pub end_status : RunEnd → ℕ
 end_status (Whole status) = status
 end_status (Stopped status) = status
 
 abbrev pub IsCutShort : RunEnd → Type 0
 IsCutShort (Whole status) = ⊥
-IsCutShort (Stopped status) = 0 < status
+IsCutShort (Stopped status) = (status ≡ 1) ⊎ (status ≡ 3)
 
 -- what stays throughout a run: the provider's key, the token, and the marks and the promised changes of earlier runs
 pub record Known : Type 0 where
@@ -42,13 +44,17 @@ pub record Known : Type 0 where
 abbrev pub known_of : {H V S : Type 0} → Asker H V S → Known
 known_of asker = record { key = asker.key; token = asker.token; marks = asker.marks.items; earlier = asker.earlier.items }
 
--- the same key and token, and the same monitors
+-- the same keys and token, and the same monitors
 abbrev pub IsSameAsker : {H V S : Type 0} → Asker H V S → Asker H V S → Type 0
-IsSameAsker before after = (after.key ≡ before.key) × (after.token ≡ before.token) × (after.monitors ≡ before.monitors)
+IsSameAsker before after = (after.key ≡ before.key) × (after.token ≡ before.token) × (after.monitors ≡ before.monitors) × (after.client.chain.key ≡ before.client.chain.key)
 
 -- with no earlier run
 abbrev pub known_new : List ℕ → List ℕ → Known
 known_new key token = record { key = key; token = token; marks = []; earlier = [] }
+
+-- what was written stays, and some text is written behind it
+abbrev pub Grows : Option (List ℕ) → Option (List ℕ) → Type 0
+Grows old new = (text : List ℕ) × Appends old new text
 
 -- no line, and this status
 abbrev pub emptied : ℕ → Report
@@ -81,6 +87,10 @@ lines_asked (Some command ∷ more) input = Some (words_line (Some command ∷ m
 lines_asked (None ∷ more) input = option_map lines_of input
 lines_asked [] input = option_map lines_of input
 
+-- a client of this provider whose chain, looks and promises are sound
+abbrev pub IsSoundFor : (List ℕ → List ℕ) → (List ℕ → List ℕ → List ℕ → Type 0) → (List ℕ → List ℕ → List ℕ → Type 0) → List ℕ → Client → Type 0
+IsSoundFor hash accepted verified key client = (client.chain.key ≡ key) × IsChain hash verified client.chain × IsSoundClient hash accepted verified client
+
 module _ (hash : List ℕ → List ℕ) (accepted verified : List ℕ → List ℕ → List ℕ → Type 0) {T : Type 0} (exchanged : T → RequestContent → Frame → T → Type 0) where
   module _ (known : Known) where
     -- the new roots are taken, and each promise is tested that is due and does not wait
@@ -103,16 +113,20 @@ module _ (hash : List ℕ → List ℕ) (accepted verified : List ℕ → List �
     AsksLines [] before old new after = Appends old new [] × (after ≡ before)
     AsksLines (line ∷ more) before old new after = (middle : Scene T) × (now : Option (List ℕ)) × Writes (AsksLine line) before old now middle × AsksLines more middle now new after
 
-  -- A run from its beginning to its end. The client starts with the directory's head, or as the files of a state have it,
-  -- with no monitor; without a state, it knows nothing of earlier runs. Then all that is new is followed, and the lines are
-  -- asked.
+  -- A client starts with the directory's head, and knows nothing of earlier runs; or, where there is a state, as its files have
+  -- it.
+  abbrev pub BeginsAsking : List ℕ → List ℕ → Type 0 → T → Known → Client → T → Type 0
+  BeginsAsking key token HasNoState stream known client after =
+      (StartsAtHead verified exchanged key stream client after × (known ≡ known_new key token))
+      ⊎ ((¬ HasNoState) × (after ≡ stream) × IsSoundFor hash accepted verified key client)
+
+  -- A run from its beginning to its end: it begins, with no monitor, all that is new is followed, and the lines are asked.
   pub record RunsWhole (key token : List ℕ) (options : AskOptions) (HasNoState : Type 0) (stream : T) (input : Option (List ℕ)) (status : ℕ) (old new : Option (List ℕ)) : Type 0 where
     pub known : Known
     pub start : Scene T
     pub silent : start.told ≡ emptied 0
-    pub begins : StartsAtHead verified exchanged key stream start.client start.stream ⊎ (start.stream ≡ stream)
+    pub begins : BeginsAsking key token HasNoState stream known start.client start.stream
     pub knows : (known.key ≡ key) × (known.token ≡ token) × (start.monitors ≡ [])
-    pub anew : HasNoState → StartsAtHead verified exchanged key stream start.client start.stream × (known ≡ known_new key token)
     pub ready : Scene T
     pub now : Option (List ℕ)
     pub prepares : Writes (Prepares known) start old now ready
@@ -120,14 +134,14 @@ module _ (hash : List ℕ → List ℕ) (accepted verified : List ℕ → List �
     pub asks : IfSome (lines_asked options.words input) (λ lines. AsksLines known lines ready now new last)
     pub status_is : status ≡ last.told.status
 
-  -- a run that is whole; of one that was stopped, only that its status is not 0
+  -- a run that is whole; of one that was stopped, its status, and that it only wrote
   abbrev pub RunsAs : List ℕ → List ℕ → AskOptions → Type 0 → T → Option (List ℕ) → RunEnd → Option (List ℕ) → Option (List ℕ) → Type 0
   RunsAs key token options HasNoState stream input (Whole status) old new = RunsWhole key token options HasNoState stream input status old new
-  RunsAs key token options HasNoState stream input (Stopped status) old new = 0 < status
+  RunsAs key token options HasNoState stream input (Stopped status) old new = IsCutShort (Stopped status) × Grows old new
 
 -- A run over a socket, of which definitions know neither what it took nor what it will give: no connection came about, and
 -- nothing is written; or the run is one for some frames that came.
 abbrev pub AsksOverSocket : AskOptions → Option (List ℕ) → ℕ → Option (List ℕ) → Option (List ℕ) → Type 0
 AsksOverSocket options input status old new = ((status ≡ 1) × Keeps old new)
     ⊎ ((key token : List ℕ) × (ask_keys_of options ≡ Some (key, token)) × (socket : TcpStream) × (ended : RunEnd) × (status ≡ end_status ended)
-    × RunsAs sha256 KeyedAccepts KeyedVerifies (ExchangesFrames {TcpStream} (λ _. None) (λ _. None)) key token options (options.state ≡ None) socket input ended old new)
+    × RunsAs sha256 KeyedAccepts KeyedVerifies (ExchangesFrames {T = TcpStream} (λ _. None) (λ _. None)) key token options (options.state ≡ None) socket input ended old new)

@@ -1,12 +1,15 @@
 // A run: each line of the input is asked, what is told of it is written, and the state is kept.
-ghost use Rattle.std.specs.Prelude.{◌≡◌, ◌⊎◌, ◌<◌, [], Err, IfErr, IfOk, IfSome, None, Ok, OnOk, option_map};
+ghost use Rattle.std.specs.Prelude.{◌≡◌, ◌⊎◌, ◌≤◌, [], Err, IfErr, IfOk, IfSome, MatchOption, None, Ok, OnOk, Some, option_map, ⊤};
 ghost use Rattle.std.specs.Io.KnownBytes.{Appends};
 ghost use Rattle.textio.specs.Lines.{lines_of};
-ghost use Rattle.play.specs.Scripts.{line_seen};
+ghost use Rattle.textio.specs.declared.program_fault.ProgramFault.TheVariants.{CannotWrite, NotACommand, OutOfMemory};
+ghost use Rattle.play.specs.Scripts.{line_of, line_seen};
 ghost use Rattle.asking.specs.AskOptions.{ask_values};
 ghost use Rattle.asking.specs.Exchanges.{ExchangesFrames};
 ghost use Rattle.asking.specs.Reports.{report_of};
-ghost use Rattle.asking.specs.Runs.{AsksLine, AsksLines, DoesLine, emptied, IsCutShort, known_new, known_of, Prepares, RunsWhole, end_status, with_word, words_line, Writes};
+ghost use Rattle.asking.specs.RunFaults.{CannotBeAsked, IsFaultOfSaving, IsFaultOfState, IsFaultWith, IsFirstUnasked, StopsOr};
+ghost use Rattle.asking.specs.Runs.{AsksLine, AsksLines, BeginsAsking, DoesLine, emptied, Grows, IsCutShort, IsSoundFor, known_new, known_of, lines_asked, Prepares, RunsWhole, end_status, with_word, words_line, Writes};
+ghost use Rattle.asking.specs.declared.ask_fault.RunFault.TheVariants.{Program};
 ghost use Rattle.asking.specs.declared.run.RunEnd.TheVariants.{Whole, Stopped};
 ghost use Rattle.asking.specs.Scenes.{scene, StartsAtHead};
 
@@ -28,7 +31,7 @@ use vrfiface::VufCheck;
 pub enum RunEnd {
     /// All was asked.
     Whole(u8),
-    /// No reply came, new roots were refused, or a fault followed an alarm. The status is not 0.
+    /// No reply came, new roots were refused, or a fault followed an alarm. The status is 1, or 3 after an alarm.
     Stopped(u8),
 }
 
@@ -88,6 +91,7 @@ where
     ) -> Result<Self, ProgramFault>
         ensures none { IfOk result (λ run. path.entry ≡ None → run.state ≡ None) }
         ensures said { IfOk result (λ run. report_of run.said ≡ emptied 0) }
+        ensures err { IfErr result (λ fault. fault ≡ OutOfMemory) }
     {
         let state = match path {
             Some(path) => Some(State::new(alloc, path)?),
@@ -110,19 +114,22 @@ where
     ) -> Result<RunEnd, ProgramFault>
         ensures ok { OnOk outcome ((result ≡ Ok (Whole (self.old).said.status)) × (writer.new ≡ writer.old)) }
         ensures err { IfErr outcome (λ fault. IfOk result IsCutShort) }
-        ensures alarm { IfErr outcome (λ fault. (self.old).said.status ≡ 3 → result ≡ Ok (Stopped 3)) }
+        ensures alarm { IfErr outcome (λ fault. 3 ≤ (self.old).said.status → result ≡ Ok (Stopped 3)) }
+        ensures gives { IfErr result (λ given. IsFaultOfSaving given ⊎ (outcome ≡ Err (Program given))) }
+        ensures grows { Grows (W.contents writer.old) (W.contents writer.new) }
     {
         let fault = match outcome {
             Ok(()) => return Ok(RunEnd::Whole(self.said.status)),
             Err(fault) => fault,
         };
         match self.conclude(fault, writer, errors) {
-            Err(fault) if self.said.status != ALARM => Err(fault),
+            Err(fault) if self.said.status < ALARM => Err(fault),
             Err(fault) => {
                 let _told = fault.tell(errors);
                 Ok(RunEnd::Stopped(ALARM))
             }
-            Ok(()) => Ok(RunEnd::Stopped(self.said.status)),
+            Ok(()) if self.said.status < ALARM => Ok(RunEnd::Stopped(REFUSED)),
+            Ok(()) => Ok(RunEnd::Stopped(ALARM)),
         }
     }
 
@@ -133,8 +140,9 @@ where
         writer: &mut W,
         errors: &mut E,
     ) -> Result<(), ProgramFault>
-        ensures status { OnOk result (0 < (self.new).said.status) }
-        ensures alarm { (self.old).said.status ≡ 3 → (self.new).said.status ≡ 3 }
+        ensures rises { (self.old).said.status ≤ (self.new).said.status }
+        ensures gives { IfErr result (λ given. IsFaultOfSaving given ⊎ (fault ≡ Program given)) }
+        ensures grows { Grows (W.contents writer.old) (W.contents writer.new) }
     {
         match fault {
             RunFault::Program(fault) => {
@@ -145,10 +153,9 @@ where
                 self.write(writer, errors)?;
                 return Err(ProgramFault::OutOfMemory);
             }
-            RunFault::Ask(AskFault::Stopped) => self.said.raise(REFUSED),
+            RunFault::Ask(AskFault::Stopped) => {}
             RunFault::Ask(AskFault::NoReply) => {
                 self.said.words.extend_from_slice(b"no reply\n")?;
-                self.said.raise(REFUSED);
             }
         }
         self.write(writer, errors)
@@ -173,8 +180,12 @@ where
         H: NodeHash + Drop,
         V: VufCheck + Drop,
         S: Verifier + Drop,
-        ensures { OnOk result (report_of (self.old).said ≡ emptied 0 → RunsWhole H.digest_of V.accepted S.verified (ExchangesFrames T.contents T.remaining) keys.now.provider keys.now.token (ask_values order.entry)
+        ensures runs { OnOk result (report_of (self.old).said ≡ emptied 0 → RunsWhole H.digest_of V.accepted S.verified (ExchangesFrames T.contents T.remaining) keys.now.provider keys.now.token (ask_values order.entry)
             ((self.old).state ≡ None) stream.old (R.remaining reader.old) (self.new).said.status (W.contents writer.old) (W.contents writer.new)) }
+        ensures faults { IfErr result (StopsOr (IsFaultWith (¬ ((self.old).state ≡ None))
+            (λ number. IfSome (lines_asked (ask_values order.entry).words (R.remaining reader.old)) (λ lines. IsFirstUnasked 1 lines number)))) }
+        ensures grows { Grows (W.contents writer.old) (W.contents writer.new) }
+        ensures rises { (self.old).said.status ≤ (self.new).said.status }
     {
         let mut asker = self.begin(stream, checks, keys)?;
         self.prepare(&mut asker, stream, writer, errors)?;
@@ -199,10 +210,12 @@ where
         H: NodeHash + Drop,
         V: VufCheck + Drop,
         S: Verifier + Drop,
-        ensures begins { IfOk result (λ asker. StartsAtHead S.verified (ExchangesFrames T.contents T.remaining) keys.now.provider stream.old asker.client stream.new ⊎ (stream.new ≡ stream.old)) }
+        ensures begins { IfOk result (λ asker. BeginsAsking H.digest_of V.accepted S.verified (ExchangesFrames T.contents T.remaining) keys.now.provider keys.now.token ((self.old).state ≡ None)
+            stream.old (known_of asker) asker.client stream.new) }
         ensures knows { IfOk result (λ asker. (asker.key ≡ keys.now.provider) × (asker.token ≡ keys.now.token) × (asker.monitors.items ≡ [])) }
-        ensures anew { IfOk result (λ asker. (self.old).state ≡ None → StartsAtHead S.verified (ExchangesFrames T.contents T.remaining) keys.now.provider stream.old asker.client stream.new × (known_of asker ≡ known_new keys.now.provider keys.now.token)) }
         ensures said { IfOk result (λ asker. report_of (self.new).said ≡ report_of (self.old).said) }
+        ensures faults { IfErr result (StopsOr (λ fault. ((¬ ((self.old).state ≡ None)) × IsFaultOfState fault) ⊎ (fault ≡ OutOfMemory))) }
+        ensures rises { (self.old).said.status ≤ (self.new).said.status }
     {
         match self.load(checks, keys)? {
             Ok(asker) => Ok(asker),
@@ -222,6 +235,8 @@ where
         S: Verifier + Drop,
         ensures none { (self.old).state ≡ None → result ≡ Ok (Err checks) }
         ensures knows { IfOk result (λ loaded. IfOk loaded (λ asker. (asker.key ≡ keys.now.provider) × (asker.token ≡ keys.now.token) × (asker.monitors.items ≡ []))) }
+        ensures sound { IfOk result (λ loaded. IfOk loaded (λ asker. IsSoundFor H.digest_of V.accepted S.verified keys.now.provider asker.client)) }
+        ensures err { IfErr result IsFaultOfState }
         ensures said { (self.new).said ≡ (self.old).said }
     {
         match self.state.as_mut() {
@@ -245,6 +260,8 @@ where
         ensures begins { IfOk result (λ asker. StartsAtHead S.verified (ExchangesFrames T.contents T.remaining) keys.now.provider stream.old asker.client stream.new) }
         ensures knows { IfOk result (λ asker. (known_of asker ≡ known_new keys.now.provider keys.now.token) × (asker.monitors.items ≡ [])) }
         ensures said { IfOk result (λ asker. report_of (self.new).said ≡ report_of (self.old).said) }
+        ensures faults { IfErr result (StopsOr (λ fault. fault ≡ OutOfMemory)) }
+        ensures rises { (self.old).said.status ≤ (self.new).said.status }
     {
         let said = &mut self.said;
         let asker = Asker::start_at_head(
@@ -279,6 +296,9 @@ where
         ensures prepares { OnOk result (Writes (Prepares H.digest_of V.accepted S.verified (ExchangesFrames T.contents T.remaining) (known_of asker.old))
             (scene asker.old (self.old).said stream.old) (W.contents writer.old) (W.contents writer.new) (scene asker.new (self.new).said stream.new)) }
         ensures stays { known_of asker.new ≡ known_of asker.old }
+        ensures faults { IfErr result (StopsOr IsFaultOfSaving) }
+        ensures grows { Grows (W.contents writer.old) (W.contents writer.new) }
+        ensures rises { (self.old).said.status ≤ (self.new).said.status }
     {
         let followed = follow(asker, stream, &mut self.said);
         self.settle(asker, followed, writer, errors)
@@ -301,8 +321,11 @@ where
         H: NodeHash + Drop,
         V: VufCheck + Drop,
         S: Verifier + Drop,
-        ensures { OnOk result (IfSome (R.remaining reader.old) (λ input. AsksLines H.digest_of V.accepted S.verified (ExchangesFrames T.contents T.remaining) (known_of asker.old) (lines_of input)
+        ensures asks { OnOk result (IfSome (R.remaining reader.old) (λ input. AsksLines H.digest_of V.accepted S.verified (ExchangesFrames T.contents T.remaining) (known_of asker.old) (lines_of input)
             (scene asker.old (self.old).said stream.old) (W.contents writer.old) (W.contents writer.new) (scene asker.new (self.new).said stream.new))) }
+        ensures faults { IfErr result (StopsOr (IsFaultWith ⊥ (λ number. IfSome (R.remaining reader.old) (λ input. IsFirstUnasked 1 (lines_of input) number)))) }
+        ensures grows { Grows (W.contents writer.old) (W.contents writer.new) }
+        ensures rises { (self.old).said.status ≤ (self.new).said.status }
     {
         let mut line = Vec::new(self.alloc);
         // Every loop of Rattle has an end: this one's is past any input.
@@ -335,6 +358,9 @@ where
         ensures asks { OnOk result (Writes (AsksLine H.digest_of V.accepted S.verified (ExchangesFrames T.contents T.remaining) (known_of asker.old) line.now)
             (scene asker.old (self.old).said stream.old) (W.contents writer.old) (W.contents writer.new) (scene asker.new (self.new).said stream.new)) }
         ensures stays { known_of asker.new ≡ known_of asker.old }
+        ensures faults { IfErr result (StopsOr (λ fault. IsFaultOfSaving fault ⊎ ((fault ≡ NotACommand number) × CannotBeAsked (line_of line.now)))) }
+        ensures grows { Grows (W.contents writer.old) (W.contents writer.new) }
+        ensures rises { (self.old).said.status ≤ (self.new).said.status }
     {
         let not_a_command = Err(RunFault::Program(ProgramFault::NotACommand(number)));
         let Some(line) = read_line(self.alloc, line)? else {
@@ -364,6 +390,9 @@ where
         S: Verifier + Drop,
         ensures asked { OnOk result (asked ≡ Ok tt) }
         ensures writes { OnOk result (Appends (W.contents writer.old) (W.contents writer.new) (self.old).said.text.items × (report_of (self.new).said ≡ emptied (self.old).said.status)) }
+        ensures faults { IfErr result (StopsOr IsFaultOfSaving) }
+        ensures grows { Grows (W.contents writer.old) (W.contents writer.new) }
+        ensures status { (self.new).said.status ≡ (self.old).said.status }
     {
         if let Some(state) = self.state.as_mut() {
             state.add(self.alloc, self.files, asker)?;
@@ -394,6 +423,8 @@ where
         ensures writes { OnOk result (Appends (W.contents writer.old) (W.contents writer.new) (self.old).said.text.items × ((self.new).said.text.items ≡ [])) }
         ensures words { OnOk result (Appends (E.contents errors.old) (E.contents errors.new) (self.old).said.words.items) }
         ensures status { (self.new).said.status ≡ (self.old).said.status }
+        ensures err { IfErr result (λ fault. fault ≡ CannotWrite) }
+        ensures grows { Grows (W.contents writer.old) (W.contents writer.new) }
     {
         let told = write_text(writer, &self.said.text);
         self.said.text.clear();
@@ -418,6 +449,7 @@ where
     S: Verifier + Drop,
     ensures prepares { OnOk result (Prepares H.digest_of V.accepted S.verified (ExchangesFrames T.contents T.remaining) (known_of asker.old) (scene asker.old said.old stream.old) (scene asker.new said.new stream.new)) }
     ensures stays { known_of asker.new ≡ known_of asker.old }
+    ensures rises { said.old.status ≤ said.new.status }
 {
     asker.follow(stream, said)?;
     asker.test_promises(stream, said)
@@ -437,12 +469,15 @@ where
     S: Verifier + Drop,
     ensures does { IfSome result (λ asked. OnOk asked (DoesLine H.digest_of V.accepted S.verified (ExchangesFrames T.contents T.remaining) (known_of asker.old) (line_seen line.now) (scene asker.old said.old stream.old) (scene asker.new said.new stream.new))) }
     ensures stays { known_of asker.new ≡ known_of asker.old }
+    ensures none { MatchOption result (CannotBeAsked (Some (line_seen line.now))) (λ asked. ⊤) }
+    ensures rises { said.old.status ≤ said.new.status }
 {
     match line {
         Line::Pass => Some(Ok(())),
         Line::Ask(ask) => Some(asker.ask(stream, ask, said)),
         Line::Watch { name, key } => Some(asker.watch(stream, name, key.as_ref(), said)),
-        Line::Piece { .. } | Line::End { .. } => None,
+        Line::Piece { .. } => None,
+        Line::End { .. } => None,
     }
 }
 

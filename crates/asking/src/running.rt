@@ -1,10 +1,11 @@
 // A run of questions over a connection. Contracts do not know what a socket or a file has.
-ghost use Rattle.std.specs.Prelude.{◌≡◌, ◌⊎◌, ◌<◌, Err, IfOk, None, Some, MatchResult};
+ghost use Rattle.std.specs.Prelude.{◌≡◌, ◌⊎◌, ◌↔◌, Err, IfErr, IfOk, None, Some, MatchResult};
 ghost use Rattle.std.specs.Io.KnownBytes.{Keeps};
 ghost use Rattle.textio.specs.declared.program_fault.ProgramFault.TheVariants.{BadHex};
 ghost use Rattle.asking.specs.AskOptions.{ask_keys_of, ask_values};
 ghost use Rattle.asking.specs.Exchanges.{ExchangesFrames};
-ghost use Rattle.asking.specs.Runs.{AsksOverSocket, RunsAs};
+ghost use Rattle.asking.specs.RunFaults.{IsRunFault};
+ghost use Rattle.asking.specs.Runs.{AsksOverSocket, Grows, RunsAs};
 
 use crate::run::{Run, RunEnd};
 use crate::said::REFUSED;
@@ -45,8 +46,10 @@ where
     R: BufRead,
     W: Write,
     E: Write,
-    ensures bad_hex { ask_keys_of (ask_values order.entry) ≡ None
-        → (result ≡ Err BadHex) × Keeps (W.contents writer.old) (W.contents writer.new) × Keeps (E.contents errors.old) (E.contents errors.new) }
+    ensures bad_hex { (result ≡ Err BadHex) ↔ (ask_keys_of (ask_values order.entry) ≡ None) }
+    ensures silent { result ≡ Err BadHex → Keeps (W.contents writer.old) (W.contents writer.new) × Keeps (E.contents errors.old) (E.contents errors.new) }
+    ensures faults { IfErr result (λ fault. (fault ≡ BadHex) ⊎ IsRunFault (ask_values order.entry) (R.remaining reader.old) fault) }
+    ensures grows { Grows (W.contents writer.old) (W.contents writer.new) }
     ensures runs { IfOk result (λ status. AsksOverSocket (ask_values order.entry) (R.remaining reader.old) status (W.contents writer.old) (W.contents writer.new)) }
 {
     match keys_of(&order) {
@@ -83,7 +86,9 @@ where
     R: BufRead,
     W: Write,
     E: Write,
-    ensures { ask_keys_of (ask_values order.entry) ≡ Some (keys.provider, keys.token)
+    ensures faults { IfErr result (IsRunFault (ask_values order.entry) (R.remaining reader.old)) }
+    ensures grows { Grows (W.contents writer.old) (W.contents writer.new) }
+    ensures runs { ask_keys_of (ask_values order.entry) ≡ Some (keys.provider, keys.token)
         → IfOk result (λ status. AsksOverSocket (ask_values order.entry) (R.remaining reader.old) status (W.contents writer.old) (W.contents writer.new)) }
 {
     let Ok(mut stream) = TcpStream::connect(system, order.address) else {
@@ -141,6 +146,8 @@ where
     S: Verifier + Drop,
     ensures runs { IfOk result (λ ended. RunsAs H.digest_of V.accepted S.verified (ExchangesFrames T.contents T.remaining) keys.provider keys.token (ask_values order.entry)
         (order.entry.state ≡ None) stream.old (R.remaining reader.old) ended (W.contents writer.old) (W.contents writer.new)) }
+    ensures faults { IfErr result (IsRunFault (ask_values order.entry) (R.remaining reader.old)) }
+    ensures grows { Grows (W.contents writer.old) (W.contents writer.new) }
 {
     let mut run = Run::new(alloc, files, order.state)?;
     let outcome = run.ask(stream, checks, &keys, order, reader, writer, errors);

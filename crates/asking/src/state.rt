@@ -1,7 +1,10 @@
 // What a client keeps between runs. In the file of the state stand the signed roots of its chain, one a line
 // in hexadecimal digits; in a second one beside it the promises that it keeps, and how far names were watched.
-ghost use Rattle.std.specs.Prelude.{◌≡◌, [], IfOk};
-ghost use Rattle.asking.specs.Runs.{IsSameAsker};
+ghost use Rattle.std.specs.Prelude.{◌≡◌, [], IfErr, IfOk};
+ghost use Rattle.textio.specs.Faults.{IsDeviceFault};
+ghost use Rattle.textio.specs.declared.program_fault.ProgramFault.TheVariants.{OutOfMemory};
+ghost use Rattle.asking.specs.RunFaults.{IsFaultOfSaving, IsFaultOfState};
+ghost use Rattle.asking.specs.Runs.{IsSameAsker, IsSoundFor};
 
 use crate::asker::Mark;
 use crate::{AskFault, Asker, Checks};
@@ -35,7 +38,9 @@ fn file_bytes<F: Files<File = File>>(
     alloc: Global,
     files: &F,
     path: &str,
-) -> Result<Option<Vec<u8>>, ProgramFault> {
+) -> Result<Option<Vec<u8>>, ProgramFault>
+    ensures { IfErr result IsDeviceFault }
+{
     match fs::open(files, path) {
         Ok(mut file) => Ok(Some(read_whole(alloc, &mut file)?)),
         Err(error) => match error.kind() {
@@ -46,7 +51,9 @@ fn file_bytes<F: Files<File = File>>(
 }
 
 /// The bytes that a line of a file gives in hexadecimal digits.
-fn line_bytes(alloc: Global, line: &[u8], number: u64) -> Result<Vec<u8>, ProgramFault> {
+fn line_bytes(alloc: Global, line: &[u8], number: u64) -> Result<Vec<u8>, ProgramFault>
+    ensures { IfErr result IsFaultOfState }
+{
     match hex::decode(alloc, line) {
         Ok(bytes) => Ok(bytes),
         Err(FromHexError::OutOfMemory) => Err(ProgramFault::OutOfMemory),
@@ -55,7 +62,9 @@ fn line_bytes(alloc: Global, line: &[u8], number: u64) -> Result<Vec<u8>, Progra
 }
 
 /// The fault for a line of a file that the client refuses.
-fn fault_of(why: &client::Refusal, number: u64) -> ProgramFault {
+fn fault_of(why: &client::Refusal, number: u64) -> ProgramFault
+    ensures { IsFaultOfState result }
+{
     match why {
         client::Refusal::Memory => ProgramFault::OutOfMemory,
         _ => ProgramFault::BadItem(number),
@@ -75,7 +84,9 @@ fn push_list(list: &mut Vec<u8>, root: &[u8]) -> Result<(), AllocError> {
 
 impl<'a> State<'a> {
     /// The state in the file of this path.
-    pub(crate) fn new(alloc: Global, path: &'a str) -> Result<Self, ProgramFault> {
+    pub(crate) fn new(alloc: Global, path: &'a str) -> Result<Self, ProgramFault>
+        ensures { IfErr result (λ fault. fault ≡ OutOfMemory) }
+    {
         Ok(State {
             path,
             beside: format!(in alloc; "{path}.kept")?,
@@ -103,7 +114,9 @@ impl<'a> State<'a> {
         H: NodeHash + Drop,
         V: VufCheck + Drop,
         S: Verifier + Drop,
-        ensures { IfOk result (λ loaded. IfOk loaded (λ asker. (asker.key ≡ key) × (asker.token ≡ token) × (asker.monitors.items ≡ []))) }
+        ensures knows { IfOk result (λ loaded. IfOk loaded (λ asker. (asker.key ≡ key) × (asker.token ≡ token) × (asker.monitors.items ≡ []))) }
+        ensures sound { IfOk result (λ loaded. IfOk loaded (λ asker. IsSoundFor H.digest_of V.accepted S.verified key asker.client)) }
+        ensures err { IfErr result IsFaultOfState }
     {
         let Some(roots) = file_bytes(alloc, files, self.path)? else {
             return Ok(Err(checks));
@@ -116,11 +129,11 @@ impl<'a> State<'a> {
             Err(why) => return Err(fault_of(&why, 1)),
         };
         asker.take_lines(&roots)?;
-        self.epoch = asker.head();
         if let Some(kept) = file_bytes(alloc, files, self.beside.as_str())? {
             asker.keep_lines(&kept)?;
             self.kept = kept;
         }
+        self.epoch = asker.client.chain().head().body.epoch;
         Ok(Ok(asker))
     }
 
@@ -140,6 +153,7 @@ impl<'a> State<'a> {
         H: NodeHash + Drop,
         V: VufCheck + Drop,
         S: Verifier + Drop,
+        ensures { IfErr result IsFaultOfSaving }
     {
         let text = asker.lines_after(self.epoch)?;
         if !text.is_empty() {
@@ -185,6 +199,7 @@ impl<'a> State<'a> {
         H: NodeHash + Drop,
         V: VufCheck + Drop,
         S: Verifier + Drop,
+        ensures { IfErr result IsFaultOfSaving }
     {
         let mut kept = asker.promise_lines()?;
         kept.extend_from_slice(&asker.mark_lines()?)?;
@@ -197,7 +212,9 @@ impl<'a> State<'a> {
         alloc: Global,
         files: &F,
         kept: Vec<u8>,
-    ) -> Result<(), ProgramFault> {
+    ) -> Result<(), ProgramFault>
+        ensures { IfErr result IsFaultOfSaving }
+    {
         if kept == self.kept {
             return Ok(());
         }
@@ -223,7 +240,8 @@ where
 {
     /// Takes the roots of a text's lines behind the first.
     fn take_lines(&mut self, text: &[u8]) -> Result<(), ProgramFault>
-        ensures { IsSameAsker self.old self.new }
+        ensures same { IsSameAsker self.old self.new }
+        ensures err { IfErr result IsFaultOfState }
     {
         let mut left = text;
         let mut line = Vec::new(self.alloc);
@@ -241,7 +259,8 @@ where
 
     /// Keeps what the lines of the second file have.
     fn keep_lines(&mut self, text: &[u8]) -> Result<(), ProgramFault>
-        ensures { IsSameAsker self.old self.new }
+        ensures same { IsSameAsker self.old self.new }
+        ensures err { IfErr result IsFaultOfState }
     {
         let mut left = text;
         let mut line = Vec::new(self.alloc);
@@ -259,7 +278,8 @@ where
 
     /// Takes the root of a line.
     fn take_line(&mut self, line: &[u8], number: u64) -> Result<(), ProgramFault>
-        ensures { IsSameAsker self.old self.new }
+        ensures same { IsSameAsker self.old self.new }
+        ensures err { IfErr result IsFaultOfState }
     {
         let root = line_bytes(self.alloc, line, number)?;
         let mut list = Vec::new(self.alloc);
@@ -276,7 +296,8 @@ where
 
     /// Keeps what a line of the second file has: `promise HEX`, `change HEX`, or `watched NAME EPOCH`.
     fn keep_line(&mut self, line: &[u8], number: u64) -> Result<(), ProgramFault>
-        ensures { IsSameAsker self.old self.new }
+        ensures same { IsSameAsker self.old self.new }
+        ensures err { IfErr result IsFaultOfState }
     {
         if let Some(promise) = line.strip_prefix(b"promise ".as_slice()) {
             let _signed = self.keep_earlier(promise, number)?;
@@ -295,7 +316,8 @@ where
 
     /// Keeps a promise of an earlier run, which these digits give.
     fn keep_earlier(&mut self, digits: &[u8], number: u64) -> Result<SignedPromise, ProgramFault>
-        ensures { IsSameAsker self.old self.new }
+        ensures same { IsSameAsker self.old self.new }
+        ensures err { IfErr result IsFaultOfState }
     {
         let promise = line_bytes(self.alloc, digits, number)?;
         let checks = &mut self.checks;
@@ -315,7 +337,8 @@ where
 
     /// Keeps how far a name was watched: `NAME EPOCH`.
     fn keep_mark(&mut self, mark: &[u8], number: u64) -> Result<(), ProgramFault>
-        ensures { IsSameAsker self.old self.new }
+        ensures same { IsSameAsker self.old self.new }
+        ensures err { IfErr result IsFaultOfState }
     {
         let mut words = mark.split(|byte| *byte == b' ');
         let (Some(name), Some(epoch), None) = (words.next(), words.next(), words.next()) else {

@@ -1,5 +1,5 @@
 -- What the programs do, and how the process ends.
-use Rattle.std.specs.Prelude.{◌≡◌, ◌⊎◌, ◌↔◌, ℕ, zero, suc, List, Bool, true, false, Option, None, Result, Ok, Err, IfOk, Vec, String, map, string_bytes, codes, ⊤}
+use Rattle.std.specs.Prelude.{◌≡◌, ◌⊎◌, ◌↔◌, ℕ, zero, suc, List, Bool, true, false, Option, None, Result, Ok, Err, IfErr, IfOk, Vec, String, map, string_bytes, codes, ⊤}
 use Rattle.std.specs.IoError.{error_kind}
 use Rattle.std.specs.declared.io.Error.{Error as IoError}
 use Rattle.std.specs.declared.io.ErrorKind.TheVariants as io
@@ -29,7 +29,8 @@ use Rattle.directoryd.specs.KeyFiles.{ask_with, directory_with, HasNoKeys, Uses}
 use Rattle.server.specs.ConnectionOptions.{ConnectionOptions}
 use Rattle.server.specs.DirectoryOptions.{DirectoryOptions}
 use Rattle.asking.specs.AskOptions.{AskOptions, ask_keys_of}
-use Rattle.asking.specs.Runs.{AsksOverSocket}
+use Rattle.asking.specs.RunFaults.{IsRunFault}
+use Rattle.asking.specs.Runs.{AsksOverSocket, Grows}
 
 -- a program gives a text for its input, and returns this status if the text was written
 abbrev pub EndsWithStatus : ℕ → (List ℕ → Result (List ℕ) ProgramFault → Type 0) → Option (List ℕ) → Option (List ℕ) → Option (List ℕ) → Result ℕ ProgramFault → Type 0
@@ -67,7 +68,8 @@ abbrev pub AsksKeyed : AskOptions → Option Text → Option (List ℕ) → Opti
 AsksKeyed asked keys input out out-new err err-new outcome =
     (HasNoKeys keys outcome × Keeps out out-new × Keeps err err-new)
     ⊎ ((used : AskOptions) × Uses ask_with keys asked used
-    × (ask_keys_of used ≡ None → (outcome ≡ Err BadHex) × Keeps out out-new × Keeps err err-new)
+    × ((outcome ≡ Err BadHex) ↔ (ask_keys_of used ≡ None)) × (outcome ≡ Err BadHex → Keeps out out-new × Keeps err err-new)
+    × IfErr outcome (λ fault. (fault ≡ BadHex) ⊎ IsRunFault used input fault) × Grows out out-new
     × IfOk outcome (λ status. AsksOverSocket used input status out out-new))
 
 -- What is ordered is done: a root is written, or the path of an index; an input is audited; a file is

@@ -1,9 +1,11 @@
-use Rattle.std.proofs.Common.{ℕ, List, Option, subst}
+use Rattle.std.proofs.Common.{ℕ, List, Option, refl, subst}
 use Rattle.std.specs.Prelude.{OnOk}
 use Rattle.asking.specs.Exchanges.{ExchangesFrames}
 use Rattle.asking.specs.Joining.{BeginsWatch}
 use Rattle.asking.specs.Scenes.{scene}
+use Rattle.play.specs.Scripts.{ask_seen}
 use Rattle.asking.proofs.Ran.{ok_then}
+use Rattle.asking.proofs.Rising.{ask_rises, watch_rises}
 use Rattle.asking.proofs.run.ask_said.Goals as goal
 
 pub returns-in-Watch-clause-does : goal.returns-in-Watch-clause-does
@@ -15,3 +17,15 @@ returns-in-Watch-clause-does g c =
 pub returns-in-Ask-clause-does : goal.returns-in-Ask-clause-does
 returns-in-Ask-clause-does g c =
     rw c.in-Ask.is (ok_then c.ask.result c.ask.ensures.asks (λ asks. (c.args.asker.now.changes.items, c.ask.new.self.changes.items, asks)))
+
+pub returns-in-Ask-clause-rises : goal.returns-in-Ask-clause-rises
+returns-in-Ask-clause-rises g c =
+    ask_rises g.H.NodeHash.digest_of g.V.VufCheck.accepted g.S.Verifier.verified (ExchangesFrames g.T.Write.contents g.T.Read.remaining) c.args.asker.now.marks.items c.args.asker.now.token (ask_seen c.in-Ask.ask.now)
+    c.args.asker.now.changes.items c.ask.new.self.changes.items c.ask.result (scene c.args.asker.now c.args.said.now c.args.stream.now) (scene c.ask.new.self c.ask.new.said c.ask.new.stream)
+    c.ask.new.self c.ask.new.said refl c.ask.ensures.asks c.ask.ensures.stops c.ask.ensures.halts
+
+pub returns-in-Watch-clause-rises : goal.returns-in-Watch-clause-rises
+returns-in-Watch-clause-rises g c =
+    watch_rises g.H.NodeHash.digest_of g.V.VufCheck.accepted g.S.Verifier.verified (ExchangesFrames g.T.Write.contents g.T.Read.remaining) c.args.asker.now.marks.items c.args.asker.now.key c.args.asker.now.earlier.items
+    _ _ c.watch.result (scene c.args.asker.now c.args.said.now c.args.stream.now) (scene c.watch.new.self c.watch.new.said c.watch.new.stream)
+    c.watch.new.self c.watch.new.said refl c.watch.ensures.begins c.watch.ensures.halts

@@ -2,13 +2,17 @@ use Rattle.std.proofs.Common.{◌≡◌, None, ap}
 use Rattle.asking.specs.AskOptions.{ask_values}
 use Rattle.asking.specs.Exchanges.{ExchangesFrames}
 use Rattle.asking.specs.Reports.{report_of}
+use Rattle.asking.proofs.Faulty.{given_so, grows_on}
 use Rattle.asking.proofs.Ran.{ends_so, ok_then}
 use Rattle.asking.proofs.running.ask_over.Goals as goal
 
 pub returns : goal.returns
-returns g c = record {
-  runs = ends_so g.H.NodeHash.digest_of g.V.VufCheck.accepted g.S.Verifier.verified (ExchangesFrames g.T.Write.contents g.T.Read.remaining) c.args.keys.provider c.args.keys.token (ask_values c.args.order)
-      (c.in_ok-run.run'.state ≡ None) (c.args.order.state ≡ None) c.ask-outcome.result c.end.result c.args.stream.now (g.R.Read.remaining c.args.reader.now) (g.W.Write.contents c.args.writer.now)
-      (g.W.Write.contents c.ask-outcome.new.writer) (g.W.Write.contents c.end.new.writer) c.ask-outcome.new.self.said.status (report_of c.in_ok-run.run'.said) c.in_ok-run.ensures.said c.in_ok-run.ensures.none c.ask-outcome.ensures
-      (ok_then c.ask-outcome.result c.end.ensures.ok (λ both. (both.0, ap g.W.Write.contents both.1))) c.end.ensures.err;
-}
+returns g c =
+    let grows = grows_on (g.W.Write.contents c.args.writer.now) (g.W.Write.contents c.ask-outcome.new.writer) (g.W.Write.contents c.end.new.writer) c.ask-outcome.ensures.grows c.end.ensures.grows in record {
+      runs = ends_so g.H.NodeHash.digest_of g.V.VufCheck.accepted g.S.Verifier.verified (ExchangesFrames g.T.Write.contents g.T.Read.remaining) c.args.keys.provider c.args.keys.token (ask_values c.args.order)
+          (c.in_ok-run.run'.state ≡ None) (c.args.order.state ≡ None) c.ask-outcome.result c.end.result c.args.stream.now (g.R.Read.remaining c.args.reader.now) (g.W.Write.contents c.args.writer.now)
+          (g.W.Write.contents c.ask-outcome.new.writer) (g.W.Write.contents c.end.new.writer) c.ask-outcome.new.self.said.status (report_of c.in_ok-run.run'.said) c.in_ok-run.ensures.said c.in_ok-run.ensures.none c.ask-outcome.ensures.runs
+          (ok_then c.ask-outcome.result c.end.ensures.ok (λ both. (both.0, ap g.W.Write.contents both.1))) c.end.ensures.err grows;
+      faults = given_so c.end.result c.ask-outcome.result c.args.order c.in_ok-run.run'.state (g.R.Read.remaining c.args.reader.now) c.in_ok-run.ensures.none c.ask-outcome.ensures.faults c.end.ensures.gives;
+      grows = grows;
+    }

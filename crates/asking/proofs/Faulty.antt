@@ -1,0 +1,190 @@
+-- The faults of a run, as they are passed on, and what is written before them.
+use Rattle.std.proofs.Common.{◌≡◌, ◌∙◌, ◌⊎◌, ◌↔◌, ◌++◌, ℕ, ◌+◌, true, List, [], ◌∷◌, Option, None, Some, Result, Ok, Err, Bor, inl, inr, refl, rules, subst, sym}
+use Rattle.std.specs.Prelude.{IfErr, IfOk, IfSome, OnOk}
+use Rattle.std.specs.Io.KnownBytes.{Appends}
+use Rattle.std.proofs.KnownBytes.{Appends-nil, Appends-trans}
+use Rattle.textio.specs.declared.program_fault.ProgramFault.{ProgramFault}
+use Rattle.textio.specs.declared.program_fault.ProgramFault.TheVariants.{BadHex, BadItem, IndexRepeated, NotACommand, NotEvidence, BadRecord, OtherKeys, CannotRead, CannotWrite, CannotListen, OutOfMemory}
+use Rattle.textio.specs.declared.stream_fault.StreamFault.{StreamFault}
+use Rattle.textio.specs.declared.stream_fault.StreamFault.TheVariants as stream
+use Rattle.textio.specs.Faults.{IsDeviceFault}
+use Rattle.textio.specs.Lines.{lines_of}
+use Rattle.textio.specs.Output.{WritesBeginning}
+use Rattle.wire.specs.Frames.{Frame}
+use Rattle.wire.specs.Requests.{RequestContent}
+use Rattle.play.specs.Reading.{TakesWholeLine}
+use Rattle.play.specs.Scripts.{ScriptLine, Pass, Ask, Watch, Piece, End, line_of}
+use Rattle.asking.specs.AskOptions.{AskOptions, ask_keys_of, ask_values}
+use Rattle.asking.specs.Runs.{AsksLine, DoesLine, Grows, Known, lines_asked, words_line, Writes}
+use Rattle.asking.specs.RunFaults.{CannotBeAsked, IsFaultOfSaving, IsFaultOfState, IsFaultWith, IsFirstUnasked, IsRunFault, StopsOr}
+use Rattle.asking.specs.Scenes.{Scene}
+use Rattle.asking.specs.declared.ask_fault.RunFault.{RunFault}
+use Rattle.asking.specs.declared.ask_fault.RunFault.TheVariants as run
+use Rattle.asking.specs.declared.order.AskOrder.{AskOrder}
+use Rattle.asking.specs.declared.run.RunEnd.{RunEnd}
+use Rattle.asking.specs.declared.state.State.{State}
+use Rattle.asking.proofs.Ran.{asks_input, asks_words, none_before}
+
+-- ---- which faults there are
+
+device-with : (HasState : Type 0) (IsUnasked : ℕ → Type 0) (fault : ProgramFault) → IsDeviceFault fault → IsFaultWith HasState IsUnasked fault
+device-with HasState IsUnasked BadHex device = device
+device-with HasState IsUnasked (BadItem line) device = absurd device
+device-with HasState IsUnasked (IndexRepeated line) device = device
+device-with HasState IsUnasked (NotACommand line) device = absurd device
+device-with HasState IsUnasked NotEvidence device = device
+device-with HasState IsUnasked BadRecord device = device
+device-with HasState IsUnasked OtherKeys device = device
+device-with HasState IsUnasked CannotRead device = device
+device-with HasState IsUnasked CannotWrite device = absurd device
+device-with HasState IsUnasked CannotListen device = device
+device-with HasState IsUnasked OutOfMemory device = device
+
+pub saving_with : (HasState : Type 0) (IsUnasked : ℕ → Type 0) (fault : ProgramFault) → IsFaultOfSaving fault → IsFaultWith HasState IsUnasked fault
+saving_with HasState IsUnasked fault (inl is) = subst (λ (f : ProgramFault). IsFaultWith HasState IsUnasked f) (sym is) tt
+saving_with HasState IsUnasked fault (inr is) = subst (λ (f : ProgramFault). IsFaultWith HasState IsUnasked f) (sym is) tt
+
+pub beginning_with : (HasState : Type 0) (IsUnasked : ℕ → Type 0) (fault : ProgramFault) → (HasState × IsFaultOfState fault) ⊎ (fault ≡ OutOfMemory) → IsFaultWith HasState IsUnasked fault
+beginning_with HasState IsUnasked fault (inl (has, inl device)) = device-with HasState IsUnasked fault device
+beginning_with HasState IsUnasked fault (inl (has, inr (line, is))) = subst (λ (f : ProgramFault). IsFaultWith HasState IsUnasked f) (sym is) has
+beginning_with HasState IsUnasked fault (inr is) = subst (λ (f : ProgramFault). IsFaultWith HasState IsUnasked f) (sym is) tt
+
+other-with : (HasState HasOther : Type 0) (IsUnasked IsOther : ℕ → Type 0) (fault : ProgramFault) → (HasState → HasOther) → ((number : ℕ) → IsUnasked number → IsOther number)
+    → IsFaultWith HasState IsUnasked fault → IsFaultWith HasOther IsOther fault
+other-with HasState HasOther IsUnasked IsOther BadHex has unasked is = is
+other-with HasState HasOther IsUnasked IsOther (BadItem line) has unasked is = has is
+other-with HasState HasOther IsUnasked IsOther (IndexRepeated line) has unasked is = is
+other-with HasState HasOther IsUnasked IsOther (NotACommand line) has unasked is = unasked line is
+other-with HasState HasOther IsUnasked IsOther NotEvidence has unasked is = is
+other-with HasState HasOther IsUnasked IsOther BadRecord has unasked is = is
+other-with HasState HasOther IsUnasked IsOther OtherKeys has unasked is = is
+other-with HasState HasOther IsUnasked IsOther CannotRead has unasked is = is
+other-with HasState HasOther IsUnasked IsOther CannotWrite has unasked is = is
+other-with HasState HasOther IsUnasked IsOther CannotListen has unasked is = is
+other-with HasState HasOther IsUnasked IsOther OutOfMemory has unasked is = is
+
+-- a question that stopped passes on as it is
+pub stops_more : {A : Type 0} (Holds More : ProgramFault → Type 0) (result : Result A RunFault) → ((fault : ProgramFault) → Holds fault → More fault) → IfErr result (StopsOr Holds) → IfErr result (StopsOr More)
+stops_more Holds More (Ok done) more holds = tt
+stops_more Holds More (Err (run.Ask fault)) more holds = tt
+stops_more Holds More (Err (run.Program fault)) more holds = more fault holds
+
+-- ---- the first line that cannot be asked
+
+-- what is the first among the lines that are left is so among all
+abbrev pub CountsOn : Option (List ℕ) → ℕ → Option (List ℕ) → Type 0
+CountsOn input place left = (all : List ℕ) → input ≡ Some all → (rest : List ℕ) × (left ≡ Some rest)
+    × ((number : ℕ) → IsFirstUnasked place (lines_of rest) number → IsFirstUnasked 1 (lines_of all) number)
+
+pub counts_first : (input : Option (List ℕ)) → CountsOn input 1 input
+counts_first input = λ all is. (all, is, λ number first. first)
+
+pub counts_next : (input left left' : Option (List ℕ)) (place : ℕ) (line : List ℕ) → CountsOn input place left → TakesWholeLine left left' true line → ¬ CannotBeAsked (line_of line) → CountsOn input (place + 1) left'
+counts_next input left left' place line counts takes can = λ all is.
+    let (rest, at, lead) = counts all is in
+    by all rest lead left' (subst (λ (l : Option (List ℕ)). TakesWholeLine l left' true line) at takes)
+  where
+    by : (all rest : List ℕ) → ((number : ℕ) → IsFirstUnasked place (lines_of rest) number → IsFirstUnasked 1 (lines_of all) number) → (left' : Option (List ℕ)) → TakesWholeLine (Some rest) left' true line
+        → (rest' : List ℕ) × (left' ≡ Some rest') × ((number : ℕ) → IsFirstUnasked (place + 1) (lines_of rest') number → IsFirstUnasked 1 (lines_of all) number)
+    by all rest lead None bad = absurd bad
+    by all rest lead (Some rest') is = (rest', refl, λ number first. lead number (subst (λ (lines : List (List ℕ)). IsFirstUnasked place lines number) (sym is) (inr (can, first))))
+
+counts-here : (input left left' : Option (List ℕ)) (place : ℕ) (line : List ℕ) → CountsOn input place left → TakesWholeLine left left' true line → CannotBeAsked (line_of line)
+    → IfSome input (λ all. IsFirstUnasked 1 (lines_of all) place)
+counts-here None left left' place line counts takes cannot = tt
+counts-here (Some all) left left' place line counts takes cannot =
+    let (rest, at, lead) = counts all refl in
+    by all rest lead left' (subst (λ (l : Option (List ℕ)). TakesWholeLine l left' true line) at takes)
+  where
+    by : (all rest : List ℕ) → ((number : ℕ) → IsFirstUnasked place (lines_of rest) number → IsFirstUnasked 1 (lines_of all) number) → (left' : Option (List ℕ)) → TakesWholeLine (Some rest) left' true line
+        → IsFirstUnasked 1 (lines_of all) place
+    by all rest lead None bad = absurd bad
+    by all rest lead (Some rest') is = lead place (subst (λ (lines : List (List ℕ)). IsFirstUnasked place lines place) (sym is) (inl (cannot, refl)))
+
+-- a fault at a line of the input
+pub line_fault : (input left left' : Option (List ℕ)) (place : ℕ) (line : List ℕ) (why : RunFault) → CountsOn input place left → TakesWholeLine left left' true line
+    → StopsOr (λ fault. IsFaultOfSaving fault ⊎ ((fault ≡ NotACommand place) × CannotBeAsked (line_of line))) why
+    → StopsOr (IsFaultWith ⊥ (λ number. IfSome input (λ all. IsFirstUnasked 1 (lines_of all) number))) why
+line_fault input left left' place line (run.Ask fault) counts takes is = tt
+line_fault input left left' place line (run.Program fault) counts takes (inl saving) = saving_with ⊥ (λ number. IfSome input (λ all. IsFirstUnasked 1 (lines_of all) number)) fault saving
+line_fault input left left' place line (run.Program fault) counts takes (inr (is, cannot)) =
+    subst (λ (f : ProgramFault). IsFaultWith ⊥ (λ number. IfSome input (λ all. IsFirstUnasked 1 (lines_of all) number)) f) (sym is) (counts-here input left left' place line counts takes cannot)
+
+-- a line that was asked is one that can be
+pub asked_can : (hash : List ℕ → List ℕ) (accepted verified : List ℕ → List ℕ → List ℕ → Type 0) {T : Type 0} (exchanged : T → RequestContent → Frame → T → Type 0) (known : Known) (before after : Scene T)
+    (old new : Option (List ℕ)) (line : List ℕ) → Writes (AsksLine hash accepted verified exchanged known line) before old new after → ¬ CannotBeAsked (line_of line)
+asked_can hash accepted verified {T} exchanged known before after old new line (done, (said, is, does), appends, same) = λ cannot. by done said does (subst (λ (s : Option ScriptLine). CannotBeAsked s) is cannot)
+  where
+    by : (done : Scene T) (said : ScriptLine) → DoesLine hash accepted verified exchanged known said before done → CannotBeAsked (Some said) → ⊥
+    by done Pass does cannot = cannot
+    by done (Ask asked) does cannot = cannot
+    by done (Watch name given) does cannot = cannot
+    by done (Piece session piece) does cannot = does
+    by done (End session) does cannot = does
+
+-- a fault at the line of the words, or at a line of the input
+pub words_fault : (HasState : Type 0) (result : Result (Unit {0}) RunFault) (input : Option (List ℕ)) (order : AskOrder) (command : Bor (List ℕ)) → order.command ≡ Some command
+    → IfErr result (StopsOr (λ fault. IsFaultOfSaving fault ⊎ ((fault ≡ NotACommand 1) × CannotBeAsked (line_of (words_line (ask_values order).words)))))
+    → IfErr result (StopsOr (IsFaultWith HasState (λ number. IfSome (lines_asked (ask_values order).words input) (λ lines. IsFirstUnasked 1 lines number))))
+words_fault HasState result input order command some faults =
+    stops_more (λ fault. IsFaultOfSaving fault ⊎ ((fault ≡ NotACommand 1) × CannotBeAsked (line_of (words_line (ask_values order).words))))
+    (IsFaultWith HasState (λ number. IfSome (lines_asked (ask_values order).words input) (λ lines. IsFirstUnasked 1 lines number))) result by faults
+  where
+    by : (fault : ProgramFault) → IsFaultOfSaving fault ⊎ ((fault ≡ NotACommand 1) × CannotBeAsked (line_of (words_line (ask_values order).words)))
+        → IsFaultWith HasState (λ number. IfSome (lines_asked (ask_values order).words input) (λ lines. IsFirstUnasked 1 lines number)) fault
+    by fault (inl saving) = saving_with HasState (λ number. IfSome (lines_asked (ask_values order).words input) (λ lines. IsFirstUnasked 1 lines number)) fault saving
+    by fault (inr (is, cannot)) = subst (λ (f : ProgramFault). IsFaultWith HasState (λ number. IfSome (lines_asked (ask_values order).words input) (λ lines. IsFirstUnasked 1 lines number)) f) (sym is)
+        (asks_words {E = RunFault} (λ lines. IsFirstUnasked 1 lines 1) (Ok tt) input order command some (inl (cannot, refl)))
+
+pub input_fault : (HasState : Type 0) (result : Result (Unit {0}) RunFault) (input : Option (List ℕ)) (order : AskOrder) → order.command ≡ None
+    → IfErr result (StopsOr (IsFaultWith ⊥ (λ number. IfSome input (λ all. IsFirstUnasked 1 (lines_of all) number))))
+    → IfErr result (StopsOr (IsFaultWith HasState (λ number. IfSome (lines_asked (ask_values order).words input) (λ lines. IsFirstUnasked 1 lines number))))
+input_fault HasState result input order none faults =
+    stops_more (IsFaultWith ⊥ (λ number. IfSome input (λ all. IsFirstUnasked 1 (lines_of all) number)))
+    (IsFaultWith HasState (λ number. IfSome (lines_asked (ask_values order).words input) (λ lines. IsFirstUnasked 1 lines number))) result
+    (λ fault is. other-with ⊥ HasState (λ number. IfSome input (λ all. IsFirstUnasked 1 (lines_of all) number))
+    (λ number. IfSome (lines_asked (ask_values order).words input) (λ lines. IsFirstUnasked 1 lines number)) fault (λ never. absurd never)
+    (λ number first. asks_input {E = RunFault} (λ lines. IsFirstUnasked 1 lines number) (Ok tt) input order none first) is) faults
+
+-- ---- the end
+
+-- the fault that a run gives is the one that ended it, unless a write or memory failed then
+pub given_so : (result : Result RunEnd ProgramFault) (outcome : Result (Unit {0}) RunFault) (order : AskOrder) (state : Option State) (input : Option (List ℕ)) → (order.state ≡ None → state ≡ None)
+    → IfErr outcome (StopsOr (IsFaultWith (¬ (state ≡ None)) (λ number. IfSome (lines_asked (ask_values order).words input) (λ lines. IsFirstUnasked 1 lines number))))
+    → IfErr result (λ given. IsFaultOfSaving given ⊎ (outcome ≡ Err (run.Program given))) → IfErr result (IsRunFault (ask_values order) input)
+given_so (Ok ended) outcome order state input without stops gives = tt
+given_so (Err given) outcome order state input without stops (inl saving) =
+    saving_with (¬ ((ask_values order).state ≡ None)) (λ number. IfSome (lines_asked (ask_values order).words input) (λ lines. IsFirstUnasked 1 lines number)) given saving
+given_so (Err given) outcome order state input without stops (inr is) =
+    let found = subst (λ (o : Result (Unit {0}) RunFault). IfErr o (StopsOr (IsFaultWith (¬ (state ≡ None)) (λ number. IfSome (lines_asked (ask_values order).words input) (λ lines. IsFirstUnasked 1 lines number))))) is stops in
+    other-with (¬ (state ≡ None)) (¬ ((ask_values order).state ≡ None)) (λ number. IfSome (lines_asked (ask_values order).words input) (λ lines. IsFirstUnasked 1 lines number))
+    (λ number. IfSome (lines_asked (ask_values order).words input) (λ lines. IsFirstUnasked 1 lines number)) given (λ has none. has (without (none_before (λ text. text.now) order.state none))) (λ number first. first) found
+
+some-none : (keys : List ℕ × List ℕ) (found : Option (List ℕ × List ℕ)) → found ≡ Some keys → found ≡ None → ⊥
+some-none keys found some none = search (rules, sym some ∙ none)
+
+module _ {A : Type 0} (result : Result A ProgramFault) (options : AskOptions) (input : Option (List ℕ)) where
+  -- a run is not ended by a text that is no key
+  pub not_hex : IfErr result (IsRunFault options input) → result ≡ Err BadHex → ⊥
+  not_hex faults bad = subst (λ (r : Result A ProgramFault). IfErr r (IsRunFault options input)) bad faults
+
+  pub hex_so : (keys : List ℕ × List ℕ) → ask_keys_of options ≡ Some keys → IfErr result (IsRunFault options input) → (result ≡ Err BadHex) ↔ (ask_keys_of options ≡ None)
+  hex_so keys are faults = ((λ bad. absurd (not_hex faults bad)), λ none. absurd (some-none keys (ask_keys_of options) are none))
+
+pub hex_or : {A : Type 0} (result : Result A ProgramFault) (options : AskOptions) (input : Option (List ℕ)) → IfErr result (IsRunFault options input) → IfErr result (λ fault. (fault ≡ BadHex) ⊎ IsRunFault options input fault)
+hex_or (Ok done) options input faults = tt
+hex_or (Err fault) options input faults = inr faults
+
+-- ---- what is written
+
+pub grows_not : (old : Option (List ℕ)) → Grows old old
+grows_not old = ([], Appends-nil old)
+
+pub grows_on : (old now new : Option (List ℕ)) → Grows old now → Grows now new → Grows old new
+grows_on old now new (text, appends) (more, further) = (text ++ more, Appends-trans old now new text more appends further)
+
+-- a text was written, or less of it
+pub grows_by : (result : Result (Unit {0}) StreamFault) (old new : Option (List ℕ)) (text : List ℕ) → OnOk result (Appends old new text)
+    → IfErr result (λ fault. (fault ≡ stream.CannotWrite) × WritesBeginning old new text) → Grows old new
+grows_by (Ok done) old new text appends begins = (text, appends)
+grows_by (Err fault) old new text appends (is, (rest, some, (front, parts, wrote))) = (front, wrote)
