@@ -45,6 +45,11 @@ HasKeyLines text = All (λ line. is_key_line line ≡ true) (lines text)
 abbrev pub IsKeysFile : List ℕ → Type 0
 IsKeysFile bytes = IsUtf8 bytes × HasKeyLines bytes
 
+-- the text of the file of keys, where there is one; else no text
+abbrev pub IsKeysText : Option Text → Text → Type 0
+IsKeysText None text = text ≡ []
+IsKeysText (Some path) text = IsKeysFile text
+
 -- the file cannot be read, or is no file of keys
 abbrev pub IsKeysFault : ProgramFault → Type 0
 IsKeysFault fault = (fault ≡ BadHex) ⊎ IsDeviceFault fault

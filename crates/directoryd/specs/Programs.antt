@@ -37,6 +37,11 @@ abbrev pub EndsWithStatus : ℕ → (List ℕ → Result (List ℕ) ProgramFault
 EndsWithStatus status Says input old new (Ok given) = (given ≡ status) × Ends Says input old new (Ok tt)
 EndsWithStatus status Says input old new (Err fault) = Ends Says input old new (Err fault)
 
+-- an outcome with status 0 if all went well
+abbrev pub with_zero : Result (Unit {0}) ProgramFault → Result ℕ ProgramFault
+with_zero (Ok done) = Ok 0
+with_zero (Err fault) = Err fault
+
 -- an outcome without its status, which is 0 if all went well
 abbrev pub without_status : Result ℕ ProgramFault → Result (Unit {0}) ProgramFault
 without_status (Ok given) = Ok tt

@@ -6,7 +6,7 @@ ghost use Rattle.textio.specs.declared.program_fault.ProgramFault.{ProgramFault}
 ghost use Rattle.audits.specs.declared.judging.Verdict.{Verdict};
 ghost use Rattle.audits.specs.Verdicts.{JudgesAt};
 ghost use Rattle.directoryd.specs.Orders.{values_in};
-ghost use Rattle.directoryd.specs.Programs.{verdict_outcome, EndsAs, Obeys, RunsProgram, StartsProgram};
+ghost use Rattle.directoryd.specs.Programs.{verdict_outcome, with_zero, EndsAs, Obeys, RunsProgram, StartsProgram};
 
 use crate::keyed::{ask_keyed, listen_keyed, serve_keyed};
 use crate::order::{Order, order};
@@ -22,7 +22,7 @@ use std::time::Clock;
 use textio::ProgramFault;
 
 /// How the process ends.
-#[derive(Clone, Copy, Debug, PartialEq, Eq)]
+#[derive(Clone, Copy)]
 pub struct Ending {
     pub status: u8,
     /// Whether the line of a fault, where there is one, was written whole.
@@ -45,6 +45,16 @@ fn judge<F: Files, W: Write>(
     }
 }
 
+/// Status 0, if a program that has no other came to its end.
+fn done(outcome: Result<(), ProgramFault>) -> Result<u8, ProgramFault>
+    ensures { result ≡ with_zero outcome }
+{
+    match outcome {
+        Ok(()) => Ok(0),
+        Err(fault) => Err(fault),
+    }
+}
+
 /// Does what is ordered, and answers the status.
 fn obey<N, R, W, E>(
     alloc: Global,
@@ -63,22 +73,19 @@ where
         (E.contents errors.old) (E.contents errors.new) result }
 {
     match order {
-        Order::Root(order) => root(alloc, order, reader, writer)?,
-        Order::Prove(order) => prove(alloc, order, reader, writer)?,
-        Order::Audit(order) => audit(alloc, order, reader, writer)?,
-        Order::Judge(order) => return judge(alloc, system, order, writer),
-        Order::Play => play(alloc, reader, writer)?,
-        Order::Serve(order, keys) => {
-            serve_keyed(alloc, system, order, keys, reader, writer, errors)?;
-        }
+        Order::Root(order) => done(root(alloc, order, reader, writer)),
+        Order::Prove(order) => done(prove(alloc, order, reader, writer)),
+        Order::Audit(order) => done(audit(alloc, order, reader, writer)),
+        Order::Judge(order) => judge(alloc, system, order, writer),
+        Order::Play => done(play(alloc, reader, writer)),
+        Order::Serve(order, keys) => done(serve_keyed(
+            alloc, system, order, keys, reader, writer, errors,
+        )),
         Order::Listen(order, keys) => {
-            listen_keyed(alloc, system, order, keys, reader, errors)?;
+            done(listen_keyed(alloc, system, order, keys, reader, errors))
         }
-        Order::Ask(order, keys) => {
-            return ask_keyed(alloc, system, order, keys, reader, writer, errors);
-        }
+        Order::Ask(order, keys) => ask_keyed(alloc, system, order, keys, reader, writer, errors),
     }
-    Ok(0)
 }
 
 /// Does what the words order, or says why they order nothing.
@@ -109,27 +116,26 @@ where
 fn start<N, R, W, E>(
     alloc: Global,
     system: &N,
-    words: io::Result<Vec<String>>,
-    reader: io::Result<R>,
+    words: &io::Result<Vec<String>>,
+    reader: &mut io::Result<R>,
     writer: &mut W,
     errors: &mut E,
 ) -> Result<u8, ProgramFault>
 where
     N: Net<Listener = TcpListener, Stream = TcpStream> + Clock + Files<File = File>,
-    R: BufRead + Drop,
+    R: BufRead,
     W: Write,
     E: Write,
-    ensures { StartsProgram R.remaining words reader (W.contents writer.old) (W.contents writer.new)
+    ensures { StartsProgram R.remaining words.now reader.old (W.contents writer.old) (W.contents writer.new)
         (E.contents errors.old) (E.contents errors.new) result }
 {
-    let words = match words {
-        Ok(words) => words,
-        Err(error) => return refuse_bytes(&error, errors),
-    };
-    match reader {
-        Ok(mut reader) => run(alloc, system, words.as_slice(), &mut reader, writer, errors),
-        // The buffer of the input is all that can fail.
-        Err(_) => Err(ProgramFault::OutOfMemory),
+    match words {
+        Ok(words) => match reader {
+            Ok(reader) => run(alloc, system, words.as_slice(), reader, writer, errors),
+            // The buffer of the input is all that can fail.
+            Err(_) => Err(ProgramFault::OutOfMemory),
+        },
+        Err(error) => refuse_bytes(error, errors),
     }
 }
 
@@ -159,18 +165,18 @@ fn ended<E: Write>(outcome: Result<u8, ProgramFault>, errors: &mut E) -> Ending
 pub fn end<N, R, W, E>(
     alloc: Global,
     system: &N,
-    words: io::Result<Vec<String>>,
-    reader: io::Result<R>,
+    words: &io::Result<Vec<String>>,
+    reader: &mut io::Result<R>,
     writer: &mut W,
     errors: &mut E,
 ) -> Ending
 where
     N: Net<Listener = TcpListener, Stream = TcpStream> + Clock + Files<File = File>,
-    R: BufRead + Drop,
+    R: BufRead,
     W: Write,
     E: Write,
     ensures { (outcome : _) × (errors_between : _)
-        × StartsProgram R.remaining words reader (W.contents writer.old) (W.contents writer.new)
+        × StartsProgram R.remaining words.now reader.old (W.contents writer.old) (W.contents writer.new)
         (E.contents errors.old) errors_between outcome
         × EndsAs outcome errors_between (E.contents errors.new) result }
 {

@@ -34,13 +34,12 @@ where
     ensures { ServesKeyed (directory_values order.entry) (option_map (λ path. path.now) keys.entry) (R.remaining reader.old) (W.contents writer.old) (W.contents writer.new)
         (E.contents errors.old) (E.contents errors.new) result }
 {
-    match keys {
-        None => serve_directory(alloc, files, order, reader, writer, errors),
-        Some(path) => {
-            let file = keys_at(alloc, files, path)?;
+    match keys_at(alloc, files, keys) {
+        Ok(file) => {
             let order = directory_with(order, file.as_str());
             serve_directory(alloc, files, order, reader, writer, errors)
         }
+        Err(fault) => Err(fault),
     }
 }
 
@@ -59,13 +58,12 @@ where
     E: Write,
     ensures { ListensKeyed (directory_values order.entry.directory) (connections_of order.entry) (option_map (λ path. path.now) keys.entry) (E.contents errors.old) (E.contents errors.new) result }
 {
-    match keys {
-        None => listen(alloc, system, order, input, errors),
-        Some(path) => {
-            let file = keys_at(alloc, system, path)?;
+    match keys_at(alloc, system, keys) {
+        Ok(file) => {
             let order = listen_with(order, file.as_str());
             listen(alloc, system, order, input, errors)
         }
+        Err(fault) => Err(fault),
     }
 }
 
@@ -87,12 +85,11 @@ where
     ensures { AsksKeyed (ask_values order.entry) (option_map (λ path. path.now) keys.entry) (R.remaining reader.old) (W.contents writer.old) (W.contents writer.new)
         (E.contents errors.old) (E.contents errors.new) result }
 {
-    match keys {
-        None => ask(alloc, system, order, reader, writer, errors),
-        Some(path) => {
-            let file = keys_at(alloc, system, path)?;
+    match keys_at(alloc, system, keys) {
+        Ok(file) => {
             let order = ask_with(order, file.as_str());
             ask(alloc, system, order, reader, writer, errors)
         }
+        Err(fault) => Err(fault),
     }
 }

@@ -1,10 +1,11 @@
 // Keys that stand in a file, where other users of the machine do not see them. A line is an option's name, a
 // space and 64 hexadecimal digits; of a name that stands there twice, the first counts. An option on the command
 // line wins over the file, unless it is empty. Contracts do not know which bytes a file has.
-ghost use Rattle.std.specs.Prelude.{◌≡◌, ◌⊎◌, Decides, IfErr, IfOk, MatchOption, MatchResult, false, option_map, string_bytes, true};
+ghost use Rattle.std.specs.Prelude.{◌≡◌, ◌⊎◌, Decides, IfErr, IfOk, IsSome, MatchOption, MatchResult, false, option_map, string_bytes, true};
+ghost use Rattle.textio.specs.Faults.{IsDeviceFault};
 ghost use Rattle.asking.specs.AskOptions.{ask_values};
 ghost use Rattle.server.specs.DirectoryOptions.{directory_values};
-ghost use Rattle.directoryd.specs.KeyFiles.{HasKeyLines, IsKeysFault, IsKeysFile, ask_with, directory_with, gives, is_key_line, key_in, name_in, option_or, text_or, value_in};
+ghost use Rattle.directoryd.specs.KeyFiles.{HasKeyLines, IsKeysFault, IsKeysFile, IsKeysText, ask_with, directory_with, gives, is_key_line, key_in, name_in, option_or, text_or, value_in};
 ghost use Rattle.server.specs.ConnectionOptions.{connections_of};
 
 use asking::AskOrder;
@@ -63,7 +64,17 @@ fn keys_text(alloc: Global, bytes: &[u8]) -> Result<String, ProgramFault>
     }
 }
 
-/// The text of the file of this path.
+/// The bytes of the file of this path.
+fn file_bytes<F: Files>(alloc: Global, files: &F, path: &str) -> Result<Vec<u8>, ProgramFault>
+    ensures { IfErr result IsDeviceFault }
+{
+    match fs::open(files, path) {
+        Ok(mut file) => read_whole(alloc, &mut file),
+        Err(error) => Err(file_fault(&error)),
+    }
+}
+
+/// The text of the file of this path, or no text if there is none.
 ///
 /// # Errors
 ///
@@ -72,16 +83,18 @@ fn keys_text(alloc: Global, bytes: &[u8]) -> Result<String, ProgramFault>
 pub(crate) fn keys_at<F: Files>(
     alloc: Global,
     files: &F,
-    path: &str,
+    path: Option<&str>,
 ) -> Result<String, ProgramFault>
-    ensures ok { IfOk result (λ text. IsKeysFile (string_bytes text)) }
-    ensures err { IfErr result IsKeysFault }
+    ensures ok { IfOk result (λ text. IsKeysText (option_map (λ path. path.now) path.entry) (string_bytes text)) }
+    ensures err { IfErr result (λ fault. IsSome (option_map (λ path. path.now) path.entry) × IsKeysFault fault) }
 {
-    let bytes = match fs::open(files, path) {
-        Ok(mut file) => read_whole(alloc, &mut file)?,
-        Err(error) => return Err(file_fault(&error)),
-    };
-    keys_text(alloc, &bytes)
+    match path {
+        Some(path) => match file_bytes(alloc, files, path) {
+            Ok(bytes) => keys_text(alloc, &bytes),
+            Err(fault) => Err(fault),
+        },
+        None => Ok(String::new(alloc)),
+    }
 }
 
 /// The digits that a file has for an option.

@@ -26,12 +26,11 @@ fn words(rt: &HostRuntime) -> io::Result<Vec<String>> {
 }
 
 fn main(rt: HostRuntime) -> ExitCode {
-    let input = BufReader::new(rt.alloc(), rt.reader());
     let ending = end(
         rt.alloc(),
         &rt,
-        words(&rt),
-        input,
+        &words(&rt),
+        &mut BufReader::new(rt.alloc(), rt.reader()),
         &mut io::writer(&rt),
         &mut rt.stderr(),
     );

@@ -1,8 +1,13 @@
-use Rattle.std.proofs.Common.{rules, ◌≡◌, Err, refl, inl}
+use Rattle.std.proofs.Common.{inl, inr}
 use Rattle.std.proofs.KnownBytes.{Keeps-refl}
+use Rattle.asking.specs.AskOptions.{ask_values}
+use Rattle.directoryd.proofs.KeyTexts.{ask_used, no_keys}
 use Rattle.directoryd.proofs.keyed.ask_keyed.Goals as goal
 
-pub returns-in_err-file-in-Some : goal.returns-in_err-file-in-Some
-returns-in_err-file-in-Some g c =
-    let passed : c.from_residual.result ≡ Err c.in_err-file-in-Some.field-0.0 = search rules in
-    rw (passed, c.in-Some.is) (inl ((c.in-Some.path.now, c.in_err-file-in-Some.field-0.0, refl, refl, c.in_err-file-in-Some.ensures.err), Keeps-refl _, Keeps-refl _))
+pub returns-in-Err : goal.returns-in-Err
+returns-in-Err g c = inl (no_keys _ _ c.in-Err.fault c.in-Err.ensures.err.0 c.in-Err.ensures.err.1, Keeps-refl _, Keeps-refl _)
+
+pub returns-in-Ok : goal.returns-in-Ok
+returns-in-Ok g c =
+    let used = ask_used _ c.as_str.result.now (ask_values c.args.order) (rw c.as_str.ensures.value c.in-Ok.ensures.ok) in
+    inr (ask_values c.ask_with-order.result, rw c.ask_with-order.ensures used, c.ask.ensures.bad_hex, c.ask.ensures.runs)
