@@ -1,6 +1,6 @@
 -- The faults of a run, as they are passed on, and what is written before them.
-use Rattle.std.proofs.Common.{◌≡◌, ◌∙◌, ◌⊎◌, ◌↔◌, ◌++◌, ℕ, ◌+◌, true, List, [], ◌∷◌, Option, None, Some, Result, Ok, Err, Bor, inl, inr, refl, rules, subst, sym}
-use Rattle.std.specs.Prelude.{IfErr, IfOk, IfSome, OnOk}
+use Rattle.std.proofs.Common.{◌≡◌, ◌∙◌, ◌⊎◌, ◌↔◌, ◌++◌, ℕ, ◌+◌, true, List, [], Option, None, Some, Result, Ok, Err, Bor, inl, inr, refl, rules, subst, sym}
+use Rattle.std.specs.Prelude.{IfErr, IfSome, OnOk}
 use Rattle.std.specs.Io.KnownBytes.{Appends}
 use Rattle.std.proofs.KnownBytes.{Appends-nil, Appends-trans}
 use Rattle.textio.specs.declared.program_fault.ProgramFault.{ProgramFault}

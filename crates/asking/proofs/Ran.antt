@@ -1,5 +1,5 @@
 -- The lines of a run, one after another.
-use Rattle.std.proofs.Common.{◌≡◌, ◌∙◌, ◌⊎◌, ◌<◌, ℕ, true, false, List, [], ◌∷◌, Option, None, Some, Result, Ok, Err, Bor, Global, Vec, ap, inl, inr, option_map, refl, subst, sym}
+use Rattle.std.proofs.Common.{◌≡◌, ◌∙◌, ℕ, true, false, List, [], ◌∷◌, Option, None, Some, Result, Ok, Err, Bor, Global, Vec, ap, inl, inr, option_map, refl, subst, sym}
 use Rattle.std.specs.Prelude.{IfErr, IfOk, IfSome, OnOk}
 use Rattle.std.specs.Io.KnownBytes.{Appends}
 use Rattle.std.proofs.KnownBytes.{Appends-nil}

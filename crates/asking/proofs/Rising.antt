@@ -5,12 +5,10 @@ use Rattle.rootchain.specs.declared.signed_promise.SignedPromise.{SignedPromise}
 use Rattle.rootchain.specs.declared.signed_root.SignedRoot.{SignedRoot}
 use Rattle.wire.specs.Frames.{Frame}
 use Rattle.wire.specs.Requests.{RequestContent}
-use Rattle.play.specs.Scripts.{ScriptLine, Pass, Ask, Watch, Piece, End}
-use Rattle.asking.specs.Asking.{AsksDirectory, AsksOn, AsksSome, CatchesSome, CatchesUp, GoesOnAbove, GoesSomeAbove, HearsSome, StopsAsking}
-use Rattle.asking.specs.Following.{Follows, StopsAfter, StopsList, TakesList, TakesLists, TakesSome}
-use Rattle.asking.specs.Joining.{BeginsAt, BeginsSome, BeginsSomeAt, BeginsWatch}
+use Rattle.asking.specs.Asking.{AsksDirectory, AsksOn, AsksSome, CatchesSome, CatchesUp, GoesOnAbove, HearsSome, StopsAsking}
+use Rattle.asking.specs.Following.{Follows, StopsAfter, TakesList, TakesLists, TakesSome}
+use Rattle.asking.specs.Joining.{BeginsAt, BeginsSome, BeginsWatch}
 use Rattle.asking.specs.Reports.{Report, report_of, told_after, worse}
-use Rattle.asking.specs.Runs.{DoesLine, Known, Prepares}
 use Rattle.asking.specs.Scenes.{HaltsAfter, Scene, StopsAtHead}
 use Rattle.asking.specs.Visiting.{TestsAll, TestsFrom, TestsSome, Visits, VisitsOn}
 use Rattle.asking.specs.Watching.{AllStep, GoesOn, GoesSome, SomeStep, StepsOn, StepsOnce, StepsSome, StepsThrough}

@@ -3,7 +3,7 @@ use Rattle.std.specs.Prelude.{◌≡◌, ◌≤◌, ◌⊎◌, ℕ, List, length
 use Rattle.encoding.specs.Limits.{IsName}
 use Rattle.commands.specs.Operations.{Promise, Lookup, History, Head}
 use Rattle.wire.specs.Requests.{RequestContent, Query, Put, Turn}
-use Rattle.wire.specs.Responses.{ResponseContent, Proof, Roots, Root, Refused}
+use Rattle.wire.specs.Responses.{ResponseContent, Proof, Roots, Root}
 use Rattle.wire.specs.Responses as response
 use Rattle.rootchain.specs.declared.signed_root.SignedRoot.{SignedRoot}
 

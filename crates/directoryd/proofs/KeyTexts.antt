@@ -1,5 +1,5 @@
 -- What the text of the file of keys gives, where there may be none.
-use Rattle.std.proofs.Common.{◌≡◌, List, [], ◌∷◌, Option, None, Some, Result, Err, refl}
+use Rattle.std.proofs.Common.{◌≡◌, [], ◌∷◌, Option, None, Some, Err, refl}
 use Rattle.std.specs.Prelude.{IsSome}
 use Rattle.clap.specs.Words.{Text}
 use Rattle.textio.specs.declared.program_fault.ProgramFault.{ProgramFault}

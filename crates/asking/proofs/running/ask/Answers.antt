@@ -1,4 +1,3 @@
-use Rattle.std.proofs.Common.{ap}
 use Rattle.asking.specs.AskOptions.{ask_values}
 use Rattle.asking.proofs.Faulty.{hex_or, hex_so, not_hex}
 use Rattle.asking.proofs.running.ask.Goals as goal

@@ -1,7 +1,6 @@
 use Rattle.std.proofs.Common.{inl, refl}
 use Rattle.std.proofs.KnownBytes.{Keeps-refl}
 use Rattle.asking.proofs.Faulty.{grows_not}
-use Rattle.asking.proofs.Ran.{over_socket}
 use Rattle.asking.proofs.running.ask_under.Goals as goal
 
 pub returns-in_default-stream-clause-runs : goal.returns-in_default-stream-clause-runs

@@ -1,4 +1,4 @@
-use Rattle.std.proofs.Common.{◌≡◌, ◌⊎◌, Err, None, inl, inr, refl, rules}
+use Rattle.std.proofs.Common.{◌≡◌, ◌⊎◌, None, inr, refl, rules}
 use Rattle.textio.specs.declared.program_fault.ProgramFault.TheVariants.{OutOfMemory}
 use Rattle.asking.specs.Exchanges.{ExchangesFrames}
 use Rattle.asking.specs.RunFaults.{IsFaultOfState}
