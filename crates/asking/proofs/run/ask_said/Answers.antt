@@ -20,7 +20,7 @@ returns-in-Ask-clause-does g c =
 
 pub returns-in-Ask-clause-rises : goal.returns-in-Ask-clause-rises
 returns-in-Ask-clause-rises g c =
-    ask_rises g.H.NodeHash.digest_of g.V.VufCheck.accepted g.S.Verifier.verified (ExchangesFrames g.T.Write.contents g.T.Read.remaining) c.args.asker.now.marks.items c.args.asker.now.token (ask_seen c.in-Ask.ask.now)
+    ask_rises g.H.NodeHash.digest_of g.V.VufCheck.accepted g.S.Verifier.verified (ExchangesFrames g.T.Write.contents g.T.Read.remaining) c.args.asker.now.marks.items c.args.asker.now.token (ask_seen c.in-Ask.ask)
     c.args.asker.now.changes.items c.ask.new.self.changes.items c.ask.result (scene c.args.asker.now c.args.said.now c.args.stream.now) (scene c.ask.new.self c.ask.new.said c.ask.new.stream)
     c.ask.new.self c.ask.new.said refl c.ask.ensures.asks c.ask.ensures.stops c.ask.ensures.halts
 
