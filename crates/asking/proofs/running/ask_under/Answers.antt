@@ -1,6 +1,7 @@
 use Rattle.std.proofs.Common.{inl, refl}
 use Rattle.std.proofs.KnownBytes.{Keeps-refl}
 use Rattle.asking.proofs.Faulty.{grows_not}
+use Rattle.asking.proofs.Ran.{over_socket}
 use Rattle.asking.proofs.running.ask_under.Goals as goal
 
 pub returns-in_default-clause-runs : goal.returns-in_default-clause-runs
@@ -8,3 +9,8 @@ returns-in_default-clause-runs g c = λ are. inl (refl, Keeps-refl (g.W.Write.co
 
 pub returns-in_default-clause-grows : goal.returns-in_default-clause-grows
 returns-in_default-clause-grows g c = grows_not (g.W.Write.contents c.args.writer.now)
+
+pub returns-clause-runs : goal.returns-clause-runs
+returns-clause-runs g c = λ are.
+    rw c.status.ensures (over_socket c.args.order c.args.keys.provider c.args.keys.token _ (g.R.Read.remaining c.args.reader.now) (g.W.Write.contents c.args.writer.now) (g.W.Write.contents c.ask_over.new.writer)
+    c.in_ok-ended.ended are c.in_ok-ended.ensures.runs)
