@@ -1,9 +1,10 @@
 -- What clap reads of a command with one more argument.
-use Rattle.std.proofs.Common.{◌≡◌, ◌∙◌, ◌||◌, ◌+◌, ◌<◌, ℕ, List, ap, ap₂, false, get_or, length, sym, take}
+use Rattle.std.proofs.Common.{◌≡◌, ◌∙◌, ◌||◌, ◌+◌, ◌<◌, ℕ, List, Result, Ok, Err, ap, ap₂, false, get_or, length, sym, take}
 use Rattle.std.proofs.lemmas.List.{take_more}
 use Rattle.std.proofs.lemmas.List.Sums.{fold_push}
 use Rattle.std.proofs.Math.Bool.{or-false}
-use Rattle.clap.specs.Words.{AddsArg, App, Rule, app_of, rule_of, with_rule, with_subcommand}
+use Rattle.std.specs.Prelude.{IfOk}
+use Rattle.clap.specs.Words.{AddsArg, AddsSubcommand, App, Rule, app_of, rule_of, with_rule, with_subcommand}
 use Rattle.clap.specs.declared.builder.arg.Arg.{Arg}
 use Rattle.clap.specs.declared.builder.command.Command.{Command}
 use Rattle.clap.specs.declared.builder.command.Command.TheViews.{out-Command}
@@ -20,6 +21,12 @@ with_one old new a app rule added local app_is rule_is = added.shape local ∙ a
 -- and no global argument more
 pub stays_local : (old new : Command) (a : Arg) → AddsArg old a new → a.global ≡ false → (out-Command new).has_globals ≡ (out-Command old).has_globals
 stays_local old new a added local = added.globals ∙ ap (λ b. (out-Command old).has_globals || b) local ∙ or-false (out-Command old).has_globals
+
+-- a command with one more subcommand, which has no global argument
+pub with_one_subcommand : {E : Type 0} (old sub : Command) (result : Result Command E) (app : App) → IfOk result (AddsSubcommand old sub) → (out-Command sub).has_globals ≡ false
+    → app_of sub ≡ app → IfOk result (λ new. app_of new ≡ with_subcommand (app_of old) app.top)
+with_one_subcommand old sub (Ok new) app added local app_is = added.shape local ∙ ap (λ (a : App). with_subcommand (app_of old) a.top) app_is
+with_one_subcommand old sub (Err error) app added local app_is = tt
 
 -- one row more
 pub more_rows : (names : ValueParser) (app : App) (rows : List Argument) (i : ℕ) (d : Argument) → i < length rows

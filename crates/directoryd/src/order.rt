@@ -1,6 +1,6 @@
 ghost use Rattle.std.specs.Prelude.{◌≡◌, ◌⊎◌, ◌≤◌, IfOk, IfErr, Some, codes, false, map, option_map};
 ghost use Rattle.std.specs.NonZero.{non_zero_u64_get};
-ghost use Rattle.clap.specs.Words.{app_of, first_of, found_of, kind_of, rows_of, rule_of};
+ghost use Rattle.clap.specs.Words.{app_of, first_of, found_of, kind_of, rows_of, rule_of, with_subcommand};
 ghost use Rattle.clap.specs.declared.builder.command.Command.TheViews.{out-Command};
 ghost use Rattle.clap.specs.declared.builder.value_parser.ValueParser.{ValueParser};
 ghost use Rattle.clap.specs.declared.error.kind.ErrorKind.TheVariants.{OutOfMemory};
@@ -105,20 +105,42 @@ fn table<'a>() -> &'a [Subcommand]
     SUBCOMMANDS.as_slice()
 }
 
-/// The subcommands, of which one has to be there.
+/// The program without its subcommands, of which one has to be there.
+fn bare_command<'a>(alloc: Global) -> Command<'a>
+    ensures { app_of result ≡ bare_app }
+{
+    Command::new(alloc, "directoryd")
+        .about("A CONIKS key directory")
+        .after_help(HELP)
+        .version(VERSION)
+        .subcommand_required(true)
+}
+
+/// The program with the subcommand of one row more.
+fn with_row<'a>(
+    alloc: Global,
+    program: Command<'a>,
+    row: &Subcommand,
+    names: ValueParser<'a>,
+) -> Result<Command<'a>, AllocError>
+    ensures { IfOk result (λ c. app_of c ≡ with_subcommand (app_of program.entry) (app_in names.entry row.now).top) }
+{
+    match subcommand(alloc, row, names) {
+        Ok(more) => program.subcommand(more),
+        Err(error) => Err(error),
+    }
+}
+
+/// The program with its subcommands.
 fn command<'a>(alloc: Global) -> Result<Command<'a>, AllocError>
     ensures { IfOk result (λ c. (names : _) × IsHashNames names × (app_of c ≡ directory_app names)) }
 {
     let names = hash_names();
-    let mut directoryd = Command::new(alloc, "directoryd")
-        .about("A CONIKS key directory")
-        .after_help(HELP)
-        .version(VERSION)
-        .subcommand_required(true);
+    let mut program = bare_command(alloc);
     for row in table() {
-        directoryd = directoryd.subcommand(subcommand(alloc, row, names)?)?;
+        program = with_row(alloc, program, row, names)?;
     }
-    Ok(directoryd)
+    Ok(program)
 }
 
 /// The hash function of a name that `--hash` takes.

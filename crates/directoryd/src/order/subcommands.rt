@@ -4,7 +4,7 @@ use items::{ProveOrder, RootOrder};
 use server::{DirectoryOrder, ListenOrder};
 
 /// What a command line orders.
-#[derive(Debug, Drop)]
+#[derive(Drop)]
 pub enum Order<'a> {
     Root(RootOrder<'a>),
     Prove(ProveOrder<'a>),
