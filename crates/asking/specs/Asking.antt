@@ -40,7 +40,8 @@ SpeaksOf asked frame epoch =
 abbrev pub NotesLast : List SignedPromise → List SignedPromise → List SignedPromise → Type 0
 NotesLast promises noted noted' = (signed : SignedPromise) × (slice_get promises (length promises - 1) ≡ Some signed) × (noted' ≡ noted ++ signed ∷ [])
 
--- what the client notes of its own changes: a promise that it kept for one, the last of those it has, and nothing else
+-- what the client notes of its own changes: a promise that it kept for one, the last of those it has, and
+-- nothing else
 abbrev pub Notes : RequestContent → List SignedPromise → List SignedPromise → List SignedPromise → List SignedPromise → Type 0
 Notes (Put verb name key) before after noted noted' =
     ((length after ≤ length before) × (noted' ≡ noted)) ⊎ ((length before < length after) × NotesLast after noted noted')
@@ -79,8 +80,9 @@ module _ (hash : List ℕ → List ℕ) (accepted verified : List ℕ → List �
     GoesOnAbove marks epoch before after = (head : SignedRoot) × IsHead before.client.chain head
         × (((head.body.epoch ≤ epoch) × (after ≡ before)) ⊎ ((epoch < head.body.epoch) × GoesOn hash accepted exchanged marks before after))
 
-    -- The line is asked, with this token of the operator, and a frame comes back. Then, in this order: the chain gets as far
-    -- as the reply, what the client makes of it is told and noted, and of new epochs what monitors and promises say.
+    -- The line is asked, with this token of the operator, and a frame comes back. Then, in this order: the
+    -- chain gets as far as the reply, what the client makes of it is told and noted, and of new epochs what
+    -- monitors and promises say.
     pub record AsksDirectory (marks : List Mark) (token : List ℕ) (asked : RequestContent) (noted noted' : List SignedPromise) (before after : Scene T) : Type 0 where
       pub head : SignedRoot
       pub is : IsHead before.client.chain head

@@ -72,8 +72,8 @@ module _ (hash : List ℕ → List ℕ) (verified : List ℕ → List ℕ → Li
   Places chain told (Ok place) = Verifies verified chain.key told × IsPlace hash chain told place
   Places chain told (Err why) = (¬ Verifies verified chain.key told) × (why ≡ root.BadSignature)
 
-  -- what is told of roots that were asked for from an epoch on, of which these are left: the first that is refused, or
-  -- all of them
+  -- what is told of roots that were asked for from an epoch on, of which these are left: the first that is
+  -- refused, or all of them
   abbrev pub AreTold : KeyedRoots → ℕ → List SignedRoot → List SignedRoot → Report → Type 0
   AreTold chain from all [] told = told ≡ fine (response_text (Roots all))
   AreTold chain from all (first ∷ more) told =
@@ -82,7 +82,8 @@ module _ (hash : List ℕ → List ℕ) (verified : List ℕ → List ℕ → Li
 
 module _ (hash : List ℕ → List ℕ) (accepted verified : List ℕ → List ℕ → List ℕ → Type 0) where
   module _ (before : Client) (body : List ℕ) where
-    -- a reply to a look-up, a promise, the latest root, or roots, and the client after it: it looks, or keeps the promise
+    -- a reply to a look-up, a promise, the latest root, or roots, and the client after it: it looks, or keeps
+    -- the promise
     abbrev pub IsCheckedAs : RequestContent → ResponseContent → Report → Client → Type 0
     IsCheckedAs (Query (Lookup name epoch)) (Proof reply) told after =
         (answer : Result Statement Refusal) × (Looks hash accepted before name epoch body answer after × IsTellable answer) × (told ≡ look_told reply.body.epoch answer)

@@ -12,8 +12,8 @@ HoldsFrame bytes frame = (left : List ℕ) × (read_frame bytes ≡ Ok (frame, l
 abbrev pub IsOneFrame : List ℕ → Frame → Type 0
 IsOneFrame bytes frame = read_frame bytes ≡ Ok (frame, [])
 
--- What a stream took and gives: the request is written as one frame, and then the bytes of this frame are read, and no
--- others.
+-- What a stream took and gives: the request is written as one frame, and then the bytes of this frame are
+-- read, and no others.
 abbrev pub ExchangesFrames : {T : Type 0} → (T → Option (List ℕ)) → (T → Option (List ℕ)) → T → RequestContent → Frame → T → Type 0
 ExchangesFrames {T} contents remaining before asked frame after = (sent : T) × (bytes : List ℕ)
     × Appends (contents before) (contents sent) (frame_bytes (request_frame asked)) × Consumes (remaining sent) (remaining after) bytes × IsOneFrame bytes frame

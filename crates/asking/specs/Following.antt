@@ -65,8 +65,9 @@ module _ (hash : List ℕ → List ℕ) (verified : List ℕ → List ℕ → Li
   abbrev pub BringsNone : List ℕ → Client → List Monitor → Client → List Monitor → Type 0
   BringsNone list client monitors client' monitors' = (list ≢ no_roots) × AllUpdate list client monitors client' monitors' × IsNotAbove client client'
 
-  -- What comes of a frame that stops it: it is no answer, and nothing changes; or the client or a monitor refuses its list; or
-  -- all take it and it brings no root that was asked for, which is told as a reply to something else.
+  -- What comes of a frame that stops it: it is no answer, and nothing changes; or the client or a monitor
+  -- refuses its list; or all take it and it brings no root that was asked for, which is told as a reply to
+  -- something else.
   abbrev pub StopsFollowing : RequestContent → Client → List Monitor → Frame → Report → Client → List Monitor → Type 0
   StopsFollowing asked client monitors frame told client' monitors' = (IsUnanswered asked frame told × (client' ≡ client) × (monitors' ≡ monitors))
       ⊎ (FrameAnswers asked frame × (((why : Refusal) × AnyRefuses frame.body client monitors why client' monitors' × (told ≡ client_refuses (codes "client refuses root") why))
@@ -80,8 +81,8 @@ module _ (hash : List ℕ → List ℕ) (verified : List ℕ → List ℕ → Li
       pub exchange : exchanged before.stream (asks_roots head) frame stream
       pub answered : FrameAnswers (asks_roots head) frame
 
-    -- whether a list of roots is asked for and taken: no more are where none comes, or the head is of the last epoch that
-    -- there can be
+    -- whether a list of roots is asked for and taken: no more are where none comes, or the head is of the
+    -- last epoch that there can be
     abbrev pub TakesList : Scene T → Bool → Scene T → Type 0
     TakesList before false after =
         ((head : SignedRoot) × IsHead before.client.chain head × (head.body.epoch ≡ 2 ^ 64 - 1) × (after ≡ before))

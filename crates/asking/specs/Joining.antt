@@ -79,8 +79,8 @@ module _ (hash : List ℕ → List ℕ) (accepted verified : List ℕ → List �
   AllHand [] before after = after ≡ before
   AllHand (signed ∷ more) before after = (middle : Monitor) × HandsTo hash accepted verified signed (signed_promise_bytes signed) before middle × AllHand more middle after
 
-  -- A monitor that watches a name from a root of the chain on. It expects what earlier runs were promised: the last before
-  -- that root at first, and those there as changes.
+  -- A monitor that watches a name from a root of the chain on. It expects what earlier runs were promised:
+  -- the last before that root at first, and those there as changes.
   pub record IsJoined (key : List ℕ) (earlier : List SignedPromise) (chain : KeyedRoots) (first : SignedRoot) (name : List ℕ) (given : Option (List ℕ)) (monitor : Monitor) : Type 0 where
     pub own : Client
     pub starts : StartsFrom hash verified chain key first (Ok own)
@@ -97,8 +97,8 @@ module _ (hash : List ℕ → List ℕ) (accepted verified : List ℕ → List �
         ⊎ ((why : Refusal) × (why ≢ Memory) × StartsFrom hash verified before.client.chain key first (Err why)
         × (after ≡ record before { told = told_after before.told (client_refuses (codes "client refuses root") why) }))
 
-    -- a name is watched from the first root on that is to be watched, and then each promise is tested that is due; nothing
-    -- is asked where there is no such root
+    -- a name is watched from the first root on that is to be watched, and then each promise is tested that is
+    -- due; nothing is asked where there is no such root
     abbrev pub BeginsWatch : Scene T → Scene T → Type 0
     BeginsWatch before after =
         (IsUnwatched before.client.chain name marks None × (after ≡ before))

@@ -38,8 +38,8 @@ IsFaultWith HasState IsUnasked CannotWrite = ⊤
 IsFaultWith HasState IsUnasked CannotListen = ⊥
 IsFaultWith HasState IsUnasked OutOfMemory = ⊤
 
--- A fault of a run: of its state, if it has one; of the first line that cannot be asked, where the lines are known; or a read, a
--- write or memory failed.
+-- A fault of a run: of its state, if it has one; of the first line that cannot be asked, where the lines are
+-- known; or a read, a write or memory failed.
 abbrev pub IsRunFault : AskOptions → Option (List ℕ) → ProgramFault → Type 0
 IsRunFault options input = IsFaultWith (¬ (options.state ≡ None)) (λ number. IfSome (lines_asked options.words input) (λ lines. IsFirstUnasked 1 lines number))
 

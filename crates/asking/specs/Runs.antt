@@ -113,14 +113,15 @@ module _ (hash : List ℕ → List ℕ) (accepted verified : List ℕ → List �
     AsksLines [] before old new after = Appends old new [] × (after ≡ before)
     AsksLines (line ∷ more) before old new after = (middle : Scene T) × (now : Option (List ℕ)) × Writes (AsksLine line) before old now middle × AsksLines more middle now new after
 
-  -- A client starts with the directory's head, and knows nothing of earlier runs; or, where there is a state, as its files have
-  -- it.
+  -- A client starts with the directory's head, and knows nothing of earlier runs; or, where there is a state,
+  -- as its files have it.
   abbrev pub BeginsAsking : List ℕ → List ℕ → Type 0 → T → Known → Client → T → Type 0
   BeginsAsking key token HasNoState stream known client after =
       (StartsAtHead verified exchanged key stream client after × (known ≡ known_new key token))
       ⊎ ((¬ HasNoState) × (after ≡ stream) × IsSoundFor hash accepted verified key client)
 
-  -- A run from its beginning to its end: it begins, with no monitor, all that is new is followed, and the lines are asked.
+  -- A run from its beginning to its end: it begins, with no monitor, all that is new is followed, and the
+  -- lines are asked.
   pub record RunsWhole (key token : List ℕ) (options : AskOptions) (HasNoState : Type 0) (stream : T) (input : Option (List ℕ)) (status : ℕ) (old new : Option (List ℕ)) : Type 0 where
     pub known : Known
     pub start : Scene T
@@ -139,8 +140,8 @@ module _ (hash : List ℕ → List ℕ) (accepted verified : List ℕ → List �
   RunsAs key token options HasNoState stream input (Whole status) old new = RunsWhole key token options HasNoState stream input status old new
   RunsAs key token options HasNoState stream input (Stopped status) old new = IsCutShort (Stopped status) × Grows old new
 
--- A run over a socket, of which definitions know neither what it took nor what it will give: no connection came about, and
--- nothing is written; or the run is one for some frames that came.
+-- A run over a socket, of which definitions know neither what it took nor what it will give: no connection
+-- came about, and nothing is written; or the run is one for some frames that came.
 abbrev pub AsksOverSocket : AskOptions → Option (List ℕ) → ℕ → Option (List ℕ) → Option (List ℕ) → Type 0
 AsksOverSocket options input status old new = ((status ≡ 1) × Keeps old new)
     ⊎ ((key token : List ℕ) × (ask_keys_of options ≡ Some (key, token)) × (socket : TcpStream) × (ended : RunEnd) × (status ≡ end_status ended)

@@ -76,8 +76,9 @@ abbrev pub StopsAtHead : {T : Type 0} → (List ℕ → List ℕ → List ℕ �
 StopsAtHead verified exchanged key before told after told' =
     (frame : Frame) × exchanged before (Query Head) frame after × ((now : Report) × StartsNone verified key frame now × (told' ≡ told_after told now))
 
--- A fault comes that nothing tells: all that was told so far was told in this scene. If no reply came, the client and the
--- monitors are also those of the scene; memory may run out between a change of theirs and what is told of it.
+-- A fault comes that nothing tells: all that was told so far was told in this scene. If no reply came, the
+-- client and the monitors are also those of the scene; memory may run out between a change of theirs and what
+-- is told of it.
 abbrev pub HaltsIn : {H V S T : Type 0} → AskFault → Scene T → Asker H V S → Said → Type 0
 HaltsIn fault reached asker said = (report_of said ≡ reached.told) × (fault ≡ NoReply → (asker.client ≡ reached.client) × (asker.monitors.items ≡ reached.monitors))
 

@@ -176,7 +176,8 @@ where
     Err(Refusal::Memory)
 }
 
-/// Lets a client take the first root of another one's chain after an epoch. Returns the root's epoch, if there is one.
+/// Lets a client take the first root of another one's chain after an epoch. Returns the root's epoch, if
+/// there is one.
 fn retrace_one<H, V, S>(
     alloc: Global,
     own: &mut Client<H, V, S>,

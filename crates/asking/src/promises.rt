@@ -171,7 +171,8 @@ fn tell_other_index(said: &mut Said) -> Result<(), AllocError>
     )
 }
 
-/// Tells what a reply shows of the promise that is tested for a name, whole or not at all. Returns whether it was kept.
+/// Tells what a reply shows of the promise that is tested for a name, whole or not at all. Returns whether it
+/// was kept.
 fn tell_due<H, V, S>(
     alloc: Global,
     client: &mut Client<H, V, S>,

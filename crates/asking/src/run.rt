@@ -373,8 +373,8 @@ where
     }
 
     /// Keeps the roots and promises that are new, writes what is said, and then keeps what is left to test and how
-    /// far names were watched: so no promise is told and lost. Where memory ran out an alarm may be untold: then a
-    /// later run watches from the same epochs. Returns what came of the questions.
+    /// far names were watched: so a promise that is told is kept, unless keeping it is what fails. Where memory ran
+    /// out an alarm may be untold: then a later run watches from the same epochs. Returns what came of the questions.
     fn settle<W, E, H, V, S>(
         &mut self,
         asker: &Asker<H, V, S>,

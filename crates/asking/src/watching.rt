@@ -224,8 +224,8 @@ fn refuse_proof(
     tell_client(alloc, b"client refuses proof", why, said)
 }
 
-/// Lets a monitor watch its next epoch by a reply, and tells its step, whole or not at all. Returns whether its client
-/// accepted the proof.
+/// Lets a monitor watch its next epoch by a reply, and tells its step, whole or not at all. Returns whether
+/// its client accepted the proof.
 fn watch_epoch<H, V, S>(
     alloc: Global,
     monitor: &mut Monitor<H, V, S>,

@@ -6,7 +6,8 @@ use Rattle.auditor.specs.declared.evidence.Evidence.{Evidence}
 use Rattle.auditor.specs.declared.evidence.Evidence.TheVariants.{Root, Broken}
 
 module _ (hash : List ℕ → List ℕ) (accepted verified : List ℕ → List ℕ → List ℕ → Type 0) (key : List ℕ) where
-  -- two roots of this provider that cannot both stand in one chain of well-formed roots, or a promise of the provider that was broken
+  -- two roots of this provider that cannot both stand in one chain of well-formed roots, or a promise of the
+  -- provider that was broken
   abbrev pub IsEvidence : Evidence → Type 0
   IsEvidence (Root roots) = IsRootEvidence hash verified key roots
   IsEvidence (Broken broken) = IsBrokenPromise hash accepted verified key broken.promise broken.root broken.proof

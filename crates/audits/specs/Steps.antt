@@ -40,7 +40,8 @@ module _ (hash : List ℕ → List ℕ) (verified : List ℕ → List ℕ → Li
   AnswersLine before line (Err Memory) after = ⊤
   AnswersLine before line (Err why) after = ObservesLine hash verified key before line (Err why) after
 
-  -- The answer to a line is given as text, or memory ran out. The first argument gives the bytes of what was returned.
+  -- The answer to a line is given as text, or memory ran out. The first argument gives the bytes of what was
+  -- returned.
   abbrev pub TellsLine : {X : Type 0} → (X → List ℕ) → Chains → List ℕ → Result X ProgramFault → Chains → Type 0
   TellsLine seen before line (Ok text) after = (answer : Result Observed Refusal)
       × ObservesLine hash verified key before line answer after × IsAuditAnswer hash verified key answer × (seen text ≡ answer_line answer)

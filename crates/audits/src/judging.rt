@@ -4,7 +4,6 @@ ghost use Rattle.audits.specs.Verdicts.{verdict_line, verdict_status, IsVerdict,
 ghost use Rattle.vrfiface.specs.StandIns.{KeyedAccepts};
 ghost use Rattle.sigiface.specs.StandIn.{KeyedVerifies};
 
-use crate::opening::file_bytes;
 use crate::orders::JudgeOrder;
 use crate::reading::read_evidence;
 use auditor::{Evidence, judge};
@@ -14,7 +13,7 @@ use sigiface::{KeyedSign, Verifier};
 use std::alloc::Global;
 use std::fs::Files;
 use std::io::Write;
-use textio::{ProgramFault, option_hex32, write_text};
+use textio::{ProgramFault, file_bytes, option_hex32, write_text};
 use vrfiface::{KeyedVuf, VufCheck};
 
 /// Whether a file is evidence against a provider.

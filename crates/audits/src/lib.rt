@@ -15,7 +15,6 @@
 mod auditing;
 mod judging;
 mod laws;
-mod opening;
 mod orders;
 mod read_fault;
 mod reading;

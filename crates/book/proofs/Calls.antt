@@ -1,4 +1,5 @@
--- What a call of a directory has to do: refuse what the book refuses; else keep the record, answer, and show the answer.
+-- What a call of a directory has to do: refuse what the book refuses; else keep the record, answer, and show
+-- the answer.
 use Rattle.std.proofs.Common.{◌≡◌, Option, Some, None, refl, sym, ap, subst, inl, inr}
 use Rattle.book.specs.declared.record.Record.{Record}
 use Rattle.book.specs.declared.directory_refusal.Refusal.{Refusal}

@@ -16,6 +16,7 @@ use Rattle.book.specs.declared.directory_refusal.Refusal.{Refusal}
 use Rattle.book.specs.declared.directory_refusal.Refusal.TheVariants.{BadName, BadKey, NameTaken, NoSuchName, PendingExists, IndexTaken, NoSuchEpoch, EpochNotLater, NoPromise, BadRange}
 use Rattle.book.specs.Books.{Binding, Book, Page, page_at, pages}
 use Rattle.book.specs.Maps.{Map, at, overwritten, put_name}
+use Rattle.rootchain.specs.declared.root_list.TheConstants.{MAX_ROOTS}
 
 -- the first of some tests that holds
 abbrev pub first : List (Bool × Refusal) → Option Refusal
@@ -81,7 +82,7 @@ module _ (index_of : List ℕ → List ℕ) where
   abbrev pub query_refusal : Book → Question → Option Refusal
   query_refusal book (Promise name) = first (bad_name name ∷ (is_none (at book.pending name), NoPromise) ∷ [])
   query_refusal book (Lookup name epoch) = first (bad_name name ∷ (is_none (page_at book epoch), NoSuchEpoch) ∷ [])
-  query_refusal book (History from count) = first ((not (nat_le 1 count && nat_le count 64), BadRange) ∷ [])
+  query_refusal book (History from count) = first ((not (nat_le 1 count && nat_le count MAX_ROOTS), BadRange) ∷ [])
   query_refusal book Head = None
 
   -- what the book has against a key for a name, where both are within their limits

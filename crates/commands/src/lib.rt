@@ -3,7 +3,7 @@
 //! The definitions see a command as what it asks, regardless of where its bytes lie.
 //!
 //! ```
-//! directory.run(keeper, &[Command::Edit(Edit::Turn { epoch: 2, nonce: None }), Command::Query(Query::Head)])
+//! directory.run(keeper, &[Command::Edit(Edit::Put(put)), Command::Query(Query::Head)])
 //! ```
 #![tactic(auto)]
 

@@ -81,8 +81,8 @@ AreFree places = (place : ℕ) → get_or places.slots.items place None ≡ None
 abbrev pub size_of : Places → ℕ
 size_of places = length places.slots.items
 
--- the round stays where it is, at so many places; so many more connections may be taken before, and so many after, and
--- so many were counted that were closed for want of memory
+-- the round stays where it is, at so many places; so many more connections may be taken before, and so many
+-- after, and so many were counted that were closed for want of memory
 pub record StaysInRound (size left left_new wanting wanting_new : ℕ) (before after : History) : Type 0 where
   pub same_clock : clock after ≡ clock before
   pub same_stage : stage after ≡ stage before
@@ -97,8 +97,8 @@ pub record StaysInRound (size left left_new wanting wanting_new : ℕ) (before a
 abbrev pub IsKnownBusy : Bool → History → Type 0
 IsKnownBusy is_busy acts = was_busy acts ≡ is_busy
 
--- the same, and, if nothing was, for how long the next round may wait: at most so long, and as long as each connection
--- at so many places may stay as it is
+-- the same, and, if nothing was, for how long the next round may wait: at most so long, and as long as each
+-- connection at so many places may stay as it is
 abbrev pub KnowsPause : ℕ → ℕ → ℕ → Bool → ℕ → History → Type 0
 KnowsPause idle size longest is_busy pause acts = IsKnownBusy is_busy acts
     × (is_busy ≡ false → (most : ℕ) → (most ≤ pause) ↔ ((most ≤ longest) × ((place : ℕ) → place < size → IfThere (course acts place) (MayStay idle acts most))))

@@ -35,8 +35,9 @@ pub data Deed : Type 0 where
   -- the connection is closed
   Closes : Ending → Deed
 
--- what happens: a round begins that waited for at most so many milliseconds, at a time; a stop is ordered, or none is so far; what was answered is put on its disk,
--- or is not; no connection waits that can be taken; or something happens at a place
+-- what happens: a round begins that waited for at most so many milliseconds, at a time; a stop is ordered, or
+-- none is so far; what was answered is put on its disk, or is not; no connection waits that can be taken; or
+-- something happens at a place
 pub data Act : Type 0 where
   At : ℕ → ℕ → Act
   Ordered : Act

@@ -88,8 +88,8 @@ IsDue idle before (Closes why) there = Here there (λ course. (course.is_open �
 abbrev pub IsOnce : History → ℕ → Deed → Type 0
 IsOnce before place deed = reads deed ≡ true → IsUnread place before
 
--- Each deed had its time, and each round waited for as long as it may at most. What was answered is put on its disk at
--- most once in a round, once all are heard.
+-- Each deed had its time, and each round waited for as long as it may at most. What was answered is put on
+-- its disk at most once in a round, once all are heard.
 abbrev pub IsSoundHistory : ℕ → History → Type 0
 IsSoundHistory idle [] = ⊤
 IsSoundHistory idle (At pause now ∷ before) = IsPause idle before pause × IsSoundHistory idle before

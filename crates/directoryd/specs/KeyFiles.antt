@@ -28,7 +28,8 @@ is_key_line line = is_some (hex32 (value_in line))
 abbrev pub gives : Text → Text → Bool
 gives option line = is_key_line line && bytes_eq (name_in line) option
 
--- the value that lines give an option: of those that name it the first counts, and those that name another are passed over
+-- the value that lines give an option: of those that name it the first counts, and those that name another
+-- are passed over
 abbrev pub key_among : Text → List Text → Option Text
 key_among option [] = None
 key_among option (line ∷ more) = if gives option line then Some (value_in line) else key_among option more

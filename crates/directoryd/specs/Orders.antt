@@ -91,7 +91,8 @@ asking_in rows = record {
   words = first_of (codes "command") rows ∷ first_of (codes "first") rows ∷ first_of (codes "second") rows ∷ [];
 }
 
--- what a subcommand orders by its name: a path, an audit, a verdict, a script, a session, connections, questions, or else a root
+-- what a subcommand orders by its name: a path, an audit, a verdict, a script, a session, connections,
+-- questions, or else a root
 abbrev pub task_in : Text → List Row → Task
 task_in name rows =
     if bytes_eq name (codes "prove") then the_path (text_in (codes "index") rows) (asked_in rows)

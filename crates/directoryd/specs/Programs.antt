@@ -77,9 +77,10 @@ AsksKeyed asked keys input out out-new err err-new outcome =
     × IfErr outcome (λ fault. (fault ≡ BadHex) ⊎ IsRunFault used input fault) × Grows out out-new
     × IfOk outcome (λ status. AsksOverSocket used input status out out-new))
 
--- What is ordered is done: a root is written, or the path of an index; an input is audited; a file is
--- judged; a script is played; a directory begins, or goes on from its journal, and serves one session; one serves connections, and
--- writes its address to the errors; or a directory is asked. The line about a journal is on the errors too.
+-- What is ordered is done: a root is written, or the path of an index; an input is audited; a file is judged;
+-- a script is played; a directory begins, or goes on from its journal, and serves one session; one serves
+-- connections, and writes its address to the errors; or a directory is asked. The line about a journal is on
+-- the errors too.
 abbrev pub Obeys : Task → Option (List ℕ) → Option (List ℕ) → Option (List ℕ) → Option (List ℕ) → Option (List ℕ) → Result ℕ ProgramFault → Type 0
 Obeys (the_root asked) input out out-new err err-new outcome = EndsWithStatus 0 (λ input said. root_answer asked input ≡ said) input out out-new outcome × Keeps err err-new
 Obeys (the_path index asked) input out out-new err err-new outcome = EndsWithStatus 0 (Proves asked.hash (nonce_of asked.nonce) (hex32 index)) input out out-new outcome × Keeps err err-new

@@ -11,8 +11,8 @@ ghost use Rattle.server.specs.ConnectionOptions.{connections_of};
 use asking::AskOrder;
 use server::{DirectoryOrder, ListenOrder};
 use std::alloc::Global;
-use std::fs::{self, Files};
-use textio::{ProgramFault, file_fault, hex32, read_whole};
+use std::fs::Files;
+use textio::{ProgramFault, file_bytes, hex32};
 
 /// The name and the digits of a line that is a name, a space and 64 hexadecimal digits.
 fn key_line(line: &str) -> Option<(&str, &str)>
@@ -61,16 +61,6 @@ fn keys_text(alloc: Global, bytes: &[u8]) -> Result<String, ProgramFault>
     match str::from_utf8(bytes) {
         Ok(text) if has_key_lines(text) => Ok(String::from_str(alloc, text)?),
         _ => Err(ProgramFault::BadHex),
-    }
-}
-
-/// The bytes of the file of this path.
-fn file_bytes<F: Files>(alloc: Global, files: &F, path: &str) -> Result<Vec<u8>, ProgramFault>
-    ensures { IfErr result IsDeviceFault }
-{
-    match fs::open(files, path) {
-        Ok(mut file) => read_whole(alloc, &mut file),
-        Err(error) => Err(file_fault(&error)),
     }
 }
 

@@ -123,7 +123,8 @@ last_tree_is provider parts salt left keeps tree len long is =
 
 -- ---- whether an index is taken
 
--- the first refusal of a name that is to be registered: whether the last page shows it, whether it waits, and whether another one has its index
+-- the first refusal of a name that is to be registered: whether the last page shows it, whether it waits, and
+-- whether another one has its index
 abbrev first-of : Bool → Bool → Bool → Option Refusal
 first-of shown waits other = first ((shown, NameTaken) ∷ (waits, PendingExists) ∷ (other, IndexTaken) ∷ [])
 

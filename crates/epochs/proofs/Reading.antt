@@ -1,4 +1,5 @@
--- What calls read of a directory's parts: the page of an epoch, the promise that waits for a name, what a page has at a name, and roots from an epoch on.
+-- What calls read of a directory's parts: the page of an epoch, the promise that waits for a name, what a
+-- page has at a name, and roots from an epoch on.
 use Rattle.std.proofs.Common.{◌≡◌, ◌≢◌, ℕ, ◌-◌, ◌<◌, ◌≤◌, List, [], ◌∷◌, length, map, take, drop, get_or, slice_get, Bool, true, false, not, min, Option, Some, None, Ok, Err, ltb, refl, sym, ap, ap₂, subst, subst₂, ◌∙◌, ◌⊎◌, inl, inr, arith}
 use Rattle.std.specs.Prelude.{IfSome, is_none}
 use Rattle.std.specs.List.{AllZip}

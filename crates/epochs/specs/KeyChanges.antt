@@ -24,7 +24,8 @@ refused_before page versions = change_refusal (binding_at (page - 1) versions) (
 abbrev pub IsRefusedSo : {K : Type 0} → (K → Record → K → Type 0) → K → Record → Option Refusal → Refusal → K → Type 0
 IsRefusedSo failed keeper lost due why after = ((due ≡ Some why) × (after ≡ keeper)) ⊎ ((due ≡ None) × IsUnkept failed keeper lost why after)
 
--- if nothing refuses a change, a version of this page comes after those of the history, and nothing waits at its index
+-- if nothing refuses a change, a version of this page comes after those of the history, and nothing waits at
+-- its index
 abbrev pub FitsHistory : HistoryContent → Items → ℕ → Type 0
 FitsHistory history waits page = refused_before page history.versions ≡ None → AllBefore page history.versions × (commitment_of waits history.address.index ≡ None)
 

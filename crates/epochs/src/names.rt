@@ -111,8 +111,8 @@ impl Names {
         )
     }
 
-    /// Adds a version of this page to a name that has others, and its commitment to these, once the record is kept. Gives the
-    /// index of the name, which is searched for once. Takes one digest.
+    /// Adds a version of this page to a name that has others, and its commitment to these, once the record is
+    /// kept. Gives the index of the name, which is searched for once. Takes one digest.
     ///
     /// # Errors
     ///

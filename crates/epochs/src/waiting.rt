@@ -103,8 +103,8 @@ pub(crate) fn let_wait<K: Keeper>(
     )
 }
 
-/// Adds a version of this page to a name that has others, and its commitment to what waits, once the record is kept. Gives the
-/// index of the name. Takes one digest.
+/// Adds a version of this page to a name that has others, and its commitment to what waits, once the record
+/// is kept. Gives the index of the name. Takes one digest.
 pub(crate) fn let_change_wait<H: NodeHash, K: Keeper>(
     names: &mut Names,
     waiting: &mut Waiting,

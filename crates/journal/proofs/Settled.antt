@@ -39,7 +39,8 @@ module _ (by : List ℕ → List ℕ) where
       by_one None is = absurd (some_none book (sym e ∙ rw is refl))
       by_one (Some middle) is = (middle, is, sym (rw is refl) ∙ e)
 
-  -- two lists of records that begin the same bytes, the first of which ends at a cut: the second is no longer, and where it is shorter a record follows it that is carried out
+  -- two lists of records that begin the same bytes, the first of which ends at a cut: the second is no
+  -- longer, and where it is shorter a record follows it that is carried out
   abbrev Follow : Book → List ℕ → Book → List ℕ → Type 0
   Follow book rest other left = ((book ≡ other) × (rest ≡ left)) ⊎ ((kept : Record) × (more : List ℕ) × (middle : Book) × (left ≡ record_bytes kept ++ more) × IsLater kept × (replayed by other kept ≡ Some middle))
 

@@ -7,6 +7,9 @@ use Rattle.encoding.specs.Forms.{counted_bytes}
 use Rattle.encoding.specs.Limits.{IsName, IsKeyData}
 use Rattle.encoding.specs.Reading.{Reading, is_within, read_as, read_both, read_byte, read_bytes, read_counted, read_number, read_then, read_where}
 use Rattle.encoding.specs.declared.fault.Fault.TheVariants.{OutOfRange}
+use Rattle.encoding.specs.declared.bounded.TheConstants.{MIN_LEN}
+use Rattle.encoding.specs.declared.key_data.TheConstants.{MAX_KEY_DATA_LEN}
+use Rattle.encoding.specs.declared.name.TheConstants.{MAX_NAME_LEN}
 use Rattle.commands.specs.declared.edit.Verb.{Verb}
 use Rattle.commands.specs.declared.edit.Verb.TheVariants.{Register, Change}
 use Rattle.book.specs.declared.record.Record.{Record}
@@ -76,7 +79,8 @@ bound_of parts = Bound parts.0 parts.1.0 parts.1.1.0 parts.1.1.1
 abbrev pub read_mark : {A : Type 0} → ℕ → (List ℕ → Reading A) → List ℕ → Reading A
 read_mark mark read bytes = read_then (read_where (λ byte. mark == byte) read_byte) (λ _. read) bytes
 
--- a reader of what begins with no byte above this: where only one byte is left, it tells a beginning from what is none
+-- a reader of what begins with no byte above this: where only one byte is left, it tells a beginning from
+-- what is none
 abbrev pub read_up_to : {A : Type 0} → ℕ → (List ℕ → Reading A) → List ℕ → Reading A
 read_up_to most read [] = read []
 read_up_to most read (byte ∷ rest) = if nat_le byte most then read (byte ∷ rest) else Err OutOfRange
@@ -86,7 +90,7 @@ read_start = read_mark 0x4e (read_mark 1
     (read_as beginning_of (read_both (read_number 8) (read_both (read_bytes 32) (read_both (read_bytes 32) (read_bytes 32))))))
 
 unfoldable pub read_bound : List ℕ → Reading Record
-read_bound = read_as bound_of (read_both read_verb (read_both (read_bytes 32) (read_both (read_up_to 0 (read_counted 1 255)) (read_up_to 8 (read_counted 1 2048)))))
+read_bound = read_as bound_of (read_both read_verb (read_both (read_bytes 32) (read_both (read_up_to 0 (read_counted MIN_LEN MAX_NAME_LEN)) (read_up_to 8 (read_counted MIN_LEN MAX_KEY_DATA_LEN)))))
 
 abbrev pub turned_of : ℕ → Record
 turned_of epoch = Turned epoch None

@@ -6,7 +6,7 @@ ghost use Rattle.sha2.specs.Sha256.{add32, compress, padding, round_constants, r
 ghost use Rattle.lanes.specs.Lanes.{state_lane};
 ghost use Rattle.lanes.specs.TwoBlocks.{padding_words};
 
-use crate::constants::PADDING_KEYS;
+use crate::round_constants::PADDING_KEYS;
 use crate::rounds::round;
 use crate::state::{State, summed};
 use crate::words::every;

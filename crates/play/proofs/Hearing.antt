@@ -8,7 +8,7 @@ use Rattle.proofs.specs.Replies.{Reply as Spelled, SpellsReply}
 use Rattle.proofs.specs.declared.reply_refusal.Refusal.TheVariants.{OtherRoot}
 use Rattle.proofs.proofs.Passing.{one_reply}
 use Rattle.commands.specs.Operations as ask
-use Rattle.commands.specs.Operations.{Operation, Question, Query, Edit, Put, Promise, Lookup, History, Head}
+use Rattle.commands.specs.Operations.{Operation, Query, Edit, Put, Promise, Lookup, History, Head}
 use Rattle.wire.specs.Frames.{Frame}
 use Rattle.wire.specs.declared.message_refusals.ReadRefusal.{ReadRefusal}
 use Rattle.wire.specs.declared.message_refusals.ReadRefusal.TheVariants.{BadKind, BadBody}

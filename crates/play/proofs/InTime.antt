@@ -8,7 +8,6 @@ use Rattle.std.proofs.lemmas.Slice.Eq.{bytes_eq-Decides}
 use Rattle.commands.specs.Operations as ask
 use Rattle.commands.specs.Operations.{Operation, Query, Edit, Put}
 use Rattle.wire.specs.Requests as request
-use Rattle.wire.specs.Requests.{RequestContent}
 use Rattle.wire.specs.Streams.{Message}
 use Rattle.book.specs.declared.directory_refusal.Refusal.{Refusal}
 use Rattle.book.specs.declared.directory_refusal.Refusal.TheVariants.{EpochNotLater}

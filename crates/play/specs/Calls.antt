@@ -9,6 +9,7 @@ use Rattle.rootchain.specs.RootLists.{root_list_bytes}
 use Rattle.rootchain.specs.TakingLists.{with_roots}
 use Rattle.rootchain.specs.declared.signed_promise.SignedPromise.{SignedPromise}
 use Rattle.rootchain.specs.declared.signed_root.SignedRoot.{SignedRoot}
+use Rattle.rootchain.specs.declared.root_list.TheConstants.{MAX_ROOTS}
 use Rattle.proofs.specs.Views.{key_stated}
 use Rattle.proofs.specs.Watches as watch
 use Rattle.proofs.specs.declared.reply_refusal.Refusal.TheVariants as proof
@@ -109,7 +110,7 @@ module _ (provider : Provider) (accepted verified : List ℕ → List ℕ → Li
   pub record CallsAreHonest : Type 0 where
     -- a client takes a list of the roots that follow its own
     pub updated : (holder later : Client) (next : List SignedRoot) (result : Result (Unit {0}) Refusal) → IsFollowed provider key after holder.chain
-        → AreConsecutive (roots provider after) (holder.chain.roots ++ next) → length next ≤ 64
+        → AreConsecutive (roots provider after) (holder.chain.roots ++ next) → length next ≤ MAX_ROOTS
         → Updates provider.hash verified holder (root_list_bytes next) result later
         → UpdatesRight holder next result later
     -- if it has the root of a page, it accepts the reply to a look-up there, with what the page has

@@ -3,12 +3,15 @@ use Rattle.std.specs.Prelude.{ℕ, ◌*◌, ◌==◌, if◌then◌else◌, List,
 use Rattle.std.specs.Simd.{first_chunks}
 use Rattle.encoding.specs.declared.fault.Fault.TheVariants.{OutOfRange}
 use Rattle.encoding.specs.Reading.{Reading, is_within, read_as, read_both, read_byte, read_bytes, read_counted, read_nothing, read_number, read_then, read_where}
+use Rattle.encoding.specs.declared.bounded.TheConstants.{MIN_LEN}
+use Rattle.encoding.specs.declared.key_data.TheConstants.{MAX_KEY_DATA_LEN}
+use Rattle.encoding.specs.declared.small.TheConstants.{MAX_SMALL_LEN}
 use Rattle.rootchain.specs.declared.body.Body.{Body}
 use Rattle.rootchain.specs.Bodies.{read_body}
 use Rattle.proofs.specs.Replies.{End, Present, Empty, Other, Reply}
 
 abbrev pub read_present : List ℕ → Reading End
-read_present = read_as (λ parts. Present parts.0 parts.1) (read_both (read_bytes 32) (read_counted 1 2048))
+read_present = read_as (λ parts. Present parts.0 parts.1) (read_both (read_bytes 32) (read_counted MIN_LEN MAX_KEY_DATA_LEN))
 
 abbrev pub read_other : List ℕ → Reading End
 read_other = read_as (λ parts. Other parts.0 parts.1) (read_both (read_bytes 32) (read_bytes 32))
@@ -28,4 +31,4 @@ abbrev pub reply_of : Body × (List ℕ × (End × List (List ℕ))) → Reply
 reply_of parts = record { body = parts.0; value = parts.1.0; end = parts.1.1.0; siblings = parts.1.1.1 }
 
 unfoldable pub read_reply : List ℕ → Reading Reply
-read_reply = read_as reply_of (read_both read_body (read_both (read_counted 1 256) (read_both read_end read_siblings)))
+read_reply = read_as reply_of (read_both read_body (read_both (read_counted MIN_LEN MAX_SMALL_LEN) (read_both read_end read_siblings)))

@@ -14,6 +14,10 @@ use Rattle.encoding.specs.Reading.{read_counted}
 use Rattle.encoding.proofs.ByteLists.{IsBytes-two}
 use Rattle.encoding.proofs.Fields.{bytes_field, counted_field, numbers_field}
 use Rattle.encoding.proofs.FieldsOf.{allowed, behind, both, renamed, tested}
+use Rattle.encoding.specs.declared.bounded.TheConstants.{MIN_LEN}
+use Rattle.encoding.specs.declared.key_data.TheConstants.{MAX_KEY_DATA_LEN}
+use Rattle.encoding.specs.declared.name.TheConstants.{MAX_NAME_LEN}
+use Rattle.encoding.specs.declared.small.TheConstants.{MAX_SMALL_LEN}
 use Rattle.rootchain.specs.declared.body.Body.{Body}
 use Rattle.rootchain.specs.declared.promise.Promise.{Promise}
 use Rattle.rootchain.specs.declared.signed_promise.SignedPromise.{SignedPromise}
@@ -51,8 +55,8 @@ body_field =
     parts_of : Body → ℕ × (ℕ × (List ℕ × (List ℕ × (List ℕ × List ℕ))))
     parts_of body = (body.epoch, (body.previous_epoch, (body.root, (body.previous_hash, (body.nonce, body.vuf_key)))))
 
-signature_field : IsField (read_counted 1 256) counted_bytes IsSmall
-signature_field = counted_field 1 256 (lit≤ tt)
+signature_field : IsField (read_counted MIN_LEN MAX_SMALL_LEN) counted_bytes IsSmall
+signature_field = counted_field MIN_LEN MAX_SMALL_LEN (lit≤ tt)
 
 pub signed_root_field : IsField read_signed_root signed_root_bytes IsSignedRoot
 unfolding read_signed_root
@@ -66,7 +70,7 @@ promise_field =
     (allowed
     (λ b h. let p = h.0.0 in (ltb-true 0 b.epoch h.1, p.0, p.1.0, p.1.1.0, p.1.1.1.0, p.1.1.1.1))
     (λ b h. (((h.1, (h.2, (h.3, (h.4, h.5)))), refl), lt-ltb 0 b.epoch h.0))
-    (tested is_at_epoch (renamed promise_of parts_of (λ _. refl) (both (numbers_field 8) (both hash (both hash (both (counted_field 1 255 (lit≤ tt)) (counted_field 1 2048 (lit≤ tt)))))))))
+    (tested is_at_epoch (renamed promise_of parts_of (λ _. refl) (both (numbers_field 8) (both hash (both hash (both (counted_field MIN_LEN MAX_NAME_LEN (lit≤ tt)) (counted_field MIN_LEN MAX_KEY_DATA_LEN (lit≤ tt)))))))))
   where
     parts_of : Promise → ℕ × (List ℕ × (List ℕ × (List ℕ × List ℕ)))
     parts_of promise = (promise.epoch, (promise.body_hash, (promise.index, (promise.name, promise.key))))

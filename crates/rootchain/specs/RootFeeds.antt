@@ -4,10 +4,13 @@ use Rattle.std.specs.Prelude.{◌≡◌, ℕ, zero, suc, ◌+◌, ◌<◌, ◌�
 use Rattle.encoding.specs.declared.fault.Fault.{Fault}
 use Rattle.encoding.specs.declared.fault.Fault.TheVariants.{Short, Trailing, OutOfRange}
 use Rattle.encoding.specs.Reading.{Reading, read_bytes, read_number, read_then, whole_of}
+use Rattle.encoding.specs.declared.small.TheConstants.{MAX_SMALL_LEN}
 use Rattle.rootchain.specs.declared.root_list.TheConstants.{MAX_ROOTS}
 use Rattle.rootchain.specs.declared.signed_root.SignedRoot.{SignedRoot}
 use Rattle.rootchain.specs.RootLists.{read_root_count}
 use Rattle.rootchain.specs.SignedRoots.{read_signed_root}
+use Rattle.rootchain.specs.declared.body.TheConstants.{BODY_LEN}
+use Rattle.rootchain.specs.declared.root_feed.TheConstants.{FIXED_LEN}
 
 -- ---- the first root
 
@@ -19,7 +22,7 @@ pub data Front : Type 0 where
 
 -- the length of a root's signature, which stands behind its body
 unfoldable pub read_signature_len : List ℕ → Reading ℕ
-read_signature_len = read_then (read_bytes 146) (λ _. read_number 2)
+read_signature_len = read_then (read_bytes BODY_LEN) (λ _. read_number 2)
 
 -- a root that has come whole, and the bytes after it
 abbrev pub front_read : Result SignedRoot Fault → List ℕ → Front
@@ -29,9 +32,9 @@ front_read (Err fault) rest = Bad
 abbrev pub front_sized : Reading ℕ → List ℕ → Front
 front_sized (Err fault) bytes = Part
 front_sized (Ok (size, _)) bytes =
-    if nat_lt 256 size then Bad
-    else if nat_lt (length bytes) (148 + size) then Part
-    else front_read (whole_of (read_signed_root (take (148 + size) bytes))) (drop (148 + size) bytes)
+    if nat_lt MAX_SMALL_LEN size then Bad
+    else if nat_lt (length bytes) (FIXED_LEN + size) then Part
+    else front_read (whole_of (read_signed_root (take (FIXED_LEN + size) bytes))) (drop (FIXED_LEN + size) bytes)
 
 -- A root is looked at once it is whole: its length is known once that of its signature has come.
 abbrev pub front : List ℕ → Front
@@ -82,10 +85,11 @@ told_from Failed piece = ([], Failed)
 
 -- how many bytes the first root has at least, by those of it that are there
 abbrev pub least_root_len : Reading ℕ → ℕ
-least_root_len (Ok (size, _)) = 148 + size
-least_root_len (Err fault) = 148
+least_root_len (Ok (size, _)) = FIXED_LEN + size
+least_root_len (Err fault) = FIXED_LEN
 
--- how many bytes there are at least once the number of roots, or the first root, is whole; none where no root is to come
+-- how many bytes there are at least once the number of roots, or the first root, is whole; none where no root
+-- is to come
 abbrev pub least_len : FeedState → ℕ
 least_len (Counts bytes) = 2
 least_len (Owes zero bytes) = 0

@@ -8,14 +8,15 @@ use Rattle.encoding.specs.declared.fault.Fault.{Fault}
 use Rattle.encoding.specs.Reading.{Reading, is_within, read_list, read_number, read_then, read_where}
 use Rattle.rootchain.specs.declared.signed_root.SignedRoot.{SignedRoot}
 use Rattle.rootchain.specs.SignedRoots.{read_signed_root, signed_root_bytes, IsSignedRoot}
+use Rattle.rootchain.specs.declared.root_list.TheConstants.{MAX_ROOTS}
 
 -- their number in two bytes, then each of them
 abbrev pub root_list_bytes : List SignedRoot → List ℕ
 root_list_bytes roots = big_bytes 2 (length roots) ++ flat_map signed_root_bytes roots
 
--- at most 64 signed roots
+-- signed roots, no more than a list may have
 abbrev pub IsRootList : List SignedRoot → Type 0
-IsRootList roots = (length roots ≤ 64) × AllByRecursion IsSignedRoot roots
+IsRootList roots = (length roots ≤ MAX_ROOTS) × AllByRecursion IsSignedRoot roots
 
 -- the bytes spell the list of these roots
 abbrev pub SpellsRoots : List ℕ → List SignedRoot → Type 0
@@ -23,9 +24,9 @@ SpellsRoots = Spells root_list_bytes IsRootList
 
 -- ---- reading
 
--- the number of roots, at most 64
+-- the number of roots
 unfoldable pub read_root_count : List ℕ → Reading ℕ
-read_root_count = read_where (is_within 0 64) (read_number 2)
+read_root_count = read_where (is_within 0 MAX_ROOTS) (read_number 2)
 
 -- so many roots
 unfoldable pub read_roots : ℕ → List ℕ → Reading (List SignedRoot)
@@ -45,7 +46,7 @@ roots_in count bytes = roots_of (read_roots count bytes)
 
 -- the bytes have so many roots, and no more
 abbrev pub IsListed : ℕ → List ℕ → Type 0
-IsListed count bytes = (count ≤ 64) × (read_roots count bytes ≡ Ok (roots_in count bytes, []))
+IsListed count bytes = (count ≤ MAX_ROOTS) × (read_roots count bytes ≡ Ok (roots_in count bytes, []))
 
 -- so many roots stand in the bytes, and nothing after them
 abbrev pub HasRoots : ℕ → List ℕ → Type 0

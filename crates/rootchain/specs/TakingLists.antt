@@ -28,7 +28,8 @@ module _ (hash : List ℕ → List ℕ) (verified : List ℕ → List ℕ → Li
   Takes chain [] after = after ≡ chain
   Takes chain (root ∷ roots) after = (middle : KeyedRoots) × PassesOrAdds chain root middle × Takes middle roots after
 
-  -- when a root of a list is refused in this way; memory is reserved before the first root, so `Memory` says nothing about a root
+  -- when a root of a list is refused in this way; memory is reserved before the first root, so `Memory` says
+  -- nothing about a root
   abbrev pub IsRefusedRoot : KeyedRoots → SignedRoot → ListRefusal → Type 0
   IsRefusedRoot chain root BadSignature = ¬ Verifies verified chain.key root
   IsRefusedRoot chain root BeforeStart = Verifies verified chain.key root × IsPlace hash chain root place.BeforeStart

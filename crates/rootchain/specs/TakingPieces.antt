@@ -62,7 +62,8 @@ module _ (hash : List ℕ → List ℕ) (verified : List ℕ → List ℕ → Li
   TakesPieces chain held (piece ∷ pieces) after held' = (answer : Result Unit PieceRefusal) × (middle : KeyedRoots) × (between : FeedState)
       × TakesPiece chain held piece answer middle between × (answer ≢ Err Memory) × TakesPieces middle between pieces after held'
 
-  -- each root of the list is taken, and the feed is done; or those before the first that is refused, and it has failed
+  -- each root of the list is taken, and the feed is done; or those before the first that is refused, and it
+  -- has failed
   abbrev pub TakesUpTo : KeyedRoots → List SignedRoot → KeyedRoots → FeedState → Type 0
   TakesUpTo chain roots after held' = (Takes hash verified chain roots after × (held' ≡ Done))
       ⊎ ((why : ListRefusal) × StopsAt hash verified chain roots why after × (why ≢ list.Memory) × (held' ≡ Failed))

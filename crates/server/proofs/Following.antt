@@ -96,8 +96,8 @@ wanting all place of (past, own, ys, lost, split, is, spells, tells, none) = (pa
 module _ {S : Type 0} (answers : S → Frame → List ℕ → S → Type 0) where
   -- ---- what a session holds
 
-  -- what is left of the bytes that it heard, in which no whole message waits, as long as it is open and memory was not
-  -- wanting
+  -- what is left of the bytes that it heard, in which no whole message waits, as long as it is open and
+  -- memory was not wanting
   abbrev Holds : HubState S → ℕ → Course → Type 0
   Holds hub place of = of.is_open ≡ true → of.is_wanting ≡ false
       → (held : Remainder) × (at_session hub.sessions place ≡ Some held) × IsSpent held × TellsMessages (Rest of.heard) (spelled of.heard) held

@@ -56,11 +56,11 @@ pub record KeepsLimits (idle count size : ℕ) (acts : History) : Type 0 where
 abbrev pub KeepsOrder : ConnectionOptions → History → Type 0
 KeepsOrder taken = KeepsLimits (idle_limit taken) taken.count (most_open taken)
 
--- Connections are answered from a desk on, as ordered, by the sessions of its hub, which has none at first: there is a
--- history of them, and what is answered in it shows a run. At each time, each connection took a beginning of what its
--- session was answered, as the lines so far have it; no more than 64 KiB and the longest reply ever wait for one; and of
--- each that was closed for want of memory there is a line on the errors. What ties the history to the sockets is not in
--- a contract.
+-- Connections are answered from a desk on, as ordered, by the sessions of its hub, which has none at first:
+-- there is a history of them, and what is answered in it shows a run. At each time, each connection took a
+-- beginning of what its session was answered, as the lines so far have it; no more than 64 KiB and the
+-- longest reply ever wait for one; and of each that was closed for want of memory there is a line on the
+-- errors. What ties the history to the sockets is not in a contract.
 abbrev pub AnswersConnections : {K : Type 0} → (K → Record → K → Type 0) → (K → Record → K → Type 0) → ConnectionOptions → DeskState ChaCha K → Option (List ℕ) → Option (List ℕ) → Type 0
 AnswersConnections {K} kept failed taken desk errors new = (acts : History) × (lines : List Line) × (after : HubState (DeskState ChaCha K))
     × KeepsOrder taken acts × AlwaysWaitWithin MAX_ANSWER_LEN acts × AlwaysInOrder acts

@@ -74,8 +74,9 @@ abbrev pub IsReopened : DirectoryKeys → KeptDesk → ℕ → ℕ → Type 0
 IsReopened keys desk records cut = (bytes held : List ℕ) × Reopens keys bytes desk.directory held records cut
     × (desk.token ≡ keys.token) × (desk.keeper.is_broken ≡ false)
 
--- What comes of the journal of a directory of these keys: it is not opened, and no more is done; or it is, its line
--- is written to the errors, and what is next comes, from this desk on; or the line is not written, and no more is done.
+-- What comes of the journal of a directory of these keys: it is not opened, and no more is done; or it is,
+-- its line is written to the errors, and what is next comes, from this desk on; or the line is not written,
+-- and no more is done.
 module _ (keys : DirectoryKeys) (errors errors_new : Option (List ℕ)) (result : Result (Unit {0}) ProgramFault) (Undone : Type 0) (Next : KeptDesk → Option (List ℕ) → Type 0) where
   abbrev pub IsNotOpened : Type 0
   IsNotOpened = (fault : ProgramFault) × (result ≡ Err fault) × IsUnopened keys None fault × Keeps errors errors_new × Undone

@@ -90,8 +90,8 @@ abbrev pub StartsLess : DirectoryKeys → ProgramFault → Option (List ℕ) →
 StartsLess keys CannotWrite known after = Keeps known after ⊎ IfSome known (λ _. HoldsLess keys after)
 StartsLess keys _ known after = Keeps known after
 
--- A file stays as it was. Only where its bytes had nothing to take, and the write of a new directory's start failed, it
--- holds a beginning of this start.
+-- A file stays as it was. Only where its bytes had nothing to take, and the write of a new directory's start
+-- failed, it holds a beginning of this start.
 abbrev pub StaysAt : DirectoryKeys → ProgramFault → Option (List ℕ) → Option (List ℕ) → Type 0
 StaysAt keys CannotWrite known after = Keeps known after ⊎ IfSome known (λ bytes. IsCut start_bytes IsStart bytes × HoldsLess keys after)
 StaysAt keys _ known after = Keeps known after

@@ -35,8 +35,8 @@ Unopened before session fault.Refused = IsEventRefused before session (Open sess
 abbrev pub EndsOneAt : {S : Type 0} → HubState S → ℕ → List ℕ → Type 0
 EndsOneAt before session part = (held : Remainder) → at_session before.sessions session ≡ Some held → EndsOne held part
 
--- At each time of a history, each connection took a beginning of what its session was answered, and the session heard a
--- beginning of what was read.
+-- At each time of a history, each connection took a beginning of what its session was answered, and the
+-- session heard a beginning of what was read.
 abbrev pub AlwaysInOrder : History → Type 0
 AlwaysInOrder acts = (later earlier : History) (place : ℕ) → acts ≡ later ++ earlier → AreInOrder (course earlier place)
 
@@ -83,9 +83,9 @@ module _ {S : Type 0} (answers : S → Frame → List ℕ → S → Type 0) wher
       (λ before session part why after. Missed (hub_of before) session part why (hub_of after))
       (λ before session after. Ended (hub_of before) session (hub_of after))
 
-  -- The messages of what happened from this hub to that one, each with its reply, as lines of the hub: what a session is
-  -- answered to a part is the replies to the messages that its stream completes with these bytes. Where memory is
-  -- wanting for a part, its replies reach nobody.
+  -- The messages of what happened from this hub to that one, each with its reply, as lines of the hub: what a
+  -- session is answered to a part is the replies to the messages that its stream completes with these bytes.
+  -- Where memory is wanting for a part, its replies reach nobody.
   abbrev pub AreLines : HubState S → History → HubState S → List Line → Type 0
   AreLines start [] after all = (after ≡ start) × (all ≡ [])
   AreLines start (At pause now ∷ before) after all = AreLines start before after all

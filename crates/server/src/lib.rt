@@ -22,6 +22,7 @@ mod stopping;
 mod streams;
 mod telling;
 
+pub use hub::MAX_SESSIONS;
 pub use journal_file::{DiskFile, JournalFile};
 pub use keys::{ServedDesk, ServedDirectory};
 pub use laws::{crowd_outputs_are_bounded, crowds_show_one_run, sessions_show_one_run};

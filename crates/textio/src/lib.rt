@@ -29,4 +29,4 @@ pub use output::write_text;
 pub use program_fault::ProgramFault;
 pub use some_bytes::read_some;
 pub use stream_fault::StreamFault;
-pub use whole::{file_fault, read_whole};
+pub use whole::{file_bytes, file_fault, read_whole};

@@ -6,6 +6,7 @@ ghost use Rattle.textio.specs.Faults.{of_system, IsDeviceFault};
 
 use crate::ProgramFault;
 use std::alloc::Global;
+use std::fs::{self, Files};
 use std::io::{self, ErrorKind, Read};
 
 /// The program's fault for an error that the system gives when a file is opened or read.
@@ -31,6 +32,20 @@ pub fn read_whole<R: Read>(alloc: Global, reader: &mut R) -> Result<Vec<u8>, Pro
     let mut bytes = Vec::new(alloc);
     match reader.read_to_end(&mut bytes) {
         Ok(_) => Ok(bytes),
+        Err(error) => Err(file_fault(&error)),
+    }
+}
+
+/// The bytes of the file of this name.
+///
+/// # Errors
+///
+/// `CannotRead`; `OutOfMemory`.
+pub fn file_bytes<F: Files>(alloc: Global, files: &F, name: &str) -> Result<Vec<u8>, ProgramFault>
+    ensures { IfErr result IsDeviceFault }
+{
+    match fs::open(files, name) {
+        Ok(mut file) => read_whole(alloc, &mut file),
         Err(error) => Err(file_fault(&error)),
     }
 }

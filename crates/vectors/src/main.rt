@@ -50,8 +50,8 @@
 //! `number` of each refusal is told with the refusal. `next_line` and `write_text` read and write each line.
 //! `trees count` tells how many digests a change of the tree took. No verb asks the laws, which have no
 //! code, `BrokenPromise`, which is evidence, and `read_some`, which shows more where a reader fails. Files
-//! are read by the built program: `scripts/statuses.sh` and `scripts/journal.sh` ask `read_whole` and
-//! `file_fault`.
+//! are read by the built program: `scripts/statuses.sh` and `scripts/journal.sh` ask `read_whole`,
+//! `file_bytes` and `file_fault`.
 #![tactic(auto)]
 
 mod accepted;

@@ -1,5 +1,6 @@
 //! Of `rootchain`: lists of roots.
 ghost use Rattle.std.specs.Prelude.{◌≤◌, length};
+ghost use Rattle.rootchain.specs.declared.root_list.TheConstants.{MAX_ROOTS};
 
 use crate::roots::signed_root;
 use questions::Case;
@@ -47,7 +48,7 @@ fn push_root(case: &mut Case<'_>, roots: &mut Vec<SignedRoot>) {
 }
 
 fn say_written(case: &mut Case<'_>, roots: &[SignedRoot])
-    requires { length roots.now ≤ 64 }
+    requires { length roots.now ≤ MAX_ROOTS }
 {
     let mut list = Vec::new(case.alloc());
     match write_list(roots, &mut list) {

@@ -4,6 +4,7 @@ use Rattle.encoding.specs.Fields.{Spells}
 use Rattle.proofs.specs.Replies.{Reply, reply_bytes}
 use Rattle.rootchain.specs.declared.signed_promise.SignedPromise.{SignedPromise}
 use Rattle.rootchain.specs.declared.signed_root.SignedRoot.{SignedRoot}
+use Rattle.rootchain.specs.declared.root_list.TheConstants.{MAX_ROOTS}
 use Rattle.wire.specs.Tables as form
 use Rattle.wire.specs.Tables.{KindRow, MessageParts, Of, parts_frame, IsCounted, MayHave}
 use Rattle.wire.specs.Frames.{Frame}
@@ -111,6 +112,6 @@ Means (answer.Refused code) responded = responded ≡ Refused code
 abbrev pub HasFewRoots : Answer → Type 0
 HasFewRoots (answer.Promise promise) = ⊤
 HasFewRoots (answer.Proof text) = ⊤
-HasFewRoots (answer.Roots roots) = length roots.now ≤ 64
+HasFewRoots (answer.Roots roots) = length roots.now ≤ MAX_ROOTS
 HasFewRoots (answer.Root root) = ⊤
 HasFewRoots (answer.Refused code) = ⊤

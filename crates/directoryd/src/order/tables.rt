@@ -1,4 +1,5 @@
 // The subcommands and their arguments as data, with what help says of them.
+use server::MAX_SESSIONS;
 
 /// How an argument is given, and what its value has to be.
 pub(super) enum Kind {
@@ -128,7 +129,7 @@ directory's latest root.
 Example: directoryd ask --provider $SIGN --state roots.txt 127.0.0.1:7000 lookup 616c696365 0";
 
 /// The most connections that `--sessions` allows at once: what `listen` can hold.
-const MOST_SESSIONS: u64 = 1024;
+const MOST_SESSIONS: u64 = MAX_SESSIONS as u64;
 
 const HASH: Argument = Argument {
     name: "hash",

@@ -1,6 +1,6 @@
-//! Registrations, changes, closings and rotations. Each is tested, then takes all its memory, then its record is kept,
-//! and only then is the change made, which needs no memory and cannot fail. So a refused call leaves the
-//! directory as it was.
+//! Registrations, changes, closings and rotations. Each is tested, then takes all its memory, then its record
+//! is kept, and only then is the change made, which needs no memory and cannot fail. So a refused call leaves
+//! the directory as it was.
 ghost use Rattle.std.specs.Prelude.{◌≡◌, ℕ, ◌+◌, ◌<◌, ◌≤◌, ◌++◌, ◌∷◌, [], false, List, None, IfOk, IfSome, IsSome, MatchResult, Ok, Some, is_some, unwrap_or};
 ghost use Rattle.encoding.specs.Bytes.{Is32Bytes};
 ghost use Rattle.encoding.specs.Limits.{IsKeyData, IsName};
@@ -380,8 +380,8 @@ impl<H: NodeHash, V: Vuf, S: Signer, R: Rng> Directory<H, V, S, R> {
         Ok(self.promised(address.index, name, key))
     }
 
-    /// Lets another key of a name wait under this salt for the next page, once its record is kept. Gives the index of the name,
-    /// which is searched for once. Takes one digest.
+    /// Lets another key of a name wait under this salt for the next page, once its record is kept. Gives the
+    /// index of the name, which is searched for once. Takes one digest.
     pub(super) fn rebind<K: Keeper>(
         &mut self,
         keeper: &mut K,

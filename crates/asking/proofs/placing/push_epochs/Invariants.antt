@@ -3,8 +3,8 @@ use Rattle.asking.specs.Stopping.{epochs_text}
 use Rattle.asking.proofs.Placed.{IsPassing}
 use Rattle.asking.proofs.placing.push_epochs.Given as goal
 
--- the epochs so far, and those of the roots that are left, are all the epochs; and where it stops at one of those that
--- are left, it stops at one of all
+-- the epochs so far, and those of the roots that are left, are all the epochs; and where it stops at one of
+-- those that are left, it stops at one of all
 abbrev pub invariant-loop : goal.invariant-loop
 invariant-loop g l = record {
   count : l.counter + length l.rest ≡ l.end;
