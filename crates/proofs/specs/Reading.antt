@@ -9,6 +9,7 @@ use Rattle.encoding.specs.declared.small.TheConstants.{MAX_SMALL_LEN}
 use Rattle.rootchain.specs.declared.body.Body.{Body}
 use Rattle.rootchain.specs.Bodies.{read_body}
 use Rattle.proofs.specs.Replies.{End, Present, Empty, Other, Reply}
+use Rattle.prefixtree.specs.declared.path.TheConstants.{MAX_SIBLINGS}
 
 abbrev pub read_present : List ℕ → Reading End
 read_present = read_as (λ parts. Present parts.0 parts.1) (read_both (read_bytes 32) (read_counted MIN_LEN MAX_KEY_DATA_LEN))
@@ -24,7 +25,7 @@ unfoldable pub read_end : List ℕ → Reading End
 read_end = read_then read_byte read_end_of
 
 unfoldable pub read_siblings : List ℕ → Reading (List (List ℕ))
-read_siblings = read_then (read_where (is_within 0 256) (read_number 2)) (λ count. read_as (first_chunks 32 count) (read_bytes (32 * count)))
+read_siblings = read_then (read_where (is_within 0 MAX_SIBLINGS) (read_number 2)) (λ count. read_as (first_chunks 32 count) (read_bytes (32 * count)))
 
 -- a reply's parts in their order
 abbrev pub reply_of : Body × (List ℕ × (End × List (List ℕ))) → Reply

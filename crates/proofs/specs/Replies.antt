@@ -8,6 +8,7 @@ use Rattle.encoding.specs.Forms.{counted_bytes}
 use Rattle.encoding.specs.Limits.{IsKeyData, IsSmall}
 use Rattle.rootchain.specs.Bodies.{body_bytes, IsBody}
 use Rattle.rootchain.specs.declared.body.Body.{Body}
+use Rattle.prefixtree.specs.declared.path.TheConstants.{MAX_SIBLINGS}
 
 -- what stands at the end of a reply's way: the leaf of the name's index, whose commitment opens to this
 -- salt and key; no leaf; or the leaf of another index with its commitment
@@ -62,7 +63,7 @@ IsEnd (Other index commitment) = Is32Bytes index × Is32Bytes commitment
 
 -- at most one sibling for each bit of an index
 abbrev pub AreSiblings : List (List ℕ) → Type 0
-AreSiblings siblings = (length siblings ≤ 256) × AllByRecursion Is32Bytes siblings
+AreSiblings siblings = (length siblings ≤ MAX_SIBLINGS) × AllByRecursion Is32Bytes siblings
 
 -- what a reply may hold
 abbrev pub IsReply : Reply → Type 0
