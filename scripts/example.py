@@ -46,9 +46,9 @@ class Pair:
         return steps
 
 
-def started(address, program, provider, roots):
-    """The program, which runs until so many new roots have come."""
-    words = [program, address, provider.hex(), NAME.decode(), KEY.hex(), str(roots)]
+def started(address, program, provider, seconds):
+    """The program, which follows for so many seconds."""
+    words = [program, address, provider.hex(), NAME.decode(), KEY.hex(), str(seconds)]
     pipes = {"stdout": subprocess.PIPE, "stderr": subprocess.PIPE}
     return subprocess.Popen(["timeout", SECONDS, *words], text=True, **pipes)
 
@@ -70,7 +70,7 @@ def ended(process, status, cause):
 
 def registers(pair, program):
     """A run that registers the name, and in which somebody else changes the key in the second epoch."""
-    process = started(pair.address, program, SIGNING_KEY, 2)
+    process = started(pair.address, program, SIGNING_KEY, 8)
     lines = pair.line("lookup", NAME, 0) + pair.line("watch", NAME, b"")
     yield from differences(process, lines + pair.line("register", NAME, KEY))
     yield from differences(process, pair.close(2))
@@ -81,7 +81,7 @@ def registers(pair, program):
 
 def finds_other_key(pair, program):
     """A run at whose start the name has another key, and its owner's again after one epoch."""
-    process = started(pair.address, program, SIGNING_KEY, 1)
+    process = started(pair.address, program, SIGNING_KEY, 5)
     pair.model.monitors.clear()
     yield from differences(process, pair.line("lookup", NAME, 0) + pair.line("watch", NAME, KEY))
     pair.change(KEY)

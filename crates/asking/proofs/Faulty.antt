@@ -1,6 +1,6 @@
 -- The faults of a run, as they are passed on, and what is written before them.
 use Rattle.std.proofs.Common.{◌≡◌, ◌∙◌, ◌⊎◌, ◌↔◌, ◌++◌, ℕ, ◌+◌, true, List, [], Option, None, Some, Result, Ok, Err, Bor, inl, inr, refl, rules, subst, sym}
-use Rattle.std.specs.Prelude.{IfErr, IfSome, OnOk}
+use Rattle.std.specs.Prelude.{◌∷◌, IfErr, IfSome, OnOk, option_map, ⊤}
 use Rattle.std.specs.Io.KnownBytes.{Appends}
 use Rattle.std.proofs.KnownBytes.{Appends-nil, Appends-trans}
 use Rattle.textio.specs.declared.program_fault.ProgramFault.{ProgramFault}
@@ -16,7 +16,7 @@ use Rattle.play.specs.Reading.{TakesWholeLine}
 use Rattle.play.specs.Scripts.{ScriptLine, Pass, Ask, Watch, Piece, End, line_of}
 use Rattle.asking.specs.AskOptions.{AskOptions, ask_keys_of, ask_values}
 use Rattle.asking.specs.Runs.{AsksLine, DoesLine, Grows, Known, lines_asked, words_line, Writes}
-use Rattle.asking.specs.RunFaults.{CannotBeAsked, IsFaultOfSaving, IsFaultOfState, IsFaultWith, IsFirstUnasked, IsRunFault, StopsOr}
+use Rattle.asking.specs.RunFaults.{AsksInput, CannotBeAsked, IsFaultOfSaving, IsFaultOfState, IsFaultWith, IsFirstUnasked, IsRunFault, StopsOr}
 use Rattle.asking.specs.Scenes.{Scene}
 use Rattle.asking.specs.declared.ask_fault.RunFault.{RunFault}
 use Rattle.asking.specs.declared.ask_fault.RunFault.TheVariants as run
@@ -27,41 +27,45 @@ use Rattle.asking.proofs.Ran.{asks_input, asks_words, none_before}
 
 -- ---- which faults there are
 
-device-with : (HasState : Type 0) (IsUnasked : ℕ → Type 0) (fault : ProgramFault) → IsDeviceFault fault → IsFaultWith HasState IsUnasked fault
-device-with HasState IsUnasked BadHex device = device
-device-with HasState IsUnasked (BadItem line) device = absurd device
-device-with HasState IsUnasked (IndexRepeated line) device = device
-device-with HasState IsUnasked (NotACommand line) device = absurd device
-device-with HasState IsUnasked NotEvidence device = device
-device-with HasState IsUnasked BadRecord device = device
-device-with HasState IsUnasked OtherKeys device = device
-device-with HasState IsUnasked CannotRead device = device
-device-with HasState IsUnasked CannotWrite device = absurd device
-device-with HasState IsUnasked CannotListen device = device
-device-with HasState IsUnasked OutOfMemory device = device
+device-with : (HasState ReadsInput : Type 0) (IsUnasked : ℕ → Type 0) (fault : ProgramFault) → HasState → IsDeviceFault fault → IsFaultWith HasState ReadsInput IsUnasked fault
+device-with HasState ReadsInput IsUnasked BadHex has device = device
+device-with HasState ReadsInput IsUnasked (BadItem line) has device = absurd device
+device-with HasState ReadsInput IsUnasked (IndexRepeated line) has device = device
+device-with HasState ReadsInput IsUnasked (NotACommand line) has device = absurd device
+device-with HasState ReadsInput IsUnasked NotEvidence has device = device
+device-with HasState ReadsInput IsUnasked BadRecord has device = device
+device-with HasState ReadsInput IsUnasked OtherKeys has device = device
+device-with HasState ReadsInput IsUnasked CannotRead has device = inl has
+device-with HasState ReadsInput IsUnasked CannotWrite has device = absurd device
+device-with HasState ReadsInput IsUnasked CannotListen has device = device
+device-with HasState ReadsInput IsUnasked OutOfMemory has device = device
 
-pub saving_with : (HasState : Type 0) (IsUnasked : ℕ → Type 0) (fault : ProgramFault) → IsFaultOfSaving fault → IsFaultWith HasState IsUnasked fault
-saving_with HasState IsUnasked fault (inl is) = subst (λ (f : ProgramFault). IsFaultWith HasState IsUnasked f) (sym is) tt
-saving_with HasState IsUnasked fault (inr is) = subst (λ (f : ProgramFault). IsFaultWith HasState IsUnasked f) (sym is) tt
+pub saving_with : (HasState ReadsInput : Type 0) (IsUnasked : ℕ → Type 0) (fault : ProgramFault) → IsFaultOfSaving fault → IsFaultWith HasState ReadsInput IsUnasked fault
+saving_with HasState ReadsInput IsUnasked fault (inl is) = subst (λ (f : ProgramFault). IsFaultWith HasState ReadsInput IsUnasked f) (sym is) tt
+saving_with HasState ReadsInput IsUnasked fault (inr is) = subst (λ (f : ProgramFault). IsFaultWith HasState ReadsInput IsUnasked f) (sym is) tt
 
-pub beginning_with : (HasState : Type 0) (IsUnasked : ℕ → Type 0) (fault : ProgramFault) → (HasState × IsFaultOfState fault) ⊎ (fault ≡ OutOfMemory) → IsFaultWith HasState IsUnasked fault
-beginning_with HasState IsUnasked fault (inl (has, inl device)) = device-with HasState IsUnasked fault device
-beginning_with HasState IsUnasked fault (inl (has, inr (line, is))) = subst (λ (f : ProgramFault). IsFaultWith HasState IsUnasked f) (sym is) has
-beginning_with HasState IsUnasked fault (inr is) = subst (λ (f : ProgramFault). IsFaultWith HasState IsUnasked f) (sym is) tt
+pub beginning_with : (HasState ReadsInput : Type 0) (IsUnasked : ℕ → Type 0) (fault : ProgramFault) → (HasState × IsFaultOfState fault) ⊎ (fault ≡ OutOfMemory) → IsFaultWith HasState ReadsInput IsUnasked fault
+beginning_with HasState ReadsInput IsUnasked fault (inl (has, inl device)) = device-with HasState ReadsInput IsUnasked fault has device
+beginning_with HasState ReadsInput IsUnasked fault (inl (has, inr (line, is))) = subst (λ (f : ProgramFault). IsFaultWith HasState ReadsInput IsUnasked f) (sym is) has
+beginning_with HasState ReadsInput IsUnasked fault (inr is) = subst (λ (f : ProgramFault). IsFaultWith HasState ReadsInput IsUnasked f) (sym is) tt
 
-other-with : (HasState HasOther : Type 0) (IsUnasked IsOther : ℕ → Type 0) (fault : ProgramFault) → (HasState → HasOther) → ((number : ℕ) → IsUnasked number → IsOther number)
-    → IsFaultWith HasState IsUnasked fault → IsFaultWith HasOther IsOther fault
-other-with HasState HasOther IsUnasked IsOther BadHex has unasked is = is
-other-with HasState HasOther IsUnasked IsOther (BadItem line) has unasked is = has is
-other-with HasState HasOther IsUnasked IsOther (IndexRepeated line) has unasked is = is
-other-with HasState HasOther IsUnasked IsOther (NotACommand line) has unasked is = unasked line is
-other-with HasState HasOther IsUnasked IsOther NotEvidence has unasked is = is
-other-with HasState HasOther IsUnasked IsOther BadRecord has unasked is = is
-other-with HasState HasOther IsUnasked IsOther OtherKeys has unasked is = is
-other-with HasState HasOther IsUnasked IsOther CannotRead has unasked is = is
-other-with HasState HasOther IsUnasked IsOther CannotWrite has unasked is = is
-other-with HasState HasOther IsUnasked IsOther CannotListen has unasked is = is
-other-with HasState HasOther IsUnasked IsOther OutOfMemory has unasked is = is
+either : {A B C D : Type 0} → (A → C) → (B → D) → A ⊎ B → C ⊎ D
+either left right (inl a) = inl (left a)
+either left right (inr b) = inr (right b)
+
+other-with : (HasState HasOther ReadsInput ReadsOther : Type 0) (IsUnasked IsOther : ℕ → Type 0) (fault : ProgramFault) → (HasState → HasOther) → (ReadsInput → ReadsOther)
+    → ((number : ℕ) → IsUnasked number → IsOther number) → IsFaultWith HasState ReadsInput IsUnasked fault → IsFaultWith HasOther ReadsOther IsOther fault
+other-with HasState HasOther ReadsInput ReadsOther IsUnasked IsOther BadHex has reads unasked is = is
+other-with HasState HasOther ReadsInput ReadsOther IsUnasked IsOther (BadItem line) has reads unasked is = has is
+other-with HasState HasOther ReadsInput ReadsOther IsUnasked IsOther (IndexRepeated line) has reads unasked is = is
+other-with HasState HasOther ReadsInput ReadsOther IsUnasked IsOther (NotACommand line) has reads unasked is = unasked line is
+other-with HasState HasOther ReadsInput ReadsOther IsUnasked IsOther NotEvidence has reads unasked is = is
+other-with HasState HasOther ReadsInput ReadsOther IsUnasked IsOther BadRecord has reads unasked is = is
+other-with HasState HasOther ReadsInput ReadsOther IsUnasked IsOther OtherKeys has reads unasked is = is
+other-with HasState HasOther ReadsInput ReadsOther IsUnasked IsOther CannotRead has reads unasked is = either has reads is
+other-with HasState HasOther ReadsInput ReadsOther IsUnasked IsOther CannotWrite has reads unasked is = is
+other-with HasState HasOther ReadsInput ReadsOther IsUnasked IsOther CannotListen has reads unasked is = is
+other-with HasState HasOther ReadsInput ReadsOther IsUnasked IsOther OutOfMemory has reads unasked is = is
 
 -- a question that stopped passes on as it is
 pub stops_more : {A : Type 0} (Holds More : ProgramFault → Type 0) (result : Result A RunFault) → ((fault : ProgramFault) → Holds fault → More fault) → IfErr result (StopsOr Holds) → IfErr result (StopsOr More)
@@ -104,11 +108,11 @@ counts-here (Some all) left left' place line counts takes cannot =
 -- a fault at a line of the input
 pub line_fault : (input left left' : Option (List ℕ)) (place : ℕ) (line : List ℕ) (why : RunFault) → CountsOn input place left → TakesWholeLine left left' true line
     → StopsOr (λ fault. IsFaultOfSaving fault ⊎ ((fault ≡ NotACommand place) × CannotBeAsked (line_of line))) why
-    → StopsOr (IsFaultWith ⊥ (λ number. IfSome input (λ all. IsFirstUnasked 1 (lines_of all) number))) why
+    → StopsOr (IsFaultWith ⊥ ⊤ (λ number. IfSome input (λ all. IsFirstUnasked 1 (lines_of all) number))) why
 line_fault input left left' place line (run.Ask fault) counts takes is = tt
-line_fault input left left' place line (run.Program fault) counts takes (inl saving) = saving_with ⊥ (λ number. IfSome input (λ all. IsFirstUnasked 1 (lines_of all) number)) fault saving
+line_fault input left left' place line (run.Program fault) counts takes (inl saving) = saving_with ⊥ ⊤ (λ number. IfSome input (λ all. IsFirstUnasked 1 (lines_of all) number)) fault saving
 line_fault input left left' place line (run.Program fault) counts takes (inr (is, cannot)) =
-    subst (λ (f : ProgramFault). IsFaultWith ⊥ (λ number. IfSome input (λ all. IsFirstUnasked 1 (lines_of all) number)) f) (sym is) (counts-here input left left' place line counts takes cannot)
+    subst (λ (f : ProgramFault). IsFaultWith ⊥ ⊤ (λ number. IfSome input (λ all. IsFirstUnasked 1 (lines_of all) number)) f) (sym is) (counts-here input left left' place line counts takes cannot)
 
 -- a line that was asked is one that can be
 pub asked_can : (hash : List ℕ → List ℕ) (accepted verified : List ℕ → List ℕ → List ℕ → Type 0) {T : Type 0} (exchanged : T → RequestContent → Frame → T → Type 0) (known : Known) (before after : Scene T)
@@ -125,40 +129,44 @@ asked_can hash accepted verified {T} exchanged known before after old new line (
 -- a fault at the line of the words, or at a line of the input
 pub words_fault : (HasState : Type 0) (result : Result (Unit {0}) RunFault) (input : Option (List ℕ)) (order : AskOrder) (command : Bor (List ℕ)) → order.command ≡ Some command
     → IfErr result (StopsOr (λ fault. IsFaultOfSaving fault ⊎ ((fault ≡ NotACommand 1) × CannotBeAsked (line_of (words_line (ask_values order).words)))))
-    → IfErr result (StopsOr (IsFaultWith HasState (λ number. IfSome (lines_asked (ask_values order).words input) (λ lines. IsFirstUnasked 1 lines number))))
+    → IfErr result (StopsOr (IsFaultWith HasState (AsksInput (ask_values order).words) (λ number. IfSome (lines_asked (ask_values order).words input) (λ lines. IsFirstUnasked 1 lines number))))
 words_fault HasState result input order command some faults =
     stops_more (λ fault. IsFaultOfSaving fault ⊎ ((fault ≡ NotACommand 1) × CannotBeAsked (line_of (words_line (ask_values order).words))))
-    (IsFaultWith HasState (λ number. IfSome (lines_asked (ask_values order).words input) (λ lines. IsFirstUnasked 1 lines number))) result by faults
+    (IsFaultWith HasState (AsksInput (ask_values order).words) (λ number. IfSome (lines_asked (ask_values order).words input) (λ lines. IsFirstUnasked 1 lines number))) result by faults
   where
     by : (fault : ProgramFault) → IsFaultOfSaving fault ⊎ ((fault ≡ NotACommand 1) × CannotBeAsked (line_of (words_line (ask_values order).words)))
-        → IsFaultWith HasState (λ number. IfSome (lines_asked (ask_values order).words input) (λ lines. IsFirstUnasked 1 lines number)) fault
-    by fault (inl saving) = saving_with HasState (λ number. IfSome (lines_asked (ask_values order).words input) (λ lines. IsFirstUnasked 1 lines number)) fault saving
-    by fault (inr (is, cannot)) = subst (λ (f : ProgramFault). IsFaultWith HasState (λ number. IfSome (lines_asked (ask_values order).words input) (λ lines. IsFirstUnasked 1 lines number)) f) (sym is)
+        → IsFaultWith HasState (AsksInput (ask_values order).words) (λ number. IfSome (lines_asked (ask_values order).words input) (λ lines. IsFirstUnasked 1 lines number)) fault
+    by fault (inl saving) = saving_with HasState (AsksInput (ask_values order).words) (λ number. IfSome (lines_asked (ask_values order).words input) (λ lines. IsFirstUnasked 1 lines number)) fault saving
+    by fault (inr (is, cannot)) = subst (λ (f : ProgramFault). IsFaultWith HasState (AsksInput (ask_values order).words) (λ number. IfSome (lines_asked (ask_values order).words input) (λ lines. IsFirstUnasked 1 lines number)) f) (sym is)
         (asks_words {E = RunFault} (λ lines. IsFirstUnasked 1 lines 1) (Ok tt) input order command some (inl (cannot, refl)))
 
+reads_input : (order : AskOrder) → order.command ≡ None → AsksInput (ask_values order).words
+reads_input order none =
+    subst (λ (command : Option (Bor (List ℕ))). AsksInput (option_map (λ text. text.now) command ∷ option_map (λ text. text.now) order.first ∷ option_map (λ text. text.now) order.second ∷ [])) (sym none) tt
+
 pub input_fault : (HasState : Type 0) (result : Result (Unit {0}) RunFault) (input : Option (List ℕ)) (order : AskOrder) → order.command ≡ None
-    → IfErr result (StopsOr (IsFaultWith ⊥ (λ number. IfSome input (λ all. IsFirstUnasked 1 (lines_of all) number))))
-    → IfErr result (StopsOr (IsFaultWith HasState (λ number. IfSome (lines_asked (ask_values order).words input) (λ lines. IsFirstUnasked 1 lines number))))
+    → IfErr result (StopsOr (IsFaultWith ⊥ ⊤ (λ number. IfSome input (λ all. IsFirstUnasked 1 (lines_of all) number))))
+    → IfErr result (StopsOr (IsFaultWith HasState (AsksInput (ask_values order).words) (λ number. IfSome (lines_asked (ask_values order).words input) (λ lines. IsFirstUnasked 1 lines number))))
 input_fault HasState result input order none faults =
-    stops_more (IsFaultWith ⊥ (λ number. IfSome input (λ all. IsFirstUnasked 1 (lines_of all) number)))
-    (IsFaultWith HasState (λ number. IfSome (lines_asked (ask_values order).words input) (λ lines. IsFirstUnasked 1 lines number))) result
-    (λ fault is. other-with ⊥ HasState (λ number. IfSome input (λ all. IsFirstUnasked 1 (lines_of all) number))
-    (λ number. IfSome (lines_asked (ask_values order).words input) (λ lines. IsFirstUnasked 1 lines number)) fault (λ never. absurd never)
+    stops_more (IsFaultWith ⊥ ⊤ (λ number. IfSome input (λ all. IsFirstUnasked 1 (lines_of all) number)))
+    (IsFaultWith HasState (AsksInput (ask_values order).words) (λ number. IfSome (lines_asked (ask_values order).words input) (λ lines. IsFirstUnasked 1 lines number))) result
+    (λ fault is. other-with ⊥ HasState ⊤ (AsksInput (ask_values order).words) (λ number. IfSome input (λ all. IsFirstUnasked 1 (lines_of all) number))
+    (λ number. IfSome (lines_asked (ask_values order).words input) (λ lines. IsFirstUnasked 1 lines number)) fault (λ never. absurd never) (λ reads. reads_input order none)
     (λ number first. asks_input {E = RunFault} (λ lines. IsFirstUnasked 1 lines number) (Ok tt) input order none first) is) faults
 
 -- ---- the end
 
 -- the fault that a run gives is the one that ended it, unless a write or memory failed then
 pub given_so : (result : Result RunEnd ProgramFault) (outcome : Result (Unit {0}) RunFault) (order : AskOrder) (state : Option State) (input : Option (List ℕ)) → (order.state ≡ None → state ≡ None)
-    → IfErr outcome (StopsOr (IsFaultWith (¬ (state ≡ None)) (λ number. IfSome (lines_asked (ask_values order).words input) (λ lines. IsFirstUnasked 1 lines number))))
+    → IfErr outcome (StopsOr (IsFaultWith (¬ (state ≡ None)) (AsksInput (ask_values order).words) (λ number. IfSome (lines_asked (ask_values order).words input) (λ lines. IsFirstUnasked 1 lines number))))
     → IfErr result (λ given. IsFaultOfSaving given ⊎ (outcome ≡ Err (run.Program given))) → IfErr result (IsRunFault (ask_values order) input)
 given_so (Ok ended) outcome order state input without stops gives = tt
 given_so (Err given) outcome order state input without stops (inl saving) =
-    saving_with (¬ ((ask_values order).state ≡ None)) (λ number. IfSome (lines_asked (ask_values order).words input) (λ lines. IsFirstUnasked 1 lines number)) given saving
+    saving_with (¬ ((ask_values order).state ≡ None)) (AsksInput (ask_values order).words) (λ number. IfSome (lines_asked (ask_values order).words input) (λ lines. IsFirstUnasked 1 lines number)) given saving
 given_so (Err given) outcome order state input without stops (inr is) =
-    let found = subst (λ (o : Result (Unit {0}) RunFault). IfErr o (StopsOr (IsFaultWith (¬ (state ≡ None)) (λ number. IfSome (lines_asked (ask_values order).words input) (λ lines. IsFirstUnasked 1 lines number))))) is stops in
-    other-with (¬ (state ≡ None)) (¬ ((ask_values order).state ≡ None)) (λ number. IfSome (lines_asked (ask_values order).words input) (λ lines. IsFirstUnasked 1 lines number))
-    (λ number. IfSome (lines_asked (ask_values order).words input) (λ lines. IsFirstUnasked 1 lines number)) given (λ has none. has (without (none_before (λ text. text.now) order.state none))) (λ number first. first) found
+    let found = subst (λ (o : Result (Unit {0}) RunFault). IfErr o (StopsOr (IsFaultWith (¬ (state ≡ None)) (AsksInput (ask_values order).words) (λ number. IfSome (lines_asked (ask_values order).words input) (λ lines. IsFirstUnasked 1 lines number))))) is stops in
+    other-with (¬ (state ≡ None)) (¬ ((ask_values order).state ≡ None)) (AsksInput (ask_values order).words) (AsksInput (ask_values order).words) (λ number. IfSome (lines_asked (ask_values order).words input) (λ lines. IsFirstUnasked 1 lines number))
+    (λ number. IfSome (lines_asked (ask_values order).words input) (λ lines. IsFirstUnasked 1 lines number)) given (λ has none. has (without (none_before (λ text. text.now) order.state none))) (λ reads. reads) (λ number first. first) found
 
 some-none : (keys : List ℕ × List ℕ) (found : Option (List ℕ × List ℕ)) → found ≡ Some keys → found ≡ None → ⊥
 some-none keys found some none = search (rules, sym some ∙ none)

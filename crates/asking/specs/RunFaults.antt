@@ -24,24 +24,31 @@ IsFirstUnasked place [] number = ⊥
 IsFirstUnasked place (line ∷ more) number =
     (CannotBeAsked (line_of line) × (number ≡ place)) ⊎ ((¬ CannotBeAsked (line_of line)) × IsFirstUnasked (place + 1) more number)
 
--- a fault of a run that has a state, or none, and of which this is the first line that cannot be asked
-abbrev pub IsFaultWith : Type 0 → (ℕ → Type 0) → ProgramFault → Type 0
-IsFaultWith HasState IsUnasked BadHex = ⊥
-IsFaultWith HasState IsUnasked (BadItem line) = HasState
-IsFaultWith HasState IsUnasked (IndexRepeated line) = ⊥
-IsFaultWith HasState IsUnasked (NotACommand line) = IsUnasked line
-IsFaultWith HasState IsUnasked NotEvidence = ⊥
-IsFaultWith HasState IsUnasked BadRecord = ⊥
-IsFaultWith HasState IsUnasked OtherKeys = ⊥
-IsFaultWith HasState IsUnasked CannotRead = ⊤
-IsFaultWith HasState IsUnasked CannotWrite = ⊤
-IsFaultWith HasState IsUnasked CannotListen = ⊥
-IsFaultWith HasState IsUnasked OutOfMemory = ⊤
+-- the order has no words, so that the lines of the input are asked
+abbrev pub AsksInput : List (Option (List ℕ)) → Type 0
+AsksInput (Some command ∷ more) = ⊥
+AsksInput (None ∷ more) = ⊤
+AsksInput [] = ⊤
+
+-- a fault of a run that has a state, or none; that reads its input, or not; and of which this is the first line
+-- that cannot be asked
+abbrev pub IsFaultWith : Type 0 → Type 0 → (ℕ → Type 0) → ProgramFault → Type 0
+IsFaultWith HasState ReadsInput IsUnasked BadHex = ⊥
+IsFaultWith HasState ReadsInput IsUnasked (BadItem line) = HasState
+IsFaultWith HasState ReadsInput IsUnasked (IndexRepeated line) = ⊥
+IsFaultWith HasState ReadsInput IsUnasked (NotACommand line) = IsUnasked line
+IsFaultWith HasState ReadsInput IsUnasked NotEvidence = ⊥
+IsFaultWith HasState ReadsInput IsUnasked BadRecord = ⊥
+IsFaultWith HasState ReadsInput IsUnasked OtherKeys = ⊥
+IsFaultWith HasState ReadsInput IsUnasked CannotRead = HasState ⊎ ReadsInput
+IsFaultWith HasState ReadsInput IsUnasked CannotWrite = ⊤
+IsFaultWith HasState ReadsInput IsUnasked CannotListen = ⊥
+IsFaultWith HasState ReadsInput IsUnasked OutOfMemory = ⊤
 
 -- A fault of a run: of its state, if it has one; of the first line that cannot be asked, where the lines are
--- known; or a read, a write or memory failed.
+-- known; a read of its state or its input failed, if it has that; or a write or memory failed.
 abbrev pub IsRunFault : AskOptions → Option (List ℕ) → ProgramFault → Type 0
-IsRunFault options input = IsFaultWith (¬ (options.state ≡ None)) (λ number. IfSome (lines_asked options.words input) (λ lines. IsFirstUnasked 1 lines number))
+IsRunFault options input = IsFaultWith (¬ (options.state ≡ None)) (AsksInput options.words) (λ number. IfSome (lines_asked options.words input) (λ lines. IsFirstUnasked 1 lines number))
 
 -- a line of a state is not as a run wrote it, or a read or memory failed
 abbrev pub IsFaultOfState : ProgramFault → Type 0

@@ -2,15 +2,19 @@ ghost use Rattle.std.specs.Prelude.{◌≡◌};
 
 use std::alloc::{AllocError, AllocFailed};
 use textio::ProgramFault;
+use thiserror::Error;
 
 /// Why a question stops.
-#[derive(Clone, Copy, Debug, PartialEq, Eq)]
+#[derive(Clone, Copy, Debug, PartialEq, Eq, Error)]
 pub enum AskFault {
     /// The stream ended, failed or was silent before a reply was whole.
+    #[error("no reply")]
     NoReply,
     /// The roots that the client has to take do not come: the reply is no answer, a root is refused, or no root is
     /// new. This is told.
+    #[error("the roots do not come")]
     Stopped,
+    #[error("out of memory")]
     OutOfMemory,
 }
 

@@ -14,13 +14,13 @@ use crate::{AskFault, Said};
 use client::{Client, Refusal};
 use encoding::{Hash32, Name};
 use monitor::Monitor;
-use nodehash::NodeHash;
+use nodehash::{NodeHash, Sha256Hash};
 use play::Ask;
 use rootchain::SignedPromise;
-use sigiface::Verifier;
+use sigiface::{KeyedSign, Verifier};
 use std::alloc::Global;
 use std::io::{Read, Write};
-use vrfiface::VufCheck;
+use vrfiface::{KeyedVuf, VufCheck};
 
 /// The functions of those who check: their hash function, and what accepts values and signatures.
 #[derive(Drop)]
@@ -28,6 +28,20 @@ pub struct Checks<H, V, S> {
     pub hash: H,
     pub vuf: V,
     pub verifier: S,
+}
+
+impl Checks<Sha256Hash, KeyedVuf, KeyedSign> {
+    /// SHA-256, and the stand-ins under the provider's key.
+    pub fn keyed(provider: Hash32) -> Self
+        ensures hash { result.hash ≡ 0 }
+        ensures keys { (result.vuf ≡ provider) × (result.verifier ≡ provider) }
+    {
+        Checks {
+            hash: Sha256Hash::new(),
+            vuf: KeyedVuf::new(provider),
+            verifier: KeyedSign::new(provider),
+        }
+    }
 }
 
 /// How far a name was watched in earlier runs.

@@ -11,15 +11,15 @@ use crate::run::{Run, RunEnd};
 use crate::said::REFUSED;
 use crate::{AskKeys, AskOrder, Checks};
 use encoding::Hash32;
-use nodehash::{NodeHash, Sha256Hash};
-use sigiface::{KeyedSign, Verifier};
+use nodehash::NodeHash;
+use sigiface::Verifier;
 use std::alloc::Global;
 use std::fs::{File, Files};
 use std::io::{BufRead, Read, Write};
 use std::net::{Net, TcpListener, TcpStream};
 use std::time::Duration;
 use textio::{ProgramFault, option_hex32, option_nonce, write_text};
-use vrfiface::{KeyedVuf, VufCheck};
+use vrfiface::VufCheck;
 
 /// How long a reply is waited for.
 const SECONDS: u64 = 60;
@@ -99,16 +99,11 @@ where
     let _set = stream.set_nodelay(true);
     let _set = stream.set_read_timeout(Some(Duration::from_secs(SECONDS)));
     let _set = stream.set_write_timeout(Some(Duration::from_secs(SECONDS)));
-    let checks = Checks {
-        hash: Sha256Hash::new(),
-        vuf: KeyedVuf::new(keys.provider),
-        verifier: KeyedSign::new(keys.provider),
-    };
     let ended = ask_over(
         alloc,
         system,
         &mut stream,
-        checks,
+        Checks::keyed(keys.provider),
         keys,
         order,
         reader,

@@ -6,76 +6,55 @@ use anyhow::{Context, Result, bail, ensure};
 use asking::{AskFault, Asker, Checks, Said};
 use commands::Verb;
 use encoding::{Hash32, KeyData, Name};
-use nodehash::Sha256Hash;
 use play::Ask;
-use sigiface::KeyedSign;
 use std::net::TcpStream;
 use std::time::Duration;
 use std::{env, str, thread};
 use textio::option_hex32;
-use vrfiface::KeyedVuf;
 
 fn main(rt: HostRuntime) -> Result<()> {
     let alloc = rt.alloc();
     let words: Vec<String> = env::args(&rt)?.collect(alloc)?;
-    let [_, address, provider, name, key, roots] = words.as_slice() else {
-        println!(rt; "usage: example_client ADDRESS PROVIDER_KEY NAME KEY ROOTS")?;
-        return Ok(());
+    let [_, address, provider, name, key, seconds] = words.as_slice() else {
+        bail!("usage: example_client ADDRESS PROVIDER_KEY NAME KEY SECONDS");
     };
     let provider = Hash32::new(option_hex32(provider).context("reading PROVIDER_KEY")?);
     let owned = Name::new(name.as_bytes()).context("reading NAME")?;
     let key = hex::decode(alloc, key.as_bytes()).context("reading KEY")?;
     let expected = KeyData::new(&key).context("reading KEY")?;
-    let roots = roots.parse::<u64>().context("reading ROOTS")?;
+    let seconds = seconds.parse::<u64>().context("reading SECONDS")?;
 
     // Start at the directory's latest root. The token is that of the operator, which a user does not have.
     let stream = &mut TcpStream::connect(&rt, address).context("connecting")?;
     let (said, token) = (&mut Said::new(alloc), Hash32::default());
-    let checks = Checks {
-        hash: Sha256Hash::new(),
-        vuf: KeyedVuf::new(provider),
-        verifier: KeyedSign::new(provider),
-    };
-    let mut asker = match Asker::start_at_head(alloc, stream, checks, provider, token, said) {
-        Ok(asker) => asker,
-        Err(why) => bail!("no root: {why:?} {}", str::from_utf8(&said.words)?),
-    };
-
+    let begun = Asker::start_at_head(alloc, stream, Checks::keyed(provider), provider, token, said);
+    let mut asker = told(&rt, begun, said)?;
     // Look the name up, and watch it from the latest epoch on. If it has a key, that has to be the owner's.
     let name = Vec::from_slice(alloc, owned.bytes())?;
     let asked = asker.ask(stream, &Ask::Lookup { name, epoch: 0 }, said);
     let is_bound = said.text.starts_with(b"present");
-    tell(&rt, asked, said)?;
+    told(&rt, asked, said)?;
     let expected = if is_bound { Some(&expected) } else { None };
-    tell(&rt, asker.watch(stream, &owned, expected, said), said)?;
-
-    // Register the key. The client keeps the promise, and the monitor expects the key from the next epoch on.
+    told(&rt, asker.watch(stream, &owned, expected, said), said)?;
     if !is_bound {
+        // The client keeps the promise, and the monitor expects the key from the next epoch on.
         let (verb, name) = (Verb::Register, Vec::from_slice(alloc, owned.bytes())?);
         let asked = asker.ask(stream, &Ask::Put { verb, name, key }, said);
-        tell(&rt, asked, said)?;
+        told(&rt, asked, said)?;
     }
-
     // Follow the chain. At each new root, the monitor looks the name up, and the promise is tested if it is due.
-    for _ in 0..roots {
-        let latest = asker.client().chain().head().body.epoch;
-        for _ in 0..u64::MAX {
-            thread::sleep(&rt, Duration::from_secs(1));
-            tell(&rt, asker.follow(stream, said), said)?;
-            if latest < asker.client().chain().head().body.epoch {
-                break;
-            }
-        }
-        tell(&rt, asker.go_on(stream, said), said)?;
+    for _ in 0..seconds {
+        thread::sleep(&rt, Duration::from_secs(1));
+        told(&rt, asker.follow(stream, said), said)?;
+        told(&rt, asker.go_on(stream, said), said)?;
     }
     Ok(())
 }
 
 /// Prints what was said, and fails if something was refused or no reply came. An alarm is no failure.
-fn tell(rt: &HostRuntime, asked: Result<(), AskFault>, said: &mut Said) -> Result<()> {
+fn told<T: Drop>(rt: &HostRuntime, asked: Result<T, AskFault>, said: &mut Said) -> Result<T> {
     print!(rt; "{}", str::from_utf8(&said.text)?)?;
     said.text.clear();
     ensure!(said.words.is_empty(), "{}", str::from_utf8(&said.words)?);
-    ensure!(asked.is_ok(), "{asked:?}");
-    Ok(())
+    asked.context("asking")
 }

@@ -4,7 +4,7 @@ use Rattle.textio.specs.declared.program_fault.ProgramFault.TheVariants.{OutOfMe
 use Rattle.asking.specs.AskOptions.{ask_values}
 use Rattle.asking.specs.Exchanges.{ExchangesFrames}
 use Rattle.asking.specs.Reports.{report_of}
-use Rattle.asking.specs.RunFaults.{IsFaultOfSaving, IsFaultOfState, IsFaultWith, IsFirstUnasked}
+use Rattle.asking.specs.RunFaults.{AsksInput, IsFaultOfSaving, IsFaultOfState, IsFaultWith, IsFirstUnasked}
 use Rattle.asking.specs.Runs.{AsksLines, known_of, lines_asked, words_line}
 use Rattle.asking.specs.Scenes.{scene}
 use Rattle.asking.proofs.Faulty.{beginning_with, grows_not, grows_on, input_fault, saving_with, stops_more, words_fault}
@@ -44,15 +44,15 @@ pub returns-in_err-asker-clause-faults : goal.returns-in_err-asker-clause-faults
 returns-in_err-asker-clause-faults g c =
     let passed : c.from_residual.result ≡ Err c.in_err-asker.field-0.0 = search rules in
     rw passed (stops_more {A = Unit {0}} (λ fault. ((¬ (c.args.self.now.state ≡ None)) × IsFaultOfState fault) ⊎ (fault ≡ OutOfMemory))
-    (IsFaultWith (¬ (c.args.self.now.state ≡ None)) (λ number. IfSome (lines_asked (ask_values c.args.order).words (g.R.Read.remaining c.args.reader.now)) (λ lines. IsFirstUnasked 1 lines number)))
-    (Err c.in_err-asker.field-0.0) (beginning_with _ _) c.in_err-asker.ensures.faults)
+    (IsFaultWith (¬ (c.args.self.now.state ≡ None)) (AsksInput (ask_values c.args.order).words) (λ number. IfSome (lines_asked (ask_values c.args.order).words (g.R.Read.remaining c.args.reader.now)) (λ lines. IsFirstUnasked 1 lines number)))
+    (Err c.in_err-asker.field-0.0) (beginning_with _ _ _) c.in_err-asker.ensures.faults)
 
 pub returns-in_err-prepare-clause-faults : goal.returns-in_err-prepare-clause-faults
 returns-in_err-prepare-clause-faults g c =
     let passed : c.from_residual-in_err-prepare.result ≡ Err c.in_err-prepare.field-0.0 = search rules in
     rw passed (stops_more {A = Unit {0}} IsFaultOfSaving
-    (IsFaultWith (¬ (c.args.self.now.state ≡ None)) (λ number. IfSome (lines_asked (ask_values c.args.order).words (g.R.Read.remaining c.args.reader.now)) (λ lines. IsFirstUnasked 1 lines number)))
-    (Err c.in_err-prepare.field-0.0) (saving_with _ _) c.in_err-prepare.ensures.faults)
+    (IsFaultWith (¬ (c.args.self.now.state ≡ None)) (AsksInput (ask_values c.args.order).words) (λ number. IfSome (lines_asked (ask_values c.args.order).words (g.R.Read.remaining c.args.reader.now)) (λ lines. IsFirstUnasked 1 lines number)))
+    (Err c.in_err-prepare.field-0.0) (saving_with _ _ _) c.in_err-prepare.ensures.faults)
 
 pub returns-in-Some-clause-faults : goal.returns-in-Some-clause-faults
 returns-in-Some-clause-faults g c =
