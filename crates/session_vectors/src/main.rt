@@ -10,7 +10,8 @@
 //! | Subject | Calls | Verbs |
 //! |---|---|---|
 //! | `directory` | `Directory::new`, `head` | `new`, `head` |
-//! | | `register`, `change`, `promise`, `close`, `rotate` | the same words |
+//! | | `register`, `change`, `promise`, `close` | the same words |
+//! | | `rotate`, which calls `Tree::renew_with_all` | `rotate` |
 //! | | `lookup`, `lookup_into`, which calls `write_front` | `lookup` |
 //! | | `history`; `run`; `replay` | `history`; `run`; `replay` |
 //! | | `journal::open`, under the stream of salts that `records` numbers | `open` |
@@ -37,11 +38,16 @@
 //! | | `judge_file`; `audit` | `judge`, `altered`; `audit` |
 //! | `text` | refusals of memory, of a keeper and of streams | `refusal` |
 //! | `script` | `play`, in which all of them come together | |
+//! | | with `read_line`, `next_line`, `push_hex`, `push_number` of its crate | |
+//! | | and `tell_response`, `tell_statement`, `tell_step` | |
 //!
 //! Of the public calls of the upper crates that no verb asks, `scripts/statuses.sh` asks `judge_at`, and `order`,
-//! `end`, `refuse` and `refuse_bytes` of `directoryd`; `scripts/listen.sh` asks `listen`, and
-//! `scripts/journal.sh` asks `listen` and `serve_directory` with a journal. The crate `faults` has keepers,
-//! readers and writers that fail, and asks `Journal` as the keeper of a directory.
+//! `end`, `refuse` and `refuse_bytes` of `directoryd`; `scripts/listen.sh` asks `listen`, which calls
+//! `answer_all` and `Places::free` of `connections`, `Hub::part` and `Feed::part`; `scripts/journal.sh` asks
+//! `listen` and `serve_directory` with a journal; and `scripts/asks.py` asks `ask` of `asking`, which calls
+//! `ask_over`, `Asker::start`, `start_at_head`, `client`, `ask`, `follow`, `go_on`, `watch`, `test_promises`,
+//! `hear`, `Said::new`, `RunEnd::status` and `Client::promises`. The crate `faults` has keepers, readers and
+//! writers that fail, and asks `Journal` as the keeper of a directory, and `answer_all` and `Places::free`.
 #![tactic(auto)]
 
 mod auditors;

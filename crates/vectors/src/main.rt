@@ -28,13 +28,13 @@
 //! | | `compare` | `compare`, `compare-sum` |
 //! | | `take`, `extend` under a verifier that accepts all | `any`, `any-extended` |
 //! | `trees` | `Tree::new`, `with`, `copy` | `new`, `with`, `copy` |
-//! | | `placed`, `from_items`, `with_all` | `from`, `more` |
-//! | | `renew` | `renew` |
+//! | | `placed`, which calls `placed_within`; `from_items`, `with_all` | `from`, `more` |
+//! | | `renew`, which calls `renew_with_all` | `renew` |
 //! | | `root`, `get`; `path`, `Path::level`, `path_end`, `write_siblings` | `root`, `get`; `path` |
 //! | | `end_text`, `joined_text`, `climb`, `leads`, `Path::leads` | `end-text`, `joined`, `climb`, `leads` |
 //! | `replies` | `ReplyView::read`, `statement`, `siblings` | `read` |
 //! | | `accept`, which calls `check` | `accept`, `accept-sum` |
-//! | | `Accepted`; `Statement::binds` | `accepted`; `binds` |
+//! | | `Accepted` and its `again`; `Statement::binds` | `accepted`; `binds` |
 //! | | `compare_replies`, `same_or_collision` | `compare`, `compare-sum`, `same`, `same-any` |
 //! | | `make` | `make` |
 //! | `frames` | `Request::read`, `fits`, `write` | `request` |
