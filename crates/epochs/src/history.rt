@@ -1,3 +1,6 @@
+// A history is a list of versions whose first pages ascend. A page shows the last version that begins at it or
+// before it, which is found by halving. The index of the name and its value are kept beside, so that no look-up
+// computes them.
 ghost use Rattle.std.specs.Prelude.{◌≡◌, ◌<◌, ◌≤◌, ◌++◌, ◌∷◌, [], length, IfOk, MatchResult};
 ghost use Rattle.std.specs.List.Sorted.{IsPartitionPoint};
 ghost use Rattle.std.specs.Option.{option_map};

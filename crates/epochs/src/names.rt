@@ -1,3 +1,5 @@
+// Each name has a history: the keys that it was given, by the page that each begins at. A change adds to the end
+// of a history, and nothing is ever taken away. A name is searched for once in each operation.
 ghost use Rattle.std.specs.Prelude.{◌≡◌, ◌+◌, ◌<◌, ◌≤◌, [], IsSome, MatchOption, MatchResult, option_and_then};
 ghost use Rattle.std.specs.Option.{option_map};
 ghost use Rattle.commit.specs.Commitments.{commitment_bytes};

@@ -1,3 +1,5 @@
+// What waits for the next page is a map from index to commitment. A closing lists it in the order of indices, and
+// hands it to the tree as one change; then the map falls, and its memory is given back.
 ghost use Rattle.std.specs.Prelude.{◌≡◌, ◌+◌, ◌<◌, ◌≤◌, [], None, IfOk, MatchResult, is_some};
 ghost use Rattle.commit.specs.Commitments.{commitment_bytes};
 ghost use Rattle.prefixtree.specs.Placement.{HasDistinctIndices, commitment_of, put};

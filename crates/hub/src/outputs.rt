@@ -1,3 +1,5 @@
+// Each session that is open at the start of a run has an output from there on, and each later one from its opening;
+// what it is told is appended. The outputs are returned by the sessions' numbers, ascending.
 ghost use Rattle.std.specs.Prelude.{◌≡◌, ◌++◌, [], ℕ, map, IfOk, OnOk};
 ghost use Rattle.std.specs.List.Sorted.{IsStrictlySortedBy};
 ghost use Rattle.std.specs.Map.{keys_of};
