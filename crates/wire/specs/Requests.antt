@@ -6,7 +6,7 @@ use Rattle.commands.specs.declared.edit.Verb.TheVariants.{Register, Change}
 use Rattle.commands.specs.Operations.{Question, Promise, Lookup, History, Head, question}
 use Rattle.wire.specs.Tables.{KindRow, MessageParts, Of, Nothing, Number, Bytes, Text, Both, kind_among, parts_frame, read_by, IsCounted, MayHave}
 use Rattle.wire.specs.Frames.{Frame}
-use Rattle.wire.specs.declared.kind_bytes.TheConstants.{REGISTER, CHANGE, PROMISE, LOOKUP, HISTORY, HEAD, CLOSE, ROTATE}
+use Rattle.wire.specs.declared.request.TheConstants.{REGISTER, CHANGE, PROMISE, LOOKUP, HISTORY, HEAD, CLOSE, ROTATE}
 use Rattle.wire.specs.declared.request.Request.{Request}
 use Rattle.wire.specs.declared.request.Request.TheVariants as request
 use Rattle.wire.specs.declared.message_refusals.ReadRefusal.{ReadRefusal}
