@@ -1,5 +1,5 @@
 -- What is asked of a directory, and how it is spelled in a frame (the bytes are this directory's own).
-use Rattle.std.specs.Prelude.{◌≡◌, ℕ, List, [], ◌∷◌, Option, None, Some, Result, Ok, Err}
+use Rattle.std.specs.Prelude.{◌≡◌, ℕ, List, [], ◌∷◌, map, Option, None, Some, Result, Ok, Err}
 use Rattle.encoding.specs.Fields.{Spells}
 use Rattle.commands.specs.declared.edit.Verb.{Verb}
 use Rattle.commands.specs.declared.edit.Verb.TheVariants.{Register, Change}
@@ -51,6 +51,11 @@ request_row RotateKind = record { byte = ROTATE; form = Both (Bytes 32) (Both (N
 
 abbrev pub request_kinds : List RequestKind
 request_kinds = PutKind Register ∷ PutKind Change ∷ PromiseKind ∷ LookupKind ∷ HistoryKind ∷ HeadKind ∷ TurnKind ∷ RotateKind ∷ []
+
+-- Each kind has this byte.
+abbrev pub ReadKinds : Type 0
+ReadKinds = map {B = RequestKind × ℕ} (λ kind. (kind, (request_row kind).byte)) request_kinds
+    ≡ (PutKind Register, 1) ∷ (PutKind Change, 2) ∷ (PromiseKind, 3) ∷ (LookupKind, 4) ∷ (HistoryKind, 5) ∷ (HeadKind, 6) ∷ (TurnKind, 7) ∷ (RotateKind, 8) ∷ []
 
 -- the kind of a request, with what its body holds
 abbrev pub request_parts : RequestContent → MessageParts request_row
