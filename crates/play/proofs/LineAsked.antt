@@ -6,7 +6,7 @@ use Rattle.std.proofs.lemmas.Bool.{lt-ltb}
 use Rattle.rand_core.specs.Stream.{Stream}
 use Rattle.rootchain.specs.declared.signed_root.SignedRoot.{SignedRoot}
 use Rattle.commands.specs.declared.edit.Verb.{Verb}
-use Rattle.commands.specs.Operations.{Operation, Edit, Query}
+use Rattle.commands.specs.Operations.{Operation, Edit}
 use Rattle.commands.specs.Operations as asks
 use Rattle.wire.specs.Requests.{RequestContent}
 use Rattle.wire.specs.Requests as request
