@@ -3,12 +3,13 @@ use Rattle.std.proofs.Common.{◌≡◌, ◌∙◌, ◌-◌, ◌<◌, ◌++◌, 
 use Rattle.std.specs.Prelude.{slice_get, OnOk}
 use Rattle.std.specs.List.{AllZip}
 use Rattle.std.proofs.lemmas.Option.{slice_get_cases}
+use Rattle.commands.specs.declared.edit.Verb.{Verb}
 use Rattle.rootchain.specs.Chains.{IsHead}
 use Rattle.rootchain.specs.declared.signed_promise.SignedPromise.{SignedPromise}
 use Rattle.rootchain.specs.declared.signed_root.SignedRoot.{SignedRoot}
 use Rattle.monitor.specs.Monitors.{Monitor}
 use Rattle.wire.specs.Frames.{Frame}
-use Rattle.wire.specs.Requests.{RequestContent, Query, Put, Turn}
+use Rattle.wire.specs.Requests.{RequestContent, Put}
 use Rattle.asking.specs.declared.asker.Asker.{Asker}
 use Rattle.asking.specs.declared.asker.Mark.{Mark}
 use Rattle.asking.specs.declared.said.Said.{Said}
@@ -28,18 +29,16 @@ last-of xs some = elim (slice_get_cases xs (length xs - 1)).1 [ inl found ↦ (f
 
 -- a change is asked for
 abbrev pub IsPut : RequestContent → Type 0
-IsPut (Put verb name key) = Unit {0}
-IsPut (Query question) = ⊥
-IsPut (Turn _ _ _) = ⊥
+IsPut asked = (verb : Verb) × (name : List ℕ) × (key : List ℕ) × (asked ≡ Put verb name key)
 
 -- the last promise was noted, and it is one that was kept
 pub notes_kept : {A E : Type 0} (result : Result A E) (asked : RequestContent) (before kept after noted noted' : List SignedPromise) → IsPut asked → length before < length kept → after ≡ kept
     → OnOk result ((signed : SignedPromise) → slice_get kept (length kept - 1) ≡ Some signed → noted' ≡ noted ++ signed ∷ []) → OnOk result (Notes asked before after noted noted')
-notes_kept (Ok done) (Put verb name key) before kept after noted noted' put more same notes =
+notes_kept (Ok done) asked before kept after noted noted' (verb, name, key, put) more same notes =
     let last = last-of kept (omega (arith, more)) in
-    subst (λ (all : List SignedPromise). Notes (Put verb name key) before all noted noted') (sym same) (inr (more, (last.0, last.1, notes last.0 last.1)))
-notes_kept (Ok done) (Query question) before kept after noted noted' put more same notes = absurd put
-notes_kept (Ok done) (Turn _ _ _) before kept after noted noted' put more same notes = absurd put
+    let of_last : Notes (Put verb name key) before kept noted noted' = inr (more, (last.0, last.1, notes last.0 last.1)) in
+    let of_all = subst (λ (all : List SignedPromise). Notes (Put verb name key) before all noted noted') (sym same) of_last in
+    subst (λ (r : RequestContent). Notes r before after noted noted') (sym put) of_all
 notes_kept (Err fault) asked before kept after noted noted' put more same notes = tt
 
 -- what was noted, where the lists stay before and after
@@ -67,11 +66,11 @@ module _ (hash : List ℕ → List ℕ) (accepted verified : List ℕ → List �
       → length before < length kept → after ≡ kept
       → OnOk result ((signed : SignedPromise) → slice_get kept (length kept - 1) ≡ Some signed → AllZip (HandsTo hash accepted verified signed promise) given back)
       → OnOk result (Hands hash accepted verified asked promise before after given back)
-  hands_kept (Ok done) (Put verb name key) promise before kept after given back put more same hands =
+  hands_kept (Ok done) asked promise before kept after given back (verb, name, key, put) more same hands =
       let last = last-of kept (omega (arith, more)) in
-      subst (λ (all : List SignedPromise). Hands hash accepted verified (Put verb name key) promise before all given back) (sym same) (inr (more, (last.0, last.1, hands last.0 last.1)))
-  hands_kept (Ok done) (Query question) promise before kept after given back put more same hands = absurd put
-  hands_kept (Ok done) (Turn _ _ _) promise before kept after given back put more same hands = absurd put
+      let of_last : Hands hash accepted verified (Put verb name key) promise before kept given back = inr (more, (last.0, last.1, hands last.0 last.1)) in
+      let of_all = subst (λ (all : List SignedPromise). Hands hash accepted verified (Put verb name key) promise before all given back) (sym same) of_last in
+      subst (λ (r : RequestContent). Hands hash accepted verified r promise before after given back) (sym put) of_all
   hands_kept (Err fault) asked promise before kept after given back put more same hands = tt
 
   -- the steps of a question, in their order

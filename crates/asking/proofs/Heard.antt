@@ -1,10 +1,10 @@
 -- The client where memory runs out before it is told what it made of a reply.
 use Rattle.std.proofs.Common.{◌≡◌, ◌⊎◌, ℕ, List, Result, Err, inl, inr, refl, subst}
-use Rattle.commands.specs.Operations.{Promise, Lookup, History, Head}
+use Rattle.commands.specs.Operations.{Promise, Lookup}
 use Rattle.rootchain.specs.declared.signed_promise.SignedPromise.{SignedPromise}
 use Rattle.proofs.specs.Replies.{Reply}
 use Rattle.proofs.specs.declared.statement.Statement.{Statement}
-use Rattle.wire.specs.Requests.{RequestContent, Query, Put, Turn}
+use Rattle.wire.specs.Requests.{RequestContent, Query, Put}
 use Rattle.wire.specs.Responses as response
 use Rattle.client.specs.Clients.{Client}
 use Rattle.client.specs.Looking.{Looks}
@@ -46,10 +46,7 @@ module _ (hash : List ℕ → List ℕ) (accepted verified : List ℕ → List �
   hears_promise (Query (Promise name)) signed answers (inl same) = inl same
   hears_promise (Query (Promise name)) signed answers (inr (answer, keeps, tellable)) =
       inr (promise_told (response.Promise signed) answer, inr (answers, (answer, (keeps, tellable), refl)))
-  hears_promise (Query (Lookup name epoch)) signed answers kept = absurd answers
-  hears_promise (Query (History from count)) signed answers kept = absurd answers
-  hears_promise (Query Head) signed answers kept = absurd answers
-  hears_promise (Turn _ _ _) signed answers kept = absurd answers
+  hears_promise _ signed answers kept = absurd answers
 
   -- a reply to a look-up was heard, or nothing changed
   pub hears_look : (name spelled : List ℕ) (epoch : ℕ) (reply : Reply) → IsAnswerTo (Query (Lookup name epoch)) (response.Proof reply) → spelled ≡ name

@@ -117,12 +117,6 @@ module _ (index_of : List ℕ → List ℕ) where
 
   line-in-time : (stand : Stand) (line : ScriptLine) → AreInTime stand.book stand.watchers → AreInTime (line_played index_of stand line).1.book (line_played index_of stand line).1.watchers
   line-in-time stand Pass are = are
-  line-in-time stand (Ask (request.Query question)) are =
-      let now = comes_of index_of stand.book (request_asks (request.Query question)) in
-      on-keeps now.1 stand.book now.1 stand.watchers (keep-all stand.book now.1 (comes-keeps stand.book (request_asks (request.Query question))) stand.watchers are)
-  line-in-time stand (Ask (request.Turn given epoch nonce)) are =
-      let now = comes_of index_of stand.book (request_asks (request.Turn given epoch nonce)) in
-      on-keeps now.1 stand.book now.1 stand.watchers (keep-all stand.book now.1 (comes-keeps stand.book (request_asks (request.Turn given epoch nonce))) stand.watchers are)
   line-in-time stand (Ask (request.Put verb name key)) are = by (refusal index_of stand.book (Edit (Put verb name key))) (keep-all stand.book (step index_of stand.book (Edit (Put verb name key))).1 (step-keeps stand.book (Edit (Put verb name key))) stand.watchers are)
     where
       by : (why : Option Refusal) → AreInTime (unless_refused why stand.book (Edit (Put verb name key))).1 stand.watchers
@@ -134,6 +128,9 @@ module _ (index_of : List ℕ → List ℕ) where
           let after : Book = (done stand.book (Edit (Put verb name key))).1 in
           handed-in-time after name key stand.book.last.epoch refl (ap is_some (at_put_same name _ stand.book.pending)) (watch_on index_of stand.book after stand.watchers).1
           (on-keeps after stand.book after stand.watchers kept)
+  line-in-time stand (Ask requested) are =
+      let now = comes_of index_of stand.book (request_asks requested) in
+      on-keeps now.1 stand.book now.1 stand.watchers (keep-all stand.book now.1 (comes-keeps stand.book (request_asks requested)) stand.watchers are)
   line-in-time stand (Watching name start) are =
       both (λ (watcher : Watcher). AllByRecursion (IsInTime stand.book watcher.name) watcher.watch.changes) stand.watchers ((through index_of (watcher_of stand.book name start) (stand.book.last ∷ [])).1 ∷ []) are
       (through-keeps stand.book (stand.book.last ∷ []) (watcher_of stand.book name start) tt, tt)

@@ -1,12 +1,12 @@
 -- What a line that asks does to a script.
-use Rattle.std.proofs.Common.{◌≡◌, ℕ, Global, ◌<◌, List, [], ◌∷◌, ◌++◌, length, Bool, true, false, cond, Some, Ok, Err, refl, sym, ap, subst, ◌∙◌, inl, inr, arith, append_assoc, append-nil}
+use Rattle.std.proofs.Common.{◌≡◌, ℕ, Global, ◌<◌, List, [], ◌∷◌, ◌++◌, length, Bool, true, false, cond, Some, Ok, refl, sym, ap, subst, ◌∙◌, inl, inr, arith, append_assoc, append-nil}
 use Rattle.std.specs.Prelude.{nat_lt, Vec}
 use Rattle.std.specs.List.{AllZip}
 use Rattle.std.proofs.lemmas.Bool.{lt-ltb}
 use Rattle.rand_core.specs.Stream.{Stream}
 use Rattle.rootchain.specs.declared.signed_root.SignedRoot.{SignedRoot}
 use Rattle.commands.specs.declared.edit.Verb.{Verb}
-use Rattle.commands.specs.Operations.{Operation, Edit, Query}
+use Rattle.commands.specs.Operations.{Operation, Edit}
 use Rattle.commands.specs.Operations as asks
 use Rattle.wire.specs.Requests.{RequestContent}
 use Rattle.wire.specs.Requests as request
@@ -188,14 +188,12 @@ module _ {R : Type 0} (digest_of : List ℕ → List ℕ) (value_of signature_of
           where
             by : (r : RequestContent) → command token r ≡ Some a.asked → (said : Numbered) → Comes (P before) (B before) (B asked) a.asked a.said said
                 → (ws : List Watcher) → after_promise r stand.book.last.epoch said ws ≡ ws
-            by (request.Query question) is said comes ws = refl
-            by (request.Turn given epoch _) is said comes ws = refl
-            by (request.Put verb name key) is (Err code) comes ws = refl
             by (request.Put verb name key) is (Ok answer) comes ws =
                 let put : a.asked ≡ Edit (asks.Put verb name key) = let e : Some (Edit (asks.Put verb name key)) ≡ Some a.asked = is in cc in
                 let does = subst (λ (o : Operation). Does (B before) o answer (B asked)) put comes.0 in
                 let same_pages : pages (B asked) ≡ pages stand.book = ap (λ (b : Book). pages b) does.1 ∙ ap (λ (b : Book). pages b) are.hub.book in
                 absurd (omega (arith, more, ap length same_pages))
+            by _ is said comes ws = refl
 
         -- ---- the line
 
@@ -287,6 +285,5 @@ module _ {R : Type 0} (digest_of : List ℕ → List ℕ) (value_of signature_of
       by : (r : RequestContent) → ((verb : Verb) (name key : List ℕ) → r ≡ request.Put verb name key → ⊥)
           → AllZip (IsWatcher before.key (roots by_provider (book before)) (book asked)) now.monitors
           (after_promise r (book before).last.epoch (comes_of (index_of by_provider) (book before) (request_asks requested)).0 watchers)
-      by (request.Query question) none = still
-      by (request.Turn given epoch _) none = still
       by (request.Put verb name key) none = absurd (none verb name key refl)
+      by _ none = still

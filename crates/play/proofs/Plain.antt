@@ -269,9 +269,7 @@ module _ (index_of : List ℕ → List ℕ) (after : Book) (P Q : List ℕ → T
 
   promised-named : (requested : RequestContent) (epoch : ℕ) (said : Numbered) (watchers : List Watcher) → AreNamed watchers → AreNamed (after_promise requested epoch said watchers)
   promised-named (request.Put verb name key) epoch (Ok answer) watchers named = handed-named name epoch key watchers named
-  promised-named (request.Put verb name key) epoch (Err code) watchers named = named
-  promised-named (request.Query question) epoch said watchers named = named
-  promised-named (request.Turn given epoch_asked _) epoch said watchers named = named
+  promised-named _ epoch said watchers named = named
 
   of-session : (session : ℕ) (texts : List (List ℕ)) → AllByRecursion Q (map (of_session session) texts)
   of-session session [] = tt

@@ -9,7 +9,7 @@ use Rattle.proofs.specs.Reading.{read_reply}
 use Rattle.proofs.specs.Refusals.{ReadsReply}
 use Rattle.proofs.specs.Replies.{Reply, reply_bytes, IsReply}
 use Rattle.proofs.proofs.Replies.{reply_field}
-use Rattle.wire.specs.declared.kind_bytes.TheConstants.{PROOF, REFUSED}
+use Rattle.wire.specs.declared.response.TheConstants.{PROOF, REFUSED}
 use Rattle.wire.specs.Tables.{Content, Of, spelling, kind_among, parts_message, Allowed}
 use Rattle.wire.specs.Laws.{ResponsesAreOne, ResponsesHaveKinds}
 use Rattle.wire.specs.Responses.{ResponseContent, Promise, Proof, Roots, Root, Refused, ResponseKind, response_kind, PromiseKind, ProofKind, RootsKind, RootKind, RefusedKind, response_kinds, response_parts, response_row, Responds, IsResponseKind}

@@ -1,12 +1,12 @@
 -- What is asked of a directory, and how it is spelled in a frame (the bytes are this directory's own).
-use Rattle.std.specs.Prelude.{◌≡◌, ℕ, List, [], ◌∷◌, Option, None, Some, Result, Ok, Err}
+use Rattle.std.specs.Prelude.{◌≡◌, ℕ, List, [], ◌∷◌, map, Option, None, Some, Result, Ok, Err}
 use Rattle.encoding.specs.Fields.{Spells}
 use Rattle.commands.specs.declared.edit.Verb.{Verb}
 use Rattle.commands.specs.declared.edit.Verb.TheVariants.{Register, Change}
 use Rattle.commands.specs.Operations.{Question, Promise, Lookup, History, Head, question}
 use Rattle.wire.specs.Tables.{KindRow, MessageParts, Of, Nothing, Number, Bytes, Text, Both, kind_among, parts_frame, read_by, IsCounted, MayHave}
 use Rattle.wire.specs.Frames.{Frame}
-use Rattle.wire.specs.declared.kind_bytes.TheConstants.{REGISTER, CHANGE, PROMISE, LOOKUP, HISTORY, HEAD, CLOSE, ROTATE}
+use Rattle.wire.specs.declared.request.TheConstants.{REGISTER, CHANGE, PROMISE, LOOKUP, HISTORY, HEAD, CLOSE, ROTATE}
 use Rattle.wire.specs.declared.request.Request.{Request}
 use Rattle.wire.specs.declared.request.Request.TheVariants as request
 use Rattle.wire.specs.declared.message_refusals.ReadRefusal.{ReadRefusal}
@@ -51,6 +51,11 @@ request_row RotateKind = record { byte = ROTATE; form = Both (Bytes 32) (Both (N
 
 abbrev pub request_kinds : List RequestKind
 request_kinds = PutKind Register ∷ PutKind Change ∷ PromiseKind ∷ LookupKind ∷ HistoryKind ∷ HeadKind ∷ TurnKind ∷ RotateKind ∷ []
+
+-- Each kind has this byte.
+abbrev pub ReadKinds : Type 0
+ReadKinds = map {B = RequestKind × ℕ} (λ kind. (kind, (request_row kind).byte)) request_kinds
+    ≡ (PutKind Register, 1) ∷ (PutKind Change, 2) ∷ (PromiseKind, 3) ∷ (LookupKind, 4) ∷ (HistoryKind, 5) ∷ (HeadKind, 6) ∷ (TurnKind, 7) ∷ (RotateKind, 8) ∷ []
 
 -- the kind of a request, with what its body holds
 abbrev pub request_parts : RequestContent → MessageParts request_row

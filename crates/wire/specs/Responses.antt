@@ -10,7 +10,7 @@ use Rattle.wire.specs.Tables.{KindRow, MessageParts, Of, parts_frame, IsCounted,
 use Rattle.wire.specs.Frames.{Frame}
 use Rattle.wire.specs.declared.answer.Answer.{Answer}
 use Rattle.wire.specs.declared.answer.Answer.TheVariants as answer
-use Rattle.wire.specs.declared.kind_bytes.TheConstants.{PROMISED, PROOF, ROOTS, ROOT, REFUSED}
+use Rattle.wire.specs.declared.response.TheConstants.{PROMISED, PROOF, ROOTS, ROOT, REFUSED}
 use Rattle.wire.specs.declared.message_refusals.ReadRefusal.{ReadRefusal}
 use Rattle.wire.specs.declared.message_refusals.ReadRefusal.TheVariants.{BadKind, BadBody}
 use Rattle.wire.specs.declared.response.Response.{Response}

@@ -9,7 +9,7 @@ ghost use Rattle.wire.specs.Responses.{answer_frame, response_frame, HasFewRoots
 ghost use Rattle.wire.specs.declared.answer.TheConstants.{MAX_ANSWER_LEN};
 ghost use Rattle.encoding.specs.declared.fixed_text.TheConstants.{PROOF_TEXT_ROOM};
 
-use crate::kind_bytes::{PROMISED, PROOF, REFUSED, ROOT, ROOTS};
+use crate::response::{PROMISED, PROOF, REFUSED, ROOT, ROOTS};
 use crate::writing::{append_frame, begin_frame, length_bytes};
 use encoding::ProofText;
 use rootchain::{SignedPromise, SignedRoot, list_len, write_list};

@@ -19,7 +19,6 @@
 mod answer;
 mod feed;
 mod frame;
-mod kind_bytes;
 mod laws;
 mod message_refusals;
 mod request;
@@ -36,5 +35,5 @@ pub use laws::{
 };
 pub use message_refusals::{FeedRefusal, ReadRefusal};
 pub use request::Request;
-pub use response::Response;
+pub use response::{PROMISED, PROOF, Response};
 pub use writing::{begin_proof, end_proof};

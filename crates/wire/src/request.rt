@@ -7,7 +7,6 @@ ghost use Rattle.wire.specs.declared.frame.TheConstants.{MAX_FRAME_LEN};
 
 use crate::ReadRefusal;
 use crate::frame::MAX_FRAME_LEN;
-use crate::kind_bytes::{CHANGE, CLOSE, HEAD, HISTORY, LOOKUP, PROMISE, REGISTER, ROTATE};
 use crate::writing::{append_frame, length_bytes};
 use commands::{Put, Query, Verb};
 use encoding::{Cursor, FixedText, Hash32};
@@ -15,6 +14,23 @@ use std::alloc::AllocError;
 
 /// The most bytes that stand behind a length in two bytes.
 const MAX_COUNTED_LEN: usize = 65535;
+
+/// The kind bytes of requests.
+const REGISTER: u8 = 1;
+
+const CHANGE: u8 = 2;
+
+const PROMISE: u8 = 3;
+
+const LOOKUP: u8 = 4;
+
+const HISTORY: u8 = 5;
+
+const HEAD: u8 = 6;
+
+const CLOSE: u8 = 7;
+
+const ROTATE: u8 = 8;
 
 /// What a session asks of a directory: a command, where a new page has the operator's token beside it.
 #[derive(Debug, Drop)]

@@ -2,9 +2,21 @@ ghost use Rattle.std.specs.Prelude.{◌≡◌, ◌≢◌, ℕ, ◌∷◌, [], Ma
 ghost use Rattle.wire.specs.Responses.{ReadsResponse};
 
 use crate::ReadRefusal;
-use crate::kind_bytes::{PROMISED, PROOF, REFUSED, ROOT, ROOTS};
 use proofs::ReplyView;
 use rootchain::{RootList, SignedPromise, SignedRoot};
+
+/// The kind byte of a promise.
+pub const PROMISED: u8 = 129;
+
+/// The kind byte of a reply to a look-up.
+pub const PROOF: u8 = 130;
+
+/// The kind bytes of the other responses.
+pub(crate) const ROOTS: u8 = 131;
+
+pub(crate) const ROOT: u8 = 132;
+
+pub(crate) const REFUSED: u8 = 255;
 
 /// What a directory responds, read from the body of a frame.
 #[derive(Drop)]

@@ -5,7 +5,7 @@ ghost use Rattle.wire.specs.Frames.{frame_bytes, frame_head};
 ghost use Rattle.wire.specs.Responses.{proof_frame};
 ghost use Rattle.wire.specs.declared.frame.TheConstants.{MAX_FRAME_LEN};
 
-use crate::kind_bytes::PROOF;
+use crate::response::PROOF;
 use byteorder::{BigEndian, ByteOrder};
 use std::alloc::AllocError;
 

@@ -20,7 +20,7 @@ ghost use Rattle.play.specs.Scripts.{ask_seen, RequestFits};
 ghost use Rattle.play.specs.Watchers.{Watcher};
 
 use super::handing::hand_all;
-use super::reading::{PROMISED, PROOF, read_response, tell_promise};
+use super::reading::{read_response, tell_promise};
 use super::wanting::happen;
 use super::{ASKING, Engine};
 use crate::ask::Ask;
@@ -36,8 +36,8 @@ use sigiface::Signer;
 use std::alloc::AllocError;
 use vrfiface::Vuf;
 use wire::{
-    FrameView, Front, Response, body_spells_one_request, frames_are_read, front_of,
-    messages_are_computed,
+    FrameView, Front, PROMISED, PROOF, Response, body_spells_one_request, frames_are_read,
+    front_of, messages_are_computed,
 };
 
 /// The frame that the bytes are.

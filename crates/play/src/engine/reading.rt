@@ -6,18 +6,14 @@ ghost use Rattle.encoding.specs.Reading.{read_behind, read_number, Gives};
 ghost use Rattle.rootchain.specs.Promises.{promise_head, SpellsPromise};
 ghost use Rattle.rootchain.specs.declared.signed_promise.SignedPromise.{SignedPromise as Signed};
 ghost use Rattle.wire.specs.Responses.{ReadsResponse};
+ghost use Rattle.wire.specs.declared.response.TheConstants.{PROMISED, PROOF};
 
 use crate::telling::push_number;
 use encoding::{Cursor, Fault};
 use proofs::ReplyView;
 use rootchain::SignedPromise;
 use std::alloc::AllocError;
-use wire::{ReadRefusal, Response};
-
-/// The kind bytes of promises and of proofs.
-pub(super) const PROMISED: u8 = 129;
-
-pub(super) const PROOF: u8 = 130;
+use wire::{PROMISED, PROOF, ReadRefusal, Response};
 
 /// The first bytes of a promise.
 const PROMISE_HEAD: [u8; 2] = [0x50, 1];
@@ -34,7 +30,7 @@ pub(super) fn read_response<'a>(kind: u8, body: &'a [u8]) -> Result<Response<'a>
 }
 
 fn read_promise<'a>(body: &'a [u8]) -> Result<Response<'a>, ReadRefusal>
-    ensures { ReadsResponse 129 body.entry.now result }
+    ensures { ReadsResponse PROMISED body.entry.now result }
 {
     match SignedPromise::read(body) {
         Ok(promise) => Ok(Response::Promise(promise)),
@@ -43,7 +39,7 @@ fn read_promise<'a>(body: &'a [u8]) -> Result<Response<'a>, ReadRefusal>
 }
 
 fn read_proof<'a>(body: &'a [u8]) -> Result<Response<'a>, ReadRefusal>
-    ensures { ReadsResponse 130 body.entry.now result }
+    ensures { ReadsResponse PROOF body.entry.now result }
 {
     match ReplyView::read(body) {
         Ok(proof) => Ok(Response::Proof(proof)),

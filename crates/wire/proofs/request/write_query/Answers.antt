@@ -1,7 +1,7 @@
 use Rattle.std.proofs.Common.{arith, rules, ◌≡◌, ◌++◌, List, [], ℕ, OnOk, subst}
 use Rattle.encoding.specs.Endian.{big_bytes}
 use Rattle.encoding.specs.Forms.{counted_bytes}
-use Rattle.wire.specs.declared.kind_bytes.TheConstants.{LOOKUP, HISTORY}
+use Rattle.wire.specs.declared.request.TheConstants.{LOOKUP, HISTORY}
 use Rattle.wire.specs.Frames.{frame_bytes}
 use Rattle.commands.specs.Operations.{question}
 use Rattle.wire.specs.Requests.{Query}

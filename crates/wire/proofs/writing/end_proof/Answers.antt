@@ -1,7 +1,7 @@
 use Rattle.std.proofs.Common.{◌≡◌, ℕ, ◌+◌, ◌-◌, List, length, take, drop, ◌++◌, refl, ap, ap₂, ◌∙◌, length-append, arith}
 use Rattle.byteorder.specs.Endian.{big_bytes}
 use Rattle.wire.specs.Frames.{frame_head}
-use Rattle.wire.specs.declared.kind_bytes.TheConstants.{PROOF}
+use Rattle.wire.specs.declared.response.TheConstants.{PROOF}
 use Rattle.wire.proofs.Ended.{front-stays, body-stays}
 use Rattle.wire.proofs.writing.end_proof.Goals as goal
 

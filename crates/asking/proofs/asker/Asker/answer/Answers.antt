@@ -8,7 +8,7 @@ use Rattle.asking.proofs.asker.Asker.answer.Goals.{in-Put, in_default}
 
 pub returns-clause-hands : goal.returns-clause-hands
 returns-clause-hands g c =
-    let put : IsPut (ask_seen c.args.ask.now) = elim c.match-matches.branch [ in-Put w ↦ search rules | in_default w ↦ absurd (search rules) ] in
+    let put : IsPut (ask_seen c.args.ask.now) = elim c.match-matches.branch [ in-Put w ↦ (w.in-Put.verb, w.in-Put.name.items, w.in-Put.key.items, ap ask_seen w.in-Put.is) | in_default w ↦ absurd (search rules) ] in
     let low : length c.promises-kept.result.now < length c.promises.result.now = omega (arith, c.if-promises-kept.false) in
     let over = subst (λ (all : List SignedPromise). length c.promises-kept.result.now < length all) c.promises.ensures.value low in
     let more = subst (λ (all : List SignedPromise). length all < length c.hear.new.client.promises) c.promises-kept.ensures.value over in
@@ -18,7 +18,7 @@ returns-clause-hands g c =
 
 pub returns-clause-notes : goal.returns-clause-notes
 returns-clause-notes g c =
-    let put : IsPut (ask_seen c.args.ask.now) = elim c.match-matches.branch [ in-Put w ↦ search rules | in_default w ↦ absurd (search rules) ] in
+    let put : IsPut (ask_seen c.args.ask.now) = elim c.match-matches.branch [ in-Put w ↦ (w.in-Put.verb, w.in-Put.name.items, w.in-Put.key.items, ap ask_seen w.in-Put.is) | in_default w ↦ absurd (search rules) ] in
     let low : length c.promises-kept.result.now < length c.promises.result.now = omega (arith, c.if-promises-kept.false) in
     let over = subst (λ (all : List SignedPromise). length c.promises-kept.result.now < length all) c.promises.ensures.value low in
     let more = subst (λ (all : List SignedPromise). length all < length c.hear.new.client.promises) c.promises-kept.ensures.value over in
