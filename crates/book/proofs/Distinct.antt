@@ -1,5 +1,5 @@
 -- No two names of a page have one index, since a register is refused where another name has its index.
-use Rattle.std.proofs.Common.{◌≡◌, ℕ, List, [], ◌∷◌, Option, Some, None, Bool, true, false, cond, not, ◌&&◌, Contains, IsSome, refl, sym, ap, subst, inl, inr, ◌⊎◌, ◌∙◌}
+use Rattle.std.proofs.Common.{◌≡◌, ℕ, List, [], ◌∷◌, Option, Some, None, Bool, true, false, cond, not, ◌&&◌, Contains, refl, sym, ap, subst, inl, inr, ◌⊎◌, ◌∙◌}
 use Rattle.std.specs.Prelude.{is_some, is_none}
 use Rattle.std.specs.BTreeMap.{is_at}
 use Rattle.std.specs.List.{AllByRecursion, find}
@@ -23,13 +23,6 @@ use Rattle.encoding.specs.Bytes.{bytes_cmp}
 -- the map has the name
 abbrev pub HasName : Map Binding → List ℕ → Type 0
 HasName map name = (binding : Binding) × (at map name ≡ Some binding)
-
-pub some-named : (map : Map Binding) (name : List ℕ) → IsSome (at map name) → HasName map name
-some-named map name some = by (at map name) refl some
-  where
-    by : (found : Option Binding) → at map name ≡ found → IsSome found → HasName map name
-    by None is has = absurd cc
-    by (Some binding) is has = (binding, is)
 
 pub named-or-not : (map : Map Binding) (name : List ℕ) → HasName map name ⊎ (at map name ≡ None)
 named-or-not map name = by (at map name) refl
@@ -77,7 +70,7 @@ module _ (provider : Provider) where
   AreApart Has = (one other : List ℕ) → Has one → Has other → index_of provider one ≡ index_of provider other → one ≡ other
 
   -- of the last page, or waiting
-  abbrev pub Holds : Book → List ℕ → Type 0
+  abbrev Holds : Book → List ℕ → Type 0
   Holds book name = HasName book.last.bindings name ⊎ HasName book.pending name
 
   pub record IsApart (book : Book) : Type 0 where
@@ -129,20 +122,19 @@ module _ (provider : Provider) where
       now : AreApart (Holds (with_page book (next_page book epoch nonce)))
       now one other a b same = page one other (shown one a) (shown other b) same
 
-  there : (found : Option Binding) → is_none found ≡ false → (binding : Binding) × (found ≡ Some binding)
-  there None e = absurd cc
-  there (Some binding) e = (binding, refl)
-
-  -- a put that is not refused is of a name that alone has its index
-  pub free : (book : Book) (name : List ℕ) (verb : Verb) → AreApart (Holds book) → (bad_verb verb (at book.last.bindings name)).0 ≡ false → (bad_index (index_of provider) verb book name).0 ≡ false
-      → (other : List ℕ) → Holds book other → index_of provider other ≡ index_of provider name → other ≡ name
-  free book name Register now new none other (inl last) same = untaken name book.last.bindings (or_parts _ (has_its_index (index_of provider) name book.pending) none).0 other last same
-  free book name Register now new none other (inr waits) same = untaken name book.pending (or_parts (has_its_index (index_of provider) name book.last.bindings) _ none).1 other waits same
-  free book name Change now shown none other held same = now other name held (inl (there (at book.last.bindings name) shown)) same
-
   pub apart-after : (book after : Book) (asked : Operation) (answer : Answer) → IsApart book → refusal (index_of provider) book asked ≡ None → Does book asked answer after → IsApart after
   apart-after book after (Query question) answer apart none does = subst IsApart (sym does.1) apart
   apart-after book after (Edit (Put verb name key)) answer apart none does =
       let has = put_passed (index_of provider) book verb name key none in
-      subst IsApart (sym does.1) (apart-pending book name key apart (free book name verb apart.now has.page has.index))
+      subst IsApart (sym does.1) (apart-pending book name key apart (free verb has.page has.index))
+    where
+      there : (found : Option Binding) → is_none found ≡ false → (binding : Binding) × (found ≡ Some binding)
+      there None e = absurd cc
+      there (Some binding) e = (binding, refl)
+
+      free : (verb : Verb) → (bad_verb verb (at book.last.bindings name)).0 ≡ false → (bad_index (index_of provider) verb book name).0 ≡ false
+          → (other : List ℕ) → Holds book other → index_of provider other ≡ index_of provider name → other ≡ name
+      free Register new none other (inl last) same = untaken name book.last.bindings (or_parts _ (has_its_index (index_of provider) name book.pending) none).0 other last same
+      free Register new none other (inr waits) same = untaken name book.pending (or_parts (has_its_index (index_of provider) name book.last.bindings) _ none).1 other waits same
+      free Change shown none other held same = apart.now other name held (inl (there (at book.last.bindings name) shown)) same
   apart-after book after (Edit (Turn epoch nonce)) answer apart none does = subst IsApart (sym does.1) (apart-page book epoch nonce apart)

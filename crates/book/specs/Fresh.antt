@@ -1,6 +1,6 @@
 -- A book as a directory begins it, and what is handed in: the provider's functions keep their laws, salts
 -- have their size, and the first epoch fits in its bytes.
-use Rattle.std.specs.Prelude.{ℕ, zero, suc, ◌<◌, ◌^◌, List, []}
+use Rattle.std.specs.Prelude.{ℕ, ◌<◌, ◌^◌, List, []}
 use Rattle.encoding.specs.Bytes.{Is32Bytes}
 use Rattle.encoding.specs.Limits.{IsName, IsSmall}
 use Rattle.rand_core.specs.Stream.{Stream, fill_bytes}
@@ -16,15 +16,6 @@ fresh epoch nonce salts = record {
   salt = (fill_bytes 32 salts).0;
   left = (fill_bytes 32 salts).1;
 }
-
--- the stream that is left after so many salts
-abbrev pub after_salts : ℕ → Stream → Stream
-after_salts zero salts = salts
-after_salts (suc count) salts = after_salts count (fill_bytes 32 salts).1
-
--- each salt to come has its size
-abbrev pub GivesSalts : Stream → Type 0
-GivesSalts salts = (count : ℕ) → Is32Bytes (fill_bytes 32 (after_salts count salts)).0
 
 -- the epoch is at least 1 and fits in eight bytes
 abbrev pub IsEpoch : ℕ → Type 0
