@@ -1,5 +1,5 @@
 -- A sound book stays sound along a run, where each salt to come has 32 bytes.
-use Rattle.std.proofs.Common.{◌≡◌, ℕ, suc, List, [], Bool, true, false, Option, Some, None, All, Contains, IsSome, refl, sym, ap, subst, inl, inr, ◌⊎◌, ◌∙◌}
+use Rattle.std.proofs.Common.{◌≡◌, ℕ, suc, List, [], Bool, true, false, Option, Some, None, All, IsSome, refl, sym, ap, subst, inl, inr, ◌⊎◌, ◌∙◌}
 use Rattle.std.specs.Prelude.{is_some, nat_le}
 use Rattle.std.specs.BTreeMap.{is_at}
 use Rattle.encoding.specs.Bytes.{bytes_cmp}

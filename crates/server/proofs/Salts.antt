@@ -1,9 +1,9 @@
 -- What a generator of 32-bit words fills has its size, so each of its salts has 32 bytes.
-use Rattle.std.proofs.Common.{◌≡◌, ◌<◌, ◌*◌, ℕ, zero, suc, List, [], ◌∷◌, ◌++◌, length, take, refl, sym, ap, subst, ◌∙◌, arith}
+use Rattle.std.proofs.Common.{◌≡◌, ◌<◌, ◌*◌, ℕ, zero, suc, List, length, refl, sym, ap, subst, arith}
 use Rattle.std.specs.Int.{w32, byte_at, bytes_low_first, to_le_bytes}
 use Rattle.std.proofs.lemmas.List.{length-append, length-take-le}
 use Rattle.rand_core.specs.Stream.{Stream, fill_bytes}
-use Rattle.rand_core.specs.Steps.{Steps, fill_via_u32, steps_u32, stream_of, word_bytes}
+use Rattle.rand_core.specs.Steps.{fill_via_u32, steps_u32, stream_of, word_bytes}
 use Rattle.rand_core.proofs.StepsLemmas.{fill_bytes-stream_of}
 use Rattle.encoding.specs.Bytes.{HasBytes, Is32Bytes, IsBytes}
 use Rattle.encoding.proofs.ByteLists.{IsBytes-append, IsBytes-cons, IsBytes-take}
