@@ -21,6 +21,7 @@ pub mod Sealing
 pub mod Settled
 pub mod Sizes
 pub mod Soundness
+pub mod SoundRuns
 pub mod Stepping
 pub mod Stretches
 pub mod Turning

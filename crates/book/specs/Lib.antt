@@ -7,6 +7,7 @@ pub mod Maps
 pub mod Refusals
 pub mod Replays
 pub mod Salted
+pub mod Salts
 pub mod Replies
 pub mod Shows
 pub mod Sound

@@ -1,4 +1,4 @@
-ghost use Rattle.std.specs.Prelude.{◌≡◌, ℕ, ◌<◌, List, [], ◌∷◌, ◌++◌, length, map, All, AllPairs, Bool, Option, unwrap_or};
+ghost use Rattle.std.specs.Prelude.{◌≡◌, ◌⊎◌, ℕ, ◌<◌, List, [], ◌∷◌, ◌++◌, length, map, All, AllPairs, Bool, Option, unwrap_or};
 ghost use Rattle.std.specs.List.{AllZip};
 ghost use Rattle.encoding.specs.Bytes.{Is32Bytes};
 ghost use Rattle.rand_core.specs.Stream.{fill_bytes, Stream};
@@ -7,11 +7,12 @@ ghost use Rattle.commands.specs.Operations.{Operation, Edit, IsCommand, Turn};
 ghost use Rattle.rootchain.specs.declared.body.Body.{Body};
 ghost use Rattle.book.specs.Books.{Book, Page, pages};
 ghost use Rattle.book.specs.Folds.{Fate, TellsOutcome, steps_under_fates};
-ghost use Rattle.book.specs.Fresh.{KeepsLaws};
+ghost use Rattle.book.specs.Fresh.{fresh, IsEpoch, KeepsLaws};
 ghost use Rattle.book.specs.Honest.{IsHonestRun};
 ghost use Rattle.book.specs.Keeps.{fails_next, keeps_next};
 ghost use Rattle.book.specs.Maps.{at, overwritten};
 ghost use Rattle.book.specs.Salted.{salted};
+ghost use Rattle.book.specs.Salts.{GivesSalts};
 ghost use Rattle.book.specs.Replies.{reply_content, FailAlike};
 ghost use Rattle.book.specs.Shows.{index_of, IsReplyOf, Provider};
 ghost use Rattle.book.specs.Sound.{IsSound};
@@ -25,14 +26,29 @@ use vrfiface::VufCheck;
 /// Whatever is asked of a directory, and whatever is kept of it: the users of an honest provider see
 /// one chain of roots, accept each reply with what the pages have, and have each promise kept. Only
 /// the reply to a look-up that meets another name with its index is not accepted: checking refuses it
-/// for just that.
+/// for just that. Each salt to come has 32 bytes; or the book after the run is known to be sound, as
+/// that of a directory is.
 pub fn honest<V: VufCheck, S: Verifier, K: Keeper>()
     ensures { (provider : Provider) (key : List ℕ) (book after : Book) (keeper keeper_after : K) (commands : List Operation) (replies : List Reply)
         → KeepsLaws V.accepted S.verified key provider
-        → IsSound (index_of provider) book → IsSound (index_of provider) after
+        → IsSound (index_of provider) book
+        → GivesSalts book.left ⊎ IsSound (index_of provider) after
         → All IsCommand commands
         → Run provider K.kept K.failed book keeper commands replies after keeper_after
         → IsHonestRun provider V.accepted S.verified key book after commands replies }
+{}
+
+/// A book begins sound, and is sound after each run from a sound book, whatever is asked and kept, if
+/// each salt to come has 32 bytes. Those that are then left do too.
+pub fn soundness_stays<K: Keeper>()
+    ensures fresh { (index_of : List ℕ → List ℕ) (epoch : ℕ) (nonce : List ℕ) (salts : Stream)
+        → IsEpoch epoch → Is32Bytes nonce → GivesSalts salts
+        → IsSound index_of (fresh epoch nonce salts) × GivesSalts (fresh epoch nonce salts).left }
+    ensures runs { (provider : Provider) (book after : Book) (keeper keeper_after : K) (commands : List Operation) (replies : List Reply)
+        → IsSound (index_of provider) book → GivesSalts book.left
+        → All IsCommand commands
+        → Run provider K.kept K.failed book keeper commands replies after keeper_after
+        → IsSound (index_of provider) after × GivesSalts after.left }
 {}
 
 /// A run with any keeper is one with a list that says of each record whether it was kept.

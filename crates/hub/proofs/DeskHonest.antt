@@ -1,5 +1,5 @@
 -- What the users of a whole list of messages see at the desk of an honest provider.
-use Rattle.std.proofs.Common.{◌≡◌, ℕ, List, [], ◌∷◌, Bool, true, false, cond, Option, Some, None, All, sym, subst, inl, inr, arith}
+use Rattle.std.proofs.Common.{◌≡◌, ℕ, List, [], ◌∷◌, Bool, true, false, cond, Option, Some, None, All, sym, subst, inl, inr, ◌⊎◌, arith}
 use Rattle.std.proofs.lemmas.List.Elements.{All-cons, All-nil}
 use Rattle.std.specs.Str.{bytes_eq}
 use Rattle.rand_core.specs.Stream.{Stream}
@@ -7,9 +7,12 @@ use Rattle.book.specs.declared.record.Record.{Record}
 use Rattle.book.specs.declared.reply.Reply.{Reply}
 use Rattle.encoding.specs.Bytes.{IsBytes}
 use Rattle.commands.specs.Operations.{Operation, Question, Query, Edit, Put, Turn, Promise, Lookup, History, Head, IsAny, IsCommand, MayRead}
+use Rattle.book.specs.Fresh.{KeepsLaws}
+use Rattle.book.specs.Salts.{GivesSalts}
 use Rattle.book.specs.Shows.{Provider, index_of}
 use Rattle.book.specs.Sound.{IsSound}
 use Rattle.book.proofs.Honesty.{honest}
+use Rattle.book.proofs.SoundRuns.{run-sound}
 use Rattle.epochs.specs.DirectoryStates.{book, provider}
 use Rattle.epochs.proofs.Running.{same_provider}
 use Rattle.wire.specs.Requests as request
@@ -52,6 +55,24 @@ commands_are token (line ∷ more) commands replies (inr (asked, told, later, ot
 
 module _ {R K : Type 0} (digest_of : List ℕ → List ℕ) (value_of signature_of : List ℕ → List ℕ → List ℕ) (stream : R → Stream) (kept failed : K → Record → K → Type 0)
     (accepted verified : List ℕ → List ℕ → List ℕ → Type 0) where
+  -- the desk after is sound: it is known, or each salt to come has its size
+  pub desk_stays_sound : (before : DeskState R K) (lines : List Line) (after : DeskState R K)
+      → IsSoundDesk digest_of value_of signature_of stream accepted verified before
+      → GivesSalts (stream before.directory.salts) ⊎ IsSoundDesk digest_of value_of signature_of stream accepted verified after
+      → AllAnswered (DeskAnswers digest_of value_of signature_of stream kept failed) before lines after
+      → IsSoundDesk digest_of value_of signature_of stream accepted verified after
+  desk_stays_sound before lines after well (inr known) answered = known
+  desk_stays_sound before lines after well (inl salts) answered =
+      let (commands, replies, shown, run, keys, token) = lines_show_run digest_of value_of signature_of stream kept failed before lines after answered in
+      let by : Provider = provider digest_of value_of signature_of before.directory in
+      let same : by ≡ provider digest_of value_of signature_of after.directory = sym (same_provider digest_of value_of signature_of stream kept failed before.directory after.directory keys) in
+      let are : All IsCommand commands = commands_are before.token lines commands replies shown in
+      let stays = run-sound by kept failed commands replies (book stream before.directory) (book stream after.directory) before.keeper after.keeper well.sound salts are run in
+      record {
+        sound = subst (λ (p : Provider). IsSound (index_of p) (book stream after.directory)) same stays.sound;
+        laws = subst (λ (p : Provider). KeepsLaws accepted verified after.directory.signing_key p) same (subst (λ (key : List ℕ). KeepsLaws accepted verified key by) (sym keys.1) well.laws);
+      }
+
   pub lines_show_honest_run : (before : DeskState R K) (lines : List Line) (after : DeskState R K)
       → IsSoundDesk digest_of value_of signature_of stream accepted verified before → IsSoundDesk digest_of value_of signature_of stream accepted verified after
       → AllAnswered (DeskAnswers digest_of value_of signature_of stream kept failed) before lines after

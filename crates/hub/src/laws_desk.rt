@@ -1,5 +1,6 @@
-ghost use Rattle.std.specs.Prelude.{◌≡◌, ℕ, List};
+ghost use Rattle.std.specs.Prelude.{◌≡◌, ◌⊎◌, ℕ, List};
 ghost use Rattle.std.specs.List.{AllZip};
+ghost use Rattle.book.specs.Salts.{GivesSalts};
 ghost use Rattle.epochs.specs.DirectoryStates.{book};
 ghost use Rattle.hub.specs.DeskRuns.{IsSoundDesk, RefuseAlike, ShowHonestRun};
 ghost use Rattle.hub.specs.Desks.{DeskState, DeskAnswers};
@@ -15,11 +16,12 @@ use vrfiface::Vuf;
 
 /// The messages that a desk answered one after another, of whichever sessions, show a run of its
 /// directory: each reply shows the book as the commands of all messages before it leave it. The users
-/// see of it what those of an honest provider see.
+/// see of it what those of an honest provider see. Each salt to come has 32 bytes; or the desk after
+/// them is known to be sound, as clause `well` of `Hub::head` ensures.
 pub fn replies_are_honest<H: NodeHash, V: Vuf, S: Signer, R: Rng, K: Keeper>()
     ensures { (before after : DeskState R K) (lines : List Line)
         → IsSoundDesk H.digest_of V.value_of S.signature_of R.stream V.accepted S.verified before
-        → IsSoundDesk H.digest_of V.value_of S.signature_of R.stream V.accepted S.verified after
+        → GivesSalts (R.stream before.directory.salts) ⊎ IsSoundDesk H.digest_of V.value_of S.signature_of R.stream V.accepted S.verified after
         → AllAnswered (DeskAnswers H.digest_of V.value_of S.signature_of R.stream K.kept K.failed) before lines after
         → ShowHonestRun H.digest_of V.value_of S.signature_of R.stream K.kept K.failed V.accepted S.verified before lines after }
 {}

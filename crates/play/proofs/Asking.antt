@@ -26,6 +26,7 @@ use Rattle.book.specs.declared.directory_refusal.Refusal.TheVariants.{Memory}
 use Rattle.book.specs.declared.reply.Reply.{Reply}
 use Rattle.book.specs.declared.reply.Reply.TheVariants as reply
 use Rattle.book.specs.Books.{Book}
+use Rattle.book.specs.Salts.{GivesSalts}
 use Rattle.book.specs.Honest.{IsHonestRun}
 use Rattle.book.specs.Keeps.{KeepsNothing, NeverFails}
 use Rattle.book.specs.Shows.{Provider}
@@ -136,7 +137,8 @@ module _ {R : Type 0} (digest_of : List ℕ → List ℕ) (value_of signature_of
   -- the law of a hub whose records nobody keeps
   abbrev pub ShowsHonestRuns : Type 0
   ShowsHonestRuns = (before after : DeskState R NoKeeper) (lines : List Line)
-      → IsSoundDesk digest_of value_of signature_of stream accepted verified before → IsSoundDesk digest_of value_of signature_of stream accepted verified after
+      → IsSoundDesk digest_of value_of signature_of stream accepted verified before
+      → GivesSalts (stream before.directory.salts) ⊎ IsSoundDesk digest_of value_of signature_of stream accepted verified after
       → AllAnswered (DeskAnswers digest_of value_of signature_of stream KeepsNothing NeverFails) before lines after
       → ShowHonestRun digest_of value_of signature_of stream KeepsNothing NeverFails accepted verified before lines after
 
@@ -212,5 +214,5 @@ module _ {R : Type 0} (digest_of : List ℕ → List ℕ) (value_of signature_of
   served message one law before after requested asked piece text result ready form is_frame is whole well well_after ok happens others =
       let (answered, sessions) = frame_answered (DeskAnswers digest_of value_of signature_of stream KeepsNothing NeverFails) message before.hub after.hub (request_frame requested) piece text result is_frame ready.idle whole ok happens in
       let asks : Asks (request_frame requested).kind (request_frame requested).body requested = (refl, (refl, form)) in
-      let run = law before.hub.service after.hub.service (one_line requested text ∷ []) well well_after (after.hub.service, answered, refl) in
+      let run = law before.hub.service after.hub.service (one_line requested text ∷ []) well (inr well_after) (after.hub.service, answered, refl) in
       by_shown one before after requested asked text asks is ready well sessions others run.commands run.replies run.shown run.read run.run run.honest run.keys run.token

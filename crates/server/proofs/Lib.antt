@@ -10,5 +10,6 @@ pub mod Opened
 pub mod Ordered
 pub mod Reopened
 pub mod ReplySizes
+pub mod Salts
 pub mod Unkept
 pub mod Waiting

@@ -1,4 +1,6 @@
-ghost use Rattle.std.specs.Prelude.{ℕ, List};
+ghost use Rattle.std.specs.Prelude.{◌⊎◌, ℕ, List};
+ghost use Rattle.rand_chacha.specs.ChaCha.{ChaCha};
+ghost use Rattle.book.specs.Salts.{GivesSalts};
 ghost use Rattle.hub.specs.DeskRuns.{IsSoundDesk, ShowHonestRun};
 ghost use Rattle.hub.specs.Desks.{DeskState, DeskAnswers};
 ghost use Rattle.hub.specs.Exchanges.{Exchange};
@@ -7,6 +9,7 @@ ghost use Rattle.hub.specs.Runs.{Line};
 ghost use Rattle.connections.specs.Histories.{History};
 ghost use Rattle.connections.specs.Laws.{AlwaysWaitWithin};
 ghost use Rattle.connections.specs.Soundness.{IsSoundHistory};
+ghost use Rattle.server.specs.Directories.{salts};
 ghost use Rattle.server.specs.Serving.{all_lines, AllServed};
 ghost use Rattle.server.specs.Sessions.{AlwaysAnswered, AlwaysInOrder, AreLines, HubLeads};
 ghost use Rattle.wire.specs.declared.answer.TheConstants.{MAX_ANSWER_LEN};
@@ -19,11 +22,11 @@ use vrfiface::Vuf;
 
 /// Sessions that are served one after another, each as `serve` ensures, are sessions of one hub: their
 /// messages show one run of its directory. The users behind all of them see of it what those of an honest
-/// provider see.
+/// provider see. Each salt to come has 32 bytes; or the desk after them is known to be sound.
 pub fn sessions_show_one_run<H: NodeHash, V: Vuf, S: Signer, G: Rng, K: Keeper>()
     ensures { (before after : DeskState G K) (served : List (ℕ × List Exchange))
         → IsSoundDesk H.digest_of V.value_of S.signature_of G.stream V.accepted S.verified before
-        → IsSoundDesk H.digest_of V.value_of S.signature_of G.stream V.accepted S.verified after
+        → GivesSalts (G.stream before.directory.salts) ⊎ IsSoundDesk H.digest_of V.value_of S.signature_of G.stream V.accepted S.verified after
         → AllServed (DeskAnswers H.digest_of V.value_of S.signature_of G.stream K.kept K.failed) before served after
         → ShowHonestRun H.digest_of V.value_of S.signature_of G.stream K.kept K.failed V.accepted S.verified before (all_lines served) after }
 {}
@@ -32,11 +35,11 @@ pub fn sessions_show_one_run<H: NodeHash, V: Vuf, S: Signer, G: Rng, K: Keeper>(
 /// ensures for any connections, shows one run of its directory, as `Hub::run` does: at each time, each connection
 /// took a beginning of what its session was answered, in order, and that is what the run told this session: the
 /// replies to the messages in the bytes that it heard. The users behind all of them see of the run what those of an
-/// honest provider see.
+/// honest provider see. Each salt to come has 32 bytes; or the desk after it is known to be sound.
 pub fn crowds_show_one_run<H: NodeHash, V: Vuf, S: Signer, G: Rng, K: Keeper>()
     ensures { (before after : HubState (DeskState G K)) (idle : ℕ) (acts : History)
         → IsSoundDesk H.digest_of V.value_of S.signature_of G.stream V.accepted S.verified before.service
-        → IsSoundDesk H.digest_of V.value_of S.signature_of G.stream V.accepted S.verified after.service
+        → GivesSalts (G.stream before.service.directory.salts) ⊎ IsSoundDesk H.digest_of V.value_of S.signature_of G.stream V.accepted S.verified after.service
         → HubLeads (DeskAnswers H.digest_of V.value_of S.signature_of G.stream K.kept K.failed) (λ hub. hub) before acts after
         → IsSoundHistory idle acts
         → AlwaysInOrder acts
@@ -50,7 +53,13 @@ pub fn crowds_show_one_run<H: NodeHash, V: Vuf, S: Signer, G: Rng, K: Keeper>()
 pub fn crowd_outputs_are_bounded<H: NodeHash, V: Vuf, S: Signer, G: Rng, K: Keeper>()
     ensures { (before after : HubState (DeskState G K)) (idle : ℕ) (acts : History)
         → IsSoundDesk H.digest_of V.value_of S.signature_of G.stream V.accepted S.verified before.service
-        → IsSoundDesk H.digest_of V.value_of S.signature_of G.stream V.accepted S.verified after.service
+        → GivesSalts (G.stream before.service.directory.salts) ⊎ IsSoundDesk H.digest_of V.value_of S.signature_of G.stream V.accepted S.verified after.service
         → HubLeads (DeskAnswers H.digest_of V.value_of S.signature_of G.stream K.kept K.failed) (λ hub. hub) before acts after
         → IsSoundHistory idle acts → AlwaysWaitWithin MAX_ANSWER_LEN acts }
+{}
+
+/// Each salt of a directory that a server begins has 32 bytes, so that what the laws here, in `hub` and in `book`
+/// need of the salts to come holds of it.
+pub fn salts_have_their_size()
+    ensures { (generator : ChaCha) → GivesSalts (salts generator) }
 {}

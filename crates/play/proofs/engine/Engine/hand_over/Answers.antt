@@ -1,4 +1,4 @@
-use Rattle.std.proofs.Common.{ap, rules}
+use Rattle.std.proofs.Common.{ap, inr, rules}
 use Rattle.play.specs.Parties.{Parties}
 use Rattle.play.proofs.Sessions.{heard}
 use Rattle.play.proofs.engine.Engine.hand_over.Goals as goal
@@ -12,4 +12,4 @@ returns g c =
     heard g.H.NodeHash.digest_of g.V.Vuf.value_of g.S.Signer.signature_of g.R.Rng.stream g.V.VufCheck.accepted g.S.Verifier.verified
     c.args.self.now c.happen.new.self c.happen-2.new.self _ c.args.piece.now c.new-output.result.items c.happen.new.output.items c.happen-2.new.output.items
     (search rules) c.requires.ready.bytes c.new-output.ensures.items first then_comes well well_after
-    (λ lines answered. c.replies_are_honest.ensures _ _ lines well well_after answered)
+    (λ lines answered. c.replies_are_honest.ensures _ _ lines well (inr well_after) answered)
