@@ -8,6 +8,7 @@ ghost use Rattle.epochs.specs.KeyChanges.{AreChangedNames, FitsNames, IsRefusedS
 ghost use Rattle.epochs.specs.Versions.{AllBefore, AreHistories, IsUnkept, in_order, versions_of};
 
 use crate::address::Address;
+use crate::foreseen::Foreseen;
 use crate::held::change_at;
 use crate::history::{History, Version};
 use crate::seeded::Seeded;
@@ -120,6 +121,7 @@ impl Names {
     pub(crate) fn change<H: NodeHash, K: Keeper>(
         &mut self,
         commitments: &mut HashMap<Index, Hash32, Seeded>,
+        foreseen: &mut Foreseen<H>,
         hash: &mut H,
         keeper: &mut K,
         what: &Record,
@@ -142,6 +144,7 @@ impl Names {
             self.alloc,
             &mut self.histories,
             commitments,
+            foreseen,
             hash,
             keeper,
             what,
@@ -158,6 +161,7 @@ fn change_held<H: NodeHash, K: Keeper>(
     alloc: Global,
     histories: &mut HashMap<Vec<u8>, History, Seeded>,
     commitments: &mut HashMap<Index, Hash32, Seeded>,
+    foreseen: &mut Foreseen<H>,
     hash: &mut H,
     keeper: &mut K,
     what: &Record,
@@ -181,6 +185,7 @@ fn change_held<H: NodeHash, K: Keeper>(
             alloc,
             history,
             commitments,
+            foreseen,
             hash,
             keeper,
             what,
