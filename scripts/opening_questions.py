@@ -211,6 +211,48 @@ def of_indices(q, rng):
     q.ask("directory-sum head")
 
 
+def others(place, before):
+    """Records in place of a registration, and some that are refused there."""
+    salt = run(0x60)
+
+    def register(name, key):
+        return bound_record("register", salt, name, key)
+
+    for size in [30, 31, 32, 255]:
+        yield register(b"n" * size, b"k" * 32)
+    yield register(b"n", b"k" * 2048)
+    yield bound_record("change", salt, b"shown", b"l")
+    yield bound_record("change", salt, b"none", b"l")
+    yield turned_record(3)
+    yield turned_record(2)
+    yield rotated_record(3, run(0x40))
+    yield register(name_of(max(place - 1, 0)), b"k") if place else register(b"shown", b"k")
+    yield register(name_of(9), b"k")
+    yield before
+
+
+@subject("a journal: of ten registrations one is another record, or comes twice")
+def of_others(q, rng):
+    front = q.let("front", start() + bound_record("register", run(0x20), b"shown", b"k") + TURN)
+    records = [q.let(f"r{k}", bound_record("register", run(k), name_of(k), b"k%d" % k)) for k in range(10)]
+    for place in range(10):
+        q.note(f"the one of number {place + 1}")
+        for other in others(place, b"".join(records[place : place + 2])):
+            ask_open(q, front + b"".join([*records[:place], other, *records[place + 1 :]]))
+            q.ask("directory close", 9)
+    q.note("the first ones, and a part of the next one")
+    for count in range(11):
+        for more in [b"", records[0][:1], records[0][:-1]]:
+            ask_open(q, front + b"".join(records[:count]) + more)
+            q.ask("directory close", 9)
+    q.note("salts, names and keys that change places")
+    orders = [*itertools.permutations(range(4))]
+    for firsts, names in itertools.product(orders[::5], orders[::7]):
+        pairs = zip(firsts, names)
+        ask_open(q, front + b"".join(bound_record("register", run(first), name_of(name), b"k") for first, name in pairs))
+        q.ask("directory close", 9)
+
+
 # A directory that goes on -----------------------------------------------------------------------------
 
 # What is done in turn: a name and its key, or an epoch.

@@ -5,6 +5,7 @@ ghost use Rattle.book.specs.Sound.{IsSound};
 ghost use Rattle.epochs.specs.Beginnings.{IsBeginRefusal};
 ghost use Rattle.epochs.specs.DirectoryStates.{book, provider};
 
+use crate::foreseen::Foreseen;
 use crate::names::Names;
 use crate::seeded::Seeded;
 use crate::signing::{hash_of, next_salt, signed_root};
@@ -43,6 +44,8 @@ pub struct Directory<H: NodeHash, V: Vuf, S: Signer, R: Rng> {
     trees: Vec<Tree<H>>,
     /// The hash of the last root's body.
     body_hash: Hash32,
+    /// The commitments of records that will be replayed next.
+    foreseen: Foreseen<H>,
 }
 
 impl<H: NodeHash, V: Vuf, S: Signer, R: Rng> Model for Directory<H, V, S, R> {
@@ -115,6 +118,7 @@ impl<H: NodeHash, V: Vuf, S: Signer, R: Rng> Directory<H, V, S, R> {
             roots,
             trees,
             body_hash,
+            foreseen: Foreseen::none(),
         })
     }
 

@@ -5,10 +5,10 @@ ghost use Rattle.prefixtree.specs.Placement.{commitment_of, put};
 ghost use Rattle.epochs.specs.KeyChanges.{FitsHistory, IsChangedHistory, IsRefusedSo, refused_before};
 ghost use Rattle.epochs.specs.Versions.{AllBefore, IsUnkept, in_order};
 
+use crate::foreseen::Foreseen;
 use crate::history::{History, Version};
 use crate::seeded::Seeded;
 use book::{Keeper, Record, Refusal};
-use commit::commit;
 use encoding::{Hash32, Index, KeyData, Name};
 use nodehash::NodeHash;
 use std::alloc::Global;
@@ -25,6 +25,7 @@ pub(crate) fn change_at<H: NodeHash, K: Keeper>(
     alloc: Global,
     history: &mut History,
     commitments: &mut HashMap<Index, Hash32, Seeded>,
+    foreseen: &mut Foreseen<H>,
     hash: &mut H,
     keeper: &mut K,
     what: &Record,
@@ -47,7 +48,7 @@ pub(crate) fn change_at<H: NodeHash, K: Keeper>(
         Ok(()) => {}
         Err(why) => return Err(why),
     }
-    let commitment = commit(hash, &salt, name, key);
+    let commitment = foreseen.commit(hash, &salt, name, key);
     let version = Version::new(alloc, page, key, salt)?;
     add_at(history, commitments, keeper, what, version, commitment)
 }

@@ -10,6 +10,7 @@ ghost use Rattle.epochs.specs.KeyChanges.{AreChangedNames, FitsNames, IsRefusedS
 ghost use Rattle.epochs.specs.Versions.{AllBefore, AreHistories, IsUnkept, in_order, versions_of};
 
 use crate::address::Address;
+use crate::foreseen::Foreseen;
 use crate::held::change_at;
 use crate::history::{History, Version};
 use crate::seeded::Seeded;
@@ -122,6 +123,7 @@ impl Names {
     pub(crate) fn change<H: NodeHash, K: Keeper>(
         &mut self,
         commitments: &mut HashMap<Index, Hash32, Seeded>,
+        foreseen: &mut Foreseen<H>,
         hash: &mut H,
         keeper: &mut K,
         what: &Record,
@@ -144,6 +146,7 @@ impl Names {
             self.alloc,
             &mut self.histories,
             commitments,
+            foreseen,
             hash,
             keeper,
             what,
@@ -160,6 +163,7 @@ fn change_held<H: NodeHash, K: Keeper>(
     alloc: Global,
     histories: &mut HashMap<Vec<u8>, History, Seeded>,
     commitments: &mut HashMap<Index, Hash32, Seeded>,
+    foreseen: &mut Foreseen<H>,
     hash: &mut H,
     keeper: &mut K,
     what: &Record,
@@ -183,6 +187,7 @@ fn change_held<H: NodeHash, K: Keeper>(
             alloc,
             history,
             commitments,
+            foreseen,
             hash,
             keeper,
             what,

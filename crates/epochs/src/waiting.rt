@@ -8,6 +8,7 @@ ghost use Rattle.epochs.specs.KeyChanges.{AreChangedNames, FitsNames, IsRefusedS
 ghost use Rattle.epochs.specs.Versions.{AllBefore, IsUnkept, in_order, versions_of};
 
 use crate::address::Address;
+use crate::foreseen::Foreseen;
 use crate::history::Version;
 use crate::names::Names;
 use crate::seeded::Seeded;
@@ -110,6 +111,7 @@ pub(crate) fn let_wait<K: Keeper>(
 pub(crate) fn let_change_wait<H: NodeHash, K: Keeper>(
     names: &mut Names,
     waiting: &mut Waiting,
+    foreseen: &mut Foreseen<H>,
     hash: &mut H,
     keeper: &mut K,
     what: &Record,
@@ -130,6 +132,7 @@ pub(crate) fn let_change_wait<H: NodeHash, K: Keeper>(
 {
     names.change(
         &mut waiting.commitments,
+        foreseen,
         hash,
         keeper,
         what,

@@ -14,8 +14,8 @@ use crate::beginning::Beginning;
 use crate::forms::{Later, START_SIZE, later_record, later_size, read_later, read_start};
 use book::Record;
 use encoding::{Cursor, Fault};
-use epochs::Directory;
-use nodehash::NodeHash;
+use epochs::{AT_ONCE, Directory, short_commit_text};
+use nodehash::{NodeHash, NodeText};
 use rand_core::Rng;
 use sigiface::Signer;
 use std::alloc::Global;
@@ -87,10 +87,70 @@ fn replay<H: NodeHash, V: Vuf, S: Signer, R: Rng>(
     }
 }
 
-/// Carries out a record that was read.
+/// The text of the commitment of the record at the front, if that is a whole binding and the text is short.
+fn text_ahead(ahead: &mut Cursor<'_>) -> Option<NodeText> {
+    let Ok(what) = read_later(ahead) else {
+        return None;
+    };
+    match what {
+        Later::Bound {
+            salt,
+            name,
+            key,
+            ..
+        } => short_commit_text(&salt, name, key),
+        Later::Turned { .. } => None,
+    }
+}
+
+/// Lets the directory foresee the records at the front, if each has such a text. Tells how many records
+/// after the first it need not do so for.
+fn look_ahead<H: NodeHash, V: Vuf, S: Signer, R: Rng>(
+    directory: &mut Directory<H, V, S, R>,
+    front: &Cursor<'_>,
+) -> usize
+    ensures stays { book R.stream directory.new ≡ book R.stream directory.old }
+    ensures keys { HasKeysOf directory.old directory.new }
+{
+    let mut ahead = front.copied();
+    let mut texts = [
+        NodeText::new(),
+        NodeText::new(),
+        NodeText::new(),
+        NodeText::new(),
+    ];
+    for place in 0..AT_ONCE {
+        match text_ahead(&mut ahead) {
+            Some(text) => texts[place] = text,
+            None => return place,
+        }
+    }
+    directory.foresee(texts);
+    AT_ONCE - 1
+}
+
+/// Looks ahead, unless this was done for so many records from the front on. Tells for how many after the first
+/// it is done then.
+fn prepare<H: NodeHash, V: Vuf, S: Signer, R: Rng>(
+    directory: &mut Directory<H, V, S, R>,
+    front: &Cursor<'_>,
+    known: usize,
+) -> usize
+    ensures stays { book R.stream directory.new ≡ book R.stream directory.old }
+    ensures keys { HasKeysOf directory.old directory.new }
+{
+    if known > 0 {
+        return known - 1;
+    }
+    look_ahead(directory, front)
+}
+
+/// Carries out a record that was read at the front, with a look ahead if it is time.
 fn replay_later<H: NodeHash, V: Vuf, S: Signer, R: Rng>(
     directory: &mut Directory<H, V, S, R>,
     what: &Later<'_>,
+    front: &Cursor<'_>,
+    known: &mut usize,
 ) -> Result<(), Refusal>
     requires { IsLater (later_seen what.now) }
     ensures replays { let by = index_of (provider H.digest_of V.value_of S.signature_of directory.old) in MatchResult result
@@ -98,6 +158,7 @@ fn replay_later<H: NodeHash, V: Vuf, S: Signer, R: Rng>(
         (λ why. (book R.stream directory.new ≡ book R.stream directory.old) × IsNotReplayed by (book R.stream directory.old) (later_seen what.now) why) }
     ensures keys { HasKeysOf directory.old directory.new }
 {
+    *known = prepare(directory, front, *known);
     replay(directory, &later_record(what))
 }
 
@@ -114,6 +175,7 @@ fn replay_all<H: NodeHash, V: Vuf, S: Signer, R: Rng>(
     ensures keys { HasKeysOf directory.old directory.new }
 {
     let mut taken = 0;
+    let mut known = 0;
     for _ in 0..most {
         let mut ahead = cursor.copied();
         let what = match read_later(&mut ahead) {
@@ -123,7 +185,7 @@ fn replay_all<H: NodeHash, V: Vuf, S: Signer, R: Rng>(
             Err(Fault::Trailing) => return Err(Refusal::BadRecord),
             Err(Fault::OutOfRange) => return Err(Refusal::BadRecord),
         };
-        replay_later(directory, &what)?;
+        replay_later(directory, &what, cursor, &mut known)?;
         taken += later_size(&what);
         *cursor = ahead;
     }

@@ -14,7 +14,7 @@
 //! | | `rotate`, which calls `Tree::renew_with_all` | `rotate` |
 //! | | `lookup`, `lookup_into`, which calls `write_front` | `lookup` |
 //! | | `history`; `run`; `replay` | `history`; `run`; `replay` |
-//! | | `journal::open`, under the stream of salts that `records` numbers | `open` |
+//! | | `journal::open`, under the salts that `records` numbers, which calls `foresee`, `short_commit_text` | `open` |
 //! | `hub` | `Hub::new`, which calls `Hub::over` and `Desk::new` | `new` |
 //! | | `event`, which calls `Service::answer`, `begin_proof` and `end_proof` | `open`, `bytes`, `end` |
 //! | | `head` | `head`, `seen`, `seen-sum` |

@@ -32,7 +32,6 @@ use crate::signing::{hash_of, next_salt, signed_promise, signed_root};
 use crate::waiting::{let_change_wait, let_wait};
 use book::{Keeper, Record, Refusal};
 use commands::Verb;
-use commit::commit;
 use encoding::{Hash32, Index, KeyData, Name};
 use nodehash::NodeHash;
 use prefixtree::{Item, Tree};
@@ -333,7 +332,7 @@ impl<H: NodeHash, V: Vuf, S: Signer, R: Rng> Directory<H, V, S, R> {
         name.bytes();
         key.bytes();
         salt.bytes();
-        let commitment = commit(&mut self.hash, &salt, name, key);
+        let commitment = self.foreseen.commit(&mut self.hash, &salt, name, key);
         let version = Version::new(self.alloc, self.roots.len(), key, salt)?;
         let_wait(
             &mut self.names,
@@ -408,6 +407,7 @@ impl<H: NodeHash, V: Vuf, S: Signer, R: Rng> Directory<H, V, S, R> {
         let_change_wait(
             &mut self.names,
             &mut self.waiting,
+            &mut self.foreseen,
             &mut self.hash,
             keeper,
             what,

@@ -7,15 +7,25 @@ ghost use Rattle.epochs.specs.DirectoryStates.{book, provider, HasKeysOf};
 ghost use Rattle.epochs.specs.Replayed.{address_digests, replay_digests, Replays};
 
 use super::Directory;
+use crate::foreseen::{AT_ONCE, Foreseen};
 use book::{NoKeeper, Record, Refusal};
 use commands::Verb;
 use encoding::{Hash32, KeyData, Name};
-use nodehash::NodeHash;
+use nodehash::{NodeHash, NodeText};
 use rand_core::Rng;
 use sigiface::Signer;
 use vrfiface::Vuf;
 
 impl<H: NodeHash, V: Vuf, S: Signer, R: Rng> Directory<H, V, S, R> {
+    /// Prepares for four records that will be replayed next, in this order, with these texts of their
+    /// commitments: these are digested at once. What is replayed instead is carried out as ever.
+    pub fn foresee(&mut self, texts: [NodeText; AT_ONCE])
+        ensures stays { self.new ≡ record self.old { digests = self.new.digests } }
+        ensures work { self.new.digests ≤ self.old.digests + 4 }
+    {
+        self.foreseen = Foreseen::digested(&mut self.hash, texts);
+    }
+
     /// Carries out once more the command that a record was kept of, under the record's salt. The record
     /// must not be a start. No record is kept, and the salts to come stay.
     ///
