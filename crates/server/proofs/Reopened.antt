@@ -82,6 +82,20 @@ kept_still (Some xs) None after first then = absurd first
 kept_still (Some xs) (Some ys) None first then = absurd then
 kept_still (Some xs) (Some ys) (Some zs) first then = then ∙ first
 
+-- it was not opened
+pub stays_unopened : (keys : DirectoryKeys) (fault : ProgramFault) (known after : Option (List ℕ)) → IsUnopened keys known fault → Keeps known after → StaysAt keys fault known after
+stays_unopened keys BadHex known after is keeps = absurd is
+stays_unopened keys (BadItem line) known after is keeps = absurd is
+stays_unopened keys (IndexRepeated line) known after is keeps = absurd is
+stays_unopened keys (NotACommand line) known after is keeps = absurd is
+stays_unopened keys NotEvidence known after is keeps = absurd is
+stays_unopened keys BadRecord known after is keeps = keeps
+stays_unopened keys OtherKeys known after is keeps = keeps
+stays_unopened keys CannotRead known after is keeps = keeps
+stays_unopened keys CannotWrite known after is keeps = inl keeps
+stays_unopened keys CannotListen known after is keeps = absurd is
+stays_unopened keys OutOfMemory known after is keeps = keeps
+
 -- the bytes had nothing to take, and a new directory's start was not written
 pub unstarted : {H V S : Type 0} (keys : DirectoryKeys) (fault : ProgramFault) (known between after : Option (List ℕ)) (what : Opened H V S ChaCha) (records size : ℕ) → HasRead keys known what records size → what ≡ Nothing → Keeps known between
     → StartsLess keys fault between after → StaysAt keys fault known after
@@ -93,13 +107,13 @@ unstarted keys CannotWrite (Some xs) (Some ys) after what records size (bytes, h
       let short : IsCut start_bytes IsStart bytes = subst (λ o. Opens (index_by keys) keys.signing_key keys.vuf_key (salts (at_stream keys.salt_key records)) salts bytes o) nothing opens in
       inr (subst (λ (b : List ℕ). IsCut start_bytes IsStart b) holds short, left))
 ]
-unstarted keys BadHex known between after what records size read nothing keeps less = kept_still known between after keeps less
-unstarted keys (BadItem line) known between after what records size read nothing keeps less = kept_still known between after keeps less
-unstarted keys (IndexRepeated line) known between after what records size read nothing keeps less = kept_still known between after keeps less
-unstarted keys (NotACommand line) known between after what records size read nothing keeps less = kept_still known between after keeps less
-unstarted keys NotEvidence known between after what records size read nothing keeps less = kept_still known between after keeps less
-unstarted keys BadRecord known between after what records size read nothing keeps less = kept_still known between after keeps less
-unstarted keys OtherKeys known between after what records size read nothing keeps less = kept_still known between after keeps less
-unstarted keys CannotRead known between after what records size read nothing keeps less = kept_still known between after keeps less
-unstarted keys CannotListen known between after what records size read nothing keeps less = kept_still known between after keeps less
+unstarted keys BadHex known between after what records size read nothing keeps less = absurd less
+unstarted keys (BadItem line) known between after what records size read nothing keeps less = absurd less
+unstarted keys (IndexRepeated line) known between after what records size read nothing keeps less = absurd less
+unstarted keys (NotACommand line) known between after what records size read nothing keeps less = absurd less
+unstarted keys NotEvidence known between after what records size read nothing keeps less = absurd less
+unstarted keys BadRecord known between after what records size read nothing keeps less = absurd less
+unstarted keys OtherKeys known between after what records size read nothing keeps less = absurd less
+unstarted keys CannotRead known between after what records size read nothing keeps less = absurd less
+unstarted keys CannotListen known between after what records size read nothing keeps less = absurd less
 unstarted keys OutOfMemory known between after what records size read nothing keeps less = kept_still known between after keeps less
