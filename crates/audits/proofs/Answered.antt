@@ -15,8 +15,8 @@ pub answered : (hash : List ℕ → List ℕ) (verified : List ℕ → List ℕ 
 answered hash verified key before line bytes (Ok told) after is observes holds = (rw is observes, holds)
 answered hash verified key before line bytes (Err Malformed) after is observes holds = (rw is observes, tt)
 answered hash verified key before line bytes (Err BadSignature) after is observes holds = (rw is observes, tt)
-answered hash verified key before line bytes (Err NotLater) after is (inl (root, spells, never, same)) holds = absurd never
+answered hash verified key before line bytes (Err NotLater) after is (inl (root, spells, (never, same))) holds = absurd never
 answered hash verified key before line bytes (Err NotLater) after is (inr (none, refused, same)) holds = absurd cc
-answered hash verified key before line bytes (Err BadLink) after is (inl (root, spells, never, same)) holds = absurd never
+answered hash verified key before line bytes (Err BadLink) after is (inl (root, spells, (never, same))) holds = absurd never
 answered hash verified key before line bytes (Err BadLink) after is (inr (none, refused, same)) holds = absurd cc
 answered hash verified key before line bytes (Err Memory) after is observes holds = tt
