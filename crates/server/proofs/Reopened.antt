@@ -82,20 +82,6 @@ kept_still (Some xs) None after first then = absurd first
 kept_still (Some xs) (Some ys) None first then = absurd then
 kept_still (Some xs) (Some ys) (Some zs) first then = then ∙ first
 
--- it was not opened
-pub stays_unopened : (keys : DirectoryKeys) (fault : ProgramFault) (known after : Option (List ℕ)) → IsUnopened keys known fault → Keeps known after → StaysAt keys fault known after
-stays_unopened keys BadHex known after is keeps = absurd is
-stays_unopened keys (BadItem line) known after is keeps = absurd is
-stays_unopened keys (IndexRepeated line) known after is keeps = absurd is
-stays_unopened keys (NotACommand line) known after is keeps = absurd is
-stays_unopened keys NotEvidence known after is keeps = absurd is
-stays_unopened keys BadRecord known after is keeps = keeps
-stays_unopened keys OtherKeys known after is keeps = keeps
-stays_unopened keys CannotRead known after is keeps = keeps
-stays_unopened keys CannotWrite known after is keeps = inl keeps
-stays_unopened keys CannotListen known after is keeps = absurd is
-stays_unopened keys OutOfMemory known after is keeps = keeps
-
 -- the bytes had nothing to take, and a new directory's start was not written
 pub unstarted : {H V S : Type 0} (keys : DirectoryKeys) (fault : ProgramFault) (known between after : Option (List ℕ)) (what : Opened H V S ChaCha) (records size : ℕ) → HasRead keys known what records size → what ≡ Nothing → Keeps known between
     → StartsLess keys fault between after → StaysAt keys fault known after
