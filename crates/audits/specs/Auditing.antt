@@ -5,14 +5,14 @@ use Rattle.hex.specs.Hex.{decode_of}
 use Rattle.hex.specs.declared.error.FromHexError.{FromHexError}
 use Rattle.nodehash.specs.Sha256.{sha256}
 use Rattle.rootchain.specs.declared.root_refusal.Refusal.{Refusal}
-use Rattle.rootchain.specs.declared.root_refusal.Refusal.TheVariants.{Malformed, Memory}
+use Rattle.rootchain.specs.declared.root_refusal.Refusal.TheVariants.{Malformed, BadSignature, NotLater, BadLink, Memory}
 use Rattle.rootchain.specs.Refusals.{chain_refusal_number}
 use Rattle.textio.specs.Digits.{hex32}
 use Rattle.textio.specs.Lines.{lines_of}
 use Rattle.textio.specs.Output.{WritesBeginning}
 use Rattle.textio.specs.Pieces.{LosesPart}
 use Rattle.textio.specs.declared.program_fault.ProgramFault.{ProgramFault}
-use Rattle.textio.specs.declared.program_fault.ProgramFault.TheVariants.{BadHex, CannotRead, CannotWrite, OutOfMemory}
+use Rattle.textio.specs.declared.program_fault.ProgramFault.TheVariants.{BadHex, BadItem, IndexRepeated, NotACommand, NotEvidence, BadRecord, OtherKeys, CannotRead, CannotWrite, CannotListen, OutOfMemory}
 use Rattle.auditor.specs.declared.auditor.Observed.{Observed}
 use Rattle.auditor.specs.declared.auditor.Observed.TheVariants.{Started, Extended, Known, Ahead, BeforeStart, Evidence}
 use Rattle.auditor.specs.declared.evidence.Evidence.TheVariants.{Root}
@@ -54,11 +54,14 @@ module _ (hash : List ℕ → List ℕ) (verified : List ℕ → List ℕ → Li
   abbrev pub ObservesLine : Chains → List ℕ → Result Observed Refusal → Chains → Type 0
   ObservesLine before line = ObservesDecoded before (decode_of line)
 
-  -- Evidence that is answered holds. That memory ran out is not an answer.
+  -- Evidence that is answered holds. A root is refused only if it is none, or does not verify.
   abbrev pub IsAuditAnswer : Result Observed Refusal → Type 0
   IsAuditAnswer (Ok told) = ObservedHolds hash verified key told
+  IsAuditAnswer (Err Malformed) = ⊤
+  IsAuditAnswer (Err BadSignature) = ⊤
+  IsAuditAnswer (Err NotLater) = ⊥
+  IsAuditAnswer (Err BadLink) = ⊥
   IsAuditAnswer (Err Memory) = ⊥
-  IsAuditAnswer (Err _) = ⊤
 
   -- each line is observed beside the chains that the lines before it left, and answered
   abbrev pub Audits : Chains → List (List ℕ) → List (Result Observed Refusal) → Chains → Type 0
@@ -83,7 +86,14 @@ module _ (hash : List ℕ → List ℕ) (verified : List ℕ → List ℕ → Li
   AuditsInput input left old (Err CannotWrite) new = (lines : List (List ℕ)) × (line : List ℕ) × (answers : List (Result Observed Refusal)) × (answer : Result Observed Refusal) × (after : Chains)
       × AreTaken input left (lines ++ line ∷ []) × Audits [] (lines ++ line ∷ []) (answers ++ answer ∷ []) after
       × (told : Option (List ℕ)) × Appends old told (answer_lines answers) × WritesBeginning told new (answer_line answer)
-  AuditsInput input left old (Err _) new = ⊥
+  AuditsInput input left old (Err BadHex) new = ⊥
+  AuditsInput input left old (Err (BadItem line)) new = ⊥
+  AuditsInput input left old (Err (IndexRepeated line)) new = ⊥
+  AuditsInput input left old (Err (NotACommand line)) new = ⊥
+  AuditsInput input left old (Err NotEvidence) new = ⊥
+  AuditsInput input left old (Err BadRecord) new = ⊥
+  AuditsInput input left old (Err OtherKeys) new = ⊥
+  AuditsInput input left old (Err CannotListen) new = ⊥
 
 -- what comes of a key's text and an input, of which this is left
 abbrev pub AuditsUnder : Option (List ℕ) → Option (List ℕ) → Option (List ℕ) → Option (List ℕ) → Result (Unit {0}) ProgramFault → Option (List ℕ) → Type 0

@@ -38,7 +38,7 @@ module _ (hash : List ℕ → List ℕ) (verified : List ℕ → List ℕ → Li
   abbrev pub AnswersLine : Chains → List ℕ → Result Observed Refusal → Chains → Type 0
   AnswersLine before line (Ok told) after = ObservesLine hash verified key before line (Ok told) after × IsAuditAnswer hash verified key (Ok told)
   AnswersLine before line (Err Memory) after = ⊤
-  AnswersLine before line (Err why) after = ObservesLine hash verified key before line (Err why) after
+  AnswersLine before line (Err why) after = ObservesLine hash verified key before line (Err why) after × IsAuditAnswer hash verified key (Err why)
 
   -- The answer to a line is given as text, or memory ran out. The first argument gives the bytes of what was
   -- returned.

@@ -5,7 +5,7 @@ use Rattle.nodehash.specs.Sha256.{sha256}
 use Rattle.textio.specs.Digits.{hex32}
 use Rattle.textio.specs.Output.{WritesBeginning}
 use Rattle.textio.specs.declared.program_fault.ProgramFault.{ProgramFault}
-use Rattle.textio.specs.declared.program_fault.ProgramFault.TheVariants.{BadHex, NotEvidence, CannotRead, CannotWrite, OutOfMemory}
+use Rattle.textio.specs.declared.program_fault.ProgramFault.TheVariants.{BadHex, BadItem, IndexRepeated, NotACommand, NotEvidence, BadRecord, OtherKeys, CannotRead, CannotWrite, CannotListen, OutOfMemory}
 use Rattle.auditor.specs.declared.evidence.Evidence.{Evidence}
 use Rattle.auditor.specs.Evidence.{IsEvidence}
 use Rattle.audits.specs.declared.judging.Verdict.{Verdict}
@@ -40,7 +40,14 @@ module _ (hash : List ℕ → List ℕ) (accepted verified : List ℕ → List �
   Judges file old (Err NotEvidence) new = ((evidence : Evidence) → ¬ IsFileOf file evidence) × Keeps old new
   Judges file old (Err CannotWrite) new = (verdict : Verdict) × IsVerdictOn file verdict × WritesBeginning old new (verdict_line verdict)
   Judges file old (Err OutOfMemory) new = Keeps old new
-  Judges file old (Err _) new = ⊥
+  Judges file old (Err BadHex) new = ⊥
+  Judges file old (Err (BadItem line)) new = ⊥
+  Judges file old (Err (IndexRepeated line)) new = ⊥
+  Judges file old (Err (NotACommand line)) new = ⊥
+  Judges file old (Err BadRecord) new = ⊥
+  Judges file old (Err OtherKeys) new = ⊥
+  Judges file old (Err CannotRead) new = ⊥
+  Judges file old (Err CannotListen) new = ⊥
 
 -- what comes of a key's text and a file
 abbrev pub JudgesUnder : Option (List ℕ) → List ℕ → Option (List ℕ) → Result Verdict ProgramFault → Option (List ℕ) → Type 0

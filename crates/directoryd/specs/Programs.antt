@@ -7,7 +7,7 @@ use Rattle.std.specs.Io.KnownBytes.{Appends, Keeps}
 use Rattle.clap.specs.declared.error.Error.{Error}
 use Rattle.clap.specs.Words.{Text, kind_of}
 use Rattle.textio.specs.declared.program_fault.ProgramFault.{ProgramFault}
-use Rattle.textio.specs.declared.program_fault.ProgramFault.TheVariants.{BadHex, CannotWrite, OutOfMemory}
+use Rattle.textio.specs.declared.program_fault.ProgramFault.TheVariants.{BadHex, BadItem, IndexRepeated, NotACommand, NotEvidence, BadRecord, OtherKeys, CannotRead, CannotWrite, CannotListen, OutOfMemory}
 use Rattle.textio.specs.Digits.{hex32, nonce_of}
 use Rattle.textio.specs.Faults.{fault_text}
 use Rattle.textio.specs.Output.{Ends, WritesBeginning}
@@ -102,7 +102,15 @@ abbrev pub Prints : ℕ → List ℕ → Option (List ℕ) → Option (List ℕ)
 Prints status text old new (Ok given) = (given ≡ status) × Appends old new text
 Prints status text old new (Err CannotWrite) = WritesBeginning old new text
 Prints status text old new (Err OutOfMemory) = Keeps old new
-Prints status text old new (Err _) = ⊥
+Prints status text old new (Err BadHex) = ⊥
+Prints status text old new (Err (BadItem line)) = ⊥
+Prints status text old new (Err (IndexRepeated line)) = ⊥
+Prints status text old new (Err (NotACommand line)) = ⊥
+Prints status text old new (Err NotEvidence) = ⊥
+Prints status text old new (Err BadRecord) = ⊥
+Prints status text old new (Err OtherKeys) = ⊥
+Prints status text old new (Err CannotRead) = ⊥
+Prints status text old new (Err CannotListen) = ⊥
 
 -- Words that order nothing are answered by a text of clap's, on the output with status 0, on the errors
 -- with any other. The other stream stays.

@@ -6,11 +6,10 @@ use book::NoKeeper;
 use items::{HashChoice, ProveOrder, RootOrder, prove, root};
 use play::play;
 use questions::Case;
-use server::{DirectoryOrder, ServeFault, serve, serve_unkept};
+use server::{ServeFault, serve};
 use std::alloc::Global;
 use std::fmt;
 use std::io::BufReader;
-use std::num::NonZeroU64;
 use textio::{ProgramFault, StreamFault, next_line, read_some, write_text};
 
 /// The reader of a run.
@@ -208,14 +207,8 @@ fn copy_lines(reader: &mut Input<'_>, writer: &mut CutWriter) -> Result<(), Stre
     Ok(())
 }
 
-/// 64 digits of keys.
-const ZEROS: &str = "0000000000000000000000000000000000000000000000000000000000000000";
-
-const ONES: &str = "0101010101010101010101010101010101010101010101010101010101010101";
-
-const TWOS: &str = "0202020202020202020202020202020202020202020202020202020202020202";
-
-const FOURS: &str = "0404040404040404040404040404040404040404040404040404040404040404";
+/// The one session that is open at a time.
+const SESSION: u32 = 1;
 
 /// Marks an outcome where a reply tells that the directory was out of memory, also one that was not written.
 fn marked(outcome: Outcome, offered: &[u8]) -> Outcome {
@@ -227,21 +220,12 @@ fn marked(outcome: Outcome, offered: &[u8]) -> Outcome {
 }
 
 fn serve_one(alloc: Global, reader: &mut CutReader<'_>, writer: &mut CutWriter) -> Outcome {
-    let order = DirectoryOrder {
-        signing_key: ONES,
-        vuf_key: TWOS,
-        salt_key: ZEROS,
-        token: FOURS,
-        epoch: NonZeroU64::MIN,
-        nonce: None,
-        journal: None,
+    let Ok(mut hub) = provider::hub(alloc, NoKeeper) else {
+        return ended(Err(ProgramFault::OutOfMemory));
     };
-    let outcome = ended(serve_unkept(alloc, order, reader, writer));
+    let outcome = served(serve(alloc, &mut hub, SESSION, reader, writer));
     marked(outcome, writer.offered())
 }
-
-/// The one session that is open at a time.
-const SESSION: u32 = 1;
 
 /// A frame that asks for the head.
 const HEAD: &[u8] = &[0, 0, 0, 1, 6];

@@ -93,13 +93,13 @@ unstarted keys CannotWrite (Some xs) (Some ys) after what records size (bytes, h
       let short : IsCut start_bytes IsStart bytes = subst (λ o. Opens (index_by keys) keys.signing_key keys.vuf_key (salts (at_stream keys.salt_key records)) salts bytes o) nothing opens in
       inr (subst (λ (b : List ℕ). IsCut start_bytes IsStart b) holds short, left))
 ]
-unstarted keys BadHex known between after what records size read nothing keeps less = kept_still known between after keeps less
-unstarted keys (BadItem line) known between after what records size read nothing keeps less = kept_still known between after keeps less
-unstarted keys (IndexRepeated line) known between after what records size read nothing keeps less = kept_still known between after keeps less
-unstarted keys (NotACommand line) known between after what records size read nothing keeps less = kept_still known between after keeps less
-unstarted keys NotEvidence known between after what records size read nothing keeps less = kept_still known between after keeps less
-unstarted keys BadRecord known between after what records size read nothing keeps less = kept_still known between after keeps less
-unstarted keys OtherKeys known between after what records size read nothing keeps less = kept_still known between after keeps less
-unstarted keys CannotRead known between after what records size read nothing keeps less = kept_still known between after keeps less
-unstarted keys CannotListen known between after what records size read nothing keeps less = kept_still known between after keeps less
+unstarted keys BadHex known between after what records size read nothing keeps less = absurd less
+unstarted keys (BadItem line) known between after what records size read nothing keeps less = absurd less
+unstarted keys (IndexRepeated line) known between after what records size read nothing keeps less = absurd less
+unstarted keys (NotACommand line) known between after what records size read nothing keeps less = absurd less
+unstarted keys NotEvidence known between after what records size read nothing keeps less = absurd less
+unstarted keys BadRecord known between after what records size read nothing keeps less = absurd less
+unstarted keys OtherKeys known between after what records size read nothing keeps less = absurd less
+unstarted keys CannotRead known between after what records size read nothing keeps less = absurd less
+unstarted keys CannotListen known between after what records size read nothing keeps less = absurd less
 unstarted keys OutOfMemory known between after what records size read nothing keeps less = kept_still known between after keeps less

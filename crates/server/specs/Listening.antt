@@ -2,7 +2,7 @@
 use Rattle.std.specs.Prelude.{◌≡◌, ◌⊎◌, ℕ, List, ◌++◌, [], ◌∷◌, Option, None, Some, Result, Ok, Err, codes, ⊤}
 use Rattle.std.specs.Io.KnownBytes.{Appends, Keeps}
 use Rattle.textio.specs.declared.program_fault.ProgramFault.{ProgramFault}
-use Rattle.textio.specs.declared.program_fault.ProgramFault.TheVariants.{BadHex, CannotWrite}
+use Rattle.textio.specs.declared.program_fault.ProgramFault.TheVariants.{BadHex, BadItem, IndexRepeated, NotACommand, NotEvidence, BadRecord, OtherKeys, CannotRead, CannotWrite, CannotListen, OutOfMemory}
 use Rattle.textio.specs.Output.{WritesBeginning}
 use Rattle.nodehash.specs.Sha256.{sha256}
 use Rattle.vrfiface.specs.StandIns.{keyed_value}
@@ -31,11 +31,20 @@ use Rattle.server.specs.Sessions.{AlwaysAnswered, AlwaysInOrder, AreLines}
 abbrev pub address_line : List ℕ → List ℕ
 address_line address = codes "listening on " ++ address ++ 10 ∷ []
 
--- the line of an address is written, or less of it if a write failed; nothing at any other fault
+-- the line of an address is written, or less of it if a write failed; nothing at the other faults that there may be
 abbrev pub TellsAddressLine : Option (List ℕ) → Result (Unit {0}) ProgramFault → Option (List ℕ) → Type 0
 TellsAddressLine old (Ok done) new = (address : List ℕ) × Appends old new (address_line address)
 TellsAddressLine old (Err CannotWrite) new = (address : List ℕ) × WritesBeginning old new (address_line address)
-TellsAddressLine old (Err _) new = Keeps old new
+TellsAddressLine old (Err BadHex) new = Keeps old new
+TellsAddressLine old (Err CannotListen) new = Keeps old new
+TellsAddressLine old (Err OutOfMemory) new = Keeps old new
+TellsAddressLine old (Err (BadItem line)) new = ⊥
+TellsAddressLine old (Err (IndexRepeated line)) new = ⊥
+TellsAddressLine old (Err (NotACommand line)) new = ⊥
+TellsAddressLine old (Err NotEvidence) new = ⊥
+TellsAddressLine old (Err BadRecord) new = ⊥
+TellsAddressLine old (Err OtherKeys) new = ⊥
+TellsAddressLine old (Err CannotRead) new = ⊥
 
 -- the line is written, and this is what comes behind it; or none comes
 abbrev pub TellsAddress : (Option (List ℕ) → Option (List ℕ) → Type 0) → Option (List ℕ) → Result (Unit {0}) ProgramFault → Option (List ℕ) → Type 0

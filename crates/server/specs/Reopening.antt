@@ -88,13 +88,31 @@ HoldsLess keys after = WritesBeginning (Some []) after (start_bytes (beginning_w
 -- a file stays as it was, unless it was cut to none and the write of a new directory's start failed
 abbrev pub StartsLess : DirectoryKeys → ProgramFault → Option (List ℕ) → Option (List ℕ) → Type 0
 StartsLess keys CannotWrite known after = Keeps known after ⊎ IfSome known (λ _. HoldsLess keys after)
-StartsLess keys _ known after = Keeps known after
+StartsLess keys OutOfMemory known after = Keeps known after
+StartsLess keys BadHex known after = ⊥
+StartsLess keys (BadItem line) known after = ⊥
+StartsLess keys (IndexRepeated line) known after = ⊥
+StartsLess keys (NotACommand line) known after = ⊥
+StartsLess keys NotEvidence known after = ⊥
+StartsLess keys BadRecord known after = ⊥
+StartsLess keys OtherKeys known after = ⊥
+StartsLess keys CannotRead known after = ⊥
+StartsLess keys CannotListen known after = ⊥
 
 -- A file stays as it was. Only where its bytes had nothing to take, and the write of a new directory's start
 -- failed, it holds a beginning of this start.
 abbrev pub StaysAt : DirectoryKeys → ProgramFault → Option (List ℕ) → Option (List ℕ) → Type 0
 StaysAt keys CannotWrite known after = Keeps known after ⊎ IfSome known (λ bytes. IsCut start_bytes IsStart bytes × HoldsLess keys after)
-StaysAt keys _ known after = Keeps known after
+StaysAt keys BadRecord known after = Keeps known after
+StaysAt keys OtherKeys known after = Keeps known after
+StaysAt keys CannotRead known after = Keeps known after
+StaysAt keys OutOfMemory known after = Keeps known after
+StaysAt keys BadHex known after = ⊥
+StaysAt keys (BadItem line) known after = ⊥
+StaysAt keys (IndexRepeated line) known after = ⊥
+StaysAt keys (NotACommand line) known after = ⊥
+StaysAt keys NotEvidence known after = ⊥
+StaysAt keys CannotListen known after = ⊥
 
 abbrev pub of_refusal : Refusal → ProgramFault
 of_refusal refusal.BadRecord = BadRecord

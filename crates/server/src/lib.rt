@@ -32,4 +32,4 @@ pub use listening::listen;
 pub use order::{DirectoryOrder, ListenOrder};
 pub use serve_fault::ServeFault;
 pub use serving::serve;
-pub use streams::{serve_directory, serve_unkept};
+pub use streams::serve_directory;

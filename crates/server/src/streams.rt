@@ -1,4 +1,4 @@
-ghost use Rattle.std.specs.Prelude.{◌≡◌, Err, None};
+ghost use Rattle.std.specs.Prelude.{◌≡◌, Err};
 ghost use Rattle.textio.specs.declared.program_fault.ProgramFault.TheVariants.{BadHex};
 ghost use Rattle.server.specs.DirectoryOptions.{directory_values};
 ghost use Rattle.server.specs.Programs.{DirectoryServes, ServesKept, ServesUnkept};
@@ -17,21 +17,13 @@ use textio::ProgramFault;
 /// The number of the one session that is open at a time.
 pub(crate) const SESSION: u32 = 1;
 
-/// Begins a directory that is kept nowhere, and answers one session, from the reader to the writer. The
-/// order has no journal.
-///
-/// # Errors
-///
-/// `BadHex`, before anything is read, if a text of the order is not 64 hexadecimal digits;
-/// `CannotRead`; `CannotWrite`; `OutOfMemory`. What was written is then a beginning of the session's
-/// output.
-pub fn serve_unkept<R: Read, W: Write>(
+/// Begins a directory that is kept nowhere, and answers one session, from the reader to the writer.
+fn serve_unkept<R: Read, W: Write>(
     alloc: Global,
     order: DirectoryOrder<'_>,
     reader: &mut R,
     writer: &mut W,
 ) -> Result<(), ProgramFault>
-    requires { (directory_values order).journal ≡ None }
     ensures serves { ServesUnkept (directory_values order.entry) (R.remaining reader.old) (W.contents writer.old) result (R.remaining reader.new) (W.contents writer.new) }
     ensures unread { result ≡ Err BadHex → (reader.new ≡ reader.old) × (writer.new ≡ writer.old) }
 {

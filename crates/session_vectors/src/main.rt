@@ -19,7 +19,7 @@
 //! | | `event`, which calls `Service::answer`, `begin_proof` and `end_proof` | `open`, `bytes`, `end` |
 //! | | `head` | `head`, `seen`, `seen-sum` |
 //! | | `run` | `run`, `run-on`, `seen`, `seen-sum` |
-//! | `serve` | `serve_unkept`, which calls `serve` | `run`, `keys` |
+//! | `serve` | `serve_directory` without a journal, which calls `serve` | `run`, `keys` |
 //! | `client` | `Client::start`, `update`, `look` | `start`, `update`, `look` |
 //! | | `update_from`, which calls `Chain::take_part` and `take_piece`; `RootFeed::new`, `done` | `from`; `feed`, `done` |
 //! | | `keep_promise`, `due`, `due_epoch` | `keep`, `due`, `due-epoch` |
@@ -75,12 +75,12 @@ use monitors::KeyedMonitor;
 use questions::{Case, Subjects, answer_all};
 use rootchain::RootFeed;
 use std::alloc::Global;
-use std::fs::Files;
+use std::fs::{File, Files};
 use std::io::{self, BufReader};
 
 /// What a line leaves for the lines after it.
 #[derive(Drop)]
-struct State<'a, F: Files> {
+struct State<'a, F: Files<File = File>> {
     files: &'a F,
     directory: Option<KeyedDirectory>,
     summed_directory: Option<SummedDirectory>,
@@ -91,7 +91,7 @@ struct State<'a, F: Files> {
     auditor: KeyedAuditor,
 }
 
-impl<'a, F: Files> State<'a, F> {
+impl<'a, F: Files<File = File>> State<'a, F> {
     fn new(alloc: Global, files: &'a F) -> Self {
         State {
             files,
@@ -114,13 +114,13 @@ impl<'a, F: Files> State<'a, F> {
     }
 }
 
-impl<F: Files> Subjects for State<'_, F> {
+impl<F: Files<File = File>> Subjects for State<'_, F> {
     fn answer(&mut self, case: &mut Case<'_>) {
         match case.word() {
             b"directory" => directories::answer_keyed(case, &mut self.directory),
             b"directory-sum" => directories::answer_summed(case, &mut self.summed_directory),
             b"hub" => hubs::answer(case, &mut self.hub),
-            b"serve" => serving::answer(case),
+            b"serve" => serving::answer(case, self.files),
             b"client" => clients::answer_keyed(case, &mut self.clients),
             b"client-sum" => clients::answer_summed(case, &mut self.summed_clients),
             b"monitor" => monitors::answer(case, &mut self.clients, &mut self.monitor),

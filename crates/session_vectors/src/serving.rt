@@ -1,10 +1,8 @@
 //! Of `server`: one session of a directory that is begun for it.
-ghost use Rattle.std.specs.Prelude.{◌≡◌, None};
-ghost use Rattle.server.specs.DirectoryOptions.{directory_values};
-
 use crate::telling::{say_fault, tells_of_memory};
 use questions::Case;
-use server::{DirectoryOrder, serve_unkept};
+use server::{DirectoryOrder, serve_directory};
+use std::fs::{File, Files};
 use std::num::NonZeroU64;
 use textio::ProgramFault;
 
@@ -16,16 +14,16 @@ const SALT: &str = "000000000000000000000000000000000000000000000000000000000000
 
 const TOKEN: &str = "0404040404040404040404040404040404040404040404040404040404040404";
 
-pub(crate) fn answer(case: &mut Case<'_>) {
+pub(crate) fn answer<F: Files<File = File>>(case: &mut Case<'_>, files: &F) {
     match case.word() {
-        b"run" => run(case),
-        b"keys" => keys(case),
+        b"run" => run(case, files),
+        b"keys" => keys(case, files),
         _ => case.spoil(),
     }
 }
 
 /// `run EPOCH NONCE INPUT`
-fn run(case: &mut Case<'_>) {
+fn run<F: Files<File = File>>(case: &mut Case<'_>, files: &F) {
     let Some(epoch) = NonZeroU64::new(case.number()) else {
         return case.spoil();
     };
@@ -38,11 +36,11 @@ fn run(case: &mut Case<'_>) {
         nonce: case.option_text(),
         journal: None,
     };
-    serve(case, order);
+    serve(case, files, order);
 }
 
 /// `keys SIGN VUF SALT TOKEN INPUT`
-fn keys(case: &mut Case<'_>) {
+fn keys<F: Files<File = File>>(case: &mut Case<'_>, files: &F) {
     let order = DirectoryOrder {
         signing_key: case.text(),
         vuf_key: case.text(),
@@ -52,16 +50,22 @@ fn keys(case: &mut Case<'_>) {
         nonce: None,
         journal: None,
     };
-    serve(case, order);
+    serve(case, files, order);
 }
 
 /// Serves the bytes of the next word.
-fn serve(case: &mut Case<'_>, order: DirectoryOrder<'_>)
-    requires { (directory_values order).journal ≡ None }
-{
+fn serve<F: Files<File = File>>(case: &mut Case<'_>, files: &F, order: DirectoryOrder<'_>) {
     let mut reader = case.bytes();
     let mut output = Vec::new(case.alloc());
-    let served = serve_unkept(case.alloc(), order, &mut reader, &mut output);
+    let mut errors = Vec::new(case.alloc());
+    let served = serve_directory(
+        case.alloc(),
+        files,
+        order,
+        &mut reader,
+        &mut output,
+        &mut errors,
+    );
     if tells_of_memory(&output) {
         case.lack_memory();
     }
