@@ -16,7 +16,7 @@ use std::collections::HashMap;
 use std::collections::hash_map::Entry;
 
 /// Adds a version of this page to a history, and its commitment to what waits, once the record is kept. Gives
-/// the index of the name. Takes one digest.
+/// the index of the name. Takes at most one digest.
 ///
 /// # Errors
 ///

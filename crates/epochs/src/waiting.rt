@@ -107,7 +107,7 @@ pub(crate) fn let_wait<K: Keeper>(
 }
 
 /// Adds a version of this page to a name that has others, and its commitment to what waits, once the record
-/// is kept. Gives the index of the name. Takes one digest.
+/// is kept. Gives the index of the name. Takes at most one digest.
 pub(crate) fn let_change_wait<H: NodeHash, K: Keeper>(
     names: &mut Names,
     waiting: &mut Waiting,

@@ -1,6 +1,6 @@
 // A journal is opened in one pass. The start is read and a directory begun with it; then each record is
 // read and carried out, as long as a whole one stands at the front. What is left is a record that was cut
-// short, or a fault.
+// short, or a fault. Four records are read ahead, so that their commitments are digested at once.
 ghost use Rattle.std.specs.Prelude.{◌≡◌, ◌≤◌, length, MatchResult, Some};
 ghost use Rattle.book.specs.Fresh.{fresh, keyed_provider};
 ghost use Rattle.book.specs.Shows.{index_of};

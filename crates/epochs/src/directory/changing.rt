@@ -307,7 +307,7 @@ impl<H: NodeHash, V: Vuf, S: Signer, R: Rng> Directory<H, V, S, R> {
         Ok(address)
     }
 
-    /// Lets the key wait under this salt for the next page, once its record is kept. Takes one digest.
+    /// Lets the key wait under this salt for the next page, once its record is kept. Takes at most one digest.
     pub(super) fn bind<K: Keeper>(
         &mut self,
         keeper: &mut K,
@@ -380,7 +380,7 @@ impl<H: NodeHash, V: Vuf, S: Signer, R: Rng> Directory<H, V, S, R> {
     }
 
     /// Lets another key of a name wait under this salt for the next page, once its record is kept. Gives the
-    /// index of the name, which is searched for once. Takes one digest.
+    /// index of the name, which is searched for once. Takes at most one digest.
     pub(super) fn rebind<K: Keeper>(
         &mut self,
         keeper: &mut K,
