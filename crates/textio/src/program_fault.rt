@@ -12,8 +12,6 @@ use std::io::Write;
 use thiserror::Error;
 
 /// Why a program stopped, for every program of `directoryd`. Lines are numbered from 1.
-///
-/// A new fault is a variant here, and a case of `text` and of each definition in `specs/` that lists them.
 #[derive(Clone, Copy, Debug, PartialEq, Eq, Error)]
 pub enum ProgramFault {
     #[error("bad hex")]
