@@ -11,8 +11,8 @@ pub const MIN_LEN: usize = 1;
 
 /// Between 1 and `MOST` bytes, which compare as byte strings do. They are not on the heap.
 ///
-/// `Name`, `KeyData` and `Small` each have their own `new` and `bytes`, whose clauses give the limits
-/// of that type and not those of whatever number its alias has.
+/// `Name`, `KeyData` and `Small` each have their own `new` and `bytes`, whose clauses name what the bytes
+/// are: `IsName`, `IsKeyData`, `IsSmall`.
 #[derive(Debug, Drop, PartialEq, Eq, PartialOrd, Ord)]
 pub struct Bounded<const MOST: usize> {
     bytes: ArrayVec<u8, MOST>,
