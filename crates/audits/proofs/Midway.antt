@@ -17,7 +17,7 @@ use Rattle.textio.specs.declared.program_fault.ProgramFault.TheVariants.{CannotR
 use Rattle.auditor.specs.declared.auditor.Observed.{Observed}
 use Rattle.auditor.specs.Chains.{Chains}
 use Rattle.rootchain.specs.SignedRoots.{SpellsRoot}
-use Rattle.audits.specs.Auditing.{answer_line, answer_lines, AreRead, AreTaken, Audits, AuditsInput, IsAuditAnswer, ObservesDecoded, ObservesLine}
+use Rattle.audits.specs.Auditing.{answer_line, answer_lines, AreTaken, Audits, AuditsInput, IsAuditAnswer, ObservesDecoded, ObservesLine}
 use Rattle.rootchain.specs.SignedRoots.{signed_root_bytes}
 use Rattle.rootchain.proofs.Sizes.{root_few}
 

@@ -16,7 +16,7 @@ use rand_chacha::ChaCha20Rng;
 use sigiface::KeyedSign;
 use std::alloc::Global;
 use vrfiface::{KeyedVuf, Vuf, index_of};
-use wire::{Feed, FeedRefusal, Next, ReadRefusal, Request};
+use wire::{Feed, FeedRefusal, Next, PROMISED, PROOF, ReadRefusal, Request};
 
 mod reply;
 mod telling;
@@ -287,12 +287,6 @@ fn tell_next(told: &mut Feed, printed: &mut Printed) {
     }
 }
 
-/// The kind byte of a promise.
-const PROMISE: u8 = 129;
-
-/// The kind byte of a reply to a look-up.
-const PROOF: u8 = 130;
-
 /// Tells the next reply, which is to this message.
 fn read_next<H, V>(
     user: &mut User<H, V>,
@@ -314,7 +308,7 @@ where
         (Ok(Request::Query(Query::Lookup { name, epoch })), PROOF) => {
             look(user, name, *epoch, reply, printed)
         }
-        (_, PROMISE) => read_promise(user, reply, printed),
+        (_, PROMISED) => read_promise(user, reply, printed),
         _ => tell_response(printed, kind, reply),
     }
 }
@@ -327,7 +321,7 @@ where
 {
     let by = &mut user.by;
     match user.client.read_promise(&mut by.hash, &by.verifier, reply) {
-        Ok(_) => tell_response(printed, PROMISE, reply),
+        Ok(_) => tell_response(printed, PROMISED, reply),
         Err(why) => tell_client(user.alloc, printed, why),
     }
 }

@@ -1,5 +1,5 @@
 -- A frame whose length is written once its body is there.
-use Rattle.std.proofs.Common.{◌≡◌, ℕ, ◌+◌, List, [], ◌∷◌, ◌++◌, length, take, drop, refl, sym, ap, ◌∙◌, append_assoc, length-append, arith}
+use Rattle.std.proofs.Common.{◌≡◌, ℕ, ◌+◌, List, [], ◌∷◌, ◌++◌, length, take, drop, sym, ap, ◌∙◌, append_assoc, length-append}
 use Rattle.std.proofs.Math.Seq.{take-append_seam, drop-append_seam}
 
 pub front-stays : (before size body : List ℕ) (kind start : ℕ) → length before ≡ start → take start ((before ++ (size ++ kind ∷ [])) ++ body) ≡ before
