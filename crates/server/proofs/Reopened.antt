@@ -82,6 +82,10 @@ kept_still (Some xs) None after first then = absurd first
 kept_still (Some xs) (Some ys) None first then = absurd then
 kept_still (Some xs) (Some ys) (Some zs) first then = then ∙ first
 
+-- its bytes were not cut
+pub uncut : (keys : DirectoryKeys) (fault : ProgramFault) (known between after : Option (List ℕ)) → fault ≡ CannotWrite → Keeps known between → Keeps between after → StaysAt keys fault known after
+uncut keys fault known between after is keeps keeps' = rw is (inl (kept_still known between after keeps keeps'))
+
 -- the bytes had nothing to take, and a new directory's start was not written
 pub unstarted : {H V S : Type 0} (keys : DirectoryKeys) (fault : ProgramFault) (known between after : Option (List ℕ)) (what : Opened H V S ChaCha) (records size : ℕ) → HasRead keys known what records size → what ≡ Nothing → Keeps known between
     → StartsLess keys fault between after → StaysAt keys fault known after

@@ -1,5 +1,5 @@
 use Rattle.std.proofs.Common.{rules, ◌≡◌, Err, refl}
-use Rattle.server.proofs.Reopened.{goes_on, starts_anew, unstarted}
+use Rattle.server.proofs.Reopened.{goes_on, starts_anew, uncut, unstarted}
 use Rattle.server.proofs.reopening.reopen.Goals as goal
 
 pub returns-in_ok-start_anew-in-Nothing-clause-opens : goal.returns-in_ok-start_anew-in-Nothing-clause-opens
@@ -17,3 +17,8 @@ returns-in_err-start_anew-in-Nothing-clause-stays g c =
     let passed : c.from_residual-in_err-start_anew-in-Nothing.result ≡ Err c.in_err-start_anew-in-Nothing.field-0.0 = search rules in
     rw passed (unstarted c.args.keys.now c.in_err-start_anew-in-Nothing.field-0.0 (g.F.Write.contents c.args.file.now) _ _ c.in_ok-opened.field-0.opened _ _ c.in_ok-opened.ensures.opens c.in-Nothing.is c.in_ok-opened.ensures.stays
     c.in_err-start_anew-in-Nothing.ensures.stays)
+
+pub returns-in_err-cut-in-Directory-clause-stays : goal.returns-in_err-cut-in-Directory-clause-stays
+returns-in_err-cut-in-Directory-clause-stays g c =
+    let passed : c.from_residual-in_err-cut-in-Directory.result ≡ Err c.in_err-cut-in-Directory.field-0.0 = search rules in
+    rw passed (uncut c.args.keys.now c.in_err-cut-in-Directory.field-0.0 (g.F.Write.contents c.args.file.now) _ _ c.in_err-cut-in-Directory.ensures.0 c.in_ok-opened.ensures.stays c.in_err-cut-in-Directory.ensures.1)
