@@ -1,4 +1,4 @@
-use Rattle.std.proofs.Common.{◌≡◌, Err, refl, rules}
+use Rattle.std.proofs.Common.{◌≡◌, Err, rules}
 use Rattle.book.specs.Shows.{index_of}
 use Rattle.epochs.specs.DirectoryStates.{provider}
 use Rattle.textio.specs.declared.program_fault.ProgramFault.TheVariants as fault
@@ -26,7 +26,7 @@ returns-in_err-take_line g c stand are =
     _ _ (g.W.Write.contents c.write_if.new.writer) c.loop-number.text.items m c.write_if.new.text.items c.in_ok-write_if.ensures.ok in
     let index = index_of (provider g.H.NodeHash.digest_of g.V.Vuf.value_of g.S.Signer.signature_of c.args.engine.now.hub.service.directory) in
     let passed : c.from_residual-in_err-take_line.result ≡ Err c.in_err-take_line.field-0.0 = search rules in
-    rw passed (device_ends index stand _ _ _ _ _ _ _ c.in_err-take_line.field-0.0 c.in_err-take_line.ensures.err n.so)
+    rw passed (device_ends index stand (g.I.Read.remaining c.args.reader.now) (g.W.Write.contents c.args.writer.now) c.loop-number.number n.stand (g.I.Read.remaining c.loop-number.reader) (g.W.Write.contents c.write_if.new.writer) c.write_if.new.text.items c.in_err-take_line.field-0.0 c.in_err-take_line.ensures.err n.so)
 
 -- at the end of the script, what still waits
 pub returns-in_err-write_text : goal.returns-in_err-write_text
@@ -51,6 +51,49 @@ returns-then-not-branch g c stand are =
 
 pub play_text-requires : goal.play_text-requires
 play_text-requires g c = let n = c.loop-number.invariant c.requires.at.0 c.requires.at.1 in record { at = (n.stand, n.at) }
+
+-- a line was played, and no memory is left for its text
+pub returns-in_err-extend_from_slice-in-Ok : goal.returns-in_err-extend_from_slice-in-Ok
+returns-in_err-extend_from_slice-in-Ok g c stand are =
+    let m = c.loop-number.invariant stand are in
+    let n = goes_writing g.H.NodeHash.digest_of g.V.Vuf.value_of g.S.Signer.signature_of g.R.Rng.stream g.V.VufCheck.accepted g.S.Verifier.verified c.args.engine.now stand _ _ c.loop-number.number c.loop-number.engine
+    _ _ (g.W.Write.contents c.write_if.new.writer) c.loop-number.text.items m c.write_if.new.text.items c.in_ok-write_if.ensures.ok in
+    let index = index_of (provider g.H.NodeHash.digest_of g.V.Vuf.value_of g.S.Signer.signature_of c.args.engine.now.hub.service.directory) in
+    let passed : c.from_residual-in_err-extend_from_slice-in-Ok.result ≡ Err fault.OutOfMemory = search rules in
+    rw passed (device_ends index stand (g.I.Read.remaining c.args.reader.now) (g.W.Write.contents c.args.writer.now) c.loop-number.number n.stand (g.I.Read.remaining c.loop-number.reader) (g.W.Write.contents c.write_if.new.writer) c.write_if.new.text.items fault.OutOfMemory tt n.so)
+
+-- a line was not played: what waits is written
+pub returns-in_err-write_text-in-Err : goal.returns-in_err-write_text-in-Err
+returns-in_err-write_text-in-Err g c stand are =
+    let m = c.loop-number.invariant stand are in
+    let n = goes_writing g.H.NodeHash.digest_of g.V.Vuf.value_of g.S.Signer.signature_of g.R.Rng.stream g.V.VufCheck.accepted g.S.Verifier.verified c.args.engine.now stand _ _ c.loop-number.number c.loop-number.engine
+    _ _ (g.W.Write.contents c.write_if.new.writer) c.loop-number.text.items m c.write_if.new.text.items c.in_ok-write_if.ensures.ok in
+    let passed : c.from_residual-in_err-write_text-in-Err.result ≡ Err fault.CannotWrite = search rules in
+    rw passed
+    (write_ends g.H.NodeHash.digest_of g.V.Vuf.value_of g.S.Signer.signature_of g.R.Rng.stream g.V.VufCheck.accepted g.S.Verifier.verified c.args.engine.now stand _ _ c.loop-number.number c.loop-number.engine
+    _ _ (g.W.Write.contents c.write_text-in-Err.new.writer) c.write_if.new.text.items n (rw (← c.deref-in-Err.ensures.value) c.in_err-write_text-in-Err.ensures.err.1))
+
+pub returns-in-Err : goal.returns-in-Err
+returns-in-Err g c stand are =
+    let m = c.loop-number.invariant stand are in
+    let n = goes_writing g.H.NodeHash.digest_of g.V.Vuf.value_of g.S.Signer.signature_of g.R.Rng.stream g.V.VufCheck.accepted g.S.Verifier.verified c.args.engine.now stand _ _ c.loop-number.number c.loop-number.engine
+    _ _ (g.W.Write.contents c.write_if.new.writer) c.loop-number.text.items m c.write_if.new.text.items c.in_ok-write_if.ensures.ok in
+    let w = goes_written g.H.NodeHash.digest_of g.V.Vuf.value_of g.S.Signer.signature_of g.R.Rng.stream g.V.VufCheck.accepted g.S.Verifier.verified c.args.engine.now stand _ _ c.loop-number.number c.loop-number.engine
+    _ _ (g.W.Write.contents c.write_text-in-Err.new.writer) c.write_if.new.text.items n (rw (← c.deref-in-Err.ensures.value) c.in_ok-write_text-in-Err.ensures.ok) in
+    let takes = rw (c.if-not-branch.false, ← c.deref-in-loop-number.ensures.value) at c.in_ok-take_line.ensures.ok in
+    line_ends g.H.NodeHash.digest_of g.V.Vuf.value_of g.S.Signer.signature_of g.R.Rng.stream g.V.VufCheck.accepted g.S.Verifier.verified c.args.engine.now stand _ _ c.loop-number.number c.loop-number.engine c.play_text.new.engine
+    _ (g.I.Read.remaining c.take_line.new.reader) _ c.deref-in-loop-number.result.now c.clear.new.self.items c.play_text.new.text.items c.in-Err.why w takes (c.in-Err.ensures w.stand w.at)
+
+-- it was played, and its text waits
+pub loop-number-preserved : goal.loop-number-preserved
+loop-number-preserved g c stand are =
+    let m = c.loop-number.invariant stand are in
+    let n = goes_writing g.H.NodeHash.digest_of g.V.Vuf.value_of g.S.Signer.signature_of g.R.Rng.stream g.V.VufCheck.accepted g.S.Verifier.verified c.args.engine.now stand _ _ c.loop-number.number c.loop-number.engine
+    _ _ (g.W.Write.contents c.write_if.new.writer) c.loop-number.text.items m c.write_if.new.text.items c.in_ok-write_if.ensures.ok in
+    let takes = rw (c.if-not-branch.false, ← c.deref-in-loop-number.ensures.value) at c.in_ok-take_line.ensures.ok in
+    goes_further g.H.NodeHash.digest_of g.V.Vuf.value_of g.S.Signer.signature_of g.R.Rng.stream g.V.VufCheck.accepted g.S.Verifier.verified c.args.engine.now stand _ _ c.loop-number.number c.loop-number.engine c.play_text.new.engine
+    _ (g.I.Read.remaining c.take_line.new.reader) _ c.write_if.new.text.items c.deref-in-loop-number.result.now c.clear.new.self.items c.deref-in-Ok.result.now c.extend_from_slice.new.self.items n takes
+    c.clear.ensures.items c.in_ok-extend_from_slice-in-Ok.ensures.items (rw (← c.deref-in-Ok.ensures.value) at c.in-Ok.ensures n.stand n.at)
 
 pub returns : goal.returns
 returns g c stand are =
