@@ -57,6 +57,7 @@ fn read_command(
 
 /// What a verb that asks nothing says with the words behind it. A function of its own, since a name and a key
 /// take room.
+#[inline(never)]
 fn read_other(alloc: Global, verb: &[u8], behind: Option<&[u8]>) -> Result<Option<Line>, AllocError>
     ensures { IfOk result (λ read. option_map line_seen read ≡ said_among other_verbs verb.now (words_behind (option_map (λ text. text.now) behind.entry))) }
 {

@@ -65,6 +65,7 @@ pub(super) fn body_of<'a>(bytes: &'a [u8]) -> &'a [u8]
 /// # Errors
 ///
 /// `AllocError` if it says that memory ran out.
+#[inline(never)]
 pub(super) fn response_of<'a>(frame: &FrameView<'a>) -> Result<Response<'a>, AllocError>
     requires { (responded : ResponseContent) × IsReadAs (frame_seen frame.now) responded }
     ensures { (responded : ResponseContent) → IsReadAs (frame_seen frame.now) responded → IfOk result (λ response. (response_seen response ≡ responded) × (responded ≢ Refused 14)) }
@@ -108,6 +109,7 @@ fn proof_of<'a>(frame: &FrameView<'a>) -> Option<ReplyView<'a>>
 }
 
 /// Appends the line of a frame that is no reply to a look-up. Of a promise no more is read than the epoch.
+#[inline(never)]
 fn tell_reply(frame: &FrameView<'_>, text: &mut Vec<u8>) -> Result<(), AllocError>
     requires { (responded : ResponseContent) × IsReadAs (frame_seen frame.now) responded }
     ensures { (responded : ResponseContent) → IsReadAs (frame_seen frame.now) responded → OnOk result ((text.new.items ≡ text.old.items ++ response_text responded ++ 10 ∷ []) × (responded ≢ Refused 14)) }
@@ -234,6 +236,7 @@ where
     }
 
     /// Hands the promise of a key for a name to each monitor of the name, if the reply is one.
+    #[inline(never)]
     fn hand_out(&mut self, name: &[u8], key: &[u8], reply: &[u8]) -> Result<(), AllocError>
         requires asked { (before : Parties R) × (asked : Parties R) × (verb : Verb) × (watchers : List Watcher)
             × MayHand H.digest_of V.value_of S.signature_of R.stream V.accepted S.verified before asked self.old (Put verb name.now key.now) reply.now watchers }
