@@ -34,6 +34,7 @@ use proofs::ReplyView;
 use rand_core::Rng;
 use sigiface::Signer;
 use std::alloc::AllocError;
+use std::mem;
 use vrfiface::Vuf;
 use wire::{
     FrameView, Front, Response, body_spells_one_request, frames_are_read, front_of,
@@ -137,13 +138,14 @@ where
         requires ready { IsReady H.digest_of V.value_of S.signature_of R.stream V.accepted S.verified self.old }
         ensures { IfOk result (λ reply. HasAsked H.digest_of V.value_of S.signature_of R.stream V.accepted S.verified self.old (ask_seen ask.now) reply.items self.new) }
     {
-        let mut frame = Vec::new(self.alloc);
-        ask.write(&mut frame)?;
-        let mut reply = Vec::new(self.alloc);
+        self.request.clear();
+        ask.write(&mut self.request)?;
+        let mut reply = mem::replace(&mut self.reply, Vec::new(self.alloc));
+        reply.clear();
         // What the two calls of `head` ensure: the book is sound before and after, and the provider's
         // functions keep their laws.
         self.hub.head();
-        happen(&mut self.hub, &Event::Bytes(ASKING, &frame), &mut reply)?;
+        happen(&mut self.hub, &Event::Bytes(ASKING, &self.request), &mut reply)?;
         self.hub.head();
         // The request is one message, which is read as this request; its reply is honest.
         messages_are_computed();
@@ -166,6 +168,7 @@ where
         let reply = self.ask(ask)?;
         self.tell_checked(ask, &reply, text)?;
         self.hand_on(ask, &reply)?;
+        self.reply = reply;
         if latest < self.latest() {
             self.follow(text)?;
         }
