@@ -15,7 +15,7 @@ ghost use Rattle.play.specs.Reading.{TakesWholeLine};
 
 use crate::beginning::begin;
 use crate::engine::Engine;
-use crate::line::read_line;
+use crate::line::{read_asked, read_line};
 use crate::lines::next_line;
 use nodehash::NodeHash;
 use rand_core::Rng;
@@ -148,6 +148,34 @@ fn whole_lines(shown: &[u8]) -> Option<usize>
 
 /// Plays the line of this number, and appends what it prints.
 fn play_text<H, V, S, R>(
+    alloc: Global,
+    engine: &mut Engine<H, V, S, R>,
+    number: u64,
+    line: &[u8],
+    text: &mut Vec<u8>,
+) -> Result<(), ProgramFault>
+where
+    H: NodeHash + Drop,
+    V: Vuf + Drop,
+    S: Signer + Drop,
+    R: Rng + Drop,
+    requires at { (stand : Stand) × AreAt H.digest_of V.value_of S.signature_of R.stream V.accepted S.verified engine.old stand }
+    ensures { (stand : Stand) → AreAt H.digest_of V.value_of S.signature_of R.stream V.accepted S.verified engine.old stand
+        → PlaysLine H.digest_of V.value_of S.signature_of R.stream V.accepted S.verified engine.old stand number line.now text.old.items result text.new.items engine.new }
+{
+    match read_asked(alloc, line)? {
+        Some(Some(ask)) => {
+            engine.answer(&ask, text)?;
+            Ok(())
+        }
+        Some(None) => Err(ProgramFault::NotACommand(number)),
+        None => play_other(alloc, engine, number, line, text),
+    }
+}
+
+/// The same, for any line. A function of its own, since what a line says has room for a name and a key.
+#[inline(never)]
+fn play_other<H, V, S, R>(
     alloc: Global,
     engine: &mut Engine<H, V, S, R>,
     number: u64,

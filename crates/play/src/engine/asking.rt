@@ -91,6 +91,15 @@ fn had_memory(frame: &FrameView<'_>) -> Result<(), AllocError>
     if frame.body.len() != 1 {
         return Ok(());
     }
+    want_of_memory(frame)
+}
+
+/// The same, by the response that the frame is. A function of its own, since a response is a large value.
+#[inline(never)]
+fn want_of_memory(frame: &FrameView<'_>) -> Result<(), AllocError>
+    requires { (responded : ResponseContent) × IsReadAs (frame_seen frame.now) responded }
+    ensures { (responded : ResponseContent) → IsReadAs (frame_seen frame.now) responded → OnOk result (responded ≢ Refused 14) }
+{
     response_of(frame)?;
     Ok(())
 }
@@ -157,7 +166,7 @@ where
 
     /// Asks what a line asks, and appends the line of what comes of it, which the client checks. What follows
     /// from it is then done.
-    pub(super) fn answer(&mut self, ask: &Ask, text: &mut Vec<u8>) -> Result<(), AllocError>
+    pub(crate) fn answer(&mut self, ask: &Ask, text: &mut Vec<u8>) -> Result<(), AllocError>
         requires fits { RequestFits (ask_seen ask.now) }
         requires at { (stand : Stand) × AreAt H.digest_of V.value_of S.signature_of R.stream V.accepted S.verified self.old stand }
         ensures done { (stand : Stand) → AreAt H.digest_of V.value_of S.signature_of R.stream V.accepted S.verified self.old stand → OnOk result (let now = played.ask (index_of (provider H.digest_of V.value_of S.signature_of (self.old).hub.service.directory)) stand (ask_seen ask.now) in HaveDone H.digest_of V.value_of S.signature_of R.stream V.accepted S.verified text.old.items now.0 now.1 text.new.items self.new) }

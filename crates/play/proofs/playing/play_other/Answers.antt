@@ -1,7 +1,7 @@
 use Rattle.std.proofs.Common.{ap, option_map, sym, ◌∙◌}
 use Rattle.play.specs.Scripts.{line_seen}
 use Rattle.play.proofs.Fitting.{line_fits}
-use Rattle.play.proofs.playing.play_text.Goals as goal
+use Rattle.play.proofs.playing.play_other.Goals as goal
 
 pub play_line-requires-clause-fits : goal.play_line-requires-clause-fits
 play_line-requires-clause-fits g c =
