@@ -163,14 +163,14 @@ where
     ensures { (stand : Stand) → AreAt H.digest_of V.value_of S.signature_of R.stream V.accepted S.verified engine.old stand
         → PlaysLine H.digest_of V.value_of S.signature_of R.stream V.accepted S.verified engine.old stand number line.now text.old.items result text.new.items engine.new }
 {
-    match read_asked(alloc, line)? {
-        Some(Some(ask)) => {
-            engine.answer(&ask, text)?;
-            Ok(())
-        }
-        Some(None) => Err(ProgramFault::NotACommand(number)),
-        None => play_other(alloc, engine, number, line, text),
-    }
+    let Some(asked) = read_asked(alloc, line)? else {
+        return play_other(alloc, engine, number, line, text);
+    };
+    let Some(ask) = asked else {
+        return Err(ProgramFault::NotACommand(number));
+    };
+    engine.answer(&ask, text)?;
+    Ok(())
 }
 
 /// The same, for any line. A function of its own, since what a line says has room for a name and a key.

@@ -177,11 +177,18 @@ where
         let reply = self.ask(ask)?;
         self.tell_checked(ask, &reply, text)?;
         self.hand_on(ask, &reply)?;
-        self.reply = reply;
+        self.keep_room(reply);
         if latest < self.latest() {
             self.follow(text)?;
         }
         Ok(())
+    }
+
+    /// Keeps the room of a reply for the next one.
+    fn keep_room(&mut self, reply: Vec<u8>)
+        ensures { self.new ≡ self.old }
+    {
+        self.reply = reply;
     }
 
     /// Appends the line of a reply through session 0. The client looks at the reply to a look-up.
