@@ -192,7 +192,7 @@ module _ (index : List ℕ → List ℕ) (begin : Stand) where
           wrote = (
             begun,
             lines_append n.front (line_played index now said).0 ∙ ap (λ (t : List ℕ). t ++ as_lines (line_played index now said).0) parts ∙ append_assoc begun waits (as_lines (line_played index now said).0)
-            ∙ ap (λ (t : List ℕ). begun ++ (waits ++ t)) (sym same) ∙ ap (λ (t : List ℕ). begun ++ t) (sym grows),
+                ∙ ap (λ (t : List ℕ). begun ++ (waits ++ t)) (sym same) ∙ ap (λ (t : List ℕ). begun ++ t) (sym grows),
             appends,
           );
           prints = prints_more script old after new waits n;

@@ -154,7 +154,11 @@ where
         // What the two calls of `head` ensure: the book is sound before and after, and the provider's
         // functions keep their laws.
         self.hub.head();
-        happen(&mut self.hub, &Event::Bytes(ASKING, &self.request), &mut reply)?;
+        happen(
+            &mut self.hub,
+            &Event::Bytes(ASKING, &self.request),
+            &mut reply,
+        )?;
         self.hub.head();
         // The request is one message, which is read as this request; its reply is honest.
         messages_are_computed();
