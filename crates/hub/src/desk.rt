@@ -111,6 +111,7 @@ impl<H: NodeHash, V: Vuf, S: Signer, R: Rng, K: Keeper> Desk<H, V, S, R, K> {
 
     /// Each of these calls has a function of its own, since a function clears the room of all its
     /// replies when it is entered.
+    #[inline(never)]
     fn register(&mut self, name: &[u8], key: &[u8], output: &mut Vec<u8>)
         requires { vec_len output.old + MAX_ANSWER_LEN ≤ vec_capacity output.old }
         ensures { (reply : List ℕ) × ServesRequest H.digest_of V.value_of S.signature_of R.stream K.kept K.failed self.old (asks.Put Register name.now key.now) reply self.new
@@ -120,6 +121,7 @@ impl<H: NodeHash, V: Vuf, S: Signer, R: Rng, K: Keeper> Desk<H, V, S, R, K> {
     }
 
     /// Changes the key of a name.
+    #[inline(never)]
     fn change(&mut self, name: &[u8], key: &[u8], output: &mut Vec<u8>)
         requires { vec_len output.old + MAX_ANSWER_LEN ≤ vec_capacity output.old }
         ensures { (reply : List ℕ) × ServesRequest H.digest_of V.value_of S.signature_of R.stream K.kept K.failed self.old (asks.Put Change name.now key.now) reply self.new
@@ -129,6 +131,7 @@ impl<H: NodeHash, V: Vuf, S: Signer, R: Rng, K: Keeper> Desk<H, V, S, R, K> {
     }
 
     /// Answers with the promise that waits for a name.
+    #[inline(never)]
     fn promise(&mut self, name: &[u8], output: &mut Vec<u8>)
         requires { vec_len output.old + MAX_ANSWER_LEN ≤ vec_capacity output.old }
         ensures { (reply : List ℕ) × ServesRequest H.digest_of V.value_of S.signature_of R.stream K.kept K.failed self.old (asks.Query (Promise name.now)) reply self.new
@@ -138,6 +141,7 @@ impl<H: NodeHash, V: Vuf, S: Signer, R: Rng, K: Keeper> Desk<H, V, S, R, K> {
     }
 
     /// Looks a name up.
+    #[inline(never)]
     fn look_up(&mut self, name: &[u8], epoch: u64, output: &mut Vec<u8>)
         requires { vec_len output.old + MAX_ANSWER_LEN ≤ vec_capacity output.old }
         ensures { (reply : List ℕ) × ServesRequest H.digest_of V.value_of S.signature_of R.stream K.kept K.failed self.old (asks.Query (Lookup name.now epoch)) reply self.new
@@ -156,6 +160,7 @@ impl<H: NodeHash, V: Vuf, S: Signer, R: Rng, K: Keeper> Desk<H, V, S, R, K> {
     }
 
     /// Ends the epoch for whoever has the token.
+    #[inline(never)]
     fn turn(&mut self, token: &Hash32, epoch: u64, nonce: Option<Hash32>, output: &mut Vec<u8>)
         requires { vec_len output.old + MAX_ANSWER_LEN ≤ vec_capacity output.old }
         ensures { (reply : List ℕ) × ServesRequest H.digest_of V.value_of S.signature_of R.stream K.kept K.failed self.old (asks.Turn token.now epoch nonce) reply self.new
@@ -191,6 +196,7 @@ fn write(answer: &Answer<'_>, output: &mut Vec<u8>)
     prove!(written);
 }
 
+#[inline(never)]
 fn write_promise(answer: Result<SignedPromise, Refusal>, output: &mut Vec<u8>)
     requires { vec_len output.old + MAX_ANSWER_LEN ≤ vec_capacity output.old }
     ensures { output.new.items ≡ output.old.items ++ frame_bytes (reply_frame (promised answer)) }

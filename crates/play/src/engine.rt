@@ -71,6 +71,9 @@ where
     client: Client<H, V, S>,
     auditor: Auditor<H, S>,
     monitors: Vec<Monitor<H, V, S>>,
+    /// Room for the frames of requests and of replies, from one line to the next.
+    request: Vec<u8>,
+    reply: Vec<u8>,
 }
 
 impl<H, V, S, R> Model for Engine<H, V, S, R>
@@ -126,6 +129,8 @@ where
             client,
             auditor,
             monitors: Vec::new(alloc),
+            request: Vec::new(alloc),
+            reply: Vec::new(alloc),
         })
     }
 

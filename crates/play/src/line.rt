@@ -1,8 +1,8 @@
 // The first word of a line says what it is, and how many words stand behind it.
 
-ghost use Rattle.std.specs.Prelude.{◌≡◌, IfOk, Some, option_map};
+ghost use Rattle.std.specs.Prelude.{◌≡◌, IfOk, IfSome, Some, option_map};
 ghost use Rattle.play.specs.Scripts as script;
-ghost use Rattle.play.specs.Scripts.{hex_word, line_of, line_seen, other_verbs, said_among, session_word, verbs, watching, with_one_word, with_two_words, words_behind};
+ghost use Rattle.play.specs.Scripts.{asked_line, hex_word, line_of, line_seen, other_verbs, said_among, session_word, verbs, watching, with_one_word, with_two_words, words_behind};
 
 use crate::ask::{Ask, read_ask};
 use crate::word::{first_word, one_word, read_bytes, read_session, two_words};
@@ -40,6 +40,22 @@ pub fn read_line(alloc: Global, line: &[u8]) -> Result<Option<Line>, AllocError>
     read_command(alloc, verb, behind)
 }
 
+/// What a line asks, or `None` if it has no verb that asks. So a line that asks has no room for a name and a
+/// key, as a `Line` has.
+///
+/// # Errors
+///
+/// `AllocError` if memory runs out.
+pub(crate) fn read_asked(alloc: Global, line: &[u8]) -> Result<Option<Option<Ask>>, AllocError>
+    ensures { IfOk result (λ read. IfSome read (λ ask. option_map asked_line ask ≡ line_of line.now)) }
+{
+    if line.is_empty() || line[0] == b'#' {
+        return Ok(None);
+    }
+    let (verb, behind) = first_word(line);
+    read_ask(alloc, verb, behind)
+}
+
 /// What a verb says with the words behind it.
 fn read_command(
     alloc: Global,
@@ -57,6 +73,7 @@ fn read_command(
 
 /// What a verb that asks nothing says with the words behind it. A function of its own, since a name and a key
 /// take room.
+#[inline(never)]
 fn read_other(alloc: Global, verb: &[u8], behind: Option<&[u8]>) -> Result<Option<Line>, AllocError>
     ensures { IfOk result (λ read. option_map line_seen read ≡ said_among other_verbs verb.now (words_behind (option_map (λ text. text.now) behind.entry))) }
 {

@@ -34,6 +34,7 @@ use proofs::ReplyView;
 use rand_core::Rng;
 use sigiface::Signer;
 use std::alloc::AllocError;
+use std::mem;
 use vrfiface::Vuf;
 use wire::{
     FrameView, Front, PROMISED, PROOF, Response, body_spells_one_request, frames_are_read,
@@ -65,6 +66,7 @@ pub(super) fn body_of<'a>(bytes: &'a [u8]) -> &'a [u8]
 /// # Errors
 ///
 /// `AllocError` if it says that memory ran out.
+#[inline(never)]
 pub(super) fn response_of<'a>(frame: &FrameView<'a>) -> Result<Response<'a>, AllocError>
     requires { (responded : ResponseContent) × IsReadAs (frame_seen frame.now) responded }
     ensures { (responded : ResponseContent) → IsReadAs (frame_seen frame.now) responded → IfOk result (λ response. (response_seen response ≡ responded) × (responded ≢ Refused 14)) }
@@ -89,6 +91,15 @@ fn had_memory(frame: &FrameView<'_>) -> Result<(), AllocError>
     if frame.body.len() != 1 {
         return Ok(());
     }
+    want_of_memory(frame)
+}
+
+/// The same, by the response that the frame is. A function of its own, since a response is a large value.
+#[inline(never)]
+fn want_of_memory(frame: &FrameView<'_>) -> Result<(), AllocError>
+    requires { (responded : ResponseContent) × IsReadAs (frame_seen frame.now) responded }
+    ensures { (responded : ResponseContent) → IsReadAs (frame_seen frame.now) responded → OnOk result (responded ≢ Refused 14) }
+{
     response_of(frame)?;
     Ok(())
 }
@@ -108,6 +119,7 @@ fn proof_of<'a>(frame: &FrameView<'a>) -> Option<ReplyView<'a>>
 }
 
 /// Appends the line of a frame that is no reply to a look-up. Of a promise no more is read than the epoch.
+#[inline(never)]
 fn tell_reply(frame: &FrameView<'_>, text: &mut Vec<u8>) -> Result<(), AllocError>
     requires { (responded : ResponseContent) × IsReadAs (frame_seen frame.now) responded }
     ensures { (responded : ResponseContent) → IsReadAs (frame_seen frame.now) responded → OnOk result ((text.new.items ≡ text.old.items ++ response_text responded ++ 10 ∷ []) × (responded ≢ Refused 14)) }
@@ -135,13 +147,18 @@ where
         requires ready { IsReady H.digest_of V.value_of S.signature_of R.stream V.accepted S.verified self.old }
         ensures { IfOk result (λ reply. HasAsked H.digest_of V.value_of S.signature_of R.stream V.accepted S.verified self.old (ask_seen ask.now) reply.items self.new) }
     {
-        let mut frame = Vec::new(self.alloc);
-        ask.write(&mut frame)?;
-        let mut reply = Vec::new(self.alloc);
+        self.request.clear();
+        ask.write(&mut self.request)?;
+        let mut reply = mem::replace(&mut self.reply, Vec::new(self.alloc));
+        reply.clear();
         // What the two calls of `head` ensure: the book is sound before and after, and the provider's
         // functions keep their laws.
         self.hub.head();
-        happen(&mut self.hub, &Event::Bytes(ASKING, &frame), &mut reply)?;
+        happen(
+            &mut self.hub,
+            &Event::Bytes(ASKING, &self.request),
+            &mut reply,
+        )?;
         self.hub.head();
         // The request is one message, which is read as this request; its reply is honest.
         messages_are_computed();
@@ -153,7 +170,7 @@ where
 
     /// Asks what a line asks, and appends the line of what comes of it, which the client checks. What follows
     /// from it is then done.
-    pub(super) fn answer(&mut self, ask: &Ask, text: &mut Vec<u8>) -> Result<(), AllocError>
+    pub(crate) fn answer(&mut self, ask: &Ask, text: &mut Vec<u8>) -> Result<(), AllocError>
         requires fits { RequestFits (ask_seen ask.now) }
         requires at { (stand : Stand) × AreAt H.digest_of V.value_of S.signature_of R.stream V.accepted S.verified self.old stand }
         ensures done { (stand : Stand) → AreAt H.digest_of V.value_of S.signature_of R.stream V.accepted S.verified self.old stand → OnOk result (let now = played.ask (index_of (provider H.digest_of V.value_of S.signature_of (self.old).hub.service.directory)) stand (ask_seen ask.now) in HaveDone H.digest_of V.value_of S.signature_of R.stream V.accepted S.verified text.old.items now.0 now.1 text.new.items self.new) }
@@ -164,10 +181,18 @@ where
         let reply = self.ask(ask)?;
         self.tell_checked(ask, &reply, text)?;
         self.hand_on(ask, &reply)?;
+        self.keep_room(reply);
         if latest < self.latest() {
             self.follow(text)?;
         }
         Ok(())
+    }
+
+    /// Keeps the room of a reply for the next one.
+    fn keep_room(&mut self, reply: Vec<u8>)
+        ensures { self.new ≡ self.old }
+    {
+        self.reply = reply;
     }
 
     /// Appends the line of a reply through session 0. The client looks at the reply to a look-up.
@@ -234,6 +259,7 @@ where
     }
 
     /// Hands the promise of a key for a name to each monitor of the name, if the reply is one.
+    #[inline(never)]
     fn hand_out(&mut self, name: &[u8], key: &[u8], reply: &[u8]) -> Result<(), AllocError>
         requires asked { (before : Parties R) × (asked : Parties R) × (verb : Verb) × (watchers : List Watcher)
             × MayHand H.digest_of V.value_of S.signature_of R.stream V.accepted S.verified before asked self.old (Put verb name.now key.now) reply.now watchers }

@@ -37,6 +37,7 @@ where
 {
     /// Lets the client, the auditor and the monitors take the roots that are new, and then each monitor
     /// watch their epochs.
+    #[inline(never)]
     pub(super) fn follow(&mut self, text: &mut Vec<u8>) -> Result<(), AllocError>
         requires behind { (stand : Stand) × AreBehind H.digest_of V.value_of S.signature_of R.stream V.accepted S.verified self.old stand }
         ensures done { (stand : Stand) → AreBehind H.digest_of V.value_of S.signature_of R.stream V.accepted S.verified self.old stand → OnOk result (let now = all_through (index_of (provider H.digest_of V.value_of S.signature_of (self.old).hub.service.directory)) (pages stand.book) stand.watchers in HaveDone H.digest_of V.value_of S.signature_of R.stream V.accepted S.verified text.old.items now.0 (record stand { watchers = now.1 }) text.new.items self.new) }

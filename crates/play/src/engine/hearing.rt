@@ -34,6 +34,7 @@ where
     R: Rng + Drop,
 {
     /// Hands a piece to a session, and appends the line of each reply. What follows from it is then done.
+    #[inline(never)]
     pub(super) fn piece(
         &mut self,
         session: NonZeroU32,

@@ -35,6 +35,7 @@ where
     R: Rng + Drop,
 {
     /// Adds a monitor of a name, whose client starts at the head, and lets it watch the head's epoch.
+    #[inline(never)]
     pub(super) fn watch(
         &mut self,
         name: &Name,

@@ -1,4 +1,4 @@
-use Rattle.std.proofs.Common.{◌≡◌, List, ℕ, Err, rules, subst}
+use Rattle.std.proofs.Common.{◌≡◌, [], List, ℕ, Err, rules, subst}
 use Rattle.textio.specs.declared.program_fault.ProgramFault.TheVariants as fault
 use Rattle.textio.specs.Lines.{lines_of}
 use Rattle.play.specs.Beginnings.{script_index, script_salts}
@@ -11,7 +11,7 @@ use Rattle.play.proofs.playing.play.Goals as goal
 pub returns-in_err-engine : goal.returns-in_err-engine
 returns-in_err-engine g c =
     let passed : c.from_residual.result ≡ Err fault.OutOfMemory = search rules in
-    rw passed (device_ends script_index (opening script_salts) _ _ 1 (opening script_salts) _ _ fault.OutOfMemory tt (at_first script_index (opening script_salts) _ _))
+    rw passed (device_ends script_index (opening script_salts) _ _ 1 (opening script_salts) _ _ [] fault.OutOfMemory tt (at_first script_index (opening script_salts) _ _))
 
 pub play_lines-requires : goal.play_lines-requires
 play_lines-requires g c = record { at = (opening script_salts, c.in_ok-engine.ensures.at) }

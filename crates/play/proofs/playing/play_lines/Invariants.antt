@@ -7,4 +7,4 @@ abbrev pub invariant-loop-number : goal.invariant-loop-number
 invariant-loop-number g l = (stand : Stand)
     → AreAt g.H.NodeHash.digest_of g.V.Vuf.value_of g.S.Signer.signature_of g.R.Rng.stream g.V.VufCheck.accepted g.S.Verifier.verified l.initial.engine stand
     → GoesOn g.H.NodeHash.digest_of g.V.Vuf.value_of g.S.Signer.signature_of g.R.Rng.stream g.V.VufCheck.accepted g.S.Verifier.verified
-    l.initial.engine stand (g.I.Read.remaining l.initial.reader) (g.W.Write.contents l.initial.writer) l.number l.engine (g.I.Read.remaining l.reader) (g.W.Write.contents l.writer)
+    l.initial.engine stand (g.I.Read.remaining l.initial.reader) (g.W.Write.contents l.initial.writer) l.number l.engine (g.I.Read.remaining l.reader) (g.W.Write.contents l.writer) l.text.items

@@ -20,7 +20,7 @@ frame_of-requires g c =
     let (said, responded, says, response, read, fine) =
     served g.H.NodeHash.digest_of g.V.Vuf.value_of g.S.Signer.signature_of g.R.Rng.stream g.V.VufCheck.accepted g.S.Verifier.verified
     c.messages_are_computed.ensures.one c.body_spells_one_request.ensures c.replies_are_honest.ensures before (record before { hub = c.happen.new.hub }) (ask_seen c.args.ask.now) asked c.deref.result.now c.happen.new.output.items (Ok tt)
-    (rw (← c.self.view_is) at c.requires.ready) c.write.ensures.form.0 c.write.ensures.form.1 is whole c.head.ensures.well c.head-2.ensures.well refl (rw c.new-reply.ensures.items at c.in_ok-happen.ensures) refl
+    (rw (← c.self.view_is) at c.requires.ready) c.write.ensures.form.0 c.write.ensures.form.1 is whole c.head.ensures.well c.head-2.ensures.well refl (rw c.clear-2.ensures.items at c.in_ok-happen.ensures) refl
     in
     (reply_frame said, read.0, c.deref-2.ensures.value ∙ says)
 
@@ -32,7 +32,7 @@ had_memory-requires g c =
     let (said, responded, says, response, read, fine) =
     served g.H.NodeHash.digest_of g.V.Vuf.value_of g.S.Signer.signature_of g.R.Rng.stream g.V.VufCheck.accepted g.S.Verifier.verified
     c.messages_are_computed.ensures.one c.body_spells_one_request.ensures c.replies_are_honest.ensures before (record before { hub = c.happen.new.hub }) (ask_seen c.args.ask.now) asked c.deref.result.now c.happen.new.output.items (Ok tt)
-    (rw (← c.self.view_is) at c.requires.ready) c.write.ensures.form.0 c.write.ensures.form.1 is whole c.head.ensures.well c.head-2.ensures.well refl (rw c.new-reply.ensures.items at c.in_ok-happen.ensures) refl
+    (rw (← c.self.view_is) at c.requires.ready) c.write.ensures.form.0 c.write.ensures.form.1 is whole c.head.ensures.well c.head-2.ensures.well refl (rw c.clear-2.ensures.items at c.in_ok-happen.ensures) refl
     in
     let begins : c.deref-2.result.now ≡ frame_bytes (reply_frame said) = c.deref-2.ensures.value ∙ says in
     let seen : frame_seen c.frame_of.result ≡ reply_frame said = c.frame_of.ensures (reply_frame said) read.0 begins in
@@ -46,7 +46,7 @@ returns g c =
     let (said, responded, says, response, read, fine) =
     served g.H.NodeHash.digest_of g.V.Vuf.value_of g.S.Signer.signature_of g.R.Rng.stream g.V.VufCheck.accepted g.S.Verifier.verified
     c.messages_are_computed.ensures.one c.body_spells_one_request.ensures c.replies_are_honest.ensures before (record before { hub = c.happen.new.hub }) (ask_seen c.args.ask.now) asked c.deref.result.now c.happen.new.output.items (Ok tt)
-    (rw (← c.self.view_is) at c.requires.ready) c.write.ensures.form.0 c.write.ensures.form.1 is whole c.head.ensures.well c.head-2.ensures.well refl (rw c.new-reply.ensures.items at c.in_ok-happen.ensures) refl
+    (rw (← c.self.view_is) at c.requires.ready) c.write.ensures.form.0 c.write.ensures.form.1 is whole c.head.ensures.well c.head-2.ensures.well refl (rw c.clear-2.ensures.items at c.in_ok-happen.ensures) refl
     in
     let begins : c.deref-2.result.now ≡ frame_bytes (reply_frame said) = c.deref-2.ensures.value ∙ says in
     let seen : frame_seen c.frame_of.result ≡ reply_frame said = c.frame_of.ensures (reply_frame said) read.0 begins in
