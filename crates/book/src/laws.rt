@@ -26,8 +26,8 @@ use vrfiface::VufCheck;
 /// Whatever is asked of a directory, and whatever is kept of it: the users of an honest provider see
 /// one chain of roots, accept each reply with what the pages have, and have each promise kept. Only
 /// the reply to a look-up that meets another name with its index is not accepted: checking refuses it
-/// for just that. Each salt to come has 32 bytes; or the book after the run is known to be sound, as
-/// that of a directory is.
+/// for just that. This needs that each salt to come has 32 bytes, or that the book after the run is known
+/// to be sound, as that of a directory is.
 pub fn honest<V: VufCheck, S: Verifier, K: Keeper>()
     ensures { (provider : Provider) (key : List ℕ) (book after : Book) (keeper keeper_after : K) (commands : List Operation) (replies : List Reply)
         → KeepsLaws V.accepted S.verified key provider
@@ -39,7 +39,7 @@ pub fn honest<V: VufCheck, S: Verifier, K: Keeper>()
 {}
 
 /// A book begins sound, and is sound after each run from a sound book, whatever is asked and kept, if
-/// each salt to come has 32 bytes. Those that are then left do too.
+/// each salt to come has 32 bytes. So do the salts that are left after the run.
 pub fn soundness_stays<K: Keeper>()
     ensures fresh { (index_of : List ℕ → List ℕ) (epoch : ℕ) (nonce : List ℕ) (salts : Stream)
         → IsEpoch epoch → Is32Bytes nonce → GivesSalts salts

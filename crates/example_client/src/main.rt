@@ -26,33 +26,35 @@ fn main(rt: HostRuntime) -> Result<()> {
 
     // Start at the directory's latest root. The token is that of the operator, which a user does not have.
     let stream = &mut TcpStream::connect(&rt, address).context("connecting")?;
-    let (said, token) = (&mut Said::new(alloc), Hash32::default());
+    let said = &mut Said::new(alloc);
+    let token = Hash32::default();
     let begun = Asker::start_at_head(alloc, stream, Checks::keyed(provider), provider, token, said);
-    let mut asker = told(&rt, begun, said)?;
+    let mut asker = tell(&rt, begun, said)?;
     // Look the name up, and watch it from the latest epoch on. If it has a key, that has to be the owner's.
     let name = Vec::from_slice(alloc, owned.bytes())?;
     let asked = asker.ask(stream, &Ask::Lookup { name, epoch: 0 }, said);
     let is_bound = said.text.starts_with(b"present");
-    told(&rt, asked, said)?;
+    tell(&rt, asked, said)?;
     let expected = if is_bound { Some(&expected) } else { None };
-    told(&rt, asker.watch(stream, &owned, expected, said), said)?;
+    tell(&rt, asker.watch(stream, &owned, expected, said), said)?;
     if !is_bound {
         // The client keeps the promise, and the monitor expects the key from the next epoch on.
-        let (verb, name) = (Verb::Register, Vec::from_slice(alloc, owned.bytes())?);
+        let verb = Verb::Register;
+        let name = Vec::from_slice(alloc, owned.bytes())?;
         let asked = asker.ask(stream, &Ask::Put { verb, name, key }, said);
-        told(&rt, asked, said)?;
+        tell(&rt, asked, said)?;
     }
     // Follow the chain. At each new root, the monitor looks the name up, and the promise is tested if it is due.
     for _ in 0..seconds {
         thread::sleep(&rt, Duration::from_secs(1));
-        told(&rt, asker.follow(stream, said), said)?;
-        told(&rt, asker.go_on(stream, said), said)?;
+        tell(&rt, asker.follow(stream, said), said)?;
+        tell(&rt, asker.go_on(stream, said), said)?;
     }
     Ok(())
 }
 
 /// Prints what was said, and fails if something was refused or no reply came. An alarm is no failure.
-fn told<T: Drop>(rt: &HostRuntime, asked: Result<T, AskFault>, said: &mut Said) -> Result<T> {
+fn tell<T: Drop>(rt: &HostRuntime, asked: Result<T, AskFault>, said: &mut Said) -> Result<T> {
     print!(rt; "{}", str::from_utf8(&said.text)?)?;
     said.text.clear();
     ensure!(said.words.is_empty(), "{}", str::from_utf8(&said.words)?);

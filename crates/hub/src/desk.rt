@@ -109,8 +109,8 @@ impl<H: NodeHash, V: Vuf, S: Signer, R: Rng, K: Keeper> Desk<H, V, S, R, K> {
         }
     }
 
-    /// Each of these calls has a function of its own, since a function clears the room of all its
-    /// replies when it is entered.
+    /// Each of these calls has a function of its own that is not inlined, since a function clears the room
+    /// of all its replies when it is entered.
     #[inline(never)]
     fn register(&mut self, name: &[u8], key: &[u8], output: &mut Vec<u8>)
         requires { vec_len output.old + MAX_ANSWER_LEN ≤ vec_capacity output.old }

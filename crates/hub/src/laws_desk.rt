@@ -16,8 +16,8 @@ use vrfiface::Vuf;
 
 /// The messages that a desk answered one after another, of whichever sessions, show a run of its
 /// directory: each reply shows the book as the commands of all messages before it leave it. The users
-/// see of it what those of an honest provider see. Each salt to come has 32 bytes; or the desk after
-/// them is known to be sound, as clause `well` of `Hub::head` ensures.
+/// see of it what those of an honest provider see. This needs that each salt to come has 32 bytes, or that
+/// the desk after them is known to be sound, as clause `well` of `Hub::head` ensures.
 pub fn replies_are_honest<H: NodeHash, V: Vuf, S: Signer, R: Rng, K: Keeper>()
     ensures { (before after : DeskState R K) (lines : List Line)
         → IsSoundDesk H.digest_of V.value_of S.signature_of R.stream V.accepted S.verified before

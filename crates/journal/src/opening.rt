@@ -1,6 +1,6 @@
 // A journal is opened in one pass. The start is read and a directory begun with it; then each record is
 // read and carried out, as long as a whole one stands at the front. What is left is a record that was cut
-// short, or a fault. Four records are read ahead, so that their commitments are digested at once.
+// short, or a fault. Where the next four records are short bindings, their commitments are digested at once.
 ghost use Rattle.std.specs.Prelude.{◌≡◌, ◌≤◌, length, MatchResult, Some};
 ghost use Rattle.book.specs.Fresh.{fresh, keyed_provider};
 ghost use Rattle.book.specs.Shows.{index_of};
@@ -103,8 +103,8 @@ fn text_ahead(ahead: &mut Cursor<'_>) -> Option<NodeText> {
     }
 }
 
-/// Lets the directory foresee the records at the front, if each has such a text. Tells how many records
-/// after the first it need not do so for.
+/// Has the directory digest the commitments of the next four records at once, if each is a binding with a short
+/// text. Returns for how many records after the first no look is due.
 fn look_ahead<H: NodeHash, V: Vuf, S: Signer, R: Rng>(
     directory: &mut Directory<H, V, S, R>,
     front: &Cursor<'_>,
@@ -129,8 +129,8 @@ fn look_ahead<H: NodeHash, V: Vuf, S: Signer, R: Rng>(
     AT_ONCE - 1
 }
 
-/// Looks ahead, unless this was done for so many records from the front on. Tells for how many after the first
-/// it is done then.
+/// Looks ahead if no look covers the record at the front. `known` is how many records from it on are covered;
+/// returns how many after it are.
 fn prepare<H: NodeHash, V: Vuf, S: Signer, R: Rng>(
     directory: &mut Directory<H, V, S, R>,
     front: &Cursor<'_>,
@@ -145,7 +145,7 @@ fn prepare<H: NodeHash, V: Vuf, S: Signer, R: Rng>(
     look_ahead(directory, front)
 }
 
-/// Carries out a record that was read at the front, with a look ahead if it is time.
+/// Carries out a record that was read at the front, after a look ahead if one is due.
 fn replay_later<H: NodeHash, V: Vuf, S: Signer, R: Rng>(
     directory: &mut Directory<H, V, S, R>,
     what: &Later<'_>,

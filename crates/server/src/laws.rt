@@ -22,7 +22,7 @@ use vrfiface::Vuf;
 
 /// Sessions that are served one after another, each as `serve` ensures, are sessions of one hub: their
 /// messages show one run of its directory. The users behind all of them see of it what those of an honest
-/// provider see. Each salt to come has 32 bytes; or the desk after them is known to be sound.
+/// provider see. This needs that each salt to come has 32 bytes, or that the desk after them is known as sound.
 pub fn sessions_show_one_run<H: NodeHash, V: Vuf, S: Signer, G: Rng, K: Keeper>()
     ensures { (before after : DeskState G K) (served : List (ℕ × List Exchange))
         → IsSoundDesk H.digest_of V.value_of S.signature_of G.stream V.accepted S.verified before
@@ -35,7 +35,7 @@ pub fn sessions_show_one_run<H: NodeHash, V: Vuf, S: Signer, G: Rng, K: Keeper>(
 /// ensures for any connections, shows one run of its directory, as `Hub::run` does: at each time, each connection
 /// took a beginning of what its session was answered, in order, and that is what the run told this session: the
 /// replies to the messages in the bytes that it heard. The users behind all of them see of the run what those of an
-/// honest provider see. Each salt to come has 32 bytes; or the desk after it is known to be sound.
+/// honest provider see. This needs that each salt to come has 32 bytes, or that the desk after it is known as sound.
 pub fn crowds_show_one_run<H: NodeHash, V: Vuf, S: Signer, G: Rng, K: Keeper>()
     ensures { (before after : HubState (DeskState G K)) (idle : ℕ) (acts : History)
         → IsSoundDesk H.digest_of V.value_of S.signature_of G.stream V.accepted S.verified before.service
@@ -58,8 +58,8 @@ pub fn crowd_outputs_are_bounded<H: NodeHash, V: Vuf, S: Signer, G: Rng, K: Keep
         → IsSoundHistory idle acts → AlwaysWaitWithin MAX_ANSWER_LEN acts }
 {}
 
-/// Each salt of a directory that a server begins has 32 bytes, so that what the laws here, in `hub` and in `book`
-/// need of the salts to come holds of it.
+/// Each salt of a directory that a server begins has 32 bytes, which is what the laws here, in `hub` and in
+/// `book` ask of the salts to come.
 pub fn salts_have_their_size()
     ensures { (generator : ChaCha) → GivesSalts (salts generator) }
 {}
