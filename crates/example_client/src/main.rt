@@ -28,7 +28,8 @@ fn main(rt: HostRuntime) -> Result<()> {
     let stream = &mut TcpStream::connect(&rt, address).context("connecting")?;
     let said = &mut Said::new(alloc);
     let token = Hash32::default();
-    let begun = Asker::start_at_head(alloc, stream, Checks::keyed(provider), provider, token, said);
+    let checks = Checks::keyed(provider);
+    let begun = Asker::start_at_head(alloc, stream, checks, provider, token, said);
     let mut asker = tell(&rt, begun, said)?;
     // Look the name up, and watch it from the latest epoch on. If it has a key, that has to be the owner's.
     let name = Vec::from_slice(alloc, owned.bytes())?;
