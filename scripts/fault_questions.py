@@ -6,7 +6,7 @@ a read and of a write, and the bytes that the reader gives. VERB and ARGUMENTS a
     write TEXT, tell LINE             writes a text, or the fault of a line
     read MOST, lines                  writes what it reads at once, or the first 130 bytes of each line
     root HASH NONCE, prove INDEX HASH NONCE, audit KEY, judge KEY FILE
-    play                              what a script prints, line by line
+    play                              what a script prints, before a read that may wait
     serve, sessions                   one session, or one and then another one that asks for the head
 
 and DEVICES one of `never`, `read-fails`, `read-interrupted`, `read-interrupted-twice`, `write-fails`,
@@ -153,20 +153,35 @@ def by_lines(data, piece, texts, fault=None):
     return Program([*steps, Read(), *sum(([*text, Read()] for text in texts[done:]), [])], fault=fault)
 
 
+def by_ready_lines(data, piece, texts, fault=None):
+    """The same, but what lines print is written together if one read made them whole, before the next read. A line
+    whose beginning came with a read before is written by itself."""
+    steps, done = [], 0
+    for at in range(0, len(data), piece):
+        whole = data[: at + piece].count(b"\n")
+        ready = done + 1 if data[:at] and not data[:at].endswith(b"\n") else done
+        groups = texts[done : min(ready, whole)], texts[ready:whole]
+        steps += [Read(), *(b"".join(sum(group, [])) for group in groups)]
+        if whole > len(texts):
+            return Program(steps, fault=fault)
+        done = whole
+    return Program([*steps, Read(), *sum(([*text, Read()] for text in texts[done:]), [])], fault=fault)
+
+
 def by_all_lines(data, piece, text):
     """Reads all lines, and then writes a text."""
     return Program([*by_lines(data, piece, [[] for _ in lines_of(data)]).steps, text])
 
 
 def played_by_lines(script, piece):
-    """Plays a script: what a line prints is written at once."""
+    """Plays a script: what lines print is written before a read that may wait."""
     run, texts = sessions.Played(), []
     for number, line in enumerate(lines_of(script), 1):
         try:
             texts.append(["".join(f"{told}\n" for told in run.line(line)).encode()])
         except sessions.NotACommand:
-            return by_lines(script, piece, texts, f"line {number}: not a command")
-    return by_lines(script, piece, texts)
+            return by_ready_lines(script, piece, texts, f"line {number}: not a command")
+    return by_ready_lines(script, piece, texts)
 
 
 # The provider --------------------------------------------------------------------------------------------
@@ -499,7 +514,7 @@ def of_short_script(q):
 
 
 def of_scripts(q):
-    q.note("What a script prints is written line by line. At a failure it is a beginning.")
+    q.note("What a script prints is written before a read that may wait. At a failure it is a beginning.")
     script = q.let("script", PLAYED.encode())
     stopped = q.let("stopped", b"# note\nhead\n\nclose 2\nclose two\nhead\n")
     for devices in READS + WRITES:

@@ -54,8 +54,7 @@ module _ (hash : List ℕ → List ℕ) (verified : List ℕ → List ℕ → Li
   abbrev pub ObservesLine : Chains → List ℕ → Result Observed Refusal → Chains → Type 0
   ObservesLine before line = ObservesDecoded before (decode_of line)
 
-  -- Evidence that is answered holds. A root is refused only if it is none, or does not verify. That memory
-  -- ran out is not an answer.
+  -- Evidence that is answered holds. A root is refused only if it is none, or does not verify.
   abbrev pub IsAuditAnswer : Result Observed Refusal → Type 0
   IsAuditAnswer (Ok told) = ObservedHolds hash verified key told
   IsAuditAnswer (Err Malformed) = ⊤
