@@ -92,6 +92,7 @@ def finds_other_key(pair, program):
 def has_another_key(pair, program):
     """A run with the key of another provider, which ends at the first root."""
     process = started(pair.address, program, ZERO32, 1)
+    yield from differences(process, [f"client refuses root {BAD_SIGNATURE}"])
     yield from ended(process, 1, RootRefusal(BAD_SIGNATURE).text)
 
 
