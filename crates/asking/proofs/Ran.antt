@@ -26,55 +26,55 @@ use Rattle.asking.specs.declared.said.Said.{Said}
 use Rattle.asking.specs.AskOptions.{AskOptions, ask_keys_of, ask_values}
 use Rattle.asking.specs.Exchanges.{ExchangesFrames}
 use Rattle.asking.specs.Reports.{Report, report_of}
-use Rattle.asking.specs.Runs.{AsksLine, AsksLines, AsksOverSocket, BeginsAsking, emptied, end_status, Grows, Known, known_new, known_of, lines_asked, Prepares, RunsAs, RunsWhole, words_line, Writes, IsCutShort}
+use Rattle.asking.specs.Runs.{AsksLine, AsksLines, AsksOverSocket, BeginsAsking, emptied, end_status, Grows, Background, new_background, background_of, lines_asked, Prepares, RunsAs, RunsWhole, words_line, Writes, IsCutShort}
 use Rattle.asking.specs.Scenes.{Scene, scene, Remains, StartsAtHead}
 use Rattle.asking.proofs.Joined.{scene_of}
 
-known-by : {H V S : Type 0} (before after : Asker H V S) → after.key ≡ before.key → after.token ≡ before.token → after.marks.items ≡ before.marks.items → after.earlier.items ≡ before.earlier.items → known_of after ≡ known_of before
-known-by before after key token marks earlier =
-    ap (λ (k : List ℕ). let t : Known = record { key = k; token = after.token; marks = after.marks.items; earlier = after.earlier.items } in t) key
-    ∙ ap (λ (k : List ℕ). let t : Known = record { key = before.key; token = k; marks = after.marks.items; earlier = after.earlier.items } in t) token
-    ∙ ap (λ (k : List Mark). let t : Known = record { key = before.key; token = before.token; marks = k; earlier = after.earlier.items } in t) marks
-    ∙ ap (λ (k : List SignedPromise). let t : Known = record { key = before.key; token = before.token; marks = before.marks.items; earlier = k } in t) earlier
+background-by : {H V S : Type 0} (before after : Asker H V S) → after.key ≡ before.key → after.token ≡ before.token → after.marks.items ≡ before.marks.items → after.earlier.items ≡ before.earlier.items → background_of after ≡ background_of before
+background-by before after key token marks earlier =
+    ap (λ (k : List ℕ). let t : Background = record { key = k; token = after.token; marks = after.marks.items; earlier = after.earlier.items } in t) key
+    ∙ ap (λ (k : List ℕ). let t : Background = record { key = before.key; token = k; marks = after.marks.items; earlier = after.earlier.items } in t) token
+    ∙ ap (λ (k : List Mark). let t : Background = record { key = before.key; token = before.token; marks = k; earlier = after.earlier.items } in t) marks
+    ∙ ap (λ (k : List SignedPromise). let t : Background = record { key = before.key; token = before.token; marks = before.marks.items; earlier = k } in t) earlier
 
--- no answer changes what is known
-pub known_stays : {H V S : Type 0} (before after : Asker H V S) → Remains before after → known_of after ≡ known_of before
-known_stays before after (key, token, marks, earlier) = known-by before after key token (ap (λ (all : Vec Mark Global). all.items) marks) (ap (λ (all : Vec SignedPromise Global). all.items) earlier)
+-- no answer changes the background
+pub background_stays : {H V S : Type 0} (before after : Asker H V S) → Remains before after → background_of after ≡ background_of before
+background_stays before after (key, token, marks, earlier) = background-by before after key token (ap (λ (all : Vec Mark Global). all.items) marks) (ap (λ (all : Vec SignedPromise Global). all.items) earlier)
 
-module _ (hash : List ℕ → List ℕ) (accepted verified : List ℕ → List ℕ → List ℕ → Type 0) {T : Type 0} (exchanged : T → RequestContent → Frame → T → Type 0) (known : Known) where
+module _ (hash : List ℕ → List ℕ) (accepted verified : List ℕ → List ℕ → List ℕ → Type 0) {T : Type 0} (exchanged : T → RequestContent → Frame → T → Type 0) (background : Background) where
   -- whatever is asked from here to the end of the input is asked from the beginning
   abbrev pub LeadsOn : Scene T → Option (List ℕ) → Option (List ℕ) → Scene T → Option (List ℕ) → Option (List ℕ) → Type 0
   LeadsOn start input old here left now = (all : List ℕ) → input ≡ Some all → (rest : List ℕ) × (left ≡ Some rest)
-      × ((new : Option (List ℕ)) (after : Scene T) → AsksLines hash accepted verified exchanged known (lines_of rest) here now new after → AsksLines hash accepted verified exchanged known (lines_of all) start old new after)
+      × ((new : Option (List ℕ)) (after : Scene T) → AsksLines hash accepted verified exchanged background (lines_of rest) here now new after → AsksLines hash accepted verified exchanged background (lines_of all) start old new after)
 
   pub leads_first : (start : Scene T) (input old : Option (List ℕ)) → LeadsOn start input old start input old
   leads_first start input old = λ all is. (all, is, λ new after asks. asks)
 
   -- one line more is asked
   pub leads_next : (start here next : Scene T) (input old left left' now now' : Option (List ℕ)) (line : List ℕ) → LeadsOn start input old here left now → TakesWholeLine left left' true line
-      → Writes (AsksLine hash accepted verified exchanged known line) here now now' next → LeadsOn start input old next left' now'
+      → Writes (AsksLine hash accepted verified exchanged background line) here now now' next → LeadsOn start input old next left' now'
   leads_next start here next input old left left' now now' line leads takes writes = λ all is.
       let (rest, at, lead) = leads all is in
       by all rest lead left' (subst (λ (l : Option (List ℕ)). TakesWholeLine l left' true line) at takes)
     where
-      by : (all rest : List ℕ) → ((new : Option (List ℕ)) (after : Scene T) → AsksLines hash accepted verified exchanged known (lines_of rest) here now new after → AsksLines hash accepted verified exchanged known (lines_of all) start old new after)
+      by : (all rest : List ℕ) → ((new : Option (List ℕ)) (after : Scene T) → AsksLines hash accepted verified exchanged background (lines_of rest) here now new after → AsksLines hash accepted verified exchanged background (lines_of all) start old new after)
           → (left' : Option (List ℕ)) → TakesWholeLine (Some rest) left' true line
-          → (rest' : List ℕ) × (left' ≡ Some rest') × ((new : Option (List ℕ)) (after : Scene T) → AsksLines hash accepted verified exchanged known (lines_of rest') next now' new after → AsksLines hash accepted verified exchanged known (lines_of all) start old new after)
+          → (rest' : List ℕ) × (left' ≡ Some rest') × ((new : Option (List ℕ)) (after : Scene T) → AsksLines hash accepted verified exchanged background (lines_of rest') next now' new after → AsksLines hash accepted verified exchanged background (lines_of all) start old new after)
       by all rest lead None bad = absurd bad
-      by all rest lead (Some rest') is = (rest', refl, λ new after more. lead new after (subst (λ (lines : List (List ℕ)). AsksLines hash accepted verified exchanged known lines here now new after) (sym is) (next, now', writes, more)))
+      by all rest lead (Some rest') is = (rest', refl, λ new after more. lead new after (subst (λ (lines : List (List ℕ)). AsksLines hash accepted verified exchanged background lines here now new after) (sym is) (next, now', writes, more)))
 
   -- no line is left
   pub leads_out : (start here : Scene T) (input old left left' now : Option (List ℕ)) (line : List ℕ) → LeadsOn start input old here left now → TakesWholeLine left left' false line
-      → IfSome input (λ all. AsksLines hash accepted verified exchanged known (lines_of all) start old now here)
+      → IfSome input (λ all. AsksLines hash accepted verified exchanged background (lines_of all) start old now here)
   leads_out start here None old left left' now line leads takes = tt
   leads_out start here (Some all) old left left' now line leads takes =
       let (rest, at, lead) = leads all refl in
       let none : rest ≡ [] = subst (λ (l : Option (List ℕ)). TakesWholeLine l left' false line) at takes in
-      lead now here (subst (λ (bytes : List ℕ). AsksLines hash accepted verified exchanged known (lines_of bytes) here now now here) (sym none) (Appends-nil now, refl))
+      lead now here (subst (λ (bytes : List ℕ). AsksLines hash accepted verified exchanged background (lines_of bytes) here now now here) (sym none) (Appends-nil now, refl))
 
   -- one line is asked, and no other
-  pub leads_once : (before after : Scene T) (old new : Option (List ℕ)) (line : List ℕ) → Writes (AsksLine hash accepted verified exchanged known line) before old new after
-      → AsksLines hash accepted verified exchanged known (line ∷ []) before old new after
+  pub leads_once : (before after : Scene T) (old new : Option (List ℕ)) (line : List ℕ) → Writes (AsksLine hash accepted verified exchanged background line) before old new after
+      → AsksLines hash accepted verified exchanged background (line ∷ []) before old new after
   leads_once before after old new line writes = (after, new, writes, (Appends-nil new, refl))
 
 -- what holds on success leads to something else
@@ -109,21 +109,21 @@ updated_key hash verified before after list (roots, chain, spells, takes, same) 
 -- it begins with the directory's head
 pub begins_at_head : {H V S T E : Type 0} (hash : List ℕ → List ℕ) (accepted verified : List ℕ → List ℕ → List ℕ → Type 0) (exchanged : T → RequestContent → Frame → T → Type 0) (key token : List ℕ) (HasNoState : Type 0)
     (result : Result (Asker H V S) E) (stream stream' : T) → IfOk result (λ asker. StartsAtHead verified exchanged key stream asker.client stream')
-    → IfOk result (λ asker. (known_of asker ≡ known_new key token) × (asker.monitors.items ≡ []))
-    → IfOk result (λ asker. BeginsAsking hash accepted verified exchanged key token HasNoState stream (known_of asker) asker.client stream')
+    → IfOk result (λ asker. (background_of asker ≡ new_background key token) × (asker.monitors.items ≡ []))
+    → IfOk result (λ asker. BeginsAsking hash accepted verified exchanged key token HasNoState stream (background_of asker) asker.client stream')
 begins_at_head hash accepted verified exchanged key token HasNoState (Ok asker) stream stream' starts knows = inl (starts, knows.0)
 begins_at_head hash accepted verified exchanged key token HasNoState (Err why) stream stream' starts knows = tt
 
 -- a run is whole, where its lines are asked to the end
 pub whole : {T E : Type 0} (hash : List ℕ → List ℕ) (accepted verified : List ℕ → List ℕ → List ℕ → Type 0) (exchanged : T → RequestContent → Frame → T → Type 0) (key token : List ℕ) (options : AskOptions) (HasNoState : Type 0)
-    (result : Result (Unit {0}) E) (known known' : Known) (stream : T) (start ready last : Scene T) (input old now new : Option (List ℕ)) (first : Report) → start.told ≡ first
-    → BeginsAsking hash accepted verified exchanged key token HasNoState stream known start.client start.stream → (known.key ≡ key) × (known.token ≡ token) × (start.monitors ≡ [])
-    → Writes (Prepares hash accepted verified exchanged known) start old now ready → known' ≡ known
-    → OnOk result (IfSome (lines_asked options.words input) (λ lines. AsksLines hash accepted verified exchanged known' lines ready now new last))
+    (result : Result (Unit {0}) E) (background background' : Background) (stream : T) (start ready last : Scene T) (input old now new : Option (List ℕ)) (first : Report) → start.told ≡ first
+    → BeginsAsking hash accepted verified exchanged key token HasNoState stream background start.client start.stream → (background.key ≡ key) × (background.token ≡ token) × (start.monitors ≡ [])
+    → Writes (Prepares hash accepted verified exchanged background) start old now ready → background' ≡ background
+    → OnOk result (IfSome (lines_asked options.words input) (λ lines. AsksLines hash accepted verified exchanged background' lines ready now new last))
     → OnOk result (first ≡ emptied 0 → RunsWhole hash accepted verified exchanged key token options HasNoState stream input last.told.status old new)
-whole hash accepted verified exchanged key token options HasNoState (Err why) known known' stream start ready last input old now new first told begins knows prepares same asks = tt
-whole hash accepted verified exchanged key token options HasNoState (Ok done) known known' stream start ready last input old now new first told begins knows prepares same asks = λ none. record {
-  known = known;
+whole hash accepted verified exchanged key token options HasNoState (Err why) background background' stream start ready last input old now new first told begins knows prepares same asks = tt
+whole hash accepted verified exchanged key token options HasNoState (Ok done) background background' stream start ready last input old now new first told begins knows prepares same asks = λ none. record {
+  background = background;
   start = start;
   silent = told ∙ none;
   begins = begins;
@@ -132,7 +132,7 @@ whole hash accepted verified exchanged key token options HasNoState (Ok done) kn
   now = now;
   prepares = prepares;
   last = last;
-  asks = subst (λ (k : Known). IfSome (lines_asked options.words input) (λ lines. AsksLines hash accepted verified exchanged k lines ready now new last)) same asks;
+  asks = subst (λ (k : Background). IfSome (lines_asked options.words input) (λ lines. AsksLines hash accepted verified exchanged k lines ready now new last)) same asks;
   status_is = refl;
 }
 
@@ -157,7 +157,7 @@ with_state : {T : Type 0} (hash : List ℕ → List ℕ) (accepted verified : Li
     (stream : T) (input old new : Option (List ℕ)) (status : ℕ) → (None' → NoState)
     → RunsWhole hash accepted verified exchanged key token options NoState stream input status old new → RunsWhole hash accepted verified exchanged key token options None' stream input status old new
 with_state hash accepted verified exchanged key token options NoState None' stream input old new status without run = record {
-  known = run.known;
+  background = run.background;
   start = run.start;
   silent = run.silent;
   begins = begun run.begins;
@@ -170,7 +170,7 @@ with_state hash accepted verified exchanged key token options NoState None' stre
   status_is = run.status_is;
 }
   where
-    begun : BeginsAsking hash accepted verified exchanged key token NoState stream run.known run.start.client run.start.stream → BeginsAsking hash accepted verified exchanged key token None' stream run.known run.start.client run.start.stream
+    begun : BeginsAsking hash accepted verified exchanged key token NoState stream run.background run.start.client run.start.stream → BeginsAsking hash accepted verified exchanged key token None' stream run.background run.start.client run.start.stream
     begun (inl head) = inl head
     begun (inr (state, same, sound)) = inr ((λ none. state (without none)), same, sound)
 

@@ -5,7 +5,7 @@ use Rattle.asking.specs.AskOptions.{ask_values}
 use Rattle.asking.specs.Exchanges.{ExchangesFrames}
 use Rattle.asking.specs.Reports.{report_of}
 use Rattle.asking.specs.RunFaults.{AsksInput, IsFaultOfSaving, IsFaultOfState, IsFaultWith, IsFirstUnasked}
-use Rattle.asking.specs.Runs.{AsksLines, known_of, lines_asked, words_line}
+use Rattle.asking.specs.Runs.{AsksLines, background_of, lines_asked, words_line}
 use Rattle.asking.specs.Scenes.{scene}
 use Rattle.asking.proofs.Faulty.{beginning_with, grows_not, grows_on, input_fault, saving_with, stops_more, words_fault}
 use Rattle.asking.proofs.Ran.{asks_input, asks_words, leads_once, ok_then, whole}
@@ -17,14 +17,14 @@ returns-in-Some-clause-runs g c =
     let ready = scene c.prepare.new.asker c.prepare.new.self.said c.prepare.new.stream in
     let last = scene c.ask_line.new.asker c.ask_line.new.self.said c.ask_line.new.stream in
     let line = rw (c.deref.ensures.value, c.in_ok-line-in-Some.ensures) at c.ask_line.ensures.asks in
-    let once = leads_once g.H.NodeHash.digest_of g.V.VufCheck.accepted g.S.Verifier.verified (ExchangesFrames g.T.Write.contents g.T.Read.remaining) (known_of c.prepare.new.asker) ready last
+    let once = leads_once g.H.NodeHash.digest_of g.V.VufCheck.accepted g.S.Verifier.verified (ExchangesFrames g.T.Write.contents g.T.Read.remaining) (background_of c.prepare.new.asker) ready last
     (g.W.Write.contents c.prepare.new.writer) (g.W.Write.contents c.ask_line.new.writer) (words_line (ask_values c.args.order).words) in
-    let asks = asks_words (λ lines. AsksLines g.H.NodeHash.digest_of g.V.VufCheck.accepted g.S.Verifier.verified (ExchangesFrames g.T.Write.contents g.T.Read.remaining) (known_of c.prepare.new.asker) lines ready
+    let asks = asks_words (λ lines. AsksLines g.H.NodeHash.digest_of g.V.VufCheck.accepted g.S.Verifier.verified (ExchangesFrames g.T.Write.contents g.T.Read.remaining) (background_of c.prepare.new.asker) lines ready
     (g.W.Write.contents c.prepare.new.writer) (g.W.Write.contents c.ask_line.new.writer) last) c.ask_line.result (g.R.Read.remaining c.args.reader.now) c.args.order c.in-Some.field-0 c.in-Some.is
-    (ok_then {Q = AsksLines g.H.NodeHash.digest_of g.V.VufCheck.accepted g.S.Verifier.verified (ExchangesFrames g.T.Write.contents g.T.Read.remaining) (known_of c.prepare.new.asker) (words_line (ask_values c.args.order).words ∷ []) ready
+    (ok_then {Q = AsksLines g.H.NodeHash.digest_of g.V.VufCheck.accepted g.S.Verifier.verified (ExchangesFrames g.T.Write.contents g.T.Read.remaining) (background_of c.prepare.new.asker) (words_line (ask_values c.args.order).words ∷ []) ready
     (g.W.Write.contents c.prepare.new.writer) (g.W.Write.contents c.ask_line.new.writer) last} c.ask_line.result line once) in
     whole g.H.NodeHash.digest_of g.V.VufCheck.accepted g.S.Verifier.verified (ExchangesFrames g.T.Write.contents g.T.Read.remaining) c.args.keys.now.provider c.args.keys.now.token (ask_values c.args.order) (c.args.self.now.state ≡ None)
-    c.ask_line.result (known_of c.in_ok-asker.asker) (known_of c.prepare.new.asker) c.args.stream.now start ready last (g.R.Read.remaining c.args.reader.now) (g.W.Write.contents c.args.writer.now)
+    c.ask_line.result (background_of c.in_ok-asker.asker) (background_of c.prepare.new.asker) c.args.stream.now start ready last (g.R.Read.remaining c.args.reader.now) (g.W.Write.contents c.args.writer.now)
     (g.W.Write.contents c.prepare.new.writer) (g.W.Write.contents c.ask_line.new.writer) (report_of c.args.self.now.said) c.in_ok-asker.ensures.said c.in_ok-asker.ensures.begins c.in_ok-asker.ensures.knows
     c.in_ok-prepare.ensures.prepares c.in_ok-prepare.ensures.stays asks
 
@@ -33,10 +33,10 @@ returns-clause-runs g c =
     let start = scene c.in_ok-asker.asker c.begin.new.self.said c.begin.new.stream in
     let ready = scene c.prepare.new.asker c.prepare.new.self.said c.prepare.new.stream in
     let last = scene c.ask_lines.new.asker c.ask_lines.new.self.said c.ask_lines.new.stream in
-    let asks = asks_input (λ lines. AsksLines g.H.NodeHash.digest_of g.V.VufCheck.accepted g.S.Verifier.verified (ExchangesFrames g.T.Write.contents g.T.Read.remaining) (known_of c.prepare.new.asker) lines ready
+    let asks = asks_input (λ lines. AsksLines g.H.NodeHash.digest_of g.V.VufCheck.accepted g.S.Verifier.verified (ExchangesFrames g.T.Write.contents g.T.Read.remaining) (background_of c.prepare.new.asker) lines ready
     (g.W.Write.contents c.prepare.new.writer) (g.W.Write.contents c.ask_lines.new.writer) last) c.ask_lines.result (g.R.Read.remaining c.args.reader.now) c.args.order c.in-None.is c.ask_lines.ensures.asks in
     whole g.H.NodeHash.digest_of g.V.VufCheck.accepted g.S.Verifier.verified (ExchangesFrames g.T.Write.contents g.T.Read.remaining) c.args.keys.now.provider c.args.keys.now.token (ask_values c.args.order) (c.args.self.now.state ≡ None)
-    c.ask_lines.result (known_of c.in_ok-asker.asker) (known_of c.prepare.new.asker) c.args.stream.now start ready last (g.R.Read.remaining c.args.reader.now) (g.W.Write.contents c.args.writer.now)
+    c.ask_lines.result (background_of c.in_ok-asker.asker) (background_of c.prepare.new.asker) c.args.stream.now start ready last (g.R.Read.remaining c.args.reader.now) (g.W.Write.contents c.args.writer.now)
     (g.W.Write.contents c.prepare.new.writer) (g.W.Write.contents c.ask_lines.new.writer) (report_of c.args.self.now.said) c.in_ok-asker.ensures.said c.in_ok-asker.ensures.begins c.in_ok-asker.ensures.knows
     c.in_ok-prepare.ensures.prepares c.in_ok-prepare.ensures.stays asks
 

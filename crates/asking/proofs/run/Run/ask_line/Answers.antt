@@ -1,7 +1,7 @@
 use Rattle.std.proofs.Common.{◌≡◌, Some, sym}
 use Rattle.play.specs.Scripts.{line_of, line_seen}
 use Rattle.asking.specs.Exchanges.{ExchangesFrames}
-use Rattle.asking.specs.Runs.{AsksLine, known_of}
+use Rattle.asking.specs.Runs.{AsksLine, background_of}
 use Rattle.asking.specs.Scenes.{scene}
 use Rattle.asking.proofs.Ran.{ok_before, ok_then, written_so}
 use Rattle.asking.proofs.run.Run.ask_line.Goals as goal
@@ -10,7 +10,7 @@ pub returns-clause-asks : goal.returns-clause-asks
 returns-clause-asks g c =
     let said : line_of c.args.line.now ≡ Some (line_seen c.in-Some.line) = sym (rw c.in-Some.is at c.in_ok-line.ensures) in
     let does = ok_before _ c.settle.result c.in-Some-ask_said.asked tt c.settle.ensures.asked c.in-Some-ask_said.ensures.does in
-    written_so c.settle.result (AsksLine g.H.NodeHash.digest_of g.V.VufCheck.accepted g.S.Verifier.verified (ExchangesFrames g.T.Write.contents g.T.Read.remaining) (known_of c.args.asker.now) c.args.line.now)
+    written_so c.settle.result (AsksLine g.H.NodeHash.digest_of g.V.VufCheck.accepted g.S.Verifier.verified (ExchangesFrames g.T.Write.contents g.T.Read.remaining) (background_of c.args.asker.now) c.args.line.now)
     (scene c.args.asker.now c.args.self.now.said c.args.stream.now) c.ask_said.new.asker c.ask_said.new.said c.settle.new.self.said c.ask_said.new.stream
     (g.W.Write.contents c.args.writer.now) (g.W.Write.contents c.settle.new.writer)
     (ok_then c.settle.result does (λ done. (line_seen c.in-Some.line, said, done))) c.settle.ensures.writes
