@@ -650,7 +650,7 @@ class Epochs:
         self.size = size
         self.closed = digests_of_closings(by_number, indices)
         self.levels = levels_of_look_ups(by_number, indices)
-        self.nodes = changed_nodes(indices, indices, 0, size)
+        self.nodes = node_count(indices, 0, size, 0, 0)
         self.digests, self.registrations, self.changes, self.closings = [], [], [], []
         self.at_head, self.at_old, self.bytes_a_name, self.bytes_a_change = [], [], [], []
         self.rotations = []
@@ -746,7 +746,7 @@ class Journals:
         self.size = size
         # For each name its value, its index and its commitment; and the nodes of the tree.
         indices = sorted(index_of_name(number) for number in range(size))
-        self.nodes = changed_nodes(indices, indices, 0, size)
+        self.nodes = node_count(indices, 0, size, 0, 0)
         self.digests, self.plain, self.kept, self.opened, self.memory = [], [], [], [], []
         for _ in range(JOURNAL_RUNS[size]):
             self.run()
@@ -826,7 +826,36 @@ def served_row(name, folder):
     return row
 
 
+def served_peak(stream, path):
+    """The peak memory of `serve` over a stream, in KiB."""
+    stream.seek(0)
+    quiet = {"stdout": subprocess.DEVNULL, "stderr": subprocess.DEVNULL}
+    process = subprocess.Popen(serve_words(path), stdin=stream, **quiet)
+    _, status, used = os.wait4(process.pid, 0)
+    if status != 0:
+        sys.exit(f"directoryd serve: status {status}")
+    return used.ru_maxrss
+
+
+def peak_row(size):
+    """The peak memory of a directory of so many names, and of its restart, which holds the file as it is opened."""
+    with tempfile.TemporaryDirectory(dir="/dev/shm") as folder, tempfile.TemporaryFile() as stream:
+        for number in range(size):
+            stream.write(register_frame(number))
+        close = bytes([7]) + bytes([4] * 32) + (2).to_bytes(8, "big")
+        stream.write(len(close).to_bytes(4, "big") + close)
+        plain = served_peak(stream, None)
+        served_peak(stream, f"{folder}/journal")
+        with open(os.devnull, "rb") as nothing:
+            opened = served_peak(nothing, f"{folder}/journal")
+        return [f"{size:,}", f"{plain / 1024:.0f}", f"{opened / 1024:.0f}", f"{opened / plain:.2f}"]
+
+
 def journal(_folder):
+    # First, since what `wait4` gives for a child is never less than what this interpreter has.
+    rows = [peak_row(size) for size in (100_000, 1_000_000)]
+    head = ["names", "without", "restart", "ratio"]
+    table("peak memory of directoryd serve without a journal, and of a restart, MiB", head, rows)
     with tempfile.TemporaryDirectory(dir="/dev/shm") as memory, tempfile.TemporaryDirectory(dir=".") as disk:
         rows = [served_row(*each) for each in (("none", None), ("in memory", memory), ("on the disk", disk))]
     head = ["journal", "in a stream", "median", "one at a time", "median"]

@@ -142,6 +142,14 @@ def of_rotations(q, rng):
     for epoch in [400, 401]:
         q.ask("directory rotate", epoch, rng.randbytes(32))
         q.ask("directory lookup", name_of(305), 0)
+    q.note("300 rotations, and one of them carried out once more")
+    new_directory(q)
+    q.ask("directory register", b"alice", b"k")
+    for number in range(2, 302):
+        q.ask("directory rotate", number, bytes([number % 256]) + bytes(31))
+    q.ask("directory replay rotate", 302, other)
+    for epoch in [0, 1, 2, 150, 301]:
+        q.ask("directory lookup", b"alice", epoch)
     q.ask("directory-sum new", 1, ZERO32, SIGNING_KEY, SALT_KEY)
     q.ask("directory-sum register", b"ab", b"k")
     q.ask("directory-sum rotate", 2, one)

@@ -121,6 +121,14 @@ got=0
 flock "$journal" "$program" serve $keys --journal "$journal" <"$folder/head" >"$folder/out" 2>"$folder/err" || got=$?
 same "a file that another holds, status" 1 "$got"
 same "a file that another holds" "cannot write" "$(cat "$folder/err")"
+
+# It is locked before it is read and cut.
+head -c $((size - 1)) "$folder/whole" >"$folder/held"
+cp "$folder/held" "$folder/kept"
+got=0
+flock "$folder/held" "$program" serve $keys --journal "$folder/held" <"$folder/head" >"$folder/out" 2>&1 || got=$?
+same "a cut file that another holds, status" 1 "$got"
+same "a cut file that another holds stays" "" "$(cmp "$folder/held" "$folder/kept" 2>&1)"
 got=0
 "$program" serve $keys --journal "$journal" <"$folder/head" >"$folder/out" 2>/dev/full || got=$?
 same "a line that cannot be written, status" 1 "$got"

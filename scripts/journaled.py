@@ -32,9 +32,11 @@ from worked import SALT_KEY, SIGNING_KEY, TOKEN, VUF_KEY, keys
 KILLS_OF_A_FILE = 20
 LONGEST_RUN = 0.06
 # Fewer kills in the time that there is are too few.
-FEWEST_KILLS = 10
+FEWEST_KILLS = 100
 BATCH = 8
 AT_ONCE = 64
+# So many connections look names up meanwhile.
+BESIDE = 3
 KEEP_FAILED = 19
 ROOM = 2048
 FAILING_SYNCS = 4
@@ -95,6 +97,18 @@ class Server:
                 except OSError:
                     return answers
         return answers
+
+
+def look_up_over(client):
+    """Looks names up over a connection until the server is gone."""
+    asked = request_frame("lookup", 0, b"name 1")
+    with client:
+        try:
+            client.sendall(8 * asked)
+            while client.recv(4096):
+                client.sendall(asked)
+        except OSError:
+            pass
 
 
 class Version(NamedTuple):
@@ -184,9 +198,12 @@ class Answered:
             server.process.kill()
 
         timer = threading.Timer(seconds, kill)
+        beside = [threading.Thread(target=look_up_over, args=(connected(server.address),)) for _ in range(BESIDE)]
         asked, rest = [], b""
         with connected(server.address) as client:
             timer.start()
+            for each in beside:
+                each.start()
             try:
                 while True:
                     asked = list(self.batch())
@@ -203,6 +220,8 @@ class Answered:
                     yield "the connection ended before the server was killed"
         timer.join()
         server.stop()
+        for each in beside:
+            each.join()
         self.doubt(asked)
 
     def check(self, server, roots_from, names):
@@ -353,6 +372,14 @@ def full(program, folder):
     server.stop()
 
 
+class Call(NamedTuple):
+    name: str
+    descriptor: int
+    is_well: bool
+    # What an fsync syncs.
+    path: str
+
+
 class Log:
     """The calls of a process that hand bytes to files and connections, as the library logs them."""
 
@@ -363,26 +390,34 @@ class Log:
         self.how = {"env": {**os.environ, **words}, "pass_fds": (self.file.fileno(),)}
 
     def calls(self):
-        """Each call so far: its name, its descriptor, and whether it was well."""
+        """Each call so far."""
         with open(self.path) as file:
-            words = [line.split() for line in file]
-        return [(name, int(descriptor), int(result) >= 0) for name, descriptor, result in words]
+            words = [[*line.rstrip("\n").split(" ", 3), ""] for line in file]
+        return [Call(name, int(descriptor), int(result) >= 0, path) for name, descriptor, result, path, *_ in words]
 
     def count(self, name):
-        return sum(call[0] == name for call in self.calls())
+        return sum(call.name == name for call in self.calls())
 
 
 def synced_file(calls):
     """The descriptor of the one file that is synced."""
-    (journal,) = {descriptor for name, descriptor, _ in calls if name == "fdatasync"}
+    (journal,) = {call.descriptor for call in calls if call.name == "fdatasync"}
     return journal
+
+
+def unsynced_entry(calls, folder):
+    """Says whether a file was written before its entry was synced in this folder."""
+    journal = synced_file(calls)
+    first = next(call for call in calls if call.name == "fsync" or call[:2] == ("write", journal))
+    if (first.name, first.path) != ("fsync", os.path.realpath(folder)):
+        yield f"the entry of the file is not synced in {folder}, but there is {first}"
 
 
 def wrong_order(calls):
     """Says what left before its records were on the disk, and what came after a sync that failed."""
     journal = synced_file(calls)
     is_synced, has_failed = False, False
-    for name, descriptor, is_well in calls:
+    for name, descriptor, is_well, _ in calls:
         if name == "fdatasync":
             has_failed = has_failed or not is_well
             is_synced = not has_failed
@@ -410,12 +445,18 @@ def ordered(program, folder, library):
     server.ask([("head",), ("lookup", 0, b"name 1"), ("register", b"name 1", b"key")])
     if log.count("fdatasync") != syncs:
         yield "a sync without a record"
-    calls = log.calls()
-    yield from wrong_order(calls)
-    first = next(call for call in calls if call[0] == "fsync" or call[:2] == ("write", synced_file(calls)))
-    if first[0] != "fsync" or first[1] == synced_file(calls):
-        yield "the entry of the file is not synced in its folder"
+    yield from wrong_order(log.calls())
+    yield from unsynced_entry(log.calls(), folder)
     server.stop()
+
+
+def bare(program, folder, library):
+    """The entry of a file whose path is a name alone is synced in the folder of the process."""
+    log = Log(f"{folder}/log of a name", library)
+    words = [os.path.abspath(program), "serve", *keys().split(), "--journal", "bare"]
+    subprocess.run(words, input=request_frame("head"), capture_output=True, cwd=folder, **log.how)
+    yield from wrong_order(log.calls())
+    yield from unsynced_entry(log.calls(), folder)
 
 
 def failing(program, folder, library, number):
@@ -470,6 +511,7 @@ def uncut(program, folder, library):
 
 def synced(program, folder, library):
     yield from ordered(program, folder, library)
+    yield from bare(program, folder, library)
     for number in range(1, FAILING_SYNCS + 1):
         yield from failing(program, folder, library, number)
     yield from unserved(program, folder, library)

@@ -19,6 +19,7 @@ from session_scripts import (
     piece,
     promise,
     register,
+    rotation,
     split,
     watch,
 )
@@ -50,7 +51,8 @@ def notes_alone():
 def each_command_once():
     yield "# Each command once, with what it prints when nothing is refused."
     yield from ["register 616c696365 6b31", "promise 616c696365", "watch 616c696365 -", "close 2"]
-    yield from ["change 616c696365 6b32", "lookup 616c696365 0", "history 0 64", "head", "bytes 1 0000000106", "end 1"]
+    yield from ["change 616c696365 6b32", f"rotate 3 {'07' * 32}", "lookup 616c696365 0", "history 0 64", "head"]
+    yield from ["bytes 1 0000000106", "end 1"]
 
 
 @script
@@ -289,6 +291,19 @@ class Drawing:
         self.epoch = max(self.epoch, epoch)
         return epoch
 
+    def nonce(self):
+        return bytes([self.rng.randrange(3)]) * 32
+
+    def turn(self):
+        """A command that ends the epoch."""
+        epoch = self.next_epoch()
+        return f"close {epoch}" if self.rng.randrange(4) else f"rotate {epoch} {self.nonce().hex()}"
+
+    def turning(self, token=TOKEN):
+        """The frame of a request that ends the epoch."""
+        epoch = self.next_epoch()
+        return closing(epoch, token) if self.rng.randrange(4) else rotation(epoch, self.nonce(), token)
+
     def command(self):
         """A command through session 0."""
         rng = self.rng
@@ -305,7 +320,7 @@ class Drawing:
                 return f"history {self.old_epoch()} {rng.choice([0, 1, 2, 64, 64, 65, 65535])}"
             case 8:
                 return "head"
-        return f"close {self.next_epoch()}"
+        return self.turn()
 
     def request(self):
         """The frame of a message: a request, or a frame that is none."""
@@ -324,7 +339,7 @@ class Drawing:
             case 10:
                 return HEAD
             case 11 | 12 | 13:
-                return closing(self.next_epoch(), TOKEN if rng.randrange(8) else b"\1" * 32)
+                return self.turning(TOKEN if rng.randrange(8) else b"\1" * 32)
             case 14:
                 return frame(rng.randrange(256), bytes(rng.randrange(3)))
         return rng.choice([HEAD, HEAD, HEAD, bytes(4), u32(65537), HEAD[:4]])
@@ -335,7 +350,7 @@ class Drawing:
         session = rng.choice([1, 2, 3, 4294967295])
         if not self.streams.get(session):
             count = rng.randrange(60, 140) if rng.randrange(40) == 0 else rng.randrange(1, 5)
-            ask = (lambda: closing(self.next_epoch())) if count > 5 else self.request
+            ask = self.turning if count > 5 else self.request
             stream = b"".join(ask() for _ in range(count))
             self.streams[session] = [stream] if count > 5 else split(rng, stream, 4)
         return piece(session, self.streams[session].pop(0))
@@ -352,7 +367,7 @@ class Drawing:
             case 4 | 5 | 6 | 7 | 8 | 9:
                 return self.message()
             case 10 | 11:
-                return f"close {self.next_epoch()}"
+                return self.turn()
         return self.command()
 
 

@@ -29,6 +29,7 @@ def of_few_lines(q, rng):
     q.ask("trees copy")
     q.ask("trees from", ZERO32, *joined(items[:2]))
     q.ask("trees more", *joined(items[1:]))
+    q.ask("trees renew", run(0xA0))
     q.ask("trees count")
     third, seventh, ninth, twelfth = roots = root_questions.chain_of(3, 7, 9, 12)
     q.ask("chains start", KEY, third.write())

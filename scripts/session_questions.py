@@ -41,6 +41,8 @@ def of_few_lines(q, rng):
     q.ask("directory open", SIGNING_KEY, VUF_KEY, SALT_KEY, start_record(1, ZERO32, SIGNING_KEY, VUF_KEY) + records)
     q.ask("directory register", b"b", b"k")
     q.ask("directory close", 3)
+    q.ask("directory rotate", 4, HUB_TOKEN)
+    q.ask("directory replay rotate", 6, ZERO32)
     requests = [("register", b"a", b"k"), ("close", HUB_TOKEN, 2), ("lookup", 2, b"a")]
     q.ask("directory run", 1, ZERO32, *(message(*request) for request in requests))
     stream = b"".join(request_frame(*request) for request in requests)

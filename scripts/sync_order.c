@@ -1,12 +1,14 @@
 // A library that is loaded before the C library, for scripts/journaled.py. It logs the calls that hand bytes to a
 // file or to a connection, or put them on a disk: a line each on the descriptor SYNC_LOG, with the call, its
-// descriptor and what it returned. The fdatasync of number FAIL_SYNC, counted from 1, does nothing and fails, and so
+// descriptor and what it returned, and for fsync the path of what it syncs. The fdatasync of number FAIL_SYNC, counted from 1, does nothing and fails, and so
 // does the ftruncate of number FAIL_CUT. What is used of the C library is declared here, so that no header is needed.
 
 void *dlsym(void *handle, const char *name);
 char *getenv(const char *name);
 unsigned long strtoul(const char *text, char **end, int base);
 int dprintf(int descriptor, const char *format, ...);
+int snprintf(char *text, unsigned long room, const char *format, ...);
+long readlink(const char *path, char *text, unsigned long room);
 int *__errno_location(void);
 
 #define NEXT ((void *)-1)
@@ -47,7 +49,13 @@ long send(int descriptor, const void *bytes, unsigned long size, int flags) {
 
 int fsync(int descriptor) {
     int (*next)(int) = dlsym(NEXT, "fsync");
-    return (int)logged("fsync", descriptor, next(descriptor));
+    int result = next(descriptor), error = *__errno_location();
+    char own[64], path[1024];
+    snprintf(own, sizeof own, "/proc/self/fd/%d", descriptor);
+    long size = readlink(own, path, sizeof path);
+    dprintf(log_to, "fsync %d %d %.*s\n", descriptor, result, size < 0 ? 0 : (int)size, path);
+    *__errno_location() = error;
+    return result;
 }
 
 int fdatasync(int descriptor) {

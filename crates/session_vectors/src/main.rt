@@ -11,7 +11,7 @@
 //! |---|---|---|
 //! | `directory` | `Directory::new`, `head` | `new`, `head` |
 //! | | `register`, `change`, `promise`, `close` | the same words |
-//! | | `rotate`, which calls `Tree::renew_with_all` | `rotate` |
+//! | | `rotate`, which calls `turn` and `Tree::renew_with_all` | `rotate` |
 //! | | `lookup`, `lookup_into`, which calls `write_front` | `lookup` |
 //! | | `history`; `run`; `replay` | `history`; `run`; `replay` |
 //! | | `journal::open`, under the salts that `records` numbers, which calls `foresee`, `short_commit_text` | `open` |
@@ -41,13 +41,14 @@
 //! | | with `read_line`, `next_line`, `push_hex`, `push_number` of its crate | |
 //! | | and `tell_response`, `tell_statement`, `tell_step` | |
 //!
-//! Of the public calls of the upper crates that no verb asks, `scripts/statuses.sh` asks `judge_at`, and `order`,
-//! `end`, `refuse` and `refuse_bytes` of `directoryd`; `scripts/listen.sh` asks `listen`, which calls
-//! `answer_all` and `Places::free` of `connections`, `Hub::part` and `Feed::part`; `scripts/journal.sh` asks
-//! `listen` and `serve_directory` with a journal; and `scripts/asks.py` asks `ask` of `asking`, which calls
-//! `ask_over`, `Asker::start`, `start_at_head`, `client`, `ask`, `follow`, `go_on`, `watch`, `test_promises`,
-//! `hear`, `Said::new`, `RunEnd::status` and `Client::promises`. The crate `faults` has keepers, readers and
-//! writers that fail, and asks `Journal` as the keeper of a directory, and `answer_all` and `Places::free`.
+//! Of the public calls of the upper crates that no verb asks, `scripts/statuses.sh` asks `judge_at` and
+//! `Verdict::status`, and `order`, `end`, `refuse` and `refuse_bytes` of `directoryd`; `scripts/listen.sh`
+//! asks `listen`, which calls `answer_all` and `Places::free` of `connections`, `Hub::part` and `Feed::part`;
+//! `scripts/journal.sh` asks `listen` and `serve_directory` with a journal; and `scripts/asks.py` asks `ask`
+//! of `asking`, which calls `Checks::keyed`, `ask_over`, `Asker::start`, `start_at_head`, `client`, `ask`,
+//! `follow`, `go_on`, `watch`, `test_promises`, `hear`, `Said::new`, `RunEnd::status` and `Client::promises`.
+//! The crate `faults` has keepers, readers and writers that fail, and asks `Journal` as the keeper of a
+//! directory, and `answer_all` and `Places::free`.
 #![tactic(auto)]
 
 mod auditors;
