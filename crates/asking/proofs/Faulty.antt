@@ -1,15 +1,11 @@
 -- The faults of a run, as they are passed on, and what is written before them.
 use Rattle.std.proofs.Common.{◌≡◌, ◌∙◌, ◌⊎◌, ◌↔◌, ◌++◌, ℕ, ◌+◌, true, List, [], Option, None, Some, Result, Ok, Err, Bor, inl, inr, refl, rules, subst, sym}
-use Rattle.std.specs.Prelude.{◌∷◌, IfErr, IfSome, OnOk, option_map, ⊤}
-use Rattle.std.specs.Io.KnownBytes.{Appends}
+use Rattle.std.specs.Prelude.{◌∷◌, IfErr, IfSome, option_map, ⊤}
 use Rattle.std.proofs.KnownBytes.{Appends-nil, Appends-trans}
 use Rattle.textio.specs.declared.program_fault.ProgramFault.{ProgramFault}
 use Rattle.textio.specs.declared.program_fault.ProgramFault.TheVariants.{BadHex, BadItem, IndexRepeated, NotACommand, NotEvidence, BadRecord, OtherKeys, CannotRead, CannotWrite, CannotListen, OutOfMemory}
-use Rattle.textio.specs.declared.stream_fault.StreamFault.{StreamFault}
-use Rattle.textio.specs.declared.stream_fault.StreamFault.TheVariants as stream
 use Rattle.textio.specs.Faults.{IsDeviceFault}
 use Rattle.textio.specs.Lines.{lines_of}
-use Rattle.textio.specs.Output.{WritesBeginning}
 use Rattle.wire.specs.Frames.{Frame}
 use Rattle.wire.specs.Requests.{RequestContent}
 use Rattle.play.specs.Reading.{TakesWholeLine}
@@ -140,7 +136,7 @@ words_fault HasState result input order command some faults =
     by fault (inr (is, cannot)) = subst (λ (f : ProgramFault). IsFaultWith HasState (AsksInput (ask_values order).words) (λ number. IfSome (lines_asked (ask_values order).words input) (λ lines. IsFirstUnasked 1 lines number)) f) (sym is)
         (asks_words {E = RunFault} (λ lines. IsFirstUnasked 1 lines 1) (Ok tt) input order command some (inl (cannot, refl)))
 
-reads_input : (order : AskOrder) → order.command ≡ None → AsksInput (ask_values order).words
+pub reads_input : (order : AskOrder) → order.command ≡ None → AsksInput (ask_values order).words
 reads_input order none =
     subst (λ (command : Option (Bor (List ℕ))). AsksInput (option_map (λ text. text.now) command ∷ option_map (λ text. text.now) order.first ∷ option_map (λ text. text.now) order.second ∷ [])) (sym none) tt
 
@@ -183,6 +179,11 @@ pub hex_or : {A : Type 0} (result : Result A ProgramFault) (options : AskOptions
 hex_or (Ok done) options input faults = tt
 hex_or (Err fault) options input faults = inr faults
 
+-- nothing is read after such a text, nor where words are asked
+pub unread_so : {Bad Words Unread : Type 0} → (Bad → ⊥) → (Words → Unread) → Bad ⊎ Words → Unread
+unread_so good unread (inl bad) = absurd (good bad)
+unread_so good unread (inr words) = unread words
+
 -- ---- what is written
 
 pub grows_not : (old : Option (List ℕ)) → Grows old old
@@ -190,9 +191,3 @@ grows_not old = ([], Appends-nil old)
 
 pub grows_on : (old now new : Option (List ℕ)) → Grows old now → Grows now new → Grows old new
 grows_on old now new (text, appends) (more, further) = (text ++ more, Appends-trans old now new text more appends further)
-
--- a text was written, or less of it
-pub grows_by : (result : Result (Unit {0}) StreamFault) (old new : Option (List ℕ)) (text : List ℕ) → OnOk result (Appends old new text)
-    → IfErr result (λ fault. (fault ≡ stream.CannotWrite) × WritesBeginning old new text) → Grows old new
-grows_by (Ok done) old new text appends begins = (text, appends)
-grows_by (Err fault) old new text appends (is, (rest, some, (front, parts, wrote))) = (front, wrote)

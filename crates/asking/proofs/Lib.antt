@@ -1,4 +1,6 @@
 pub mod Asked
+pub mod Earlier
+pub mod Ended
 pub mod Faulty
 pub mod Going
 pub mod Halted

@@ -1,12 +1,8 @@
 -- The lines of a run, one after another.
-use Rattle.std.proofs.Common.{◌≡◌, ◌∙◌, ℕ, true, false, List, [], ◌∷◌, Option, None, Some, Result, Ok, Err, Bor, Global, Vec, ap, inl, inr, option_map, refl, subst, sym}
-use Rattle.std.specs.Prelude.{IfErr, IfOk, IfSome, OnOk}
+use Rattle.std.proofs.Common.{◌≡◌, ◌∙◌, ℕ, true, false, List, [], ◌∷◌, Option, None, Some, Result, Ok, Err, Bor, Global, Vec, ap, append-nil, append_assoc, inl, inr, option_map, refl, subst, sym}
+use Rattle.std.specs.Prelude.{◌++◌, IfOk, IfSome, OnOk}
 use Rattle.std.specs.Io.KnownBytes.{Appends}
-use Rattle.std.proofs.KnownBytes.{Appends-nil}
-use Rattle.std.specs.declared.net.tcp.TcpStream.{TcpStream}
-use Rattle.nodehash.specs.Sha256.{sha256}
-use Rattle.vrfiface.specs.StandIns.{KeyedAccepts}
-use Rattle.sigiface.specs.StandIn.{KeyedVerifies}
+use Rattle.std.proofs.KnownBytes.{Appends-nil, Appends-trans}
 use Rattle.rootchain.specs.Chains.{KeyedRoots}
 use Rattle.rootchain.specs.TakingLists.{PassesOrAdds, Takes}
 use Rattle.rootchain.specs.declared.signed_promise.SignedPromise.{SignedPromise}
@@ -20,13 +16,10 @@ use Rattle.play.specs.Reading.{TakesWholeLine}
 use Rattle.asking.specs.declared.asker.Asker.{Asker}
 use Rattle.asking.specs.declared.asker.Mark.{Mark}
 use Rattle.asking.specs.declared.order.AskOrder.{AskOrder}
-use Rattle.asking.specs.declared.run.RunEnd.{RunEnd}
-use Rattle.asking.specs.declared.run.RunEnd.TheVariants.{Whole, Stopped}
 use Rattle.asking.specs.declared.said.Said.{Said}
-use Rattle.asking.specs.AskOptions.{AskOptions, ask_keys_of, ask_values}
-use Rattle.asking.specs.Exchanges.{ExchangesFrames}
+use Rattle.asking.specs.AskOptions.{AskOptions, ask_values}
 use Rattle.asking.specs.Reports.{Report, report_of}
-use Rattle.asking.specs.Runs.{AsksLine, AsksLines, AsksOverSocket, BeginsAsking, emptied, end_status, Grows, Known, known_new, known_of, lines_asked, Prepares, RunsAs, RunsWhole, words_line, Writes, IsCutShort}
+use Rattle.asking.specs.Runs.{AsksLine, AsksLines, BeginsAsking, BeginsRun, emptied, Known, known_new, known_of, lines_asked, Prepares, RunsWhole, words_line, Writes}
 use Rattle.asking.specs.Scenes.{Scene, scene, Remains, StartsAtHead}
 use Rattle.asking.proofs.Joined.{scene_of}
 
@@ -42,40 +35,59 @@ pub known_stays : {H V S : Type 0} (before after : Asker H V S) → Remains befo
 known_stays before after (key, token, marks, earlier) = known-by before after key token (ap (λ (all : Vec Mark Global). all.items) marks) (ap (λ (all : Vec SignedPromise Global). all.items) earlier)
 
 module _ (hash : List ℕ → List ℕ) (accepted verified : List ℕ → List ℕ → List ℕ → Type 0) {T : Type 0} (exchanged : T → RequestContent → Frame → T → Type 0) (known : Known) where
-  -- whatever is asked from here to the end of the input is asked from the beginning
+  -- an output to which nothing was appended is as good
+  from-same : (lines : List (List ℕ)) (before after : Scene T) (old now new : Option (List ℕ)) → Appends old now [] → AsksLines hash accepted verified exchanged known lines before now new after
+      → AsksLines hash accepted verified exchanged known lines before old new after
+  from-same [] before after old now new same (appends, is) = (Appends-trans old now new [] [] same appends, is)
+  from-same (line ∷ more) before after old now new same (middle, next, (done, does, appends, left), rest) = (middle, next, (done, does, Appends-trans old now next [] done.told.lines same appends, left), rest)
+
+  -- some lines are asked, and then more
+  asks-then : (done more : List (List ℕ)) (start here after : Scene T) (old now new : Option (List ℕ)) → AsksLines hash accepted verified exchanged known done start old now here
+      → AsksLines hash accepted verified exchanged known more here now new after → AsksLines hash accepted verified exchanged known (done ++ more) start old new after
+  asks-then [] more start here after old now new (same, is) asks = subst (λ (s : Scene T). AsksLines hash accepted verified exchanged known more s old new after) is (from-same more here after old now new same asks)
+  asks-then (line ∷ done) more start here after old now new (middle, next, writes, rest) asks = (middle, next, writes, asks-then done more middle here after next now new rest asks)
+
+  -- one line is asked, and no other
+  pub leads_once : (before after : Scene T) (old new : Option (List ℕ)) (line : List ℕ) → Writes (AsksLine hash accepted verified exchanged known line) before old new after
+      → AsksLines hash accepted verified exchanged known (line ∷ []) before old new after
+  leads_once before after old new line writes = (after, new, writes, (Appends-nil new, refl))
+
+  -- some lines of the input are asked from the beginning to here, and these bytes are left
   abbrev pub LeadsOn : Scene T → Option (List ℕ) → Option (List ℕ) → Scene T → Option (List ℕ) → Option (List ℕ) → Type 0
   LeadsOn start input old here left now = (all : List ℕ) → input ≡ Some all → (rest : List ℕ) × (left ≡ Some rest)
-      × ((new : Option (List ℕ)) (after : Scene T) → AsksLines hash accepted verified exchanged known (lines_of rest) here now new after → AsksLines hash accepted verified exchanged known (lines_of all) start old new after)
+      × (done : List (List ℕ)) × (lines_of all ≡ done ++ lines_of rest) × AsksLines hash accepted verified exchanged known done start old now here
 
   pub leads_first : (start : Scene T) (input old : Option (List ℕ)) → LeadsOn start input old start input old
-  leads_first start input old = λ all is. (all, is, λ new after asks. asks)
+  leads_first start input old = λ all is. (all, is, [], refl, (Appends-nil old, refl))
 
   -- one line more is asked
   pub leads_next : (start here next : Scene T) (input old left left' now now' : Option (List ℕ)) (line : List ℕ) → LeadsOn start input old here left now → TakesWholeLine left left' true line
       → Writes (AsksLine hash accepted verified exchanged known line) here now now' next → LeadsOn start input old next left' now'
   leads_next start here next input old left left' now now' line leads takes writes = λ all is.
-      let (rest, at, lead) = leads all is in
-      by all rest lead left' (subst (λ (l : Option (List ℕ)). TakesWholeLine l left' true line) at takes)
+      let (rest, at, done, parts, asks) = leads all is in
+      by all rest done parts asks left' (subst (λ (l : Option (List ℕ)). TakesWholeLine l left' true line) at takes)
     where
-      by : (all rest : List ℕ) → ((new : Option (List ℕ)) (after : Scene T) → AsksLines hash accepted verified exchanged known (lines_of rest) here now new after → AsksLines hash accepted verified exchanged known (lines_of all) start old new after)
+      by : (all rest : List ℕ) (done : List (List ℕ)) → lines_of all ≡ done ++ lines_of rest → AsksLines hash accepted verified exchanged known done start old now here
           → (left' : Option (List ℕ)) → TakesWholeLine (Some rest) left' true line
-          → (rest' : List ℕ) × (left' ≡ Some rest') × ((new : Option (List ℕ)) (after : Scene T) → AsksLines hash accepted verified exchanged known (lines_of rest') next now' new after → AsksLines hash accepted verified exchanged known (lines_of all) start old new after)
-      by all rest lead None bad = absurd bad
-      by all rest lead (Some rest') is = (rest', refl, λ new after more. lead new after (subst (λ (lines : List (List ℕ)). AsksLines hash accepted verified exchanged known lines here now new after) (sym is) (next, now', writes, more)))
+          → (rest' : List ℕ) × (left' ≡ Some rest') × (done' : List (List ℕ)) × (lines_of all ≡ done' ++ lines_of rest') × AsksLines hash accepted verified exchanged known done' start old now' next
+      by all rest done parts asks None bad = absurd bad
+      by all rest done parts asks (Some rest') is = (
+        rest',
+        refl,
+        done ++ line ∷ [],
+        parts ∙ ap (λ (more : List (List ℕ)). done ++ more) is ∙ sym (append_assoc done (line ∷ []) (lines_of rest')),
+        asks-then done (line ∷ []) start here next old now now' asks (leads_once here next now now' line writes),
+      )
 
   -- no line is left
   pub leads_out : (start here : Scene T) (input old left left' now : Option (List ℕ)) (line : List ℕ) → LeadsOn start input old here left now → TakesWholeLine left left' false line
       → IfSome input (λ all. AsksLines hash accepted verified exchanged known (lines_of all) start old now here)
   leads_out start here None old left left' now line leads takes = tt
   leads_out start here (Some all) old left left' now line leads takes =
-      let (rest, at, lead) = leads all refl in
+      let (rest, at, done, parts, asks) = leads all refl in
       let none : rest ≡ [] = subst (λ (l : Option (List ℕ)). TakesWholeLine l left' false line) at takes in
-      lead now here (subst (λ (bytes : List ℕ). AsksLines hash accepted verified exchanged known (lines_of bytes) here now now here) (sym none) (Appends-nil now, refl))
-
-  -- one line is asked, and no other
-  pub leads_once : (before after : Scene T) (old new : Option (List ℕ)) (line : List ℕ) → Writes (AsksLine hash accepted verified exchanged known line) before old new after
-      → AsksLines hash accepted verified exchanged known (line ∷ []) before old new after
-  leads_once before after old new line writes = (after, new, writes, (Appends-nil new, refl))
+      subst (λ (lines : List (List ℕ)). AsksLines hash accepted verified exchanged known lines start old now here)
+      (sym (parts ∙ ap (λ (bytes : List ℕ). done ++ lines_of bytes) none ∙ append-nil done)) asks
 
 -- what holds on success leads to something else
 pub ok_then : {A E P Q : Type 0} (result : Result A E) → OnOk result P → (P → Q) → OnOk result Q
@@ -114,26 +126,32 @@ pub begins_at_head : {H V S T E : Type 0} (hash : List ℕ → List ℕ) (accept
 begins_at_head hash accepted verified exchanged key token HasNoState (Ok asker) stream stream' starts knows = inl (starts, knows.0)
 begins_at_head hash accepted verified exchanged key token HasNoState (Err why) stream stream' starts knows = tt
 
+-- a run begins, if nothing was told before
+pub begins_run : {T : Type 0} (hash : List ℕ → List ℕ) (accepted verified : List ℕ → List ℕ → List ℕ → Type 0) (exchanged : T → RequestContent → Frame → T → Type 0) (key token : List ℕ) (HasNoState : Type 0)
+    (known : Known) (stream : T) (start : Scene T) (first : Report) → start.told ≡ first
+    → BeginsAsking hash accepted verified exchanged key token HasNoState stream known start.client start.stream → (known.key ≡ key) × (known.token ≡ token) × (start.monitors ≡ [])
+    → first ≡ emptied 0 → BeginsRun hash accepted verified exchanged key token HasNoState stream known start
+begins_run hash accepted verified exchanged key token HasNoState known stream start first told begins knows none = record { silent = told ∙ none; begins = begins; knows = knows }
+
 -- a run is whole, where its lines are asked to the end
 pub whole : {T E : Type 0} (hash : List ℕ → List ℕ) (accepted verified : List ℕ → List ℕ → List ℕ → Type 0) (exchanged : T → RequestContent → Frame → T → Type 0) (key token : List ℕ) (options : AskOptions) (HasNoState : Type 0)
-    (result : Result (Unit {0}) E) (known known' : Known) (stream : T) (start ready last : Scene T) (input old now new : Option (List ℕ)) (first : Report) → start.told ≡ first
-    → BeginsAsking hash accepted verified exchanged key token HasNoState stream known start.client start.stream → (known.key ≡ key) × (known.token ≡ token) × (start.monitors ≡ [])
+    (result : Result (Unit {0}) E) (known known' : Known) (stream : T) (start ready last : Scene T) (input old now new : Option (List ℕ)) (first : Report)
+    → (first ≡ emptied 0 → BeginsRun hash accepted verified exchanged key token HasNoState stream known start)
     → Writes (Prepares hash accepted verified exchanged known) start old now ready → known' ≡ known
     → OnOk result (IfSome (lines_asked options.words input) (λ lines. AsksLines hash accepted verified exchanged known' lines ready now new last))
-    → OnOk result (first ≡ emptied 0 → RunsWhole hash accepted verified exchanged key token options HasNoState stream input last.told.status old new)
-whole hash accepted verified exchanged key token options HasNoState (Err why) known known' stream start ready last input old now new first told begins knows prepares same asks = tt
-whole hash accepted verified exchanged key token options HasNoState (Ok done) known known' stream start ready last input old now new first told begins knows prepares same asks = λ none. record {
+    → OnOk result (first ≡ emptied 0 → RunsWhole hash accepted verified exchanged key token options HasNoState stream last.stream input last.told.status old new)
+whole hash accepted verified exchanged key token options HasNoState (Err why) known known' stream start ready last input old now new first begun prepares same asks = tt
+whole hash accepted verified exchanged key token options HasNoState (Ok done) known known' stream start ready last input old now new first begun prepares same asks = λ none. record {
   known = known;
   start = start;
-  silent = told ∙ none;
-  begins = begins;
-  knows = knows;
+  begun = begun none;
   ready = ready;
   now = now;
   prepares = prepares;
   last = last;
   asks = subst (λ (k : Known). IfSome (lines_asked options.words input) (λ lines. AsksLines hash accepted verified exchanged k lines ready now new last)) same asks;
   status_is = refl;
+  left = refl;
 }
 
 -- an order without words asks the lines of the input, and one with words asks these
@@ -153,57 +171,6 @@ asks_words Asked (Ok done) input order word some asks =
     subst (λ (command : Option (Bor (List ℕ))). Asked (words_line (option_map (λ text. text.now) command ∷ option_map (λ text. text.now) order.first ∷ option_map (λ text. text.now) order.second ∷ []) ∷ [])
     → IfSome (lines_asked (option_map (λ text. text.now) command ∷ option_map (λ text. text.now) order.first ∷ option_map (λ text. text.now) order.second ∷ []) input) Asked) (sym some) (λ it. it) asks
 
-with_state : {T : Type 0} (hash : List ℕ → List ℕ) (accepted verified : List ℕ → List ℕ → List ℕ → Type 0) (exchanged : T → RequestContent → Frame → T → Type 0) (key token : List ℕ) (options : AskOptions) (NoState None' : Type 0)
-    (stream : T) (input old new : Option (List ℕ)) (status : ℕ) → (None' → NoState)
-    → RunsWhole hash accepted verified exchanged key token options NoState stream input status old new → RunsWhole hash accepted verified exchanged key token options None' stream input status old new
-with_state hash accepted verified exchanged key token options NoState None' stream input old new status without run = record {
-  known = run.known;
-  start = run.start;
-  silent = run.silent;
-  begins = begun run.begins;
-  knows = run.knows;
-  ready = run.ready;
-  now = run.now;
-  prepares = run.prepares;
-  last = run.last;
-  asks = run.asks;
-  status_is = run.status_is;
-}
-  where
-    begun : BeginsAsking hash accepted verified exchanged key token NoState stream run.known run.start.client run.start.stream → BeginsAsking hash accepted verified exchanged key token None' stream run.known run.start.client run.start.stream
-    begun (inl head) = inl head
-    begun (inr (state, same, sound)) = inr ((λ none. state (without none)), same, sound)
-
--- a run that came to its end is whole, and one that was stopped only wrote
-pub ends_so : {T E F : Type 0} (hash : List ℕ → List ℕ) (accepted verified : List ℕ → List ℕ → List ℕ → Type 0) (exchanged : T → RequestContent → Frame → T → Type 0) (key token : List ℕ) (options : AskOptions) (NoState None' : Type 0)
-    (outcome : Result (Unit {0}) E) (result : Result RunEnd F) (stream : T) (input old new new' : Option (List ℕ)) (status : ℕ) (told : Report) → told ≡ emptied 0 → (None' → NoState)
-    → OnOk outcome (told ≡ emptied 0 → RunsWhole hash accepted verified exchanged key token options NoState stream input status old new)
-    → OnOk outcome ((result ≡ Ok (Whole status)) × (new' ≡ new)) → IfErr outcome (λ fault. IfOk result IsCutShort) → Grows old new'
-    → IfOk result (λ ended. RunsAs hash accepted verified exchanged key token options None' stream input ended old new')
-ends_so hash accepted verified exchanged key token options NoState None' (Err fault) (Err why) stream input old new new' status told empty without runs ends stops grows = tt
-ends_so hash accepted verified exchanged key token options NoState None' (Err fault) (Ok (Whole other)) stream input old new new' status told empty without runs ends stops grows = absurd stops
-ends_so hash accepted verified exchanged key token options NoState None' (Err fault) (Ok (Stopped other)) stream input old new new' status told empty without runs ends stops grows = (stops, grows)
-ends_so {F = F} hash accepted verified exchanged key token options NoState None' (Ok done) result stream input old new new' status told empty without runs (is, same) stops grows =
-    subst (λ (r : Result RunEnd F). IfOk r (λ ended. RunsAs hash accepted verified exchanged key token options None' stream input ended old new')) (sym is) (
-    subst (λ (text : Option (List ℕ)). RunsWhole hash accepted verified exchanged key token options None' stream input status old text) (sym same)
-    (with_state hash accepted verified exchanged key token options NoState None' stream input old new status without (runs empty)))
-
 pub none_before : {A B : Type 0} (f : A → B) (x : Option A) → option_map f x ≡ None → x ≡ None
 none_before f None is = refl
 none_before f (Some a) is = absurd cc
-
-pub over_socket : (order : AskOrder) (key token : List ℕ) (socket : TcpStream) (input old new : Option (List ℕ)) (ended : RunEnd) → ask_keys_of (ask_values order) ≡ Some (key, token)
-    → RunsAs sha256 KeyedAccepts KeyedVerifies (ExchangesFrames {T = TcpStream} (λ _. None) (λ _. None)) key token (ask_values order) (order.state ≡ None) socket input ended old new
-    → AsksOverSocket (ask_values order) input (end_status ended) old new
-over_socket order key token socket input old new (Stopped status) are high = inr (key, token, are, socket, Stopped status, refl, high)
-over_socket order key token socket input old new (Whole status) are run =
-    inr (
-      key,
-      token,
-      are,
-      socket,
-      Whole status,
-      refl,
-      with_state sha256 KeyedAccepts KeyedVerifies (ExchangesFrames {T = TcpStream} (λ _. None) (λ _. None)) key token (ask_values order) (order.state ≡ None) ((ask_values order).state ≡ None)
-          socket input old new status (none_before (λ text. text.now) order.state) run,
-    )

@@ -2,6 +2,7 @@ pub mod Answering
 pub mod Asking
 pub mod AskOptions
 pub mod Checking
+pub mod Ending
 pub mod Exchanges
 pub mod Following
 pub mod Joining

@@ -1,10 +1,7 @@
 -- What a run writes: all that is told of each line that it asks, one after another.
-use Rattle.std.specs.Prelude.{◌≡◌, ◌⊎◌, ℕ, List, [], ◌∷◌, ◌++◌, Option, Some, None, IfSome, option_map}
-use Rattle.std.specs.Io.KnownBytes.{Appends, Keeps}
-use Rattle.std.specs.declared.net.tcp.TcpStream.{TcpStream}
-use Rattle.nodehash.specs.Sha256.{sha256}
-use Rattle.vrfiface.specs.StandIns.{KeyedAccepts}
-use Rattle.sigiface.specs.StandIn.{KeyedVerifies}
+use Rattle.std.specs.Prelude.{◌≡◌, ◌⊎◌, ℕ, List, [], ◌∷◌, ◌++◌, Contains, Option, Some, None, IfSome, option_map}
+use Rattle.std.specs.List.{AllByRecursion}
+use Rattle.std.specs.Io.KnownBytes.{Appends}
 use Rattle.rootchain.specs.Chains.{IsChain}
 use Rattle.rootchain.specs.declared.signed_promise.SignedPromise.{SignedPromise}
 use Rattle.client.specs.Clients.{Client, IsSoundClient}
@@ -12,9 +9,8 @@ use Rattle.textio.specs.Lines.{lines_of}
 use Rattle.wire.specs.Frames.{Frame}
 use Rattle.wire.specs.Requests.{RequestContent}
 use Rattle.play.specs.Scripts.{ScriptLine, Pass, Ask, Watch, Piece, End, line_of}
-use Rattle.asking.specs.AskOptions.{AskOptions, ask_keys_of}
+use Rattle.asking.specs.AskOptions.{AskOptions}
 use Rattle.asking.specs.Asking.{AsksDirectory}
-use Rattle.asking.specs.Exchanges.{ExchangesFrames}
 use Rattle.asking.specs.Following.{Follows}
 use Rattle.asking.specs.Joining.{BeginsWatch}
 use Rattle.asking.specs.Reports.{Report}
@@ -22,17 +18,6 @@ use Rattle.asking.specs.Scenes.{Scene, StartsAtHead}
 use Rattle.asking.specs.Visiting.{TestsAll}
 use Rattle.asking.specs.declared.asker.Asker.{Asker}
 use Rattle.asking.specs.declared.asker.Mark.{Mark}
-use Rattle.asking.specs.declared.run.RunEnd.{RunEnd}
-use Rattle.asking.specs.declared.run.RunEnd.TheVariants.{Whole, Stopped}
-
--- the status of the program; a run that was stopped has that of a refusal, or of an alarm
-abbrev pub end_status : RunEnd → ℕ
-end_status (Whole status) = status
-end_status (Stopped status) = status
-
-abbrev pub IsCutShort : RunEnd → Type 0
-IsCutShort (Whole status) = ⊥
-IsCutShort (Stopped status) = (status ≡ 1) ⊎ (status ≡ 3)
 
 -- what stays throughout a run: the provider's key, the token, and the marks and the promised changes of earlier runs
 pub record Known : Type 0 where
@@ -47,6 +32,13 @@ known_of asker = record { key = asker.key; token = asker.token; marks = asker.ma
 -- the same keys and token, and the same monitors
 abbrev pub IsSameAsker : {H V S : Type 0} → Asker H V S → Asker H V S → Type 0
 IsSameAsker before after = (after.key ≡ before.key) × (after.token ≡ before.token) × (after.monitors ≡ before.monitors) × (after.client.chain.key ≡ before.client.chain.key)
+
+-- the client keeps each of these promises, and still each of those of earlier runs
+abbrev pub KeepsAll : Client → List SignedPromise → Type 0
+KeepsAll client promises = AllByRecursion (Contains client.promises) promises
+
+abbrev pub StillKeeps : {H V S : Type 0} → Asker H V S → Asker H V S → Type 0
+StillKeeps before after = KeepsAll before.client before.earlier.items → KeepsAll after.client after.earlier.items
 
 -- with no earlier run
 abbrev pub known_new : List ℕ → List ℕ → Known
@@ -114,35 +106,28 @@ module _ (hash : List ℕ → List ℕ) (accepted verified : List ℕ → List �
     AsksLines (line ∷ more) before old new after = (middle : Scene T) × (now : Option (List ℕ)) × Writes (AsksLine line) before old now middle × AsksLines more middle now new after
 
   -- A client starts with the directory's head, and knows nothing of earlier runs; or, where there is a state,
-  -- as its files have it.
+  -- as its files have it, and keeps what earlier runs were promised for their changes.
   abbrev pub BeginsAsking : List ℕ → List ℕ → Type 0 → T → Known → Client → T → Type 0
   BeginsAsking key token HasNoState stream known client after =
       (StartsAtHead verified exchanged key stream client after × (known ≡ known_new key token))
-      ⊎ ((¬ HasNoState) × (after ≡ stream) × IsSoundFor hash accepted verified key client)
+      ⊎ ((¬ HasNoState) × (after ≡ stream) × IsSoundFor hash accepted verified key client × KeepsAll client known.earlier)
 
-  -- A run from its beginning to its end: it begins, with no monitor, all that is new is followed, and the
-  -- lines are asked.
-  pub record RunsWhole (key token : List ℕ) (options : AskOptions) (HasNoState : Type 0) (stream : T) (input : Option (List ℕ)) (status : ℕ) (old new : Option (List ℕ)) : Type 0 where
-    pub known : Known
-    pub start : Scene T
+  -- a run begins: nothing is told yet, and there is no monitor
+  pub record BeginsRun (key token : List ℕ) (HasNoState : Type 0) (stream : T) (known : Known) (start : Scene T) : Type 0 where
     pub silent : start.told ≡ emptied 0
     pub begins : BeginsAsking key token HasNoState stream known start.client start.stream
     pub knows : (known.key ≡ key) × (known.token ≡ token) × (start.monitors ≡ [])
+
+  -- A run from its beginning to its end: all that is new is followed, and the lines are asked. The stream is left
+  -- as the last line left it.
+  pub record RunsWhole (key token : List ℕ) (options : AskOptions) (HasNoState : Type 0) (stream stream' : T) (input : Option (List ℕ)) (status : ℕ) (old new : Option (List ℕ)) : Type 0 where
+    pub known : Known
+    pub start : Scene T
+    pub begun : BeginsRun key token HasNoState stream known start
     pub ready : Scene T
     pub now : Option (List ℕ)
     pub prepares : Writes (Prepares known) start old now ready
     pub last : Scene T
     pub asks : IfSome (lines_asked options.words input) (λ lines. AsksLines known lines ready now new last)
     pub status_is : status ≡ last.told.status
-
-  -- a run that is whole; of one that was stopped, its status, and that it only wrote
-  abbrev pub RunsAs : List ℕ → List ℕ → AskOptions → Type 0 → T → Option (List ℕ) → RunEnd → Option (List ℕ) → Option (List ℕ) → Type 0
-  RunsAs key token options HasNoState stream input (Whole status) old new = RunsWhole key token options HasNoState stream input status old new
-  RunsAs key token options HasNoState stream input (Stopped status) old new = IsCutShort (Stopped status) × Grows old new
-
--- A run over a socket, of which definitions know neither what it took nor what it will give: no connection
--- came about, and nothing is written; or the run is one for some frames that came.
-abbrev pub AsksOverSocket : AskOptions → Option (List ℕ) → ℕ → Option (List ℕ) → Option (List ℕ) → Type 0
-AsksOverSocket options input status old new = ((status ≡ 1) × Keeps old new)
-    ⊎ ((key token : List ℕ) × (ask_keys_of options ≡ Some (key, token)) × (socket : TcpStream) × (ended : RunEnd) × (status ≡ end_status ended)
-    × RunsAs sha256 KeyedAccepts KeyedVerifies (ExchangesFrames {T = TcpStream} (λ _. None) (λ _. None)) key token options (options.state ≡ None) socket input ended old new)
+    pub left : last.stream ≡ stream'

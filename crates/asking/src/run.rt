@@ -1,17 +1,18 @@
 // A run: each line of the input is asked, what is told of it is written, and the state is kept.
-ghost use Rattle.std.specs.Prelude.{◌≡◌, ◌⊎◌, ◌≤◌, [], Err, IfErr, IfOk, IfSome, MatchOption, None, Ok, OnOk, Some, option_map, ⊤};
+ghost use Rattle.std.specs.Prelude.{◌≡◌, ◌⊎◌, ◌<◌, ◌≤◌, List, ℕ, [], Err, IfErr, IfOk, IfSome, MatchOption, None, Ok, OnErr, OnOk, Option, Some, option_map, ⊤};
 ghost use Rattle.std.specs.Io.KnownBytes.{Appends};
 ghost use Rattle.textio.specs.Lines.{lines_of};
 ghost use Rattle.textio.specs.declared.program_fault.ProgramFault.TheVariants.{CannotWrite, NotACommand, OutOfMemory};
 ghost use Rattle.play.specs.Scripts.{line_of, line_seen};
 ghost use Rattle.asking.specs.AskOptions.{ask_values};
+ghost use Rattle.asking.specs.Ending.{AsksPart, AsksSomeLine, BeginsNone, DoesSome, end_status, EndsEarly, Leaves, PreparesSome, stopped_status, WritesSome};
 ghost use Rattle.asking.specs.Exchanges.{ExchangesFrames};
-ghost use Rattle.asking.specs.Reports.{report_of};
+ghost use Rattle.asking.specs.Reports.{report_of, Report};
 ghost use Rattle.asking.specs.RunFaults.{AsksInput, CannotBeAsked, IsFaultOfSaving, IsFaultOfState, IsFaultWith, IsFirstUnasked, StopsOr};
-ghost use Rattle.asking.specs.Runs.{AsksLine, AsksLines, BeginsAsking, DoesLine, emptied, Grows, IsCutShort, IsSoundFor, known_new, known_of, lines_asked, Prepares, RunsWhole, end_status, with_word, words_line, Writes};
+ghost use Rattle.asking.specs.Runs.{AsksLine, AsksLines, BeginsAsking, DoesLine, emptied, Grows, IsSoundFor, KeepsAll, known_new, known_of, lines_asked, Prepares, RunsWhole, with_word, words_line, Writes};
 ghost use Rattle.asking.specs.declared.ask_fault.RunFault.TheVariants.{Program};
 ghost use Rattle.asking.specs.declared.run.RunEnd.TheVariants.{Whole, Stopped};
-ghost use Rattle.asking.specs.Scenes.{scene, StartsAtHead};
+ghost use Rattle.asking.specs.Scenes.{scene, Scene, StartsAtHead};
 
 use crate::ask_fault::RunFault;
 use crate::said::{ALARM, REFUSED};
@@ -113,8 +114,9 @@ where
         errors: &mut E,
     ) -> Result<RunEnd, ProgramFault>
         ensures ok { OnOk outcome ((result ≡ Ok (Whole (self.old).said.status)) × (writer.new ≡ writer.old)) }
-        ensures err { IfErr outcome (λ fault. IfOk result IsCutShort) }
-        ensures alarm { IfErr outcome (λ fault. 3 ≤ (self.old).said.status → result ≡ Ok (Stopped 3)) }
+        ensures stopped { OnErr outcome (IfOk result (λ ended. ended ≡ Stopped (stopped_status (self.old).said.status))) }
+        ensures failed { OnErr outcome (IfErr result (λ given. (self.old).said.status < 3)) }
+        ensures some { OnErr outcome (WritesSome (W.contents writer.old) (W.contents writer.new) (self.old).said.text.items) }
         ensures gives { IfErr result (λ given. IsFaultOfSaving given ⊎ (outcome ≡ Err (Program given))) }
         ensures grows { Grows (W.contents writer.old) (W.contents writer.new) }
     {
@@ -140,25 +142,26 @@ where
         writer: &mut W,
         errors: &mut E,
     ) -> Result<(), ProgramFault>
-        ensures rises { (self.old).said.status ≤ (self.new).said.status }
+        ensures status { (self.new).said.status ≡ (self.old).said.status }
+        ensures some { WritesSome (W.contents writer.old) (W.contents writer.new) (self.old).said.text.items }
         ensures gives { IfErr result (λ given. IsFaultOfSaving given ⊎ (fault ≡ Program given)) }
         ensures grows { Grows (W.contents writer.old) (W.contents writer.new) }
     {
         match fault {
             RunFault::Program(fault) => {
                 self.write(writer, errors)?;
-                return Err(fault);
+                Err(fault)
             }
             RunFault::Ask(AskFault::OutOfMemory) => {
                 self.write(writer, errors)?;
-                return Err(ProgramFault::OutOfMemory);
+                Err(ProgramFault::OutOfMemory)
             }
-            RunFault::Ask(AskFault::Stopped) => {}
+            RunFault::Ask(AskFault::Stopped) => self.write(writer, errors),
             RunFault::Ask(AskFault::NoReply) => {
                 self.said.words.extend_from_slice(b"no reply\n")?;
+                self.write(writer, errors)
             }
         }
-        self.write(writer, errors)
     }
 
     /// Begins with the chain of the state, or with the directory's head, and asks what an order asks.
@@ -181,9 +184,12 @@ where
         V: VufCheck + Drop,
         S: Verifier + Drop,
         ensures runs { OnOk result (report_of (self.old).said ≡ emptied 0 → RunsWhole H.digest_of V.accepted S.verified (ExchangesFrames T.contents T.remaining) keys.now.provider keys.now.token (ask_values order.entry)
-            ((self.old).state ≡ None) stream.old (R.remaining reader.old) (self.new).said.status (W.contents writer.old) (W.contents writer.new)) }
+            ((self.old).state ≡ None) stream.old stream.new (R.remaining reader.old) (self.new).said.status (W.contents writer.old) (W.contents writer.new)) }
         ensures faults { IfErr result (StopsOr (IsFaultWith (¬ ((self.old).state ≡ None)) (AsksInput (ask_values order.entry).words)
             (λ number. IfSome (lines_asked (ask_values order.entry).words (R.remaining reader.old)) (λ lines. IsFirstUnasked 1 lines number)))) }
+        ensures part { OnErr result (report_of (self.old).said ≡ emptied 0 → EndsEarly H.digest_of V.accepted S.verified (ExchangesFrames T.contents T.remaining) keys.now.provider keys.now.token (ask_values order.entry)
+            ((self.old).state ≡ None) stream.old (R.remaining reader.old) (W.contents writer.old) (Leaves (W.contents writer.new) (self.new).said)) }
+        ensures unread { ¬ AsksInput (ask_values order.entry).words → reader.new ≡ reader.old }
         ensures grows { Grows (W.contents writer.old) (W.contents writer.new) }
         ensures rises { (self.old).said.status ≤ (self.new).said.status }
     {
@@ -214,6 +220,7 @@ where
             stream.old (known_of asker) asker.client stream.new) }
         ensures knows { IfOk result (λ asker. (asker.key ≡ keys.now.provider) × (asker.token ≡ keys.now.token) × (asker.monitors.items ≡ [])) }
         ensures said { IfOk result (λ asker. report_of (self.new).said ≡ report_of (self.old).said) }
+        ensures none { OnErr result (BeginsNone S.verified (ExchangesFrames T.contents T.remaining) keys.now.provider stream.old (report_of (self.old).said) (report_of (self.new).said)) }
         ensures faults { IfErr result (StopsOr (λ fault. ((¬ ((self.old).state ≡ None)) × IsFaultOfState fault) ⊎ (fault ≡ OutOfMemory))) }
         ensures rises { (self.old).said.status ≤ (self.new).said.status }
     {
@@ -236,6 +243,7 @@ where
         ensures none { (self.old).state ≡ None → result ≡ Ok (Err checks) }
         ensures knows { IfOk result (λ loaded. IfOk loaded (λ asker. (asker.key ≡ keys.now.provider) × (asker.token ≡ keys.now.token) × (asker.monitors.items ≡ []))) }
         ensures sound { IfOk result (λ loaded. IfOk loaded (λ asker. IsSoundFor H.digest_of V.accepted S.verified keys.now.provider asker.client)) }
+        ensures kept { IfOk result (λ loaded. IfOk loaded (λ asker. KeepsAll asker.client asker.earlier.items)) }
         ensures err { IfErr result IsFaultOfState }
         ensures said { (self.new).said ≡ (self.old).said }
     {
@@ -260,6 +268,7 @@ where
         ensures begins { IfOk result (λ asker. StartsAtHead S.verified (ExchangesFrames T.contents T.remaining) keys.now.provider stream.old asker.client stream.new) }
         ensures knows { IfOk result (λ asker. (known_of asker ≡ known_new keys.now.provider keys.now.token) × (asker.monitors.items ≡ [])) }
         ensures said { IfOk result (λ asker. report_of (self.new).said ≡ report_of (self.old).said) }
+        ensures none { OnErr result (BeginsNone S.verified (ExchangesFrames T.contents T.remaining) keys.now.provider stream.old (report_of (self.old).said) (report_of (self.new).said)) }
         ensures faults { IfErr result (StopsOr (λ fault. fault ≡ OutOfMemory)) }
         ensures rises { (self.old).said.status ≤ (self.new).said.status }
     {
@@ -295,6 +304,8 @@ where
         S: Verifier + Drop,
         ensures prepares { OnOk result (Writes (Prepares H.digest_of V.accepted S.verified (ExchangesFrames T.contents T.remaining) (known_of asker.old))
             (scene asker.old (self.old).said stream.old) (W.contents writer.old) (W.contents writer.new) (scene asker.new (self.new).said stream.new)) }
+        ensures part { OnErr result ((reached : Scene T) × PreparesSome H.digest_of V.accepted S.verified (ExchangesFrames T.contents T.remaining) (known_of asker.old) (scene asker.old (self.old).said stream.old) reached
+            × Leaves (W.contents writer.new) (self.new).said reached.told (W.contents writer.old)) }
         ensures stays { known_of asker.new ≡ known_of asker.old }
         ensures faults { IfErr result (StopsOr IsFaultOfSaving) }
         ensures grows { Grows (W.contents writer.old) (W.contents writer.new) }
@@ -323,6 +334,8 @@ where
         S: Verifier + Drop,
         ensures asks { OnOk result (IfSome (R.remaining reader.old) (λ input. AsksLines H.digest_of V.accepted S.verified (ExchangesFrames T.contents T.remaining) (known_of asker.old) (lines_of input)
             (scene asker.old (self.old).said stream.old) (W.contents writer.old) (W.contents writer.new) (scene asker.new (self.new).said stream.new))) }
+        ensures part { OnErr result (IfSome (R.remaining reader.old) (λ input. (told : Report) × (now : Option (List ℕ)) × AsksPart H.digest_of V.accepted S.verified (ExchangesFrames T.contents T.remaining) (known_of asker.old) (lines_of input)
+            (scene asker.old (self.old).said stream.old) told (W.contents writer.old) now × Leaves (W.contents writer.new) (self.new).said told now)) }
         ensures faults { IfErr result (StopsOr (IsFaultWith ⊥ ⊤ (λ number. IfSome (R.remaining reader.old) (λ input. IsFirstUnasked 1 (lines_of input) number)))) }
         ensures grows { Grows (W.contents writer.old) (W.contents writer.new) }
         ensures rises { (self.old).said.status ≤ (self.new).said.status }
@@ -357,6 +370,8 @@ where
         S: Verifier + Drop,
         ensures asks { OnOk result (Writes (AsksLine H.digest_of V.accepted S.verified (ExchangesFrames T.contents T.remaining) (known_of asker.old) line.now)
             (scene asker.old (self.old).said stream.old) (W.contents writer.old) (W.contents writer.new) (scene asker.new (self.new).said stream.new)) }
+        ensures part { OnErr result ((reached : Scene T) × AsksSomeLine H.digest_of V.accepted S.verified (ExchangesFrames T.contents T.remaining) (known_of asker.old) line.now (scene asker.old (self.old).said stream.old) reached
+            × Leaves (W.contents writer.new) (self.new).said reached.told (W.contents writer.old)) }
         ensures stays { known_of asker.new ≡ known_of asker.old }
         ensures faults { IfErr result (StopsOr (λ fault. IsFaultOfSaving fault ⊎ ((fault ≡ NotACommand number) × CannotBeAsked (line_of line.now)))) }
         ensures grows { Grows (W.contents writer.old) (W.contents writer.new) }
@@ -390,6 +405,7 @@ where
         S: Verifier + Drop,
         ensures asked { OnOk result (asked ≡ Ok tt) }
         ensures writes { OnOk result (Appends (W.contents writer.old) (W.contents writer.new) (self.old).said.text.items × (report_of (self.new).said ≡ emptied (self.old).said.status)) }
+        ensures leaves { OnErr result (Leaves (W.contents writer.new) (self.new).said (report_of (self.old).said) (W.contents writer.old)) }
         ensures faults { IfErr result (StopsOr IsFaultOfSaving) }
         ensures grows { Grows (W.contents writer.old) (W.contents writer.new) }
         ensures status { (self.new).said.status ≡ (self.old).said.status }
@@ -421,6 +437,8 @@ where
         errors: &mut E,
     ) -> Result<(), ProgramFault>
         ensures writes { OnOk result (Appends (W.contents writer.old) (W.contents writer.new) (self.old).said.text.items × ((self.new).said.text.items ≡ [])) }
+        ensures some { WritesSome (W.contents writer.old) (W.contents writer.new) (self.old).said.text.items }
+        ensures emptied { (self.new).said.text.items ≡ [] }
         ensures words { OnOk result (Appends (E.contents errors.old) (E.contents errors.new) (self.old).said.words.items) }
         ensures status { (self.new).said.status ≡ (self.old).said.status }
         ensures err { IfErr result (λ fault. fault ≡ CannotWrite) }
@@ -448,6 +466,7 @@ where
     V: VufCheck + Drop,
     S: Verifier + Drop,
     ensures prepares { OnOk result (Prepares H.digest_of V.accepted S.verified (ExchangesFrames T.contents T.remaining) (known_of asker.old) (scene asker.old said.old stream.old) (scene asker.new said.new stream.new)) }
+    ensures reaches { (reached : Scene T) × PreparesSome H.digest_of V.accepted S.verified (ExchangesFrames T.contents T.remaining) (known_of asker.old) (scene asker.old said.old stream.old) reached × (report_of said.new ≡ reached.told) }
     ensures stays { known_of asker.new ≡ known_of asker.old }
     ensures rises { said.old.status ≤ said.new.status }
 {
@@ -468,6 +487,7 @@ where
     V: VufCheck + Drop,
     S: Verifier + Drop,
     ensures does { IfSome result (λ asked. OnOk asked (DoesLine H.digest_of V.accepted S.verified (ExchangesFrames T.contents T.remaining) (known_of asker.old) (line_seen line.now) (scene asker.old said.old stream.old) (scene asker.new said.new stream.new))) }
+    ensures reaches { (reached : Scene T) × DoesSome H.digest_of V.accepted S.verified (ExchangesFrames T.contents T.remaining) (known_of asker.old) (line_seen line.now) (scene asker.old said.old stream.old) reached × (report_of said.new ≡ reached.told) }
     ensures stays { known_of asker.new ≡ known_of asker.old }
     ensures none { MatchOption result (CannotBeAsked (Some (line_seen line.now))) (λ asked. ⊤) }
     ensures rises { said.old.status ≤ said.new.status }

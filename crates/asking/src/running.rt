@@ -1,11 +1,12 @@
 // A run of questions over a connection. Contracts do not know what a socket or a file has.
-ghost use Rattle.std.specs.Prelude.{◌≡◌, ◌⊎◌, ◌↔◌, Err, IfErr, IfOk, None, Some, MatchResult};
+ghost use Rattle.std.specs.Prelude.{◌≡◌, ◌⊎◌, ◌↔◌, Err, IfErr, IfOk, None, OnErr, Some, MatchResult};
 ghost use Rattle.std.specs.Io.KnownBytes.{Keeps};
 ghost use Rattle.textio.specs.declared.program_fault.ProgramFault.TheVariants.{BadHex};
 ghost use Rattle.asking.specs.AskOptions.{ask_keys_of, ask_values};
+ghost use Rattle.asking.specs.Ending.{AsksOverSocket, FailsAs, FailsOverSocket, RunsAs};
 ghost use Rattle.asking.specs.Exchanges.{ExchangesFrames};
-ghost use Rattle.asking.specs.RunFaults.{IsRunFault};
-ghost use Rattle.asking.specs.Runs.{AsksOverSocket, Grows, RunsAs};
+ghost use Rattle.asking.specs.RunFaults.{AsksInput, IsRunFault};
+ghost use Rattle.asking.specs.Runs.{Grows};
 
 use crate::run::{Run, RunEnd};
 use crate::said::REFUSED;
@@ -48,9 +49,11 @@ where
     E: Write,
     ensures bad_hex { (result ≡ Err BadHex) ↔ (ask_keys_of (ask_values order.entry) ≡ None) }
     ensures silent { result ≡ Err BadHex → Keeps (W.contents writer.old) (W.contents writer.new) × Keeps (E.contents errors.old) (E.contents errors.new) }
+    ensures unread { (result ≡ Err BadHex) ⊎ (¬ AsksInput (ask_values order.entry).words) → reader.new ≡ reader.old }
     ensures faults { IfErr result (λ fault. (fault ≡ BadHex) ⊎ IsRunFault (ask_values order.entry) (R.remaining reader.old) fault) }
     ensures grows { Grows (W.contents writer.old) (W.contents writer.new) }
     ensures runs { IfOk result (λ status. AsksOverSocket (ask_values order.entry) (R.remaining reader.old) status (W.contents writer.old) (W.contents writer.new)) }
+    ensures fails { OnErr result (FailsOverSocket (ask_values order.entry) (R.remaining reader.old) (W.contents writer.old) (W.contents writer.new)) }
 {
     match keys_of(&order) {
         Ok(keys) => ask_under(alloc, system, keys, order, reader, writer, errors),
@@ -87,9 +90,12 @@ where
     W: Write,
     E: Write,
     ensures faults { IfErr result (IsRunFault (ask_values order.entry) (R.remaining reader.old)) }
+    ensures unread { ¬ AsksInput (ask_values order.entry).words → reader.new ≡ reader.old }
     ensures grows { Grows (W.contents writer.old) (W.contents writer.new) }
     ensures runs { ask_keys_of (ask_values order.entry) ≡ Some (keys.provider, keys.token)
         → IfOk result (λ status. AsksOverSocket (ask_values order.entry) (R.remaining reader.old) status (W.contents writer.old) (W.contents writer.new)) }
+    ensures fails { ask_keys_of (ask_values order.entry) ≡ Some (keys.provider, keys.token)
+        → OnErr result (FailsOverSocket (ask_values order.entry) (R.remaining reader.old) (W.contents writer.old) (W.contents writer.new)) }
 {
     let Ok(mut stream) = TcpStream::connect(system, order.address) else {
         write_text(errors, b"cannot connect\n")?;
@@ -140,8 +146,11 @@ where
     V: VufCheck + Drop,
     S: Verifier + Drop,
     ensures runs { IfOk result (λ ended. RunsAs H.digest_of V.accepted S.verified (ExchangesFrames T.contents T.remaining) keys.provider keys.token (ask_values order.entry)
-        (order.entry.state ≡ None) stream.old (R.remaining reader.old) ended (W.contents writer.old) (W.contents writer.new)) }
+        (order.entry.state ≡ None) stream.old stream.new (R.remaining reader.old) ended (W.contents writer.old) (W.contents writer.new)) }
+    ensures fails { OnErr result (FailsAs H.digest_of V.accepted S.verified (ExchangesFrames T.contents T.remaining) keys.provider keys.token (ask_values order.entry)
+        (order.entry.state ≡ None) stream.old (R.remaining reader.old) (W.contents writer.old) (W.contents writer.new)) }
     ensures faults { IfErr result (IsRunFault (ask_values order.entry) (R.remaining reader.old)) }
+    ensures unread { ¬ AsksInput (ask_values order.entry).words → reader.new ≡ reader.old }
     ensures grows { Grows (W.contents writer.old) (W.contents writer.new) }
 {
     let mut run = Run::new(alloc, files, order.state)?;

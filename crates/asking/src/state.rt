@@ -1,10 +1,11 @@
 // What a client keeps between runs. In the file of the state stand the signed roots of its chain, one a line
 // in hexadecimal digits; in a second one beside it the promises that it keeps, and how far names were watched.
-ghost use Rattle.std.specs.Prelude.{◌≡◌, [], IfErr, IfOk};
+ghost use Rattle.std.specs.Prelude.{◌≡◌, [], IfErr, IfOk, OnOk};
 ghost use Rattle.textio.specs.Faults.{IsDeviceFault};
 ghost use Rattle.textio.specs.declared.program_fault.ProgramFault.TheVariants.{OutOfMemory};
 ghost use Rattle.asking.specs.RunFaults.{IsFaultOfSaving, IsFaultOfState};
-ghost use Rattle.asking.specs.Runs.{IsSameAsker, IsSoundFor};
+ghost use Rattle.client.specs.Clients.{with_promise};
+ghost use Rattle.asking.specs.Runs.{IsSameAsker, IsSoundFor, KeepsAll, StillKeeps};
 
 use crate::asker::Mark;
 use crate::{AskFault, Asker, Checks};
@@ -116,6 +117,7 @@ impl<'a> State<'a> {
         S: Verifier + Drop,
         ensures knows { IfOk result (λ loaded. IfOk loaded (λ asker. (asker.key ≡ key) × (asker.token ≡ token) × (asker.monitors.items ≡ []))) }
         ensures sound { IfOk result (λ loaded. IfOk loaded (λ asker. IsSoundFor H.digest_of V.accepted S.verified key asker.client)) }
+        ensures kept { IfOk result (λ loaded. IfOk loaded (λ asker. KeepsAll asker.client asker.earlier.items)) }
         ensures err { IfErr result IsFaultOfState }
     {
         let Some(roots) = file_bytes(alloc, files, self.path)? else {
@@ -129,12 +131,33 @@ impl<'a> State<'a> {
             Err(why) => return Err(fault_of(&why, 1)),
         };
         asker.take_lines(&roots)?;
-        if let Some(kept) = file_bytes(alloc, files, self.beside.as_str())? {
-            asker.keep_lines(&kept)?;
-            self.kept = kept;
-        }
+        self.load_kept(alloc, files, &mut asker)?;
         self.epoch = asker.client.chain().head().body.epoch;
         Ok(Ok(asker))
+    }
+
+    /// Keeps what the second file has, if it is there.
+    fn load_kept<F, H, V, S>(
+        &mut self,
+        alloc: Global,
+        files: &F,
+        asker: &mut Asker<H, V, S>,
+    ) -> Result<(), ProgramFault>
+    where
+        F: Files<File = File>,
+        H: NodeHash + Drop,
+        V: VufCheck + Drop,
+        S: Verifier + Drop,
+        ensures same { IsSameAsker asker.old asker.new }
+        ensures kept { OnOk result (StillKeeps asker.old asker.new) }
+        ensures err { IfErr result IsFaultOfState }
+    {
+        let Some(kept) = file_bytes(alloc, files, self.beside.as_str())? else {
+            return Ok(());
+        };
+        asker.keep_lines(&kept)?;
+        self.kept = kept;
+        Ok(())
     }
 
     /// Adds the roots and the promises that are new to what the files have.
@@ -241,6 +264,7 @@ where
     /// Takes the roots of a text's lines behind the first.
     fn take_lines(&mut self, text: &[u8]) -> Result<(), ProgramFault>
         ensures same { IsSameAsker self.old self.new }
+        ensures earlier { (self.new).earlier ≡ (self.old).earlier }
         ensures err { IfErr result IsFaultOfState }
     {
         let mut left = text;
@@ -260,6 +284,7 @@ where
     /// Keeps what the lines of the second file have.
     fn keep_lines(&mut self, text: &[u8]) -> Result<(), ProgramFault>
         ensures same { IsSameAsker self.old self.new }
+        ensures kept { OnOk result (StillKeeps self.old self.new) }
         ensures err { IfErr result IsFaultOfState }
     {
         let mut left = text;
@@ -279,6 +304,7 @@ where
     /// Takes the root of a line.
     fn take_line(&mut self, line: &[u8], number: u64) -> Result<(), ProgramFault>
         ensures same { IsSameAsker self.old self.new }
+        ensures earlier { (self.new).earlier ≡ (self.old).earlier }
         ensures err { IfErr result IsFaultOfState }
     {
         let root = line_bytes(self.alloc, line, number)?;
@@ -297,6 +323,7 @@ where
     /// Keeps what a line of the second file has: `promise HEX`, `change HEX`, or `watched NAME EPOCH`.
     fn keep_line(&mut self, line: &[u8], number: u64) -> Result<(), ProgramFault>
         ensures same { IsSameAsker self.old self.new }
+        ensures kept { OnOk result (StillKeeps self.old self.new) }
         ensures err { IfErr result IsFaultOfState }
     {
         if let Some(promise) = line.strip_prefix(b"promise ".as_slice()) {
@@ -317,6 +344,8 @@ where
     /// Keeps a promise of an earlier run, which these digits give.
     fn keep_earlier(&mut self, digits: &[u8], number: u64) -> Result<SignedPromise, ProgramFault>
         ensures same { IsSameAsker self.old self.new }
+        ensures kept { IfOk result (λ signed. (self.new).client ≡ with_promise (self.old).client signed) }
+        ensures earlier { (self.new).earlier ≡ (self.old).earlier }
         ensures err { IfErr result IsFaultOfState }
     {
         let promise = line_bytes(self.alloc, digits, number)?;
@@ -338,6 +367,7 @@ where
     /// Keeps how far a name was watched: `NAME EPOCH`.
     fn keep_mark(&mut self, mark: &[u8], number: u64) -> Result<(), ProgramFault>
         ensures same { IsSameAsker self.old self.new }
+        ensures kept { ((self.new).client ≡ (self.old).client) × ((self.new).earlier ≡ (self.old).earlier) }
         ensures err { IfErr result IsFaultOfState }
     {
         let mut words = mark.split(|byte| *byte == b' ');

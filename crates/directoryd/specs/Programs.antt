@@ -1,5 +1,5 @@
 -- What the programs do, and how the process ends.
-use Rattle.std.specs.Prelude.{◌≡◌, ◌⊎◌, ◌↔◌, ℕ, zero, suc, List, Bool, true, false, Option, None, Result, Ok, Err, IfErr, IfOk, Vec, String, map, string_bytes, codes, ⊤}
+use Rattle.std.specs.Prelude.{◌≡◌, ◌⊎◌, ◌↔◌, ℕ, zero, suc, List, Bool, true, false, Option, None, Result, Ok, Err, IfErr, IfOk, OnErr, Vec, String, map, string_bytes, codes, ⊤}
 use Rattle.std.specs.IoError.{error_kind}
 use Rattle.std.specs.declared.io.Error.{Error as IoError}
 use Rattle.std.specs.declared.io.ErrorKind.TheVariants as io
@@ -29,8 +29,9 @@ use Rattle.directoryd.specs.KeyFiles.{ask_with, directory_with, HasNoKeys, Uses}
 use Rattle.server.specs.ConnectionOptions.{ConnectionOptions}
 use Rattle.server.specs.DirectoryOptions.{DirectoryOptions}
 use Rattle.asking.specs.AskOptions.{AskOptions, ask_keys_of}
+use Rattle.asking.specs.Ending.{AsksOverSocket, FailsOverSocket}
 use Rattle.asking.specs.RunFaults.{IsRunFault}
-use Rattle.asking.specs.Runs.{AsksOverSocket, Grows}
+use Rattle.asking.specs.Runs.{Grows}
 
 -- a program gives a text for its input, and returns this status if the text was written
 abbrev pub EndsWithStatus : ℕ → (List ℕ → Result (List ℕ) ProgramFault → Type 0) → Option (List ℕ) → Option (List ℕ) → Option (List ℕ) → Result ℕ ProgramFault → Type 0
@@ -75,7 +76,7 @@ AsksKeyed asked keys input out out-new err err-new outcome =
     ⊎ ((used : AskOptions) × Uses ask_with keys asked used
     × ((outcome ≡ Err BadHex) ↔ (ask_keys_of used ≡ None)) × (outcome ≡ Err BadHex → Keeps out out-new × Keeps err err-new)
     × IfErr outcome (λ fault. (fault ≡ BadHex) ⊎ IsRunFault used input fault) × Grows out out-new
-    × IfOk outcome (λ status. AsksOverSocket used input status out out-new))
+    × IfOk outcome (λ status. AsksOverSocket used input status out out-new) × OnErr outcome (FailsOverSocket used input out out-new))
 
 -- What is ordered is done: a root is written, or the path of an index; an input is audited; a file is judged;
 -- a script is played; a directory begins, or goes on from its journal, and serves one session; one serves

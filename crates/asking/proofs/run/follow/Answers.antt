@@ -1,8 +1,10 @@
-use Rattle.std.proofs.Common.{Global, Vec, refl, subst}
+use Rattle.std.proofs.Common.{Global, Vec, ap, refl, subst}
 use Rattle.asking.specs.Exchanges.{ExchangesFrames}
+use Rattle.asking.specs.Runs.{known_of}
 use Rattle.asking.specs.Scenes.{scene}
 use Rattle.asking.specs.Visiting.{TestsAll}
 use Rattle.asking.specs.declared.asker.Mark.{Mark}
+use Rattle.asking.proofs.Ended.{taken_reaches, tested_reaches}
 use Rattle.asking.proofs.Ran.{ok_then}
 use Rattle.asking.proofs.Rising.{follow_rises, rises_on, test_rises}
 use Rattle.asking.proofs.run.follow.Goals as goal
@@ -34,3 +36,17 @@ returns-clause-rises g c =
     (test_rises g.H.NodeHash.digest_of g.V.VufCheck.accepted g.S.Verifier.verified (ExchangesFrames g.T.Write.contents g.T.Read.remaining) c.follow.new.self.marks.items c.test_promises.result
     middle (scene c.test_promises.new.self c.test_promises.new.said c.test_promises.new.stream) c.test_promises.new.self c.test_promises.new.said refl
     c.test_promises.ensures.tests c.test_promises.ensures.err c.test_promises.ensures.halts)
+
+pub returns-in_err-follow-clause-reaches : goal.returns-in_err-follow-clause-reaches
+returns-in_err-follow-clause-reaches g c =
+    taken_reaches g.H.NodeHash.digest_of g.V.VufCheck.accepted g.S.Verifier.verified (ExchangesFrames g.T.Write.contents g.T.Read.remaining) (known_of c.args.asker.now) c.follow.result
+    (scene c.args.asker.now c.args.said.now c.args.stream.now) (scene c.follow.new.self c.follow.new.said c.follow.new.stream) c.follow.new.self c.follow.new.said refl
+    c.follow.ensures.follows c.follow.ensures.stops c.follow.ensures.halts
+
+pub returns-clause-reaches : goal.returns-clause-reaches
+returns-clause-reaches g c =
+    let follows = c.in_ok-follow.ensures.follows in
+    tested_reaches g.H.NodeHash.digest_of g.V.VufCheck.accepted g.S.Verifier.verified (ExchangesFrames g.T.Write.contents g.T.Read.remaining) (known_of c.args.asker.now) c.follow.new.self.marks.items c.test_promises.result follows.0
+    (scene c.args.asker.now c.args.said.now c.args.stream.now) (scene c.follow.new.self c.follow.new.said c.follow.new.stream)
+    (scene c.test_promises.new.self c.test_promises.new.said c.test_promises.new.stream) c.test_promises.new.self c.test_promises.new.said refl
+    (ap (λ (all : Vec Mark Global). all.items) c.in_ok-follow.ensures.stays.2) follows.1 c.test_promises.ensures.tests c.test_promises.ensures.halts

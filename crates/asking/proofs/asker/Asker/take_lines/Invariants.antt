@@ -1,5 +1,6 @@
+use Rattle.std.proofs.Common.{◌≡◌}
 use Rattle.asking.specs.Runs.{IsSameAsker}
 use Rattle.asking.proofs.asker.Asker.take_lines.Given as goal
 
 abbrev pub invariant-loop-number : goal.invariant-loop-number
-invariant-loop-number g l = IsSameAsker l.fn.self l.self
+invariant-loop-number g l = record { same : IsSameAsker l.fn.self l.self; earlier : l.self.earlier ≡ l.fn.self.earlier }

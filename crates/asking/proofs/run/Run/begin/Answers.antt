@@ -1,14 +1,16 @@
-use Rattle.std.proofs.Common.{◌≡◌, ◌⊎◌, None, inr, refl, rules}
+use Rattle.std.proofs.Common.{◌≡◌, ◌⊎◌, None, ap, inl, inr, refl, rules}
 use Rattle.textio.specs.declared.program_fault.ProgramFault.TheVariants.{OutOfMemory}
 use Rattle.asking.specs.Exchanges.{ExchangesFrames}
 use Rattle.asking.specs.RunFaults.{IsFaultOfState}
+use Rattle.asking.specs.Reports.{report_of}
+use Rattle.asking.proofs.Ended.{err_so}
 use Rattle.asking.proofs.Faulty.{stops_more}
 use Rattle.asking.proofs.Ran.{begins_at_head}
 use Rattle.asking.proofs.run.Run.begin.Goals as goal
 
 pub returns-in-Ok-clause-begins : goal.returns-in-Ok-clause-begins
 returns-in-Ok-clause-begins g c =
-    inr ((λ none. search (rules, (rw c.in-Ok.is at (c.in_ok-asker.ensures.none none)))), refl, rw c.in-Ok.is at c.in_ok-asker.ensures.sound)
+    inr ((λ none. search (rules, (rw c.in-Ok.is at (c.in_ok-asker.ensures.none none)))), refl, rw c.in-Ok.is at c.in_ok-asker.ensures.sound, rw c.in-Ok.is at c.in_ok-asker.ensures.kept)
 
 pub returns-in-Err-clause-begins : goal.returns-in-Err-clause-begins
 returns-in-Err-clause-begins g c =
@@ -18,3 +20,9 @@ returns-in-Err-clause-begins g c =
 pub returns-in-Err-clause-faults : goal.returns-in-Err-clause-faults
 returns-in-Err-clause-faults g c =
     stops_more (λ fault. fault ≡ OutOfMemory) (λ fault. ((¬ (c.args.self.now.state ≡ None)) × IsFaultOfState fault) ⊎ (fault ≡ OutOfMemory)) c.begin_at_head.result (λ fault is. inr is) c.begin_at_head.ensures.faults
+
+pub returns-in_err-asker-clause-none : goal.returns-in_err-asker-clause-none
+returns-in_err-asker-clause-none g c = err_so _ (inl (ap report_of c.load.ensures.said))
+
+pub returns-in-Err-clause-none : goal.returns-in-Err-clause-none
+returns-in-Err-clause-none g c = rw c.load.ensures.said at c.begin_at_head.ensures.none

@@ -1,0 +1,378 @@
+-- How a run ends before all is asked.
+use Rattle.std.proofs.Common.{◌≡◌, ◌≢◌, ◌∙◌, ◌<◌, ◌≤◌, ℕ, true, List, [], ◌∷◌, ◌++◌, Option, None, Some, Result, Ok, Err, ap, append-nil, append_assoc, arith, inl, inr, refl, rules, subst, sym}
+use Rattle.std.specs.Prelude.{IfErr, IfOk, IfSome, OnErr, OnOk}
+use Rattle.std.specs.Io.KnownBytes.{Appends}
+use Rattle.std.proofs.KnownBytes.{Appends-nil, Appends-trans, Keeps-refl}
+use Rattle.std.proofs.lemmas.Bool.Decides.{nat_tests}
+use Rattle.std.specs.declared.net.tcp.TcpStream.{TcpStream}
+use Rattle.nodehash.specs.Sha256.{sha256}
+use Rattle.vrfiface.specs.StandIns.{KeyedAccepts}
+use Rattle.sigiface.specs.StandIn.{KeyedVerifies}
+use Rattle.rootchain.specs.declared.signed_promise.SignedPromise.{SignedPromise}
+use Rattle.textio.specs.Lines.{lines_of}
+use Rattle.textio.specs.Output.{WritesBeginning}
+use Rattle.textio.specs.declared.stream_fault.StreamFault.{StreamFault}
+use Rattle.textio.specs.declared.stream_fault.StreamFault.TheVariants as device
+use Rattle.wire.specs.Frames.{Frame}
+use Rattle.wire.specs.Requests.{RequestContent}
+use Rattle.play.specs.Reading.{TakesWholeLine}
+use Rattle.play.specs.Scripts.{ScriptLine, Ask, Watch, line_of}
+use Rattle.asking.specs.declared.ask_fault.AskFault.{AskFault}
+use Rattle.asking.specs.declared.ask_fault.AskFault.TheVariants as fault
+use Rattle.asking.specs.declared.asker.Asker.{Asker}
+use Rattle.asking.specs.declared.asker.Mark.{Mark}
+use Rattle.asking.specs.declared.order.AskOrder.{AskOrder}
+use Rattle.asking.specs.declared.run.RunEnd.{RunEnd}
+use Rattle.asking.specs.declared.run.RunEnd.TheVariants.{Whole, Stopped}
+use Rattle.asking.specs.declared.said.Said.{Said}
+use Rattle.asking.specs.AskOptions.{AskOptions, ask_keys_of, ask_values}
+use Rattle.asking.specs.Asking.{AsksDirectory, AsksSome, StopsAsking}
+use Rattle.asking.specs.Ending.{AsksNext, AsksOverSocket, AsksPart, AsksSomeLine, BeginsNone, DoesSome, end_status, EndsEarly, FailsAs, FailsOverSocket, Leaves, PreparesSome, RunsAs, stopped_status, WritesSome}
+use Rattle.asking.specs.Exchanges.{ExchangesFrames}
+use Rattle.asking.specs.Following.{Follows, StopsAfter, TakesSome}
+use Rattle.asking.specs.Joining.{BeginsSome, BeginsWatch}
+use Rattle.asking.specs.Reports.{Report, report_of}
+use Rattle.asking.specs.Runs.{AsksLines, BeginsAsking, BeginsRun, emptied, Known, lines_asked, Prepares, RunsWhole, Writes}
+use Rattle.asking.specs.Scenes.{HaltsAfter, Scene, StopsAtHead}
+use Rattle.asking.specs.Visiting.{TestsAll, TestsSome}
+use Rattle.asking.proofs.Ran.{LeadsOn, none_before}
+
+no-reply : fault.NoReply ≢ fault.Stopped
+no-reply same = search (rules, same)
+
+no-memory : fault.OutOfMemory ≢ fault.Stopped
+no-memory same = search (rules, same)
+
+pub err_so : {A E P : Type 0} (result : Result A E) → P → OnErr result P
+err_so (Ok done) holds = tt
+err_so (Err why) holds = holds
+
+pub err_then : {A E P Q : Type 0} (result : Result A E) → OnErr result P → (P → Q) → OnErr result Q
+err_then (Ok done) holds leads = tt
+err_then (Err why) holds leads = leads holds
+
+-- ---- what is written
+
+-- a text is written, or less of it
+pub some_by : (result : Result (Unit {0}) StreamFault) (old new : Option (List ℕ)) (text : List ℕ) → OnOk result (Appends old new text)
+    → IfErr result (λ why. (why ≡ device.CannotWrite) × WritesBeginning old new text) → WritesSome old new text
+some_by (Ok done) old new text appends begins = ([], (text, sym (append-nil text), appends))
+some_by (Err why) old new text appends (is, (rest, some, but)) = (rest, but)
+
+-- nothing is written
+pub some_not : (old : Option (List ℕ)) (text : List ℕ) → WritesSome old old text
+some_not old text = (text, ([], refl, Appends-nil old))
+
+-- all is still said
+pub leaves_same : (old : Option (List ℕ)) (said : Said) (told : Report) → report_of said ≡ told → Leaves old said told old
+leaves_same old said told same = (ap (λ (r : Report). r.status) same, [], [], sym (append-nil said.text.items ∙ ap (λ (r : Report). r.lines) same), Appends-nil old)
+
+-- it is written, and nothing is said any more
+pub leaves_written : (old new : Option (List ℕ)) (said said' : Said) (told : Report) → report_of said ≡ told → WritesSome old new said.text.items → said'.text.items ≡ [] → said'.status ≡ said.status → Leaves new said' told old
+leaves_written old new said said' told same (rest, (front, parts, appends)) empty status = (
+  status ∙ ap (λ (r : Report). r.status) same,
+  front,
+  rest,
+  sym (ap (λ (r : Report). r.lines) same) ∙ parts ∙ sym (ap (λ (xs : List ℕ). front ++ (xs ++ rest)) empty),
+  appends,
+)
+
+-- what is still said is written
+pub written_then : (old now new : Option (List ℕ)) (said : Said) (told : Report) → Leaves now said told old → WritesSome now new said.text.items → WritesSome old new told.lines
+written_then old now new said told (status, text, rest, is, appends) (more, (front, parts, further)) = (
+  more ++ rest,
+  (
+    text ++ front,
+    is ∙ ap (λ (xs : List ℕ). text ++ (xs ++ rest)) parts ∙ ap (λ (xs : List ℕ). text ++ xs) (append_assoc front more rest) ∙ sym (append_assoc text front (more ++ rest)),
+    Appends-trans old now new text front appends further,
+  ),
+)
+
+-- such a scene is reached, and what was told in it is written or said
+pub reaches_so : {T E : Type 0} (result : Result (Unit {0}) E) (Reaches : Scene T → Type 0) (told : Report) (old new : Option (List ℕ)) (said : Said) → (reached : Scene T) × Reaches reached × (told ≡ reached.told)
+    → OnErr result (Leaves new said told old) → OnErr result ((reached : Scene T) × Reaches reached × Leaves new said reached.told old)
+reaches_so (Ok done) Reaches told old new said reaches leaves = tt
+reaches_so (Err why) Reaches told old new said (reached, is, same) leaves = (reached, is, subst (λ (r : Report). Leaves new said r old) same leaves)
+
+-- ---- the status
+
+pub stopped_low : (before after : ℕ) → after ≡ before → after < 3 → stopped_status before ≡ 1
+stopped_low before after same low = grind (arith, nat_tests)
+
+pub stopped_high : (before after : ℕ) → after ≡ before → 3 ≤ after → stopped_status before ≡ 3
+stopped_high before after same high = grind (arith, nat_tests)
+
+-- ---- no client starts
+
+pub begins_none : {T : Type 0} (verified : List ℕ → List ℕ → List ℕ → Type 0) (exchanged : T → RequestContent → Frame → T → Type 0) (key : List ℕ) (why : AskFault) (said said' : Said) (before after : T)
+    → (why ≡ fault.Stopped → StopsAtHead verified exchanged key before (report_of said) after (report_of said')) → (why ≢ fault.Stopped → report_of said' ≡ report_of said)
+    → BeginsNone verified exchanged key before (report_of said) (report_of said')
+begins_none verified exchanged key fault.NoReply said said' before after stops halts = inl (halts no-reply)
+begins_none verified exchanged key fault.Stopped said said' before after stops halts = inr (after, stops refl)
+begins_none verified exchanged key fault.OutOfMemory said said' before after stops halts = inl (halts no-memory)
+
+module _ (hash : List ℕ → List ℕ) (accepted verified : List ℕ → List ℕ → List ℕ → Type 0) {T : Type 0} (exchanged : T → RequestContent → Frame → T → Type 0) where
+  module _ (known : Known) where
+    -- ---- which scene is reached
+
+    -- the roots are taken, or some
+    pub taken_reaches : {H V S A : Type 0} (result : Result A AskFault) (before after : Scene T) (asker : Asker H V S) (said : Said) → report_of said ≡ after.told
+        → OnOk result ((count : ℕ) × Follows hash verified exchanged count before after)
+        → (result ≡ Err fault.Stopped → (count : ℕ) × StopsAfter hash verified exchanged count before after)
+        → IfErr result (λ why. why ≢ fault.Stopped → HaltsAfter (TakesSome hash verified exchanged before) why asker said)
+        → (reached : Scene T) × PreparesSome hash accepted verified exchanged known before reached × (report_of said ≡ reached.told)
+    taken_reaches (Ok done) before after asker said same (count, follows) stops halts = (after, inr (inr (inr (count, after, follows, (0, refl)))), same)
+    taken_reaches (Err fault.NoReply) before after asker said same follows stops halts = let (reached, takes, halted) = halts no-reply in (reached, inr (inl takes), halted.0)
+    taken_reaches (Err fault.Stopped) before after asker said same follows stops halts = (after, inr (inr (inl (stops refl))), same)
+    taken_reaches (Err fault.OutOfMemory) before after asker said same follows stops halts = let (reached, takes, halted) = halts no-memory in (reached, inr (inl takes), halted.0)
+
+    -- and the promises tested, or some
+    pub tested_reaches : {H V S A : Type 0} (marks : List Mark) (result : Result A AskFault) (count : ℕ) (before middle after : Scene T) (asker : Asker H V S) (said : Said) → report_of said ≡ after.told → marks ≡ known.marks
+        → Follows hash verified exchanged count before middle
+        → OnOk result (TestsAll hash accepted exchanged marks middle after) → IfErr result (λ why. HaltsAfter (TestsSome hash accepted exchanged marks middle) why asker said)
+        → (reached : Scene T) × PreparesSome hash accepted verified exchanged known before reached × (report_of said ≡ reached.told)
+    tested_reaches marks (Ok done) count before middle after asker said same is follows tests halts =
+        (after, inl (count, middle, follows, subst (λ (m : List Mark). TestsAll hash accepted exchanged m middle after) is tests), same)
+    tested_reaches marks (Err why) count before middle after asker said same is follows tests (reached, some, halted) =
+        (reached, inr (inr (inr (count, middle, follows, subst (λ (m : List Mark). TestsSome hash accepted exchanged m middle reached) is some))), halted.0)
+
+    -- a line is asked, or some of it
+    pub asked_reaches : {H V S A : Type 0} (asked : RequestContent) (noted noted' : List SignedPromise) (result : Result A AskFault) (before after : Scene T) (asker : Asker H V S) (said : Said) → report_of said ≡ after.told
+        → OnOk result (AsksDirectory hash accepted verified exchanged known.marks known.token asked noted noted' before after)
+        → (result ≡ Err fault.Stopped → StopsAsking hash accepted verified exchanged known.token asked before after)
+        → IfErr result (λ why. why ≢ fault.Stopped → HaltsAfter (AsksSome hash accepted verified exchanged known.marks known.token asked noted noted' before) why asker said)
+        → (reached : Scene T) × DoesSome hash accepted verified exchanged known (Ask asked) before reached × (report_of said ≡ reached.told)
+    asked_reaches asked noted noted' (Ok done) before after asker said same asks stops halts = (after, inr (inl (noted, noted', asks)), same)
+    asked_reaches asked noted noted' (Err fault.NoReply) before after asker said same asks stops halts = let (reached, some, halted) = halts no-reply in (reached, inr (inr (inr (noted, noted', some))), halted.0)
+    asked_reaches asked noted noted' (Err fault.Stopped) before after asker said same asks stops halts = (after, inr (inr (inl (stops refl))), same)
+    asked_reaches asked noted noted' (Err fault.OutOfMemory) before after asker said same asks stops halts = let (reached, some, halted) = halts no-memory in (reached, inr (inr (inr (noted, noted', some))), halted.0)
+
+    -- a name is watched, or some of its epochs
+    pub watched_reaches : {H V S A : Type 0} (name : List ℕ) (given given' : Option (List ℕ)) (result : Result A AskFault) (before after : Scene T) (asker : Asker H V S) (said : Said) → given ≡ given' → report_of said ≡ after.told
+        → OnOk result (BeginsWatch hash accepted verified exchanged known.marks known.key known.earlier name given before after)
+        → IfErr result (λ why. HaltsAfter (BeginsSome hash accepted verified exchanged known.marks known.key known.earlier name given before) why asker said)
+        → (reached : Scene T) × DoesSome hash accepted verified exchanged known (Watch name given') before reached × (report_of said ≡ reached.told)
+    watched_reaches name given given' (Ok done) before after asker said is same begins halts =
+        (after, inr (inl (subst (λ (g : Option (List ℕ)). BeginsWatch hash accepted verified exchanged known.marks known.key known.earlier name g before after) is begins)), same)
+    watched_reaches name given given' (Err why) before after asker said is same begins (reached, some, halted) =
+        (reached, inr (inr (subst (λ (g : Option (List ℕ)). BeginsSome hash accepted verified exchanged known.marks known.key known.earlier name g before reached) is some)), halted.0)
+
+    -- it is what a line says
+    pub line_reaches : (line : List ℕ) (said : ScriptLine) (told : Report) (before : Scene T) → line_of line ≡ Some said
+        → (reached : Scene T) × DoesSome hash accepted verified exchanged known said before reached × (told ≡ reached.told)
+        → (reached : Scene T) × AsksSomeLine hash accepted verified exchanged known line before reached × (told ≡ reached.told)
+    line_reaches line said told before is (reached, does, same) = (reached, inr (said, is, does), same)
+
+    -- nothing of it is asked
+    pub line_not : (line : List ℕ) (before : Scene T) (old : Option (List ℕ)) (said : Said) → report_of said ≡ before.told
+        → (reached : Scene T) × AsksSomeLine hash accepted verified exchanged known line before reached × Leaves old said reached.told old
+    line_not line before old said same = (before, inl refl, leaves_same old said before.told same)
+
+    -- ---- among which lines
+
+    next-here : (lines : List (List ℕ)) (here : Scene T) → AsksNext hash accepted verified exchanged known lines here here
+    next-here [] here = refl
+    next-here (line ∷ more) here = inl refl
+
+    -- no more is asked of the lines that are left
+    pub part_here : (start here : Scene T) (input old left now new : Option (List ℕ)) (said : Said) → LeadsOn hash accepted verified exchanged known start input old here left now → Leaves new said here.told now
+        → IfSome input (λ all. (told : Report) × (next : Option (List ℕ)) × AsksPart hash accepted verified exchanged known (lines_of all) start told old next × Leaves new said told next)
+    part_here start here None old left now new said leads leaves = tt
+    part_here start here (Some all) old left now new said leads leaves =
+        let (rest, at, done, parts, asks) = leads all refl in (
+          here.told,
+          now,
+          record { done = done; left = lines_of rest; parts = parts; here = here; asks = asks; reached = here; next = next-here (lines_of rest) here; tells = refl },
+          leaves,
+        )
+
+    -- some of the next line is asked
+    pub part_line : (start here : Scene T) (input old left left' now new : Option (List ℕ)) (line : List ℕ) (said : Said) → LeadsOn hash accepted verified exchanged known start input old here left now → TakesWholeLine left left' true line
+        → (reached : Scene T) × AsksSomeLine hash accepted verified exchanged known line here reached × Leaves new said reached.told now
+        → IfSome input (λ all. (told : Report) × (next : Option (List ℕ)) × AsksPart hash accepted verified exchanged known (lines_of all) start told old next × Leaves new said told next)
+    part_line start here None old left left' now new line said leads takes part = tt
+    part_line start here (Some all) old left left' now new line said leads takes (reached, some, leaves) =
+        let (rest, at, done, parts, asks) = leads all refl in
+        by rest done parts asks left' (subst (λ (l : Option (List ℕ)). TakesWholeLine l left' true line) at takes)
+      where
+        by : (rest : List ℕ) (done : List (List ℕ)) → lines_of all ≡ done ++ lines_of rest → AsksLines hash accepted verified exchanged known done start old now here
+            → (left' : Option (List ℕ)) → TakesWholeLine (Some rest) left' true line
+            → (told : Report) × (next : Option (List ℕ)) × AsksPart hash accepted verified exchanged known (lines_of all) start told old next × Leaves new said told next
+        by rest done parts asks None bad = absurd bad
+        by rest done parts asks (Some rest') is = (
+          reached.told,
+          now,
+          record {
+            done = done;
+            left = line ∷ lines_of rest';
+            parts = parts ∙ ap (λ (more : List (List ℕ)). done ++ more) is;
+            here = here;
+            asks = asks;
+            reached = reached;
+            next = some;
+            tells = refl;
+          },
+          leaves,
+        )
+
+    -- some of one line, which is all that is asked
+    pub part_once : (line : List ℕ) (ready : Scene T) (now new : Option (List ℕ)) (said : Said)
+        → (reached : Scene T) × AsksSomeLine hash accepted verified exchanged known line ready reached × Leaves new said reached.told now
+        → (told : Report) × (next : Option (List ℕ)) × AsksPart hash accepted verified exchanged known (line ∷ []) ready told now next × Leaves new said told next
+    part_once line ready now new said (reached, some, leaves) = (
+      reached.told,
+      now,
+      record { done = []; left = line ∷ []; parts = refl; here = ready; asks = (Appends-nil now, refl); reached = reached; next = some; tells = refl },
+      leaves,
+    )
+
+  -- what stays is known under another name
+  pub line_known : (known known' : Known) (line : List ℕ) (before : Scene T) (old new : Option (List ℕ)) (said : Said) → known' ≡ known
+      → (reached : Scene T) × AsksSomeLine hash accepted verified exchanged known' line before reached × Leaves new said reached.told old
+      → (reached : Scene T) × AsksSomeLine hash accepted verified exchanged known line before reached × Leaves new said reached.told old
+  line_known known known' line before old new said same (reached, some, leaves) = (reached, subst (λ (k : Known). AsksSomeLine hash accepted verified exchanged k line before reached) same some, leaves)
+
+  -- ---- a run
+
+  module _ (key token : List ℕ) (options : AskOptions) (HasNoState : Type 0) (stream : T) (input old : Option (List ℕ)) where
+    -- it does not begin
+    pub early_none : (first : Report) (said : Said) → BeginsNone verified exchanged key stream first (report_of said) → first ≡ emptied 0
+        → EndsEarly hash accepted verified exchanged key token options HasNoState stream input old (Leaves old said)
+    early_none first said begins none =
+        (report_of said, old, leaves_same old said (report_of said) refl, inl (subst (λ (r : Report). BeginsNone verified exchanged key stream r (report_of said)) none begins, refl))
+
+    module _ (known : Known) (start : Scene T) (new : Option (List ℕ)) (said : Said) (first : Report) (begun : first ≡ emptied 0 → BeginsRun hash accepted verified exchanged key token HasNoState stream known start) where
+      -- it ends while what is new is followed
+      pub early_preparing : (reached : Scene T) × PreparesSome hash accepted verified exchanged known start reached × Leaves new said reached.told old
+          → first ≡ emptied 0 → EndsEarly hash accepted verified exchanged key token options HasNoState stream input old (Leaves new said)
+      early_preparing (reached, some, leaves) none = (reached.told, old, leaves, inr (known, start, begun none, inl (reached, some, refl, refl)))
+
+      -- it ends at a line
+      pub early_asking : (known' : Known) (ready : Scene T) (now : Option (List ℕ)) → Writes (Prepares hash accepted verified exchanged known) start old now ready → known' ≡ known
+          → IfSome (lines_asked options.words input) (λ lines. (told : Report) × (next : Option (List ℕ)) × AsksPart hash accepted verified exchanged known' lines ready told now next × Leaves new said told next)
+          → first ≡ emptied 0 → EndsEarly hash accepted verified exchanged key token options HasNoState stream input old (Leaves new said)
+      early_asking known' ready now prepares same part none =
+          let (told, next, leaves, at) = by (lines_asked options.words input) part in
+          (told, next, leaves, inr (known, start, begun none, inr (ready, now, prepares, subst (λ (k : Known). IfSome (lines_asked options.words input) (λ lines. AsksPart hash accepted verified exchanged k lines ready told now next)) same at)))
+        where
+          by : (asked : Option (List (List ℕ)))
+              → IfSome asked (λ lines. (told : Report) × (next : Option (List ℕ)) × AsksPart hash accepted verified exchanged known' lines ready told now next × Leaves new said told next)
+              → (told : Report) × (next : Option (List ℕ)) × Leaves new said told next × IfSome asked (λ lines. AsksPart hash accepted verified exchanged known' lines ready told now next)
+          by None part = (report_of said, new, leaves_same new said (report_of said) refl, tt)
+          by (Some lines) (told, next, at, leaves) = (told, next, leaves, at)
+
+  -- ---- with the state that an order names
+
+  module _ (key token : List ℕ) (options : AskOptions) (NoState None' : Type 0) (without : None' → NoState) where
+    begun-with : (known : Known) (stream : T) (start : Scene T) → BeginsRun hash accepted verified exchanged key token NoState stream known start → BeginsRun hash accepted verified exchanged key token None' stream known start
+    begun-with known stream start begun = record { silent = begun.silent; begins = by begun.begins; knows = begun.knows }
+      where
+        by : BeginsAsking hash accepted verified exchanged key token NoState stream known start.client start.stream → BeginsAsking hash accepted verified exchanged key token None' stream known start.client start.stream
+        by (inl head) = inl head
+        by (inr (state, same, sound, kept)) = inr ((λ none. state (without none)), same, sound, kept)
+
+    whole-with : (stream stream' : T) (input old new : Option (List ℕ)) (status : ℕ)
+        → RunsWhole hash accepted verified exchanged key token options NoState stream stream' input status old new → RunsWhole hash accepted verified exchanged key token options None' stream stream' input status old new
+    whole-with stream stream' input old new status run = record {
+      known = run.known;
+      start = run.start;
+      begun = begun-with run.known stream run.start run.begun;
+      ready = run.ready;
+      now = run.now;
+      prepares = run.prepares;
+      last = run.last;
+      asks = run.asks;
+      status_is = run.status_is;
+      left = run.left;
+    }
+
+    early-with : (Before After : Report → Option (List ℕ) → Type 0) (stream : T) (input old : Option (List ℕ)) → ((told : Report) (now : Option (List ℕ)) → Before told now → After told now)
+        → EndsEarly hash accepted verified exchanged key token options NoState stream input old Before → EndsEarly hash accepted verified exchanged key token options None' stream input old After
+    early-with Before After stream input old leads (told, now, holds, inl none) = (told, now, leads told now holds, inl none)
+    early-with Before After stream input old leads (told, now, holds, inr (known, start, begun, at)) = (told, now, leads told now holds, inr (known, start, begun-with known stream start begun, at))
+
+    pub runs_with : (stream stream' : T) (input old new : Option (List ℕ)) (ended : RunEnd)
+        → RunsAs hash accepted verified exchanged key token options NoState stream stream' input ended old new → RunsAs hash accepted verified exchanged key token options None' stream stream' input ended old new
+    runs_with stream stream' input old new (Whole status) run = whole-with stream stream' input old new status run
+    runs_with stream stream' input old new (Stopped status) run =
+        early-with (λ told now. (status ≡ stopped_status told.status) × WritesSome now new told.lines) (λ told now. (status ≡ stopped_status told.status) × WritesSome now new told.lines) stream input old (λ told now holds. holds) run
+
+    pub fails_with : (stream : T) (input old new : Option (List ℕ))
+        → FailsAs hash accepted verified exchanged key token options NoState stream input old new → FailsAs hash accepted verified exchanged key token options None' stream input old new
+    fails_with stream input old new run =
+        early-with (λ told now. (told.status < 3) × WritesSome now new told.lines) (λ told now. (told.status < 3) × WritesSome now new told.lines) stream input old (λ told now holds. holds) run
+
+    -- ---- the end
+
+    module _ {E F : Type 0} (outcome : Result (Unit {0}) E) (result : Result RunEnd F) (stream stream' : T) (input old new new' : Option (List ℕ)) (said : Said) (first : Report) (empty : first ≡ emptied 0) where
+      pub ends_so : OnOk outcome (first ≡ emptied 0 → RunsWhole hash accepted verified exchanged key token options NoState stream stream' input said.status old new)
+          → OnErr outcome (first ≡ emptied 0 → EndsEarly hash accepted verified exchanged key token options NoState stream input old (Leaves new said))
+          → OnOk outcome ((result ≡ Ok (Whole said.status)) × (new' ≡ new)) → OnErr outcome (IfOk result (λ ended. ended ≡ Stopped (stopped_status said.status))) → OnErr outcome (WritesSome new new' said.text.items)
+          → IfOk result (λ ended. RunsAs hash accepted verified exchanged key token options None' stream stream' input ended old new')
+      ends_so = by outcome result
+        where
+          by : (outcome : Result (Unit {0}) E) (result : Result RunEnd F) → OnOk outcome (first ≡ emptied 0 → RunsWhole hash accepted verified exchanged key token options NoState stream stream' input said.status old new)
+              → OnErr outcome (first ≡ emptied 0 → EndsEarly hash accepted verified exchanged key token options NoState stream input old (Leaves new said))
+              → OnOk outcome ((result ≡ Ok (Whole said.status)) × (new' ≡ new)) → OnErr outcome (IfOk result (λ ended. ended ≡ Stopped (stopped_status said.status))) → OnErr outcome (WritesSome new new' said.text.items)
+              → IfOk result (λ ended. RunsAs hash accepted verified exchanged key token options None' stream stream' input ended old new')
+          by (Err why) (Err given) whole early ends stops wrote = tt
+          by (Err why) (Ok ended) whole early ends stops wrote =
+              subst (λ (e : RunEnd). RunsAs hash accepted verified exchanged key token options None' stream stream' input e old new') (sym stops)
+              (early-with (Leaves new said) (λ told now. (stopped_status said.status ≡ stopped_status told.status) × WritesSome now new' told.lines) stream input old
+              (λ told now leaves. (ap (λ (n : ℕ). stopped_status n) leaves.0, written_then now new new' said told leaves wrote)) (early empty))
+          by (Ok done) result whole early (is, same) stops wrote =
+              subst (λ (r : Result RunEnd F). IfOk r (λ ended. RunsAs hash accepted verified exchanged key token options None' stream stream' input ended old new')) (sym is) (
+              subst (λ (text : Option (List ℕ)). RunsWhole hash accepted verified exchanged key token options None' stream stream' input said.status old text) (sym same)
+              (whole-with stream stream' input old new said.status (whole empty)))
+
+      pub fails_so : OnErr outcome (first ≡ emptied 0 → EndsEarly hash accepted verified exchanged key token options NoState stream input old (Leaves new said))
+          → OnOk outcome ((result ≡ Ok (Whole said.status)) × (new' ≡ new)) → OnErr outcome (IfErr result (λ given. said.status < 3)) → OnErr outcome (WritesSome new new' said.text.items)
+          → OnErr result (FailsAs hash accepted verified exchanged key token options None' stream input old new')
+      fails_so = by outcome result
+        where
+          by : (outcome : Result (Unit {0}) E) (result : Result RunEnd F) → OnErr outcome (first ≡ emptied 0 → EndsEarly hash accepted verified exchanged key token options NoState stream input old (Leaves new said))
+              → OnOk outcome ((result ≡ Ok (Whole said.status)) × (new' ≡ new)) → OnErr outcome (IfErr result (λ given. said.status < 3)) → OnErr outcome (WritesSome new new' said.text.items)
+              → OnErr result (FailsAs hash accepted verified exchanged key token options None' stream input old new')
+          by (Err why) (Ok ended) early ends low wrote = tt
+          by (Err why) (Err given) early ends low wrote =
+              early-with (Leaves new said) (λ told now. (told.status < 3) × WritesSome now new' told.lines) stream input old
+              (λ told now leaves. (subst (λ (n : ℕ). n < 3) leaves.0 low, written_then now new new' said told leaves wrote)) (early empty)
+          by (Ok done) result early (is, same) low wrote = subst (λ (r : Result RunEnd F). OnErr r (FailsAs hash accepted verified exchanged key token options None' stream input old new')) (sym is) tt
+
+  -- memory runs out before anything is asked
+  pub fails_first : (key token : List ℕ) (options : AskOptions) (HasNoState : Type 0) (stream : T) (input old : Option (List ℕ)) → FailsAs hash accepted verified exchanged key token options HasNoState stream input old old
+  fails_first key token options HasNoState stream input old = (emptied 0, old, (omega arith, some_not old []), inl (inl refl, refl))
+
+-- ---- a socket
+
+pub over_socket : (order : AskOrder) (key token : List ℕ) (socket socket' : TcpStream) (input old new : Option (List ℕ)) (ended : RunEnd) → ask_keys_of (ask_values order) ≡ Some (key, token)
+    → RunsAs sha256 KeyedAccepts KeyedVerifies (ExchangesFrames {T = TcpStream} (λ _. None) (λ _. None)) key token (ask_values order) (order.state ≡ None) socket socket' input ended old new
+    → AsksOverSocket (ask_values order) input (end_status ended) old new
+over_socket order key token socket socket' input old new ended are run =
+    inr (
+      key,
+      token,
+      are,
+      socket,
+      socket',
+      ended,
+      refl,
+      runs_with sha256 KeyedAccepts KeyedVerifies (ExchangesFrames {T = TcpStream} (λ _. None) (λ _. None)) key token (ask_values order) (order.state ≡ None) ((ask_values order).state ≡ None)
+          (none_before (λ text. text.now) order.state) socket socket' input old new ended run,
+    )
+
+pub fails_over_socket : (order : AskOrder) (key token : List ℕ) (socket : TcpStream) (input old new : Option (List ℕ)) → ask_keys_of (ask_values order) ≡ Some (key, token)
+    → FailsAs sha256 KeyedAccepts KeyedVerifies (ExchangesFrames {T = TcpStream} (λ _. None) (λ _. None)) key token (ask_values order) (order.state ≡ None) socket input old new
+    → FailsOverSocket (ask_values order) input old new
+fails_over_socket order key token socket input old new are run =
+    inr (
+      key,
+      token,
+      are,
+      socket,
+      fails_with sha256 KeyedAccepts KeyedVerifies (ExchangesFrames {T = TcpStream} (λ _. None) (λ _. None)) key token (ask_values order) (order.state ≡ None) ((ask_values order).state ≡ None)
+          (none_before (λ text. text.now) order.state) socket input old new run,
+    )
+
+pub unwritten : (options : AskOptions) (input old : Option (List ℕ)) → FailsOverSocket options input old old
+unwritten options input old = inl (Keeps-refl old)

@@ -1,0 +1,124 @@
+-- How a run ends: whole, stopped, or with a fault.
+use Rattle.std.specs.Prelude.{◌≡◌, ◌⊎◌, ◌<◌, ℕ, List, [], ◌∷◌, ◌++◌, nat_lt, if◌then◌else◌, Option, Some, None, IfSome}
+use Rattle.std.specs.Io.KnownBytes.{Appends, Keeps}
+use Rattle.std.specs.declared.net.tcp.TcpStream.{TcpStream}
+use Rattle.nodehash.specs.Sha256.{sha256}
+use Rattle.vrfiface.specs.StandIns.{KeyedAccepts}
+use Rattle.sigiface.specs.StandIn.{KeyedVerifies}
+use Rattle.rootchain.specs.declared.signed_promise.SignedPromise.{SignedPromise}
+use Rattle.textio.specs.Output.{WritesBut}
+use Rattle.wire.specs.Frames.{Frame}
+use Rattle.wire.specs.Requests.{RequestContent}
+use Rattle.play.specs.Scripts.{ScriptLine, Pass, Ask, Watch, Piece, End, line_of}
+use Rattle.asking.specs.AskOptions.{AskOptions, ask_keys_of}
+use Rattle.asking.specs.Asking.{AsksSome, StopsAsking}
+use Rattle.asking.specs.Exchanges.{ExchangesFrames}
+use Rattle.asking.specs.Following.{Follows, StopsAfter, TakesSome}
+use Rattle.asking.specs.Joining.{BeginsSome}
+use Rattle.asking.specs.Reports.{Report}
+use Rattle.asking.specs.Runs.{AsksLines, BeginsRun, DoesLine, emptied, Known, lines_asked, Prepares, RunsWhole, Writes}
+use Rattle.asking.specs.Scenes.{Scene, StopsAtHead}
+use Rattle.asking.specs.Visiting.{TestsSome}
+use Rattle.asking.specs.declared.run.RunEnd.{RunEnd}
+use Rattle.asking.specs.declared.run.RunEnd.TheVariants.{Whole, Stopped}
+use Rattle.asking.specs.declared.said.Said.{Said}
+
+-- the status of the program
+abbrev pub end_status : RunEnd → ℕ
+end_status (Whole status) = status
+end_status (Stopped status) = status
+
+-- the status of a run that was stopped: that of an alarm, if one was told, or else that of a refusal
+abbrev pub stopped_status : ℕ → ℕ
+stopped_status told = if nat_lt told 3 then 1 else 3
+
+-- a text is written, or a beginning of it
+abbrev pub WritesSome : Option (List ℕ) → Option (List ℕ) → List ℕ → Type 0
+WritesSome old new text = (rest : List ℕ) × WritesBut old new text rest
+
+-- what was told is written, or still said, but for a rest where a write failed
+abbrev pub Leaves : Option (List ℕ) → Said → Report → Option (List ℕ) → Type 0
+Leaves new said told old = (said.status ≡ told.status) × (text : List ℕ) × (rest : List ℕ) × (told.lines ≡ text ++ (said.text.items ++ rest)) × Appends old new text
+
+-- no client starts, and this is told: what was told before, or a frame with which none starts
+abbrev pub BeginsNone : {T : Type 0} → (List ℕ → List ℕ → List ℕ → Type 0) → (T → RequestContent → Frame → T → Type 0) → List ℕ → T → Report → Report → Type 0
+BeginsNone {T} verified exchanged key stream before told = (told ≡ before) ⊎ ((stream' : T) × StopsAtHead verified exchanged key stream before stream' told)
+
+module _ (hash : List ℕ → List ℕ) (accepted verified : List ℕ → List ℕ → List ℕ → Type 0) {T : Type 0} (exchanged : T → RequestContent → Frame → T → Type 0) where
+  module _ (known : Known) where
+    -- what is new is followed, wholly or up to some point, or up to a frame that stops it
+    abbrev pub PreparesSome : Scene T → Scene T → Type 0
+    PreparesSome before reached = Prepares hash accepted verified exchanged known before reached
+        ⊎ (TakesSome hash verified exchanged before reached
+        ⊎ (((count : ℕ) × StopsAfter hash verified exchanged count before reached)
+        ⊎ ((count : ℕ) × (middle : Scene T) × Follows hash verified exchanged count before middle × TestsSome hash accepted exchanged known.marks middle reached)))
+
+    -- what a line says is asked up to some point, or up to a frame that stops it
+    abbrev pub DoesPart : ScriptLine → Scene T → Scene T → Type 0
+    DoesPart Pass before reached = ⊥
+    DoesPart (Ask asked) before reached = StopsAsking hash accepted verified exchanged known.token asked before reached
+        ⊎ ((noted : List SignedPromise) × (noted' : List SignedPromise) × AsksSome hash accepted verified exchanged known.marks known.token asked noted noted' before reached)
+    DoesPart (Watch name given) before reached = BeginsSome hash accepted verified exchanged known.marks known.key known.earlier name given before reached
+    DoesPart (Piece session piece) before reached = ⊥
+    DoesPart (End session) before reached = ⊥
+
+    -- it is not asked, or wholly, or such a part of it
+    abbrev pub DoesSome : ScriptLine → Scene T → Scene T → Type 0
+    DoesSome said before reached = (reached ≡ before) ⊎ (DoesLine hash accepted verified exchanged known said before reached ⊎ DoesPart said before reached)
+
+    abbrev pub AsksSomeLine : List ℕ → Scene T → Scene T → Type 0
+    AsksSomeLine line before reached = (reached ≡ before) ⊎ ((said : ScriptLine) × (line_of line ≡ Some said) × DoesSome said before reached)
+
+    -- the first of the lines that are left, if there is one
+    abbrev pub AsksNext : List (List ℕ) → Scene T → Scene T → Type 0
+    AsksNext [] before reached = reached ≡ before
+    AsksNext (line ∷ more) before reached = AsksSomeLine line before reached
+
+    -- some of these lines are asked, and what is told of each is written; then this is told of some of the next
+    pub record AsksPart (lines : List (List ℕ)) (before : Scene T) (told : Report) (old now : Option (List ℕ)) : Type 0 where
+      pub done : List (List ℕ)
+      pub left : List (List ℕ)
+      pub parts : lines ≡ done ++ left
+      pub here : Scene T
+      pub asks : AsksLines hash accepted verified exchanged known done before old now here
+      pub reached : Scene T
+      pub next : AsksNext left here reached
+      pub tells : told ≡ reached.told
+
+    -- where a run ends: while what is new is followed; or behind that, at one of its lines
+    abbrev pub EndsAt : AskOptions → Option (List ℕ) → Scene T → Option (List ℕ) → Report → Option (List ℕ) → Type 0
+    EndsAt options input start old told now =
+        ((reached : Scene T) × PreparesSome start reached × (told ≡ reached.told) × (now ≡ old))
+        ⊎ ((ready : Scene T) × (next : Option (List ℕ)) × Writes (Prepares hash accepted verified exchanged known) start old next ready
+        × IfSome (lines_asked options.words input) (λ lines. AsksPart lines ready told next now))
+
+  -- A run that ends before all is asked: no client starts, or it ends at such a place. Then this holds of what
+  -- was told and is not yet written, and of the output before that.
+  abbrev pub EndsEarly : List ℕ → List ℕ → AskOptions → Type 0 → T → Option (List ℕ) → Option (List ℕ) → (Report → Option (List ℕ) → Type 0) → Type 0
+  EndsEarly key token options HasNoState stream input old Then = (told : Report) × (now : Option (List ℕ)) × Then told now
+      × ((BeginsNone verified exchanged key stream (emptied 0) told × (now ≡ old))
+      ⊎ ((known : Known) × (start : Scene T) × BeginsRun hash accepted verified exchanged key token HasNoState stream known start × EndsAt known options input start old told now))
+
+  -- a run that is whole, or was stopped: what was told is then written, or a beginning of it, and the status is
+  -- that of an alarm exactly where one was told
+  abbrev pub RunsAs : List ℕ → List ℕ → AskOptions → Type 0 → T → T → Option (List ℕ) → RunEnd → Option (List ℕ) → Option (List ℕ) → Type 0
+  RunsAs key token options HasNoState stream stream' input (Whole status) old new = RunsWhole hash accepted verified exchanged key token options HasNoState stream stream' input status old new
+  RunsAs key token options HasNoState stream stream' input (Stopped status) old new =
+      EndsEarly key token options HasNoState stream input old (λ told now. (status ≡ stopped_status told.status) × WritesSome now new told.lines)
+
+  -- a run that ends with a fault: no alarm was told
+  abbrev pub FailsAs : List ℕ → List ℕ → AskOptions → Type 0 → T → Option (List ℕ) → Option (List ℕ) → Option (List ℕ) → Type 0
+  FailsAs key token options HasNoState stream input old new = EndsEarly key token options HasNoState stream input old (λ told now. (told.status < 3) × WritesSome now new told.lines)
+
+-- A run over a socket, of which definitions know neither what it took nor what it will give: no connection
+-- came about, and nothing is written; or the run is one for some frames that came.
+abbrev pub AsksOverSocket : AskOptions → Option (List ℕ) → ℕ → Option (List ℕ) → Option (List ℕ) → Type 0
+AsksOverSocket options input status old new = ((status ≡ 1) × Keeps old new)
+    ⊎ ((key token : List ℕ) × (ask_keys_of options ≡ Some (key, token)) × (socket socket' : TcpStream) × (ended : RunEnd) × (status ≡ end_status ended)
+    × RunsAs sha256 KeyedAccepts KeyedVerifies (ExchangesFrames {T = TcpStream} (λ _. None) (λ _. None)) key token options (options.state ≡ None) socket socket' input ended old new)
+
+-- one that ends with a fault: nothing is written, or the run is one for some frames that came
+abbrev pub FailsOverSocket : AskOptions → Option (List ℕ) → Option (List ℕ) → Option (List ℕ) → Type 0
+FailsOverSocket options input old new = Keeps old new
+    ⊎ ((key token : List ℕ) × (ask_keys_of options ≡ Some (key, token)) × (socket : TcpStream)
+    × FailsAs sha256 KeyedAccepts KeyedVerifies (ExchangesFrames {T = TcpStream} (λ _. None) (λ _. None)) key token options (options.state ≡ None) socket input old new)
