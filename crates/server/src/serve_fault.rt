@@ -10,6 +10,9 @@ pub enum ServeFault {
     CannotWrite,
     #[error("out of memory")]
     OutOfMemory,
+    /// Memory ran out, and then the replies made so far could not be written.
+    #[error("out of memory and cannot write")]
+    OutOfMemoryAndCannotWrite,
 }
 
 impl From<StreamFault> for ServeFault {
@@ -37,6 +40,7 @@ impl From<ServeFault> for ProgramFault {
             ServeFault::CannotRead => ProgramFault::CannotRead,
             ServeFault::CannotWrite => ProgramFault::CannotWrite,
             ServeFault::OutOfMemory => ProgramFault::OutOfMemory,
+            ServeFault::OutOfMemoryAndCannotWrite => ProgramFault::CannotWrite,
         }
     }
 }
