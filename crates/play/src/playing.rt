@@ -22,6 +22,7 @@ use rand_core::Rng;
 use sigiface::Signer;
 use std::alloc::Global;
 use std::io::{BufRead, ErrorKind, Write};
+use std::mem;
 use textio::{ProgramFault, StreamFault, file_fault, write_text};
 use vrfiface::Vuf;
 
@@ -38,7 +39,8 @@ struct Room {
 }
 
 /// Plays the script that the reader has, and writes what it prints (CONIKS, sections 3 and 4: a directory,
-/// its users, the owners of names and an auditor).
+/// its users, the owners of names and an auditor). What the parties hold is not freed: whoever plays a script
+/// ends then.
 ///
 /// # Errors
 ///
@@ -52,7 +54,10 @@ pub fn play<R: BufRead, W: Write>(
     ensures { PlaysTo (printed script_index script_salts) (R.remaining reader.old) (W.contents writer.old) (W.contents writer.new) result }
 {
     let mut engine = begin(alloc)?;
-    play_lines(alloc, &mut engine, reader, writer)
+    let played = play_lines(alloc, &mut engine, reader, writer);
+    // To free the parties part by part would take a tenth of the time of a long script.
+    mem::forget(engine);
+    played
 }
 
 /// Plays the lines of the reader.
