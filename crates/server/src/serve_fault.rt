@@ -3,12 +3,10 @@ use thiserror::Error;
 
 /// Why the serving of a session stopped.
 #[derive(Clone, Copy, Debug, PartialEq, Eq, Error)]
+#[error("{}", ProgramFault::from(*self))]
 pub enum ServeFault {
-    #[error("cannot read")]
     CannotRead,
-    #[error("cannot write")]
     CannotWrite,
-    #[error("out of memory")]
     OutOfMemory,
     /// Memory ran out, and then the replies made so far could not be written.
     #[error("out of memory and cannot write")]
