@@ -33,8 +33,8 @@ use Rattle.play.specs.Answering.{IsUnchecked}
 use Rattle.play.specs.Checked.{line_of_reply, HasLookedUp}
 use Rattle.play.specs.Checking.{IsShownIn}
 use Rattle.play.specs.Hearing.{response_text}
-use Rattle.play.specs.Lines.{answer_text, checked_text, found_text, numbered_text}
-use Rattle.play.specs.Messages.{comes_of, numbered, or_not_operator, request_asks, Numbered}
+use Rattle.play.specs.Lines.{answer_text, checked_text, found_text, upshot_text}
+use Rattle.play.specs.Messages.{comes_of, upshot_of, or_not_operator, request_asks, Upshot}
 use Rattle.play.specs.Parties.{book_of, chain_under, provider_of, HasAsked, Parties}
 use Rattle.play.specs.declared.ask.Ask.{Ask}
 use Rattle.play.specs.declared.ask.Ask.TheVariants as made
@@ -141,17 +141,17 @@ module _ {R : Type 0} (digest_of : List ℕ → List ℕ) (value_of signature_of
   pub request-comes : comes_of index (B before) (request_asks requested) ≡ (come.told, B after)
   request-comes = ap (comes_of index (B before)) request-is ∙ come.is
 
-  abbrev line_by : Numbered × Book → List ℕ
-  line_by now = numbered_text (checked_text index now.1) now.0
+  abbrev line_by : Upshot × Book → List ℕ
+  line_by now = upshot_text (checked_text index now.1) now.0
 
   -- the line of a reply that no client checks
   pub unchecked-line : a.responded ≢ response.Refused 14 → IsUnchecked a.said → response_text a.responded ≡ line
   unchecked-line some unchecked =
       let t = unchecked_told (P before) (B before) (B after) before.hub.service.keeper after.hub.service.keeper a.asked a.said a.responded grown unchecked a.turn a.response some in
-      let now_is : t.now ≡ come.told = ap (λ (n : Numbered × Book). n.0) (sym t.comes ∙ come.is) in
-      sym t.text ∙ ap (numbered_text (answer_text (B after))) now_is ∙ by come.told come.comes ∙ sym (ap line_by request-comes)
+      let now_is : t.now ≡ come.told = ap (λ (n : Upshot × Book). n.0) (sym t.comes ∙ come.is) in
+      sym t.text ∙ ap (upshot_text (answer_text (B after))) now_is ∙ by come.told come.comes ∙ sym (ap line_by request-comes)
     where
-      by : (told : Numbered) → Comes (P before) (B before) (B after) a.asked a.said told → numbered_text (answer_text (B after)) told ≡ numbered_text (checked_text index (B after)) told
+      by : (told : Upshot) → Comes (P before) (B before) (B after) a.asked a.said told → upshot_text (answer_text (B after)) told ≡ upshot_text (checked_text index (B after)) told
       by (Ok answer) comes = same-text (P before) KeepsNothing NeverFails index (B before) (B after) answer a.said unchecked comes.1
       by (Err code) comes = refl
 
@@ -214,8 +214,8 @@ module _ {R : Type 0} (digest_of : List ℕ → List ℕ) (value_of signature_of
 
       page-is : finds_page.0 ≡ page
       page-is =
-          let one : comes_of index (B before) (Ok asked) ≡ (Ok turn.0, B after) = ap (λ (now : Outcome × Book). (numbered now.0, now.1)) turn.1 in
-          let e : ◌≡◌ {A = Numbered} (Ok turn.0) (Ok (Found page name (at page.bindings name))) = ap (λ (now : Numbered × Book). now.0) (sym one ∙ shown.3) in
+          let one : comes_of index (B before) (Ok asked) ≡ (Ok turn.0, B after) = ap (λ (now : Outcome × Book). (upshot_of now.0, now.1)) turn.1 in
+          let e : ◌≡◌ {A = Upshot} (Ok turn.0) (Ok (Found page name (at page.bindings name))) = ap (λ (now : Upshot × Book). now.0) (sym one ∙ shown.3) in
           let f : Found finds_page.0 name (at finds_page.0.bindings name) ≡ turn.0 = sym finds_page.2 in
           cc
 
