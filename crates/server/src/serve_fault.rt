@@ -9,7 +9,6 @@ pub enum ServeFault {
     CannotWrite,
     OutOfMemory,
     /// Memory ran out, and then the replies made so far could not be written.
-    #[error("out of memory and cannot write")]
     OutOfMemoryAndCannotWrite,
 }
 
