@@ -618,6 +618,43 @@ def alarm_and_fault(program):
     return None if got == wanted else f"an alarm and a fault: {got}"
 
 
+def line_by_line(program):
+    """Each line is asked, and what is told of it written, before the next one is read."""
+    server, address = listening(program)
+    pipes = {"stdin": subprocess.PIPE, "stdout": subprocess.PIPE}
+    run = subprocess.Popen([program, "ask", "--provider", PROVIDER.hex(), address], bufsize=0, **pipes)
+    timer = threading.Timer(60, run.kill)
+    timer.start()
+    got = []
+    for line in (b"head\n", b"register 61 6b31\n", b"close 2\n", b"lookup 61 0\n"):
+        run.stdin.write(line)
+        got.append(run.stdout.readline())
+    run.stdin.close()
+    got.append(run.wait())
+    timer.cancel()
+    server.wait(60)
+    wanted = [b"root 1 after 0\n", b"promise 1\n", b"root 2 after 1\n", b"present 2 6b31\n", 0]
+    return None if got == wanted else f"line by line: {got}"
+
+
+def input_of_others(program):
+    """Where words are asked, or a key is bad, the input is not read: it has no end here."""
+    server, address = listening(program)
+    reader, writer = os.pipe()
+    got = []
+    for key in (PROVIDER.hex(), "0g"):
+        order = [program, "ask", "--provider", key, address, "head"]
+        run = subprocess.run(order, stdin=reader, capture_output=True, timeout=60)
+        got.append((run.stdout, run.stderr, run.returncode))
+    server.wait(60)
+    os.close(reader)
+    os.close(writer)
+    return None if got == [(b"root 1 after 0\n", b"", 0), (b"", b"bad hex\n", 1)] else f"an input without end: {got}"
+
+
+OTHERS = changed_by_another, alarm_unwritten, change_unwritten, alarm_and_fault, line_by_line, input_of_others
+
+
 def main():
     parser = argparse.ArgumentParser(usage=__doc__)
     parser.add_argument("program")
@@ -630,7 +667,7 @@ def main():
     thread.start()
     found = [*honest(program, words.drawn, words.seed), *lying(program, words.lies, words.seed)]
     thread.join()
-    waited += [run(program) for run in (changed_by_another, alarm_unwritten, change_unwritten, alarm_and_fault)]
+    waited += [run(program) for run in OTHERS]
     failures = [difference for difference in [*found, *waited] if difference is not None]
     for difference in failures[:20]:
         print(difference)

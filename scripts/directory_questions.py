@@ -142,7 +142,7 @@ def of_rotations(q, rng):
     for epoch in [400, 401]:
         q.ask("directory rotate", epoch, rng.randbytes(32))
         q.ask("directory lookup", name_of(305), 0)
-    q.note("300 rotations, and one of them carried out once more")
+    q.note("300 rotations, and one more from a record")
     new_directory(q)
     q.ask("directory register", b"alice", b"k")
     for number in range(2, 302):

@@ -166,7 +166,7 @@ if library scripts/sync_order.c "$folder/sync_order.so"; then
 else
     fails "sync_order.c is not built"
 fi
-# On a slow machine there is no time for all kills. Some of it is left for what follows the last one.
+# On a slow machine there is no time for all kills, but for 100. Some of it is left for what follows the last one.
 well "kills at 200 moments, or at as many as there is time for" \
     scripts/journaled.py "$program" "$folder" kills 200 $((250 - SECONDS))
 tail -n 1 "$folder/printed"

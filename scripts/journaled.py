@@ -3,7 +3,8 @@
 
     scripts/journaled.py PROGRAM FOLDER kills COUNT SECONDS
                                                         the server is killed at so many moments of a run of registrations,
-                                                        changes and closings, or at as many as there is time for
+                                                        changes, closings and rotations, while others look names up; or at
+                                                        as many as there is time for, at least 100
     scripts/journaled.py PROGRAM FOLDER lives           three lives of one file, each with salts of a stream of its own
     scripts/journaled.py PROGRAM FOLDER full            the file may not grow any more: a registration is refused 19, and
                                                         look-ups go on; with room again, the server is started again

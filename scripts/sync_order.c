@@ -1,7 +1,8 @@
-// A library that is loaded before the C library, for scripts/journaled.py. It logs the calls that hand bytes to a
-// file or to a connection, or put them on a disk: a line each on the descriptor SYNC_LOG, with the call, its
-// descriptor and what it returned, and for fsync the path of what it syncs. The fdatasync of number FAIL_SYNC, counted from 1, does nothing and fails, and so
-// does the ftruncate of number FAIL_CUT. What is used of the C library is declared here, so that no header is needed.
+// A library that is loaded before the C library, for scripts/journaled.py. It logs the calls that hand bytes to a file
+// or to a connection, or put them on a disk: a line each on the descriptor SYNC_LOG, with the call, its descriptor and
+// what it returned, and for fsync the path of what it syncs. The fdatasync of number FAIL_SYNC, counted from 1, does
+// nothing and fails, and so does the ftruncate of number FAIL_CUT. What is used of the C library is declared here, so
+// that no header is needed.
 
 void *dlsym(void *handle, const char *name);
 char *getenv(const char *name);
