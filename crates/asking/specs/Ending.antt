@@ -36,11 +36,11 @@ stopped_status told = if nat_lt told 3 then 1 else 3
 abbrev pub WritesSome : Option (List ℕ) → Option (List ℕ) → List ℕ → Type 0
 WritesSome old new text = (rest : List ℕ) × WritesBut old new text rest
 
--- what was told is written, or still said, but for a rest where a write failed
+-- of what was told a beginning is written, and a part behind it is still said
 abbrev pub Leaves : Option (List ℕ) → Said → Report → Option (List ℕ) → Type 0
 Leaves new said told old = (said.status ≡ told.status) × (text : List ℕ) × (rest : List ℕ) × (told.lines ≡ text ++ (said.text.items ++ rest)) × Appends old new text
 
--- no client starts, and this is told: what was told before, or a frame with which none starts
+-- this is told where no client starts: what was told before, or also a frame with which none starts
 abbrev pub BeginsNone : {T : Type 0} → (List ℕ → List ℕ → List ℕ → Type 0) → (T → RequestContent → Frame → T → Type 0) → List ℕ → T → Report → Report → Type 0
 BeginsNone {T} verified exchanged key stream before told = (told ≡ before) ⊎ ((stream' : T) × StopsAtHead verified exchanged key stream before stream' told)
 
@@ -74,7 +74,7 @@ module _ (hash : List ℕ → List ℕ) (accepted verified : List ℕ → List �
     AsksNext [] before reached = reached ≡ before
     AsksNext (line ∷ more) before reached = AsksSomeLine line before reached
 
-    -- some of these lines are asked, and what is told of each is written; then this is told of some of the next
+    -- the first of these lines are asked, and what is told of each is written; then this is told of some of the next
     pub record AsksPart (lines : List (List ℕ)) (before : Scene T) (told : Report) (old now : Option (List ℕ)) : Type 0 where
       pub done : List (List ℕ)
       pub left : List (List ℕ)
@@ -110,8 +110,8 @@ module _ (hash : List ℕ → List ℕ) (accepted verified : List ℕ → List �
   abbrev pub FailsAs : List ℕ → List ℕ → AskOptions → Type 0 → T → Option (List ℕ) → Option (List ℕ) → Option (List ℕ) → Type 0
   FailsAs key token options HasNoState stream input old new = EndsEarly key token options HasNoState stream input old (λ told now. (told.status < 3) × WritesSome now new told.lines)
 
--- A run over a socket, of which definitions know neither what it took nor what it will give: no connection
--- came about, and nothing is written; or the run is one for some frames that came.
+-- A run over a socket, of which definitions know neither what it took nor what it will give: nothing is written, as
+-- where no connection came about; or the run is one for some frames that came.
 abbrev pub AsksOverSocket : AskOptions → Option (List ℕ) → ℕ → Option (List ℕ) → Option (List ℕ) → Type 0
 AsksOverSocket options input status old new = ((status ≡ 1) × Keeps old new)
     ⊎ ((key token : List ℕ) × (ask_keys_of options ≡ Some (key, token)) × (socket socket' : TcpStream) × (ended : RunEnd) × (status ≡ end_status ended)

@@ -33,10 +33,11 @@ background_of asker = record { key = asker.key; token = asker.token; marks = ask
 abbrev pub IsSameAsker : {H V S : Type 0} → Asker H V S → Asker H V S → Type 0
 IsSameAsker before after = (after.key ≡ before.key) × (after.token ≡ before.token) × (after.monitors ≡ before.monitors) × (after.client.chain.key ≡ before.client.chain.key)
 
--- the client keeps each of these promises, and still each of those of earlier runs
+-- the client keeps each of these promises
 abbrev pub KeepsAll : Client → List SignedPromise → Type 0
 KeepsAll client promises = AllByRecursion (Contains client.promises) promises
 
+-- where it kept each of those of earlier runs, it still does
 abbrev pub StillKeeps : {H V S : Type 0} → Asker H V S → Asker H V S → Type 0
 StillKeeps before after = KeepsAll before.client before.earlier.items → KeepsAll after.client after.earlier.items
 
@@ -105,8 +106,8 @@ module _ (hash : List ℕ → List ℕ) (accepted verified : List ℕ → List �
     AsksLines [] before old new after = Appends old new [] × (after ≡ before)
     AsksLines (line ∷ more) before old new after = (middle : Scene T) × (now : Option (List ℕ)) × Writes (AsksLine line) before old now middle × AsksLines more middle now new after
 
-  -- A client starts with the directory's head, and knows nothing of earlier runs; or, where there is a state,
-  -- as its files have it, and keeps what earlier runs were promised for their changes.
+  -- A client starts with the directory's head, and knows nothing of earlier runs; or, where there is a state, it is a
+  -- sound one of this provider, which keeps what earlier runs were promised for their changes.
   abbrev pub BeginsAsking : List ℕ → List ℕ → Type 0 → T → Background → Client → T → Type 0
   BeginsAsking key token HasNoState stream background client after =
       (StartsAtHead verified exchanged key stream client after × (background ≡ new_background key token))
