@@ -32,7 +32,7 @@ use Rattle.asking.specs.Exchanges.{ExchangesFrames}
 use Rattle.asking.specs.Following.{Follows, StopsAfter, TakesSome}
 use Rattle.asking.specs.Joining.{BeginsSome, BeginsWatch}
 use Rattle.asking.specs.Reports.{Report, report_of}
-use Rattle.asking.specs.Runs.{AsksLines, BeginsAsking, BeginsRun, emptied, Known, lines_asked, Prepares, RunsWhole, Writes}
+use Rattle.asking.specs.Runs.{AsksLines, BeginsAsking, BeginsRun, emptied, Background, lines_asked, Prepares, RunsWhole, Writes}
 use Rattle.asking.specs.Scenes.{HaltsAfter, Scene, StopsAtHead}
 use Rattle.asking.specs.Visiting.{TestsAll, TestsSome}
 use Rattle.asking.proofs.Ran.{LeadsOn, none_before}
@@ -112,7 +112,7 @@ begins_none verified exchanged key fault.Stopped said said' before after stops h
 begins_none verified exchanged key fault.OutOfMemory said said' before after stops halts = inl (halts no-memory)
 
 module _ (hash : List ℕ → List ℕ) (accepted verified : List ℕ → List ℕ → List ℕ → Type 0) {T : Type 0} (exchanged : T → RequestContent → Frame → T → Type 0) where
-  module _ (known : Known) where
+  module _ (background : Background) where
     -- ---- which scene is reached
 
     -- the roots are taken, or some
@@ -120,17 +120,17 @@ module _ (hash : List ℕ → List ℕ) (accepted verified : List ℕ → List �
         → OnOk result ((count : ℕ) × Follows hash verified exchanged count before after)
         → (result ≡ Err fault.Stopped → (count : ℕ) × StopsAfter hash verified exchanged count before after)
         → IfErr result (λ why. why ≢ fault.Stopped → HaltsAfter (TakesSome hash verified exchanged before) why asker said)
-        → (reached : Scene T) × PreparesSome hash accepted verified exchanged known before reached × (report_of said ≡ reached.told)
+        → (reached : Scene T) × PreparesSome hash accepted verified exchanged background before reached × (report_of said ≡ reached.told)
     taken_reaches (Ok done) before after asker said same (count, follows) stops halts = (after, inr (inr (inr (count, after, follows, (0, refl)))), same)
     taken_reaches (Err fault.NoReply) before after asker said same follows stops halts = let (reached, takes, halted) = halts no-reply in (reached, inr (inl takes), halted.0)
     taken_reaches (Err fault.Stopped) before after asker said same follows stops halts = (after, inr (inr (inl (stops refl))), same)
     taken_reaches (Err fault.OutOfMemory) before after asker said same follows stops halts = let (reached, takes, halted) = halts no-memory in (reached, inr (inl takes), halted.0)
 
     -- and the promises tested, or some
-    pub tested_reaches : {H V S A : Type 0} (marks : List Mark) (result : Result A AskFault) (count : ℕ) (before middle after : Scene T) (asker : Asker H V S) (said : Said) → report_of said ≡ after.told → marks ≡ known.marks
+    pub tested_reaches : {H V S A : Type 0} (marks : List Mark) (result : Result A AskFault) (count : ℕ) (before middle after : Scene T) (asker : Asker H V S) (said : Said) → report_of said ≡ after.told → marks ≡ background.marks
         → Follows hash verified exchanged count before middle
         → OnOk result (TestsAll hash accepted exchanged marks middle after) → IfErr result (λ why. HaltsAfter (TestsSome hash accepted exchanged marks middle) why asker said)
-        → (reached : Scene T) × PreparesSome hash accepted verified exchanged known before reached × (report_of said ≡ reached.told)
+        → (reached : Scene T) × PreparesSome hash accepted verified exchanged background before reached × (report_of said ≡ reached.told)
     tested_reaches marks (Ok done) count before middle after asker said same is follows tests halts =
         (after, inl (count, middle, follows, subst (λ (m : List Mark). TestsAll hash accepted exchanged m middle after) is tests), same)
     tested_reaches marks (Err why) count before middle after asker said same is follows tests (reached, some, halted) =
@@ -138,10 +138,10 @@ module _ (hash : List ℕ → List ℕ) (accepted verified : List ℕ → List �
 
     -- a line is asked, or some of it
     pub asked_reaches : {H V S A : Type 0} (asked : RequestContent) (noted noted' : List SignedPromise) (result : Result A AskFault) (before after : Scene T) (asker : Asker H V S) (said : Said) → report_of said ≡ after.told
-        → OnOk result (AsksDirectory hash accepted verified exchanged known.marks known.token asked noted noted' before after)
-        → (result ≡ Err fault.Stopped → StopsAsking hash accepted verified exchanged known.token asked before after)
-        → IfErr result (λ why. why ≢ fault.Stopped → HaltsAfter (AsksSome hash accepted verified exchanged known.marks known.token asked noted noted' before) why asker said)
-        → (reached : Scene T) × DoesSome hash accepted verified exchanged known (Ask asked) before reached × (report_of said ≡ reached.told)
+        → OnOk result (AsksDirectory hash accepted verified exchanged background.marks background.token asked noted noted' before after)
+        → (result ≡ Err fault.Stopped → StopsAsking hash accepted verified exchanged background.token asked before after)
+        → IfErr result (λ why. why ≢ fault.Stopped → HaltsAfter (AsksSome hash accepted verified exchanged background.marks background.token asked noted noted' before) why asker said)
+        → (reached : Scene T) × DoesSome hash accepted verified exchanged background (Ask asked) before reached × (report_of said ≡ reached.told)
     asked_reaches asked noted noted' (Ok done) before after asker said same asks stops halts = (after, inr (inl (noted, noted', asks)), same)
     asked_reaches asked noted noted' (Err fault.NoReply) before after asker said same asks stops halts = let (reached, some, halted) = halts no-reply in (reached, inr (inr (inr (noted, noted', some))), halted.0)
     asked_reaches asked noted noted' (Err fault.Stopped) before after asker said same asks stops halts = (after, inr (inr (inl (stops refl))), same)
@@ -149,34 +149,34 @@ module _ (hash : List ℕ → List ℕ) (accepted verified : List ℕ → List �
 
     -- a name is watched, or some of its epochs
     pub watched_reaches : {H V S A : Type 0} (name : List ℕ) (given given' : Option (List ℕ)) (result : Result A AskFault) (before after : Scene T) (asker : Asker H V S) (said : Said) → given ≡ given' → report_of said ≡ after.told
-        → OnOk result (BeginsWatch hash accepted verified exchanged known.marks known.key known.earlier name given before after)
-        → IfErr result (λ why. HaltsAfter (BeginsSome hash accepted verified exchanged known.marks known.key known.earlier name given before) why asker said)
-        → (reached : Scene T) × DoesSome hash accepted verified exchanged known (Watch name given') before reached × (report_of said ≡ reached.told)
+        → OnOk result (BeginsWatch hash accepted verified exchanged background.marks background.key background.earlier name given before after)
+        → IfErr result (λ why. HaltsAfter (BeginsSome hash accepted verified exchanged background.marks background.key background.earlier name given before) why asker said)
+        → (reached : Scene T) × DoesSome hash accepted verified exchanged background (Watch name given') before reached × (report_of said ≡ reached.told)
     watched_reaches name given given' (Ok done) before after asker said is same begins halts =
-        (after, inr (inl (subst (λ (g : Option (List ℕ)). BeginsWatch hash accepted verified exchanged known.marks known.key known.earlier name g before after) is begins)), same)
+        (after, inr (inl (subst (λ (g : Option (List ℕ)). BeginsWatch hash accepted verified exchanged background.marks background.key background.earlier name g before after) is begins)), same)
     watched_reaches name given given' (Err why) before after asker said is same begins (reached, some, halted) =
-        (reached, inr (inr (subst (λ (g : Option (List ℕ)). BeginsSome hash accepted verified exchanged known.marks known.key known.earlier name g before reached) is some)), halted.0)
+        (reached, inr (inr (subst (λ (g : Option (List ℕ)). BeginsSome hash accepted verified exchanged background.marks background.key background.earlier name g before reached) is some)), halted.0)
 
     -- it is what a line says
     pub line_reaches : (line : List ℕ) (said : ScriptLine) (told : Report) (before : Scene T) → line_of line ≡ Some said
-        → (reached : Scene T) × DoesSome hash accepted verified exchanged known said before reached × (told ≡ reached.told)
-        → (reached : Scene T) × AsksSomeLine hash accepted verified exchanged known line before reached × (told ≡ reached.told)
+        → (reached : Scene T) × DoesSome hash accepted verified exchanged background said before reached × (told ≡ reached.told)
+        → (reached : Scene T) × AsksSomeLine hash accepted verified exchanged background line before reached × (told ≡ reached.told)
     line_reaches line said told before is (reached, does, same) = (reached, inr (said, is, does), same)
 
     -- nothing of it is asked
     pub line_not : (line : List ℕ) (before : Scene T) (old : Option (List ℕ)) (said : Said) → report_of said ≡ before.told
-        → (reached : Scene T) × AsksSomeLine hash accepted verified exchanged known line before reached × Leaves old said reached.told old
+        → (reached : Scene T) × AsksSomeLine hash accepted verified exchanged background line before reached × Leaves old said reached.told old
     line_not line before old said same = (before, inl refl, leaves_same old said before.told same)
 
     -- ---- among which lines
 
-    next-here : (lines : List (List ℕ)) (here : Scene T) → AsksNext hash accepted verified exchanged known lines here here
+    next-here : (lines : List (List ℕ)) (here : Scene T) → AsksNext hash accepted verified exchanged background lines here here
     next-here [] here = refl
     next-here (line ∷ more) here = inl refl
 
     -- no more is asked of the lines that are left
-    pub part_here : (start here : Scene T) (input old left now new : Option (List ℕ)) (said : Said) → LeadsOn hash accepted verified exchanged known start input old here left now → Leaves new said here.told now
-        → IfSome input (λ all. (told : Report) × (next : Option (List ℕ)) × AsksPart hash accepted verified exchanged known (lines_of all) start told old next × Leaves new said told next)
+    pub part_here : (start here : Scene T) (input old left now new : Option (List ℕ)) (said : Said) → LeadsOn hash accepted verified exchanged background start input old here left now → Leaves new said here.told now
+        → IfSome input (λ all. (told : Report) × (next : Option (List ℕ)) × AsksPart hash accepted verified exchanged background (lines_of all) start told old next × Leaves new said told next)
     part_here start here None old left now new said leads leaves = tt
     part_here start here (Some all) old left now new said leads leaves =
         let (rest, at, done, parts, asks) = leads all refl in (
@@ -187,17 +187,17 @@ module _ (hash : List ℕ → List ℕ) (accepted verified : List ℕ → List �
         )
 
     -- some of the next line is asked
-    pub part_line : (start here : Scene T) (input old left left' now new : Option (List ℕ)) (line : List ℕ) (said : Said) → LeadsOn hash accepted verified exchanged known start input old here left now → TakesWholeLine left left' true line
-        → (reached : Scene T) × AsksSomeLine hash accepted verified exchanged known line here reached × Leaves new said reached.told now
-        → IfSome input (λ all. (told : Report) × (next : Option (List ℕ)) × AsksPart hash accepted verified exchanged known (lines_of all) start told old next × Leaves new said told next)
+    pub part_line : (start here : Scene T) (input old left left' now new : Option (List ℕ)) (line : List ℕ) (said : Said) → LeadsOn hash accepted verified exchanged background start input old here left now → TakesWholeLine left left' true line
+        → (reached : Scene T) × AsksSomeLine hash accepted verified exchanged background line here reached × Leaves new said reached.told now
+        → IfSome input (λ all. (told : Report) × (next : Option (List ℕ)) × AsksPart hash accepted verified exchanged background (lines_of all) start told old next × Leaves new said told next)
     part_line start here None old left left' now new line said leads takes part = tt
     part_line start here (Some all) old left left' now new line said leads takes (reached, some, leaves) =
         let (rest, at, done, parts, asks) = leads all refl in
         by rest done parts asks left' (subst (λ (l : Option (List ℕ)). TakesWholeLine l left' true line) at takes)
       where
-        by : (rest : List ℕ) (done : List (List ℕ)) → lines_of all ≡ done ++ lines_of rest → AsksLines hash accepted verified exchanged known done start old now here
+        by : (rest : List ℕ) (done : List (List ℕ)) → lines_of all ≡ done ++ lines_of rest → AsksLines hash accepted verified exchanged background done start old now here
             → (left' : Option (List ℕ)) → TakesWholeLine (Some rest) left' true line
-            → (told : Report) × (next : Option (List ℕ)) × AsksPart hash accepted verified exchanged known (lines_of all) start told old next × Leaves new said told next
+            → (told : Report) × (next : Option (List ℕ)) × AsksPart hash accepted verified exchanged background (lines_of all) start told old next × Leaves new said told next
         by rest done parts asks None bad = absurd bad
         by rest done parts asks (Some rest') is = (
           reached.told,
@@ -217,8 +217,8 @@ module _ (hash : List ℕ → List ℕ) (accepted verified : List ℕ → List �
 
     -- some of one line, which is all that is asked
     pub part_once : (line : List ℕ) (ready : Scene T) (now new : Option (List ℕ)) (said : Said)
-        → (reached : Scene T) × AsksSomeLine hash accepted verified exchanged known line ready reached × Leaves new said reached.told now
-        → (told : Report) × (next : Option (List ℕ)) × AsksPart hash accepted verified exchanged known (line ∷ []) ready told now next × Leaves new said told next
+        → (reached : Scene T) × AsksSomeLine hash accepted verified exchanged background line ready reached × Leaves new said reached.told now
+        → (told : Report) × (next : Option (List ℕ)) × AsksPart hash accepted verified exchanged background (line ∷ []) ready told now next × Leaves new said told next
     part_once line ready now new said (reached, some, leaves) = (
       reached.told,
       now,
@@ -227,10 +227,10 @@ module _ (hash : List ℕ → List ℕ) (accepted verified : List ℕ → List �
     )
 
   -- what stays is known under another name
-  pub line_known : (known known' : Known) (line : List ℕ) (before : Scene T) (old new : Option (List ℕ)) (said : Said) → known' ≡ known
-      → (reached : Scene T) × AsksSomeLine hash accepted verified exchanged known' line before reached × Leaves new said reached.told old
-      → (reached : Scene T) × AsksSomeLine hash accepted verified exchanged known line before reached × Leaves new said reached.told old
-  line_known known known' line before old new said same (reached, some, leaves) = (reached, subst (λ (k : Known). AsksSomeLine hash accepted verified exchanged k line before reached) same some, leaves)
+  pub line_known : (background background' : Background) (line : List ℕ) (before : Scene T) (old new : Option (List ℕ)) (said : Said) → background' ≡ background
+      → (reached : Scene T) × AsksSomeLine hash accepted verified exchanged background' line before reached × Leaves new said reached.told old
+      → (reached : Scene T) × AsksSomeLine hash accepted verified exchanged background line before reached × Leaves new said reached.told old
+  line_known background background' line before old new said same (reached, some, leaves) = (reached, subst (λ (k : Background). AsksSomeLine hash accepted verified exchanged k line before reached) same some, leaves)
 
   -- ---- a run
 
@@ -241,42 +241,42 @@ module _ (hash : List ℕ → List ℕ) (accepted verified : List ℕ → List �
     early_none first said begins none =
         (report_of said, old, leaves_same old said (report_of said) refl, inl (subst (λ (r : Report). BeginsNone verified exchanged key stream r (report_of said)) none begins, refl))
 
-    module _ (known : Known) (start : Scene T) (new : Option (List ℕ)) (said : Said) (first : Report) (begun : first ≡ emptied 0 → BeginsRun hash accepted verified exchanged key token HasNoState stream known start) where
+    module _ (background : Background) (start : Scene T) (new : Option (List ℕ)) (said : Said) (first : Report) (begun : first ≡ emptied 0 → BeginsRun hash accepted verified exchanged key token HasNoState stream background start) where
       -- it ends while what is new is followed
-      pub early_preparing : (reached : Scene T) × PreparesSome hash accepted verified exchanged known start reached × Leaves new said reached.told old
+      pub early_preparing : (reached : Scene T) × PreparesSome hash accepted verified exchanged background start reached × Leaves new said reached.told old
           → first ≡ emptied 0 → EndsEarly hash accepted verified exchanged key token options HasNoState stream input old (Leaves new said)
-      early_preparing (reached, some, leaves) none = (reached.told, old, leaves, inr (known, start, begun none, inl (reached, some, refl, refl)))
+      early_preparing (reached, some, leaves) none = (reached.told, old, leaves, inr (background, start, begun none, inl (reached, some, refl, refl)))
 
       -- it ends at a line
-      pub early_asking : (known' : Known) (ready : Scene T) (now : Option (List ℕ)) → Writes (Prepares hash accepted verified exchanged known) start old now ready → known' ≡ known
-          → IfSome (lines_asked options.words input) (λ lines. (told : Report) × (next : Option (List ℕ)) × AsksPart hash accepted verified exchanged known' lines ready told now next × Leaves new said told next)
+      pub early_asking : (background' : Background) (ready : Scene T) (now : Option (List ℕ)) → Writes (Prepares hash accepted verified exchanged background) start old now ready → background' ≡ background
+          → IfSome (lines_asked options.words input) (λ lines. (told : Report) × (next : Option (List ℕ)) × AsksPart hash accepted verified exchanged background' lines ready told now next × Leaves new said told next)
           → first ≡ emptied 0 → EndsEarly hash accepted verified exchanged key token options HasNoState stream input old (Leaves new said)
-      early_asking known' ready now prepares same part none =
+      early_asking background' ready now prepares same part none =
           let (told, next, leaves, at) = by (lines_asked options.words input) part in
-          (told, next, leaves, inr (known, start, begun none, inr (ready, now, prepares, subst (λ (k : Known). IfSome (lines_asked options.words input) (λ lines. AsksPart hash accepted verified exchanged k lines ready told now next)) same at)))
+          (told, next, leaves, inr (background, start, begun none, inr (ready, now, prepares, subst (λ (k : Background). IfSome (lines_asked options.words input) (λ lines. AsksPart hash accepted verified exchanged k lines ready told now next)) same at)))
         where
           by : (asked : Option (List (List ℕ)))
-              → IfSome asked (λ lines. (told : Report) × (next : Option (List ℕ)) × AsksPart hash accepted verified exchanged known' lines ready told now next × Leaves new said told next)
-              → (told : Report) × (next : Option (List ℕ)) × Leaves new said told next × IfSome asked (λ lines. AsksPart hash accepted verified exchanged known' lines ready told now next)
+              → IfSome asked (λ lines. (told : Report) × (next : Option (List ℕ)) × AsksPart hash accepted verified exchanged background' lines ready told now next × Leaves new said told next)
+              → (told : Report) × (next : Option (List ℕ)) × Leaves new said told next × IfSome asked (λ lines. AsksPart hash accepted verified exchanged background' lines ready told now next)
           by None part = (report_of said, new, leaves_same new said (report_of said) refl, tt)
           by (Some lines) (told, next, at, leaves) = (told, next, leaves, at)
 
   -- ---- with the state that an order names
 
   module _ (key token : List ℕ) (options : AskOptions) (NoState None' : Type 0) (without : None' → NoState) where
-    begun-with : (known : Known) (stream : T) (start : Scene T) → BeginsRun hash accepted verified exchanged key token NoState stream known start → BeginsRun hash accepted verified exchanged key token None' stream known start
-    begun-with known stream start begun = record { silent = begun.silent; begins = by begun.begins; knows = begun.knows }
+    begun-with : (background : Background) (stream : T) (start : Scene T) → BeginsRun hash accepted verified exchanged key token NoState stream background start → BeginsRun hash accepted verified exchanged key token None' stream background start
+    begun-with background stream start begun = record { silent = begun.silent; begins = by begun.begins; knows = begun.knows }
       where
-        by : BeginsAsking hash accepted verified exchanged key token NoState stream known start.client start.stream → BeginsAsking hash accepted verified exchanged key token None' stream known start.client start.stream
+        by : BeginsAsking hash accepted verified exchanged key token NoState stream background start.client start.stream → BeginsAsking hash accepted verified exchanged key token None' stream background start.client start.stream
         by (inl head) = inl head
         by (inr (state, same, sound, kept)) = inr ((λ none. state (without none)), same, sound, kept)
 
     whole-with : (stream stream' : T) (input old new : Option (List ℕ)) (status : ℕ)
         → RunsWhole hash accepted verified exchanged key token options NoState stream stream' input status old new → RunsWhole hash accepted verified exchanged key token options None' stream stream' input status old new
     whole-with stream stream' input old new status run = record {
-      known = run.known;
+      background = run.background;
       start = run.start;
-      begun = begun-with run.known stream run.start run.begun;
+      begun = begun-with run.background stream run.start run.begun;
       ready = run.ready;
       now = run.now;
       prepares = run.prepares;
@@ -289,7 +289,7 @@ module _ (hash : List ℕ → List ℕ) (accepted verified : List ℕ → List �
     early-with : (Before After : Report → Option (List ℕ) → Type 0) (stream : T) (input old : Option (List ℕ)) → ((told : Report) (now : Option (List ℕ)) → Before told now → After told now)
         → EndsEarly hash accepted verified exchanged key token options NoState stream input old Before → EndsEarly hash accepted verified exchanged key token options None' stream input old After
     early-with Before After stream input old leads (told, now, holds, inl none) = (told, now, leads told now holds, inl none)
-    early-with Before After stream input old leads (told, now, holds, inr (known, start, begun, at)) = (told, now, leads told now holds, inr (known, start, begun-with known stream start begun, at))
+    early-with Before After stream input old leads (told, now, holds, inr (background, start, begun, at)) = (told, now, leads told now holds, inr (background, start, begun-with background stream start begun, at))
 
     pub runs_with : (stream stream' : T) (input old new : Option (List ℕ)) (ended : RunEnd)
         → RunsAs hash accepted verified exchanged key token options NoState stream stream' input ended old new → RunsAs hash accepted verified exchanged key token options None' stream stream' input ended old new

@@ -11,7 +11,7 @@ use Rattle.wire.specs.Requests.{RequestContent}
 use Rattle.play.specs.Reading.{TakesWholeLine}
 use Rattle.play.specs.Scripts.{ScriptLine, Pass, Ask, Watch, Piece, End, line_of}
 use Rattle.asking.specs.AskOptions.{AskOptions, ask_keys_of, ask_values}
-use Rattle.asking.specs.Runs.{AsksLine, DoesLine, Grows, Known, lines_asked, words_line, Writes}
+use Rattle.asking.specs.Runs.{AsksLine, DoesLine, Grows, Background, lines_asked, words_line, Writes}
 use Rattle.asking.specs.RunFaults.{AsksInput, CannotBeAsked, IsFaultOfSaving, IsFaultOfState, IsFaultWith, IsFirstUnasked, IsRunFault, StopsOr}
 use Rattle.asking.specs.Scenes.{Scene}
 use Rattle.asking.specs.declared.ask_fault.RunFault.{RunFault}
@@ -111,11 +111,11 @@ line_fault input left left' place line (run.Program fault) counts takes (inr (is
     subst (λ (f : ProgramFault). IsFaultWith ⊥ ⊤ (λ number. IfSome input (λ all. IsFirstUnasked 1 (lines_of all) number)) f) (sym is) (counts-here input left left' place line counts takes cannot)
 
 -- a line that was asked is one that can be
-pub asked_can : (hash : List ℕ → List ℕ) (accepted verified : List ℕ → List ℕ → List ℕ → Type 0) {T : Type 0} (exchanged : T → RequestContent → Frame → T → Type 0) (known : Known) (before after : Scene T)
-    (old new : Option (List ℕ)) (line : List ℕ) → Writes (AsksLine hash accepted verified exchanged known line) before old new after → ¬ CannotBeAsked (line_of line)
-asked_can hash accepted verified {T} exchanged known before after old new line (done, (said, is, does), appends, same) = λ cannot. by done said does (subst (λ (s : Option ScriptLine). CannotBeAsked s) is cannot)
+pub asked_can : (hash : List ℕ → List ℕ) (accepted verified : List ℕ → List ℕ → List ℕ → Type 0) {T : Type 0} (exchanged : T → RequestContent → Frame → T → Type 0) (background : Background) (before after : Scene T)
+    (old new : Option (List ℕ)) (line : List ℕ) → Writes (AsksLine hash accepted verified exchanged background line) before old new after → ¬ CannotBeAsked (line_of line)
+asked_can hash accepted verified {T} exchanged background before after old new line (done, (said, is, does), appends, same) = λ cannot. by done said does (subst (λ (s : Option ScriptLine). CannotBeAsked s) is cannot)
   where
-    by : (done : Scene T) (said : ScriptLine) → DoesLine hash accepted verified exchanged known said before done → CannotBeAsked (Some said) → ⊥
+    by : (done : Scene T) (said : ScriptLine) → DoesLine hash accepted verified exchanged background said before done → CannotBeAsked (Some said) → ⊥
     by done Pass does cannot = cannot
     by done (Ask asked) does cannot = cannot
     by done (Watch name given) does cannot = cannot

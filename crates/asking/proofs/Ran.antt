@@ -19,57 +19,57 @@ use Rattle.asking.specs.declared.order.AskOrder.{AskOrder}
 use Rattle.asking.specs.declared.said.Said.{Said}
 use Rattle.asking.specs.AskOptions.{AskOptions, ask_values}
 use Rattle.asking.specs.Reports.{Report, report_of}
-use Rattle.asking.specs.Runs.{AsksLine, AsksLines, BeginsAsking, BeginsRun, emptied, Known, known_new, known_of, lines_asked, Prepares, RunsWhole, words_line, Writes}
+use Rattle.asking.specs.Runs.{AsksLine, AsksLines, BeginsAsking, BeginsRun, emptied, Background, new_background, background_of, lines_asked, Prepares, RunsWhole, words_line, Writes}
 use Rattle.asking.specs.Scenes.{Scene, scene, Remains, StartsAtHead}
 use Rattle.asking.proofs.Joined.{scene_of}
 
-known-by : {H V S : Type 0} (before after : Asker H V S) → after.key ≡ before.key → after.token ≡ before.token → after.marks.items ≡ before.marks.items → after.earlier.items ≡ before.earlier.items → known_of after ≡ known_of before
-known-by before after key token marks earlier =
-    ap (λ (k : List ℕ). let t : Known = record { key = k; token = after.token; marks = after.marks.items; earlier = after.earlier.items } in t) key
-    ∙ ap (λ (k : List ℕ). let t : Known = record { key = before.key; token = k; marks = after.marks.items; earlier = after.earlier.items } in t) token
-    ∙ ap (λ (k : List Mark). let t : Known = record { key = before.key; token = before.token; marks = k; earlier = after.earlier.items } in t) marks
-    ∙ ap (λ (k : List SignedPromise). let t : Known = record { key = before.key; token = before.token; marks = before.marks.items; earlier = k } in t) earlier
+background-by : {H V S : Type 0} (before after : Asker H V S) → after.key ≡ before.key → after.token ≡ before.token → after.marks.items ≡ before.marks.items → after.earlier.items ≡ before.earlier.items → background_of after ≡ background_of before
+background-by before after key token marks earlier =
+    ap (λ (k : List ℕ). let t : Background = record { key = k; token = after.token; marks = after.marks.items; earlier = after.earlier.items } in t) key
+    ∙ ap (λ (k : List ℕ). let t : Background = record { key = before.key; token = k; marks = after.marks.items; earlier = after.earlier.items } in t) token
+    ∙ ap (λ (k : List Mark). let t : Background = record { key = before.key; token = before.token; marks = k; earlier = after.earlier.items } in t) marks
+    ∙ ap (λ (k : List SignedPromise). let t : Background = record { key = before.key; token = before.token; marks = before.marks.items; earlier = k } in t) earlier
 
 -- no answer changes what is known
-pub known_stays : {H V S : Type 0} (before after : Asker H V S) → Remains before after → known_of after ≡ known_of before
-known_stays before after (key, token, marks, earlier) = known-by before after key token (ap (λ (all : Vec Mark Global). all.items) marks) (ap (λ (all : Vec SignedPromise Global). all.items) earlier)
+pub known_stays : {H V S : Type 0} (before after : Asker H V S) → Remains before after → background_of after ≡ background_of before
+known_stays before after (key, token, marks, earlier) = background-by before after key token (ap (λ (all : Vec Mark Global). all.items) marks) (ap (λ (all : Vec SignedPromise Global). all.items) earlier)
 
-module _ (hash : List ℕ → List ℕ) (accepted verified : List ℕ → List ℕ → List ℕ → Type 0) {T : Type 0} (exchanged : T → RequestContent → Frame → T → Type 0) (known : Known) where
+module _ (hash : List ℕ → List ℕ) (accepted verified : List ℕ → List ℕ → List ℕ → Type 0) {T : Type 0} (exchanged : T → RequestContent → Frame → T → Type 0) (background : Background) where
   -- an output to which nothing was appended is as good
-  from-same : (lines : List (List ℕ)) (before after : Scene T) (old now new : Option (List ℕ)) → Appends old now [] → AsksLines hash accepted verified exchanged known lines before now new after
-      → AsksLines hash accepted verified exchanged known lines before old new after
+  from-same : (lines : List (List ℕ)) (before after : Scene T) (old now new : Option (List ℕ)) → Appends old now [] → AsksLines hash accepted verified exchanged background lines before now new after
+      → AsksLines hash accepted verified exchanged background lines before old new after
   from-same [] before after old now new same (appends, is) = (Appends-trans old now new [] [] same appends, is)
   from-same (line ∷ more) before after old now new same (middle, next, (done, does, appends, left), rest) = (middle, next, (done, does, Appends-trans old now next [] done.told.lines same appends, left), rest)
 
   -- some lines are asked, and then more
-  asks-then : (done more : List (List ℕ)) (start here after : Scene T) (old now new : Option (List ℕ)) → AsksLines hash accepted verified exchanged known done start old now here
-      → AsksLines hash accepted verified exchanged known more here now new after → AsksLines hash accepted verified exchanged known (done ++ more) start old new after
-  asks-then [] more start here after old now new (same, is) asks = subst (λ (s : Scene T). AsksLines hash accepted verified exchanged known more s old new after) is (from-same more here after old now new same asks)
+  asks-then : (done more : List (List ℕ)) (start here after : Scene T) (old now new : Option (List ℕ)) → AsksLines hash accepted verified exchanged background done start old now here
+      → AsksLines hash accepted verified exchanged background more here now new after → AsksLines hash accepted verified exchanged background (done ++ more) start old new after
+  asks-then [] more start here after old now new (same, is) asks = subst (λ (s : Scene T). AsksLines hash accepted verified exchanged background more s old new after) is (from-same more here after old now new same asks)
   asks-then (line ∷ done) more start here after old now new (middle, next, writes, rest) asks = (middle, next, writes, asks-then done more middle here after next now new rest asks)
 
   -- one line is asked, and no other
-  pub leads_once : (before after : Scene T) (old new : Option (List ℕ)) (line : List ℕ) → Writes (AsksLine hash accepted verified exchanged known line) before old new after
-      → AsksLines hash accepted verified exchanged known (line ∷ []) before old new after
+  pub leads_once : (before after : Scene T) (old new : Option (List ℕ)) (line : List ℕ) → Writes (AsksLine hash accepted verified exchanged background line) before old new after
+      → AsksLines hash accepted verified exchanged background (line ∷ []) before old new after
   leads_once before after old new line writes = (after, new, writes, (Appends-nil new, refl))
 
   -- some lines of the input are asked from the beginning to here, and these bytes are left
   abbrev pub LeadsOn : Scene T → Option (List ℕ) → Option (List ℕ) → Scene T → Option (List ℕ) → Option (List ℕ) → Type 0
   LeadsOn start input old here left now = (all : List ℕ) → input ≡ Some all → (rest : List ℕ) × (left ≡ Some rest)
-      × (done : List (List ℕ)) × (lines_of all ≡ done ++ lines_of rest) × AsksLines hash accepted verified exchanged known done start old now here
+      × (done : List (List ℕ)) × (lines_of all ≡ done ++ lines_of rest) × AsksLines hash accepted verified exchanged background done start old now here
 
   pub leads_first : (start : Scene T) (input old : Option (List ℕ)) → LeadsOn start input old start input old
   leads_first start input old = λ all is. (all, is, [], refl, (Appends-nil old, refl))
 
   -- one line more is asked
   pub leads_next : (start here next : Scene T) (input old left left' now now' : Option (List ℕ)) (line : List ℕ) → LeadsOn start input old here left now → TakesWholeLine left left' true line
-      → Writes (AsksLine hash accepted verified exchanged known line) here now now' next → LeadsOn start input old next left' now'
+      → Writes (AsksLine hash accepted verified exchanged background line) here now now' next → LeadsOn start input old next left' now'
   leads_next start here next input old left left' now now' line leads takes writes = λ all is.
       let (rest, at, done, parts, asks) = leads all is in
       by all rest done parts asks left' (subst (λ (l : Option (List ℕ)). TakesWholeLine l left' true line) at takes)
     where
-      by : (all rest : List ℕ) (done : List (List ℕ)) → lines_of all ≡ done ++ lines_of rest → AsksLines hash accepted verified exchanged known done start old now here
+      by : (all rest : List ℕ) (done : List (List ℕ)) → lines_of all ≡ done ++ lines_of rest → AsksLines hash accepted verified exchanged background done start old now here
           → (left' : Option (List ℕ)) → TakesWholeLine (Some rest) left' true line
-          → (rest' : List ℕ) × (left' ≡ Some rest') × (done' : List (List ℕ)) × (lines_of all ≡ done' ++ lines_of rest') × AsksLines hash accepted verified exchanged known done' start old now' next
+          → (rest' : List ℕ) × (left' ≡ Some rest') × (done' : List (List ℕ)) × (lines_of all ≡ done' ++ lines_of rest') × AsksLines hash accepted verified exchanged background done' start old now' next
       by all rest done parts asks None bad = absurd bad
       by all rest done parts asks (Some rest') is = (
         rest',
@@ -81,12 +81,12 @@ module _ (hash : List ℕ → List ℕ) (accepted verified : List ℕ → List �
 
   -- no line is left
   pub leads_out : (start here : Scene T) (input old left left' now : Option (List ℕ)) (line : List ℕ) → LeadsOn start input old here left now → TakesWholeLine left left' false line
-      → IfSome input (λ all. AsksLines hash accepted verified exchanged known (lines_of all) start old now here)
+      → IfSome input (λ all. AsksLines hash accepted verified exchanged background (lines_of all) start old now here)
   leads_out start here None old left left' now line leads takes = tt
   leads_out start here (Some all) old left left' now line leads takes =
       let (rest, at, done, parts, asks) = leads all refl in
       let none : rest ≡ [] = subst (λ (l : Option (List ℕ)). TakesWholeLine l left' false line) at takes in
-      subst (λ (lines : List (List ℕ)). AsksLines hash accepted verified exchanged known lines start old now here)
+      subst (λ (lines : List (List ℕ)). AsksLines hash accepted verified exchanged background lines start old now here)
       (sym (parts ∙ ap (λ (bytes : List ℕ). done ++ lines_of bytes) none ∙ append-nil done)) asks
 
 -- what holds on success leads to something else
@@ -107,7 +107,7 @@ ok_before P (Err why) first done same holds = tt
 ok_before {B = B} {F = F} P (Ok it) first done same holds = subst (λ (r : Result B F). OnOk r P) same holds
 
 passed-key : (hash : List ℕ → List ℕ) (verified : List ℕ → List ℕ → List ℕ → Type 0) (chain : KeyedRoots) (root : SignedRoot) (after : KeyedRoots) → PassesOrAdds hash verified chain root after → after.key ≡ chain.key
-passed-key hash verified chain root after (verifies, inl (known, same)) = ap (λ (c : KeyedRoots). c.key) same
+passed-key hash verified chain root after (verifies, inl (background, same)) = ap (λ (c : KeyedRoots). c.key) same
 passed-key hash verified chain root after (verifies, inr (next, same)) = ap (λ (c : KeyedRoots). c.key) same
 
 taken-key : (hash : List ℕ → List ℕ) (verified : List ℕ → List ℕ → List ℕ → Type 0) (chain : KeyedRoots) (roots : List SignedRoot) (after : KeyedRoots) → Takes hash verified chain roots after → after.key ≡ chain.key
@@ -121,35 +121,35 @@ updated_key hash verified before after list (roots, chain, spells, takes, same) 
 -- it begins with the directory's head
 pub begins_at_head : {H V S T E : Type 0} (hash : List ℕ → List ℕ) (accepted verified : List ℕ → List ℕ → List ℕ → Type 0) (exchanged : T → RequestContent → Frame → T → Type 0) (key token : List ℕ) (HasNoState : Type 0)
     (result : Result (Asker H V S) E) (stream stream' : T) → IfOk result (λ asker. StartsAtHead verified exchanged key stream asker.client stream')
-    → IfOk result (λ asker. (known_of asker ≡ known_new key token) × (asker.monitors.items ≡ []))
-    → IfOk result (λ asker. BeginsAsking hash accepted verified exchanged key token HasNoState stream (known_of asker) asker.client stream')
+    → IfOk result (λ asker. (background_of asker ≡ new_background key token) × (asker.monitors.items ≡ []))
+    → IfOk result (λ asker. BeginsAsking hash accepted verified exchanged key token HasNoState stream (background_of asker) asker.client stream')
 begins_at_head hash accepted verified exchanged key token HasNoState (Ok asker) stream stream' starts knows = inl (starts, knows.0)
 begins_at_head hash accepted verified exchanged key token HasNoState (Err why) stream stream' starts knows = tt
 
 -- a run begins, if nothing was told before
 pub begins_run : {T : Type 0} (hash : List ℕ → List ℕ) (accepted verified : List ℕ → List ℕ → List ℕ → Type 0) (exchanged : T → RequestContent → Frame → T → Type 0) (key token : List ℕ) (HasNoState : Type 0)
-    (known : Known) (stream : T) (start : Scene T) (first : Report) → start.told ≡ first
-    → BeginsAsking hash accepted verified exchanged key token HasNoState stream known start.client start.stream → (known.key ≡ key) × (known.token ≡ token) × (start.monitors ≡ [])
-    → first ≡ emptied 0 → BeginsRun hash accepted verified exchanged key token HasNoState stream known start
-begins_run hash accepted verified exchanged key token HasNoState known stream start first told begins knows none = record { silent = told ∙ none; begins = begins; knows = knows }
+    (background : Background) (stream : T) (start : Scene T) (first : Report) → start.told ≡ first
+    → BeginsAsking hash accepted verified exchanged key token HasNoState stream background start.client start.stream → (background.key ≡ key) × (background.token ≡ token) × (start.monitors ≡ [])
+    → first ≡ emptied 0 → BeginsRun hash accepted verified exchanged key token HasNoState stream background start
+begins_run hash accepted verified exchanged key token HasNoState background stream start first told begins knows none = record { silent = told ∙ none; begins = begins; knows = knows }
 
 -- a run is whole, where its lines are asked to the end
 pub whole : {T E : Type 0} (hash : List ℕ → List ℕ) (accepted verified : List ℕ → List ℕ → List ℕ → Type 0) (exchanged : T → RequestContent → Frame → T → Type 0) (key token : List ℕ) (options : AskOptions) (HasNoState : Type 0)
-    (result : Result (Unit {0}) E) (known known' : Known) (stream : T) (start ready last : Scene T) (input old now new : Option (List ℕ)) (first : Report)
-    → (first ≡ emptied 0 → BeginsRun hash accepted verified exchanged key token HasNoState stream known start)
-    → Writes (Prepares hash accepted verified exchanged known) start old now ready → known' ≡ known
-    → OnOk result (IfSome (lines_asked options.words input) (λ lines. AsksLines hash accepted verified exchanged known' lines ready now new last))
+    (result : Result (Unit {0}) E) (background background' : Background) (stream : T) (start ready last : Scene T) (input old now new : Option (List ℕ)) (first : Report)
+    → (first ≡ emptied 0 → BeginsRun hash accepted verified exchanged key token HasNoState stream background start)
+    → Writes (Prepares hash accepted verified exchanged background) start old now ready → background' ≡ background
+    → OnOk result (IfSome (lines_asked options.words input) (λ lines. AsksLines hash accepted verified exchanged background' lines ready now new last))
     → OnOk result (first ≡ emptied 0 → RunsWhole hash accepted verified exchanged key token options HasNoState stream last.stream input last.told.status old new)
-whole hash accepted verified exchanged key token options HasNoState (Err why) known known' stream start ready last input old now new first begun prepares same asks = tt
-whole hash accepted verified exchanged key token options HasNoState (Ok done) known known' stream start ready last input old now new first begun prepares same asks = λ none. record {
-  known = known;
+whole hash accepted verified exchanged key token options HasNoState (Err why) background background' stream start ready last input old now new first begun prepares same asks = tt
+whole hash accepted verified exchanged key token options HasNoState (Ok done) background background' stream start ready last input old now new first begun prepares same asks = λ none. record {
+  background = background;
   start = start;
   begun = begun none;
   ready = ready;
   now = now;
   prepares = prepares;
   last = last;
-  asks = subst (λ (k : Known). IfSome (lines_asked options.words input) (λ lines. AsksLines hash accepted verified exchanged k lines ready now new last)) same asks;
+  asks = subst (λ (k : Background). IfSome (lines_asked options.words input) (λ lines. AsksLines hash accepted verified exchanged k lines ready now new last)) same asks;
   status_is = refl;
   left = refl;
 }

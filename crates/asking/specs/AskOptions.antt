@@ -1,6 +1,6 @@
 -- What is asked of a directory, by the texts of a command line.
 use Rattle.std.specs.Prelude.{ℕ, List, [], ◌∷◌, Option, option_and_then, option_map}
-use Rattle.textio.specs.Digits.{hex32, nonce_of}
+use Rattle.textio.specs.Digits.{hex32, hex32_or_zeros}
 use Rattle.asking.specs.declared.order.AskOrder.{AskOrder}
 
 pub record AskOptions : Type 0 where
@@ -21,4 +21,4 @@ ask_values order = record {
 
 -- the key and the token, zeros if none is given; none if a text is not 64 hexadecimal digits
 abbrev pub ask_keys_of : AskOptions → Option (List ℕ × List ℕ)
-ask_keys_of asked = option_and_then (λ key. option_map (λ token. (key, token)) (nonce_of asked.token)) (hex32 asked.provider)
+ask_keys_of asked = option_and_then (λ key. option_map (λ token. (key, token)) (hex32_or_zeros asked.token)) (hex32 asked.provider)

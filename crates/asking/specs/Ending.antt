@@ -16,7 +16,7 @@ use Rattle.asking.specs.Exchanges.{ExchangesFrames}
 use Rattle.asking.specs.Following.{Follows, StopsAfter, TakesSome}
 use Rattle.asking.specs.Joining.{BeginsSome}
 use Rattle.asking.specs.Reports.{Report}
-use Rattle.asking.specs.Runs.{AsksLines, BeginsRun, DoesLine, emptied, Known, lines_asked, Prepares, RunsWhole, Writes}
+use Rattle.asking.specs.Runs.{AsksLines, BeginsRun, DoesLine, emptied, Background, lines_asked, Prepares, RunsWhole, Writes}
 use Rattle.asking.specs.Scenes.{Scene, StopsAtHead}
 use Rattle.asking.specs.Visiting.{TestsSome}
 use Rattle.asking.specs.declared.run.RunEnd.{RunEnd}
@@ -36,35 +36,35 @@ stopped_status told = if nat_lt told 3 then 1 else 3
 abbrev pub WritesSome : Option (List ℕ) → Option (List ℕ) → List ℕ → Type 0
 WritesSome old new text = (rest : List ℕ) × WritesBut old new text rest
 
--- what was told is written, or still said, but for a rest where a write failed
+-- of what was told a beginning is written, and a part behind it is still said
 abbrev pub Leaves : Option (List ℕ) → Said → Report → Option (List ℕ) → Type 0
 Leaves new said told old = (said.status ≡ told.status) × (text : List ℕ) × (rest : List ℕ) × (told.lines ≡ text ++ (said.text.items ++ rest)) × Appends old new text
 
--- no client starts, and this is told: what was told before, or a frame with which none starts
+-- this is told where no client starts: what was told before, or also a frame with which none starts
 abbrev pub BeginsNone : {T : Type 0} → (List ℕ → List ℕ → List ℕ → Type 0) → (T → RequestContent → Frame → T → Type 0) → List ℕ → T → Report → Report → Type 0
 BeginsNone {T} verified exchanged key stream before told = (told ≡ before) ⊎ ((stream' : T) × StopsAtHead verified exchanged key stream before stream' told)
 
 module _ (hash : List ℕ → List ℕ) (accepted verified : List ℕ → List ℕ → List ℕ → Type 0) {T : Type 0} (exchanged : T → RequestContent → Frame → T → Type 0) where
-  module _ (known : Known) where
+  module _ (background : Background) where
     -- what is new is followed, wholly or up to some point, or up to a frame that stops it
     abbrev pub PreparesSome : Scene T → Scene T → Type 0
-    PreparesSome before reached = Prepares hash accepted verified exchanged known before reached
+    PreparesSome before reached = Prepares hash accepted verified exchanged background before reached
         ⊎ (TakesSome hash verified exchanged before reached
         ⊎ (((count : ℕ) × StopsAfter hash verified exchanged count before reached)
-        ⊎ ((count : ℕ) × (middle : Scene T) × Follows hash verified exchanged count before middle × TestsSome hash accepted exchanged known.marks middle reached)))
+        ⊎ ((count : ℕ) × (middle : Scene T) × Follows hash verified exchanged count before middle × TestsSome hash accepted exchanged background.marks middle reached)))
 
     -- what a line says is asked up to some point, or up to a frame that stops it
     abbrev pub DoesPart : ScriptLine → Scene T → Scene T → Type 0
     DoesPart Pass before reached = ⊥
-    DoesPart (Ask asked) before reached = StopsAsking hash accepted verified exchanged known.token asked before reached
-        ⊎ ((noted : List SignedPromise) × (noted' : List SignedPromise) × AsksSome hash accepted verified exchanged known.marks known.token asked noted noted' before reached)
-    DoesPart (Watch name given) before reached = BeginsSome hash accepted verified exchanged known.marks known.key known.earlier name given before reached
+    DoesPart (Ask asked) before reached = StopsAsking hash accepted verified exchanged background.token asked before reached
+        ⊎ ((noted : List SignedPromise) × (noted' : List SignedPromise) × AsksSome hash accepted verified exchanged background.marks background.token asked noted noted' before reached)
+    DoesPart (Watch name given) before reached = BeginsSome hash accepted verified exchanged background.marks background.key background.earlier name given before reached
     DoesPart (Piece session piece) before reached = ⊥
     DoesPart (End session) before reached = ⊥
 
     -- it is not asked, or wholly, or such a part of it
     abbrev pub DoesSome : ScriptLine → Scene T → Scene T → Type 0
-    DoesSome said before reached = (reached ≡ before) ⊎ (DoesLine hash accepted verified exchanged known said before reached ⊎ DoesPart said before reached)
+    DoesSome said before reached = (reached ≡ before) ⊎ (DoesLine hash accepted verified exchanged background said before reached ⊎ DoesPart said before reached)
 
     abbrev pub AsksSomeLine : List ℕ → Scene T → Scene T → Type 0
     AsksSomeLine line before reached = (reached ≡ before) ⊎ ((said : ScriptLine) × (line_of line ≡ Some said) × DoesSome said before reached)
@@ -74,13 +74,13 @@ module _ (hash : List ℕ → List ℕ) (accepted verified : List ℕ → List �
     AsksNext [] before reached = reached ≡ before
     AsksNext (line ∷ more) before reached = AsksSomeLine line before reached
 
-    -- some of these lines are asked, and what is told of each is written; then this is told of some of the next
+    -- the first of these lines are asked, and what is told of each is written; then this is told of some of the next
     pub record AsksPart (lines : List (List ℕ)) (before : Scene T) (told : Report) (old now : Option (List ℕ)) : Type 0 where
       pub done : List (List ℕ)
       pub left : List (List ℕ)
       pub parts : lines ≡ done ++ left
       pub here : Scene T
-      pub asks : AsksLines hash accepted verified exchanged known done before old now here
+      pub asks : AsksLines hash accepted verified exchanged background done before old now here
       pub reached : Scene T
       pub next : AsksNext left here reached
       pub tells : told ≡ reached.told
@@ -89,7 +89,7 @@ module _ (hash : List ℕ → List ℕ) (accepted verified : List ℕ → List �
     abbrev pub EndsAt : AskOptions → Option (List ℕ) → Scene T → Option (List ℕ) → Report → Option (List ℕ) → Type 0
     EndsAt options input start old told now =
         ((reached : Scene T) × PreparesSome start reached × (told ≡ reached.told) × (now ≡ old))
-        ⊎ ((ready : Scene T) × (next : Option (List ℕ)) × Writes (Prepares hash accepted verified exchanged known) start old next ready
+        ⊎ ((ready : Scene T) × (next : Option (List ℕ)) × Writes (Prepares hash accepted verified exchanged background) start old next ready
         × IfSome (lines_asked options.words input) (λ lines. AsksPart lines ready told next now))
 
   -- A run that ends before all is asked: no client starts, or it ends at such a place. Then this holds of what
@@ -97,7 +97,7 @@ module _ (hash : List ℕ → List ℕ) (accepted verified : List ℕ → List �
   abbrev pub EndsEarly : List ℕ → List ℕ → AskOptions → Type 0 → T → Option (List ℕ) → Option (List ℕ) → (Report → Option (List ℕ) → Type 0) → Type 0
   EndsEarly key token options HasNoState stream input old Then = (told : Report) × (now : Option (List ℕ)) × Then told now
       × ((BeginsNone verified exchanged key stream (emptied 0) told × (now ≡ old))
-      ⊎ ((known : Known) × (start : Scene T) × BeginsRun hash accepted verified exchanged key token HasNoState stream known start × EndsAt known options input start old told now))
+      ⊎ ((background : Background) × (start : Scene T) × BeginsRun hash accepted verified exchanged key token HasNoState stream background start × EndsAt background options input start old told now))
 
   -- a run that is whole, or was stopped: what was told is then written, or a beginning of it, and the status is
   -- that of an alarm exactly where one was told
@@ -110,8 +110,8 @@ module _ (hash : List ℕ → List ℕ) (accepted verified : List ℕ → List �
   abbrev pub FailsAs : List ℕ → List ℕ → AskOptions → Type 0 → T → Option (List ℕ) → Option (List ℕ) → Option (List ℕ) → Type 0
   FailsAs key token options HasNoState stream input old new = EndsEarly key token options HasNoState stream input old (λ told now. (told.status < 3) × WritesSome now new told.lines)
 
--- A run over a socket, of which definitions know neither what it took nor what it will give: no connection
--- came about, and nothing is written; or the run is one for some frames that came.
+-- A run over a socket, of which definitions know neither what it took nor what it will give: nothing is written, as
+-- where no connection came about; or the run is one for some frames that came.
 abbrev pub AsksOverSocket : AskOptions → Option (List ℕ) → ℕ → Option (List ℕ) → Option (List ℕ) → Type 0
 AsksOverSocket options input status old new = ((status ≡ 1) × Keeps old new)
     ⊎ ((key token : List ℕ) × (ask_keys_of options ≡ Some (key, token)) × (socket socket' : TcpStream) × (ended : RunEnd) × (status ≡ end_status ended)

@@ -19,30 +19,31 @@ use Rattle.asking.specs.Visiting.{TestsAll}
 use Rattle.asking.specs.declared.asker.Asker.{Asker}
 use Rattle.asking.specs.declared.asker.Mark.{Mark}
 
--- what stays throughout a run: the provider's key, the token, and the marks and the promised changes of earlier runs
-pub record Known : Type 0 where
+-- the background of a run, which stays throughout it: the provider's key, the token, and the marks and the promised changes of earlier runs
+pub record Background : Type 0 where
   pub key : List ℕ
   pub token : List ℕ
   pub marks : List Mark
   pub earlier : List SignedPromise
 
-abbrev pub known_of : {H V S : Type 0} → Asker H V S → Known
-known_of asker = record { key = asker.key; token = asker.token; marks = asker.marks.items; earlier = asker.earlier.items }
+abbrev pub background_of : {H V S : Type 0} → Asker H V S → Background
+background_of asker = record { key = asker.key; token = asker.token; marks = asker.marks.items; earlier = asker.earlier.items }
 
 -- the same keys and token, and the same monitors
 abbrev pub IsSameAsker : {H V S : Type 0} → Asker H V S → Asker H V S → Type 0
 IsSameAsker before after = (after.key ≡ before.key) × (after.token ≡ before.token) × (after.monitors ≡ before.monitors) × (after.client.chain.key ≡ before.client.chain.key)
 
--- the client keeps each of these promises, and still each of those of earlier runs
+-- the client keeps each of these promises
 abbrev pub KeepsAll : Client → List SignedPromise → Type 0
 KeepsAll client promises = AllByRecursion (Contains client.promises) promises
 
+-- where it kept each of those of earlier runs, it still does
 abbrev pub StillKeeps : {H V S : Type 0} → Asker H V S → Asker H V S → Type 0
 StillKeeps before after = KeepsAll before.client before.earlier.items → KeepsAll after.client after.earlier.items
 
--- with no earlier run
-abbrev pub known_new : List ℕ → List ℕ → Known
-known_new key token = record { key = key; token = token; marks = []; earlier = [] }
+-- the background where there is no earlier run
+abbrev pub new_background : List ℕ → List ℕ → Background
+new_background key token = record { key = key; token = token; marks = []; earlier = [] }
 
 -- what was written stays, and some text is written behind it
 abbrev pub Grows : Option (List ℕ) → Option (List ℕ) → Type 0
@@ -84,16 +85,16 @@ abbrev pub IsSoundFor : (List ℕ → List ℕ) → (List ℕ → List ℕ → L
 IsSoundFor hash accepted verified key client = (client.chain.key ≡ key) × IsChain hash verified client.chain × IsSoundClient hash accepted verified client
 
 module _ (hash : List ℕ → List ℕ) (accepted verified : List ℕ → List ℕ → List ℕ → Type 0) {T : Type 0} (exchanged : T → RequestContent → Frame → T → Type 0) where
-  module _ (known : Known) where
+  module _ (background : Background) where
     -- the new roots are taken, and each promise is tested that is due and does not wait
     abbrev pub Prepares : Scene T → Scene T → Type 0
-    Prepares before after = (count : ℕ) × (middle : Scene T) × Follows hash verified exchanged count before middle × TestsAll hash accepted exchanged known.marks middle after
+    Prepares before after = (count : ℕ) × (middle : Scene T) × Follows hash verified exchanged count before middle × TestsAll hash accepted exchanged background.marks middle after
 
     -- what a line says is asked; one that says something to a session asks nothing of a directory
     abbrev pub DoesLine : ScriptLine → Scene T → Scene T → Type 0
     DoesLine Pass before after = after ≡ before
-    DoesLine (Ask asked) before after = (noted : List SignedPromise) × (noted' : List SignedPromise) × AsksDirectory hash accepted verified exchanged known.marks known.token asked noted noted' before after
-    DoesLine (Watch name given) before after = BeginsWatch hash accepted verified exchanged known.marks known.key known.earlier name given before after
+    DoesLine (Ask asked) before after = (noted : List SignedPromise) × (noted' : List SignedPromise) × AsksDirectory hash accepted verified exchanged background.marks background.token asked noted noted' before after
+    DoesLine (Watch name given) before after = BeginsWatch hash accepted verified exchanged background.marks background.key background.earlier name given before after
     DoesLine (Piece session piece) before after = ⊥
     DoesLine (End session) before after = ⊥
 
@@ -105,29 +106,29 @@ module _ (hash : List ℕ → List ℕ) (accepted verified : List ℕ → List �
     AsksLines [] before old new after = Appends old new [] × (after ≡ before)
     AsksLines (line ∷ more) before old new after = (middle : Scene T) × (now : Option (List ℕ)) × Writes (AsksLine line) before old now middle × AsksLines more middle now new after
 
-  -- A client starts with the directory's head, and knows nothing of earlier runs; or, where there is a state,
-  -- as its files have it, and keeps what earlier runs were promised for their changes.
-  abbrev pub BeginsAsking : List ℕ → List ℕ → Type 0 → T → Known → Client → T → Type 0
-  BeginsAsking key token HasNoState stream known client after =
-      (StartsAtHead verified exchanged key stream client after × (known ≡ known_new key token))
-      ⊎ ((¬ HasNoState) × (after ≡ stream) × IsSoundFor hash accepted verified key client × KeepsAll client known.earlier)
+  -- A client starts with the directory's head, and knows nothing of earlier runs; or, where there is a state, it is a
+  -- sound one of this provider, which keeps what earlier runs were promised for their changes.
+  abbrev pub BeginsAsking : List ℕ → List ℕ → Type 0 → T → Background → Client → T → Type 0
+  BeginsAsking key token HasNoState stream background client after =
+      (StartsAtHead verified exchanged key stream client after × (background ≡ new_background key token))
+      ⊎ ((¬ HasNoState) × (after ≡ stream) × IsSoundFor hash accepted verified key client × KeepsAll client background.earlier)
 
   -- a run begins: nothing is told yet, and there is no monitor
-  pub record BeginsRun (key token : List ℕ) (HasNoState : Type 0) (stream : T) (known : Known) (start : Scene T) : Type 0 where
+  pub record BeginsRun (key token : List ℕ) (HasNoState : Type 0) (stream : T) (background : Background) (start : Scene T) : Type 0 where
     pub silent : start.told ≡ emptied 0
-    pub begins : BeginsAsking key token HasNoState stream known start.client start.stream
-    pub knows : (known.key ≡ key) × (known.token ≡ token) × (start.monitors ≡ [])
+    pub begins : BeginsAsking key token HasNoState stream background start.client start.stream
+    pub knows : (background.key ≡ key) × (background.token ≡ token) × (start.monitors ≡ [])
 
   -- A run from its beginning to its end: all that is new is followed, and the lines are asked. The stream is left
   -- as the last line left it.
   pub record RunsWhole (key token : List ℕ) (options : AskOptions) (HasNoState : Type 0) (stream stream' : T) (input : Option (List ℕ)) (status : ℕ) (old new : Option (List ℕ)) : Type 0 where
-    pub known : Known
+    pub background : Background
     pub start : Scene T
-    pub begun : BeginsRun key token HasNoState stream known start
+    pub begun : BeginsRun key token HasNoState stream background start
     pub ready : Scene T
     pub now : Option (List ℕ)
-    pub prepares : Writes (Prepares known) start old now ready
+    pub prepares : Writes (Prepares background) start old now ready
     pub last : Scene T
-    pub asks : IfSome (lines_asked options.words input) (λ lines. AsksLines known lines ready now new last)
+    pub asks : IfSome (lines_asked options.words input) (λ lines. AsksLines background lines ready now new last)
     pub status_is : status ≡ last.told.status
     pub left : last.stream ≡ stream'

@@ -19,7 +19,7 @@ use std::fs::{File, Files};
 use std::io::{BufRead, Read, Write};
 use std::net::{Net, TcpListener, TcpStream};
 use std::time::Duration;
-use textio::{ProgramFault, option_hex32, option_nonce, write_text};
+use textio::{ProgramFault, hex32_or_zeros, option_hex32, write_text};
 use vrfiface::VufCheck;
 
 /// How long a reply is waited for.
@@ -67,7 +67,7 @@ fn keys_of(order: &AskOrder<'_>) -> Result<AskKeys, ProgramFault>
         (λ fault. (fault ≡ BadHex) × (ask_keys_of (ask_values order.now) ≡ None)) }
 {
     let provider = option_hex32(order.provider)?;
-    let token = option_nonce(order.token)?;
+    let token = hex32_or_zeros(order.token)?;
     Ok(AskKeys {
         provider: Hash32::new(provider),
         token: Hash32::new(token),

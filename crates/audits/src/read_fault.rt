@@ -6,10 +6,9 @@ use thiserror::Error;
 
 /// Why a file was not read.
 #[derive(Clone, Copy, Debug, PartialEq, Eq, Error)]
+#[error("{}", ProgramFault::from(*self))]
 pub enum ReadFault {
-    #[error("not an evidence file")]
     NotEvidence,
-    #[error("out of memory")]
     OutOfMemory,
 }
 

@@ -8,7 +8,7 @@ use Rattle.clap.specs.declared.error.Error.{Error}
 use Rattle.clap.specs.Words.{Text, kind_of}
 use Rattle.textio.specs.declared.program_fault.ProgramFault.{ProgramFault}
 use Rattle.textio.specs.declared.program_fault.ProgramFault.TheVariants.{BadHex, BadItem, IndexRepeated, NotACommand, NotEvidence, BadRecord, OtherKeys, CannotRead, CannotWrite, CannotListen, OutOfMemory}
-use Rattle.textio.specs.Digits.{hex32, nonce_of}
+use Rattle.textio.specs.Digits.{hex32, hex32_or_zeros}
 use Rattle.textio.specs.Faults.{fault_text}
 use Rattle.textio.specs.Output.{Ends, WritesBeginning}
 use Rattle.audits.specs.declared.judging.Verdict.{Verdict}
@@ -84,7 +84,7 @@ AsksKeyed asked keys input out out-new err err-new outcome =
 -- the errors too.
 abbrev pub Obeys : Task → Option (List ℕ) → Option (List ℕ) → Option (List ℕ) → Option (List ℕ) → Option (List ℕ) → Result ℕ ProgramFault → Type 0
 Obeys (the_root asked) input out out-new err err-new outcome = EndsWithStatus 0 (λ input said. root_answer asked input ≡ said) input out out-new outcome × Keeps err err-new
-Obeys (the_path index asked) input out out-new err err-new outcome = EndsWithStatus 0 (Proves asked.hash (nonce_of asked.nonce) (hex32 index)) input out out-new outcome × Keeps err err-new
+Obeys (the_path index asked) input out out-new err err-new outcome = EndsWithStatus 0 (Proves asked.hash (hex32_or_zeros asked.nonce) (hex32 index)) input out out-new outcome × Keeps err err-new
 Obeys (the_audit key) input out out-new err err-new outcome = IsZero outcome × Keeps err err-new
     × (left : Option (List ℕ)) × AuditsText key input left out (without_status outcome) out-new
 Obeys (the_verdict key file) input out out-new err err-new outcome = Keeps err err-new

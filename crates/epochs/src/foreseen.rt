@@ -2,41 +2,13 @@
 ghost use Rattle.std.specs.Prelude.{◌≡◌, ◌+◌, ◌<◌, ◌≤◌, IfSome, map};
 ghost use Rattle.commit.specs.Commitments.{commitment_bytes};
 
-use commit::commit;
+use commit::{commit, short_commit_text};
 use encoding::{Hash32, KeyData, Name};
 use nodehash::{NodeHash, NodeText};
 use std::marker::{Model, PhantomData};
 
-/// The kind byte of a commitment: the letter C.
-const COMMITMENT: u8 = 0x43;
-
-/// The version of the text.
-const VERSION: u8 = 1;
-
-/// The most bytes of a name and its key together whose commitment has a text that fits where that of a node does.
-const SHORT_LEN: usize = 63;
-
 /// How many commitments are digested at once.
 pub const AT_ONCE: usize = 4;
-
-/// The text of the commitment that binds a key to a name under a salt, if it is no longer than that of a node.
-pub fn short_commit_text(salt: &Hash32, name: &[u8], key: &[u8]) -> Option<NodeText>
-    ensures { IfSome result (λ text. text ≡ commitment_bytes salt.now name.now key.now) }
-{
-    if name.len() > SHORT_LEN {
-        return None;
-    }
-    if key.len() > SHORT_LEN - name.len() {
-        return None;
-    }
-    let mut text = NodeText::new();
-    text.push(COMMITMENT);
-    text.push(VERSION);
-    text.push_slice(salt.bytes());
-    text.push_counted(name);
-    text.push_counted(key);
-    Some(text)
-}
 
 /// Commitments with their texts, in the order in which they will be wanted.
 #[derive(Drop)]

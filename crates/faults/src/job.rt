@@ -71,6 +71,7 @@ impl Outcome {
     pub(crate) fn is_of_memory(self) -> bool {
         self.fault == Some(Fault::Program(ProgramFault::OutOfMemory))
             || self.fault == Some(Fault::Session(ServeFault::OutOfMemory))
+            || self.fault == Some(Fault::Session(ServeFault::OutOfMemoryAndCannotWrite))
     }
 }
 

@@ -4,17 +4,19 @@ use Rattle.std.specs.List.{list_any}
 use Rattle.std.specs.Str.{bytes_eq}
 use Rattle.std.specs.Map.{keys_of}
 use Rattle.prefixtree.specs.Placement.{Items, put_all}
+use Rattle.items.specs.declared.listing.TheConstants.{ITEM_SIZE}
 use Rattle.textio.specs.declared.program_fault.ProgramFault.{ProgramFault}
 use Rattle.textio.specs.declared.program_fault.ProgramFault.TheVariants.{BadItem, IndexRepeated}
+use Rattle.textio.specs.declared.digits.TheConstants.{HASH_DIGITS}
 use Rattle.textio.specs.Digits.{hex32}
 use Rattle.textio.specs.Lines.{lines_of}
 
 -- an item's line: the index, one space, the commitment
 unfoldable pub item_of : List ℕ → Option (List ℕ × List ℕ)
 item_of line =
-    if length line == 129
-    then (if slice_index line 64 == 32
-    then option_and_then (λ index. option_map (λ commitment. (index, commitment)) (hex32 (drop 65 line))) (hex32 (take 64 line))
+    if length line == ITEM_SIZE
+    then (if slice_index line HASH_DIGITS == 32
+    then option_and_then (λ index. option_map (λ commitment. (index, commitment)) (hex32 (drop (HASH_DIGITS + 1) line))) (hex32 (take HASH_DIGITS line))
     else None)
     else None
 

@@ -9,7 +9,7 @@ use Rattle.textio.specs.declared.program_fault.ProgramFault.{ProgramFault}
 use Rattle.textio.specs.declared.program_fault.ProgramFault.TheVariants.{BadHex}
 use Rattle.items.specs.declared.orders.HashChoice.{HashChoice}
 use Rattle.items.specs.declared.orders.HashChoice.TheVariants.{Sha256, Sum}
-use Rattle.textio.specs.Digits.{nonce_of}
+use Rattle.textio.specs.Digits.{hex32_or_zeros}
 use Rattle.items.specs.Items.{placement_of}
 use Rattle.items.specs.TreeOptions.{TreeOptions}
 
@@ -34,4 +34,4 @@ root_result_under choice (Some nonce) input = root_result (digest_of choice) non
 
 -- the text that an order and an input call for, or the fault
 abbrev pub root_answer : TreeOptions → List ℕ → Result (List ℕ) ProgramFault
-root_answer asked = root_result_under asked.hash (nonce_of asked.nonce)
+root_answer asked = root_result_under asked.hash (hex32_or_zeros asked.nonce)

@@ -1,5 +1,5 @@
 ghost use Rattle.std.specs.Prelude.{◌≡◌, ◌≢◌, ◌↔◌, ◌⊎◌, ◌++◌, Err, IfOk, IfErr, None};
-ghost use Rattle.textio.specs.Digits.{hex32, nonce_of};
+ghost use Rattle.textio.specs.Digits.{hex32, hex32_or_zeros};
 ghost use Rattle.items.specs.Items.{placement_of};
 ghost use Rattle.textio.specs.Output.{Ends};
 ghost use Rattle.items.specs.Prove.{end_line, path_lines, sibling_lines, PathTold, Proves};
@@ -14,7 +14,7 @@ use nodehash::{NodeHash, Sha256Hash, SumHash};
 use prefixtree::{End, Path, Tree, path_is_way};
 use std::alloc::{AllocError, Global};
 use std::io::{BufRead, Write};
-use textio::{ProgramFault, hex_digits, option_hex32, option_nonce, write_text};
+use textio::{ProgramFault, hex_digits, hex32_or_zeros, option_hex32, write_text};
 
 /// Appends the line of a path's end.
 fn push_end(lines: &mut Vec<u8>, end: End) -> Result<(), AllocError>
@@ -104,13 +104,13 @@ pub fn prove<R: BufRead, W: Write>(
     reader: &mut R,
     writer: &mut W,
 ) -> Result<(), ProgramFault>
-    ensures ends { Ends (Proves order.entry.root.hash (nonce_of (tree_values order.entry.root).nonce) (hex32 order.entry.index.now))
+    ensures ends { Ends (Proves order.entry.root.hash (hex32_or_zeros (tree_values order.entry.root).nonce) (hex32 order.entry.index.now))
         (R.remaining reader.old) (W.contents writer.old) (W.contents writer.new) result }
     ensures bad_hex { (result ≡ Err ProgramFault.BadHex)
-        ↔ ((nonce_of (tree_values order.entry.root).nonce ≡ None) ⊎ (hex32 order.entry.index.now ≡ None)) }
+        ↔ ((hex32_or_zeros (tree_values order.entry.root).nonce ≡ None) ⊎ (hex32 order.entry.index.now ≡ None)) }
     ensures unread { result ≡ Err ProgramFault.BadHex → (reader.new ≡ reader.old) × (writer.new ≡ writer.old) }
 {
-    let nonce = Hash32::new(option_nonce(order.root.nonce)?);
+    let nonce = Hash32::new(hex32_or_zeros(order.root.nonce)?);
     let index = Index::new(option_hex32(order.index)?);
     match order.root.hash {
         HashChoice::Sha256 => prove_under(

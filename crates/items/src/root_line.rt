@@ -2,7 +2,7 @@ ghost use Rattle.std.specs.Prelude.{◌≡◌, ◌≢◌, ◌↔◌, ◌++◌, l
 ghost use Rattle.items.specs.TreeOptions.{tree_values};
 ghost use Rattle.items.specs.Items.{placement_of};
 ghost use Rattle.textio.specs.Output.{Ends};
-ghost use Rattle.textio.specs.Digits.{nonce_of};
+ghost use Rattle.textio.specs.Digits.{hex32_or_zeros};
 ghost use Rattle.items.specs.Root.{root_answer, root_line, root_result};
 
 use crate::listing::read_placement;
@@ -12,7 +12,7 @@ use nodehash::{NodeHash, Sha256Hash, SumHash};
 use prefixtree::Tree;
 use std::alloc::Global;
 use std::io::{BufRead, Write};
-use textio::{HASH_DIGITS, ProgramFault, hex_digits, option_nonce, write_text};
+use textio::{HASH_DIGITS, ProgramFault, hex_digits, hex32_or_zeros, write_text};
 
 /// The bytes of `root `, a hash in digits and LF.
 const ROOT_TEXT: usize = b"root \n".len() + HASH_DIGITS;
@@ -63,10 +63,10 @@ pub fn root<R: BufRead, W: Write>(
     writer: &mut W,
 ) -> Result<(), ProgramFault>
     ensures ends { Ends (λ input said. root_answer (tree_values order.entry) input ≡ said) (R.remaining reader.old) (W.contents writer.old) (W.contents writer.new) result }
-    ensures bad_hex { (result ≡ Err ProgramFault.BadHex) ↔ (nonce_of (tree_values order.entry).nonce ≡ None) }
+    ensures bad_hex { (result ≡ Err ProgramFault.BadHex) ↔ (hex32_or_zeros (tree_values order.entry).nonce ≡ None) }
     ensures unread { result ≡ Err ProgramFault.BadHex → (reader.new ≡ reader.old) × (writer.new ≡ writer.old) }
 {
-    let nonce = Hash32::new(option_nonce(order.nonce)?);
+    let nonce = Hash32::new(hex32_or_zeros(order.nonce)?);
     match order.hash {
         HashChoice::Sha256 => root_under(alloc, &mut Sha256Hash::new(), &nonce, reader, writer),
         HashChoice::Sum => root_under(alloc, &mut SumHash::new(), &nonce, reader, writer),

@@ -1,2 +1,3 @@
 pub mod Counting
 pub mod Groups
+pub mod TextSizes

@@ -1,18 +1,18 @@
 -- The line of the reply to what a line asks.
-use Rattle.std.proofs.Common.{◌≡◌, ◌≢◌, ℕ, Global, List, [], ◌∷◌, Option, Some, None, Ok, Err, AllPairs, Bool, true, false, cond, refl, sym, ap, subst, ◌∙◌}
-use Rattle.std.specs.Prelude.{Vec}
+use Rattle.std.proofs.Common.{◌≡◌, ◌≢◌, ℕ, Global, List, [], ◌∷◌, Option, Some, None, Ok, Err, AllPairs, Bool, true, false, cond, refl, sym, ap, subst, ◌∙◌, arith}
+use Rattle.std.specs.Prelude.{Vec, ◌==◌, if◌then◌else◌}
 use Rattle.std.specs.Str.{bytes_eq}
 use Rattle.rand_core.specs.Stream.{Stream}
 use Rattle.encoding.specs.Bytes.{IsBytes}
 use Rattle.rootchain.specs.declared.signed_root.SignedRoot.{SignedRoot}
-use Rattle.proofs.specs.Replies.{Reply as Spelled, SpellsReply}
 use Rattle.commands.specs.Operations.{Operation, Question, Query, Edit, Put, Promise, Lookup, History, Head}
 use Rattle.commands.specs.Operations as ask
 use Rattle.wire.specs.Requests.{RequestContent, IsAsked}
 use Rattle.wire.specs.Requests as request
 use Rattle.wire.specs.Responses as response
 use Rattle.wire.specs.Responses.{ResponseContent}
-use Rattle.hub.specs.Desks.{command, IsResponseOf}
+use Rattle.wire.specs.declared.response.TheConstants.{PROOF}
+use Rattle.hub.specs.Desks.{command, reply_frame}
 use Rattle.book.specs.declared.reply.Reply.{Reply}
 use Rattle.book.specs.declared.reply.Reply.TheVariants as reply
 use Rattle.book.specs.Steps.{Answer, Promised, Found, Told, Last, Outcome}
@@ -21,27 +21,27 @@ use Rattle.book.specs.Fresh.{KeepsLaws}
 use Rattle.book.specs.Honest.{IsHonestRun}
 use Rattle.book.specs.Keeps.{KeepsNothing, NeverFails}
 use Rattle.book.specs.Maps.{at}
-use Rattle.book.specs.Refusals.{book_refusal_number}
 use Rattle.book.specs.Shows.{Provider, index_of, roots, IsReplyOf, IsRootOf}
 use Rattle.book.specs.Sound.{IsSound}
 use Rattle.book.specs.Turns.{Turn}
 use Rattle.book.proofs.Growing.{run-grows}
 use Rattle.book.proofs.Soundness.{IsBefore}
 use Rattle.book.proofs.Stepping.{finds, stepped, Does, Finds}
+use Rattle.book.proofs.Turning.{asked-page}
 use Rattle.epochs.proofs.Running.{same_provider}
 use Rattle.play.specs.Answering.{IsUnchecked}
 use Rattle.play.specs.Checked.{line_of_reply, HasLookedUp}
 use Rattle.play.specs.Checking.{IsShownIn}
 use Rattle.play.specs.Hearing.{response_text}
-use Rattle.play.specs.Lines.{answer_text, checked_text, found_text, numbered_text}
-use Rattle.play.specs.Messages.{comes_of, numbered, or_not_operator, request_asks, Numbered}
+use Rattle.play.specs.Lines.{answer_text, checked_text, found_text, upshot_text}
+use Rattle.play.specs.Messages.{comes_of, upshot_of, or_not_operator, request_asks, Upshot}
 use Rattle.play.specs.Parties.{book_of, chain_under, provider_of, HasAsked, Parties}
 use Rattle.play.specs.declared.ask.Ask.{Ask}
 use Rattle.play.specs.declared.ask.Ask.TheVariants as made
 use Rattle.play.specs.Scripts.{token, ask_seen}
 use Rattle.play.proofs.Answering.{lookups-shown, same-text}
 use Rattle.play.proofs.Comes.{turn_comes, Comes, HasCome}
-use Rattle.play.proofs.Turns.{found_epoch, unchecked_told}
+use Rattle.play.proofs.Turns.{unchecked_told}
 
 -- ---- a proof answers a look-up
 
@@ -92,27 +92,23 @@ no-lookup made.Head none name epoch is = absurd cc
 no-lookup (made.Close at_epoch) none name epoch is = absurd cc
 no-lookup (made.Rotate at_epoch _) none name epoch is = absurd cc
 
--- ---- what was said, by the response that was read
+-- ---- what was said, by the kind of its frame
 
--- a response that is no proof is no reply to a look-up
-pub unchecked-of : (said : Reply) (responded : ResponseContent) → IsResponseOf said responded → ((proof : Spelled) → responded ≢ response.Proof proof) → IsUnchecked said
-unchecked-of (reply.Promised signed) responded of none = tt
-unchecked-of (reply.Found text) responded (spelled, spells, of) none = absurd (none spelled of)
-unchecked-of (reply.Told told) responded of none = tt
-unchecked-of (reply.Last root) responded of none = tt
-unchecked-of (reply.Refused why) responded of none = tt
+-- a frame of another kind is no reply to a look-up
+pub unchecked-kind : (said : Reply) → (reply_frame said).kind ≢ PROOF → IsUnchecked said
+unchecked-kind (reply.Promised signed) other = tt
+unchecked-kind (reply.Found text) other = absurd (other refl)
+unchecked-kind (reply.Told told) other = tt
+unchecked-kind (reply.Last root) other = tt
+unchecked-kind (reply.Refused why) other = tt
 
--- and one that is a proof is the reply to a look-up
-pub found-of : (said : Reply) (responded : ResponseContent) (proof : Spelled) → IsResponseOf said responded → responded ≡ response.Proof proof
-    → (found : List ℕ) × (said ≡ reply.Found found) × SpellsReply found proof
-found-of (reply.Found text) responded proof (spelled, spells, of) is =
-    let e : response.Proof proof ≡ response.Proof spelled = sym is ∙ of in
-    let same : spelled ≡ proof = cc in
-    (text, refl, subst (SpellsReply text) same spells)
-found-of (reply.Promised signed) responded proof of is = let e : response.Proof proof ≡ response.Promise signed = sym is ∙ of in absurd cc
-found-of (reply.Told told) responded proof of is = let e : response.Proof proof ≡ response.Roots told.items = sym is ∙ of in absurd cc
-found-of (reply.Last root) responded proof of is = let e : response.Proof proof ≡ response.Root root = sym is ∙ of in absurd cc
-found-of (reply.Refused why) responded proof of is = let e : response.Proof proof ≡ response.Refused (book_refusal_number why) = sym is ∙ of in absurd cc
+-- and one of its kind is
+pub found-kind : (said : Reply) → (reply_frame said).kind ≡ PROOF → (found : List ℕ) × (said ≡ reply.Found found)
+found-kind (reply.Found text) is = (text, refl)
+found-kind (reply.Promised signed) is = let e : 129 ≡ 130 = is in absurd (omega (arith, e))
+found-kind (reply.Told told) is = let e : 131 ≡ 130 = is in absurd (omega (arith, e))
+found-kind (reply.Last root) is = let e : 132 ≡ 130 = is in absurd (omega (arith, e))
+found-kind (reply.Refused why) is = let e : 255 ≡ 130 = is in absurd (omega (arith, e))
 
 -- ---- the reply to one request
 
@@ -145,28 +141,28 @@ module _ {R : Type 0} (digest_of : List ℕ → List ℕ) (value_of signature_of
   pub request-comes : comes_of index (B before) (request_asks requested) ≡ (come.told, B after)
   request-comes = ap (comes_of index (B before)) request-is ∙ come.is
 
-  abbrev line_by : Numbered × Book → List ℕ
-  line_by now = numbered_text (checked_text index now.1) now.0
+  abbrev line_by : Upshot × Book → List ℕ
+  line_by now = upshot_text (checked_text index now.1) now.0
 
   -- the line of a reply that no client checks
   pub unchecked-line : a.responded ≢ response.Refused 14 → IsUnchecked a.said → response_text a.responded ≡ line
   unchecked-line some unchecked =
       let t = unchecked_told (P before) (B before) (B after) before.hub.service.keeper after.hub.service.keeper a.asked a.said a.responded grown unchecked a.turn a.response some in
-      let now_is : t.now ≡ come.told = ap (λ (n : Numbered × Book). n.0) (sym t.comes ∙ come.is) in
-      sym t.text ∙ ap (numbered_text (answer_text (B after))) now_is ∙ by come.told come.comes ∙ sym (ap line_by request-comes)
+      let now_is : t.now ≡ come.told = ap (λ (n : Upshot × Book). n.0) (sym t.comes ∙ come.is) in
+      sym t.text ∙ ap (upshot_text (answer_text (B after))) now_is ∙ by come.told come.comes ∙ sym (ap line_by request-comes)
     where
-      by : (told : Numbered) → Comes (P before) (B before) (B after) a.asked a.said told → numbered_text (answer_text (B after)) told ≡ numbered_text (checked_text index (B after)) told
+      by : (told : Upshot) → Comes (P before) (B before) (B after) a.asked a.said told → upshot_text (answer_text (B after)) told ≡ upshot_text (checked_text index (B after)) told
       by (Ok answer) comes = same-text (P before) KeepsNothing NeverFails index (B before) (B after) answer a.said unchecked comes.1
       by (Err code) comes = refl
 
   -- ---- look-ups
 
   -- what a look-up found, for the client
-  pub record HasFound (name : List ℕ) (epoch : ℕ) (found : List ℕ) (spelled : Spelled) : Type 0 where
+  pub record HasFound (name : List ℕ) (epoch : ℕ) (found : List ℕ) : Type 0 where
     pub page : Page
     pub is : HasLookedUp digest_of value_of signature_of stream accepted verified after name epoch found page
     pub told : found_text (index_of (P after)) page name ≡ line
-    pub at_epoch : spelled.body.epoch ≡ page.epoch
+    pub at_epoch : (if epoch == 0 then (B after).last.epoch else epoch) ≡ page.epoch
 
   module _ (found : List ℕ) (says : a.said ≡ reply.Found found) where
     turn-found : (asked : Operation) → a.asked ≡ asked → Turn (P before) KeepsNothing NeverFails (B before) before.hub.service.keeper asked (reply.Found found) (B after) after.hub.service.keeper
@@ -218,8 +214,8 @@ module _ {R : Type 0} (digest_of : List ℕ → List ℕ) (value_of signature_of
 
       page-is : finds_page.0 ≡ page
       page-is =
-          let one : comes_of index (B before) (Ok asked) ≡ (Ok turn.0, B after) = ap (λ (now : Outcome × Book). (numbered now.0, now.1)) turn.1 in
-          let e : ◌≡◌ {A = Numbered} (Ok turn.0) (Ok (Found page name (at page.bindings name))) = ap (λ (now : Numbered × Book). now.0) (sym one ∙ shown.3) in
+          let one : comes_of index (B before) (Ok asked) ≡ (Ok turn.0, B after) = ap (λ (now : Outcome × Book). (upshot_of now.0, now.1)) turn.1 in
+          let e : ◌≡◌ {A = Upshot} (Ok turn.0) (Ok (Found page name (at page.bindings name))) = ap (λ (now : Upshot × Book). now.0) (sym one ∙ shown.3) in
           let f : Found finds_page.0 name (at finds_page.0.bindings name) ≡ turn.0 = sym finds_page.2 in
           cc
 
@@ -255,12 +251,15 @@ module _ {R : Type 0} (digest_of : List ℕ → List ℕ) (value_of signature_of
           = ap (comes_of index (B before)) (request-is ∙ ap Ok asked-is) ∙ shown.3 in
           sym (ap line_by comes)
 
-      pub has-found : (spelled : Spelled) → SpellsReply found spelled → before.client.chain ≡ chain_under before.key (roots (P before) (B before)) → HasFound name epoch found spelled
-      has-found spelled spells knows = record {
+      page-asked : page_at (B after) epoch ≡ Some page
+      page-asked = ap (λ (b : Book). page_at b epoch) stays ∙ finds_page.1 ∙ ap (λ (p : Page). Some p) page-is
+
+      pub has-found : before.client.chain ≡ chain_under before.key (roots (P before) (B before)) → HasFound name epoch found
+      has-found knows = record {
         page = page;
         is = record {
           named = shown.2.named;
-          asked = ap (λ (b : Book). page_at b epoch) stays ∙ finds_page.1 ∙ ap (λ (p : Page). Some p) page-is;
+          asked = page-asked;
           root = root;
           rooted = subst (λ (p : Provider). IsRootOf p (B after) page root) (sym same) shown.2.rooted;
           reply = subst (λ (p : Provider). IsReplyOf p page root.body name (at page.bindings name) found) (sym same) shown.2.shown;
@@ -270,5 +269,5 @@ module _ {R : Type 0} (digest_of : List ℕ → List ℕ) (value_of signature_of
           chain = chain knows;
         };
         told = ap (λ (p : Provider). found_text (index_of p) page name) same ∙ line-is;
-        at_epoch = found_epoch (P before) (B after) found page name (at page.bindings name) root spelled sound.pages shown.2.rooted shown.2.shown spells;
+        at_epoch = sym (asked-page (B after) epoch page page-asked);
       }

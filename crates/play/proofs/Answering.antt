@@ -15,8 +15,8 @@ use Rattle.book.proofs.Stepping.{finds, stepped}
 use Rattle.book.proofs.Turning.{is-name, passed}
 use Rattle.play.specs.Answering.{AnswersAreTold, IsUnchecked, LookupsAreShown}
 use Rattle.play.specs.Hearing.{IsGranted}
-use Rattle.play.specs.Lines.{answer_text, checked_text, numbered_text}
-use Rattle.play.specs.Messages.{Numbered, comes_of, numbered}
+use Rattle.play.specs.Lines.{answer_text, checked_text, upshot_text}
+use Rattle.play.specs.Messages.{Upshot, comes_of, upshot_of}
 use Rattle.play.proofs.Hearing.{given-up, turned, AreOfPages}
 
 module _ (provider : Provider) {K : Type 0} (kept failed : K → Record → K → Type 0) where
@@ -38,13 +38,13 @@ module _ (provider : Provider) {K : Type 0} (kept failed : K → Record → K �
 
   -- what comes of the command has one text too
   OneText : Book → Book → Operation → Type 0
-  OneText book after asked = numbered_text (answer_text after) (comes_of (index_of provider) book (Ok asked)).0 ≡ numbered_text (checked_text (index_of provider) after) (comes_of (index_of provider) book (Ok asked)).0
+  OneText book after asked = upshot_text (answer_text after) (comes_of (index_of provider) book (Ok asked)).0 ≡ upshot_text (checked_text (index_of provider) after) (comes_of (index_of provider) book (Ok asked)).0
 
   answered-once : (book after : Book) (asked : Operation) (said : Reply) → IsUnchecked said → (answer : Answer) → step (index_of provider) book asked ≡ (Answers answer, after) → Shows provider after answer said → OneText book after asked
   unfolding OneText
   answered-once book after asked said unchecked answer is shows =
-      let comes : (comes_of (index_of provider) book (Ok asked)).0 ≡ Ok answer = ap (λ (now : Outcome × Book). numbered now.0) is in
-      subst (λ (n : Numbered). numbered_text (answer_text after) n ≡ numbered_text (checked_text (index_of provider) after) n) (sym comes)
+      let comes : (comes_of (index_of provider) book (Ok asked)).0 ≡ Ok answer = ap (λ (now : Outcome × Book). upshot_of now.0) is in
+      subst (λ (n : Upshot). upshot_text (answer_text after) n ≡ upshot_text (checked_text (index_of provider) after) n) (sym comes)
       (same-text (index_of provider) book after answer said unchecked shows)
 
   one-text : (book after : Book) (keeper later : K) (asked : Operation) (said : Reply) → IsUnchecked said → IsGranted said → Turn provider kept failed book keeper asked said after later → OneText book after asked
@@ -52,7 +52,7 @@ module _ (provider : Provider) {K : Type 0} (kept failed : K → Record → K �
   one-text book after keeper later asked (reply_of.Refused why) unchecked granted (stays, declines) = by (step (index_of provider) book asked).0 declines
     where
       by : (outcome : Outcome) → Declines provider kept failed outcome (kept_of book asked) keeper why later
-          → numbered_text (answer_text after) (numbered outcome) ≡ numbered_text (checked_text (index_of provider) after) (numbered outcome)
+          → upshot_text (answer_text after) (upshot_of outcome) ≡ upshot_text (checked_text (index_of provider) after) (upshot_of outcome)
       by (Refuses due) d = refl
       by (Answers answer) d = absurd (given-up provider kept failed keeper later why answer (kept_of book asked) granted d)
   one-text book after keeper later asked (reply_of.Found text) unchecked granted turn = absurd unchecked
@@ -79,6 +79,6 @@ module _ (provider : Provider) {K : Type 0} (kept failed : K → Record → K �
       = subst (λ (n : List ℕ). IsReplyOf provider page root.body n (at page.bindings name) text) (sym named)
       (subst (λ (h : Option Binding). IsReplyOf provider page root.body other h text) (sym found) shown) in
       let comes : comes_of (index_of provider) book (Ok (Query (Lookup name epoch))) ≡ (Ok (Found page name (at page.bindings name)), after)
-      = ap (λ (now : Outcome × Book). (numbered now.0, now.1)) is
+      = ap (λ (now : Outcome × Book). (upshot_of now.0, now.1)) is
       ∙ ap (λ (a : Answer). (Ok a, after)) (f.2 ∙ ap (λ (p : Page). Found p name (at p.bindings name)) own) in
       (page, root, record { sound = sound; rooted = rooted; named = is-name name (passed (bad_name name) ((is_none (page_at book epoch), NoSuchEpoch) ∷ []) d.none).0 small; shown = its }, comes)

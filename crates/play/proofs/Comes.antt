@@ -15,23 +15,23 @@ use Rattle.book.specs.Shows.{Provider, index_of}
 use Rattle.book.specs.Turns.{Declines, Shows, Turn}
 use Rattle.book.proofs.Stepping.{Does, due_steps, refused_due, stepped}
 use Rattle.play.specs.Messages as message
-use Rattle.play.specs.Messages.{comes_of, numbered}
+use Rattle.play.specs.Messages.{comes_of, upshot_of}
 
 -- ---- what comes of a command
 
 module _ (provider : Provider) (book after : Book) (asked : Operation) where
   -- the reply shows the answer that the book does, or it is the refusal
-  abbrev pub Comes : Reply → message.Numbered → Type 0
+  abbrev pub Comes : Reply → message.Upshot → Type 0
   Comes said (Ok answer) = Does book asked answer after × Shows provider after answer said
   Comes said (Err code) = (why : Refusal) × (said ≡ reply.Refused why) × (code ≡ book_refusal_number why)
 
   pub record HasCome (said : Reply) : Type 0 where
-    pub told : message.Numbered
+    pub told : message.Upshot
     pub is : comes_of (index_of provider) book (Ok asked) ≡ (told, after)
     pub comes : Comes said told
 
-  abbrev comes_to : Outcome × Book → message.Numbered × Book
-  comes_to now = (numbered now.0, now.1)
+  abbrev comes_to : Outcome × Book → message.Upshot × Book
+  comes_to now = (upshot_of now.0, now.1)
 
   answered : (said : Reply) (answer : Answer) → step (index_of provider) book asked ≡ (Answers answer, after) → Shows provider after answer said → HasCome said
   answered said answer steps shows =

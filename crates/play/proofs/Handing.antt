@@ -172,14 +172,14 @@ module _ {R : Type 0} (digest_of : List ℕ → List ℕ) (value_of signature_of
   AreWatchers book = AllZip (IsWatcher before.key (roots by (now_book before)) book)
 
   told_is : (comes_of (index_of by) (now_book before) (request_asks (request.Put verb name key))).0 ≡ come.told
-  told_is = ap (λ (x : message.Numbered × Book). x.0) come.is
+  told_is = ap (λ (x : message.Upshot × Book). x.0) come.is
 
-  abbrev AreAfter : List Monitor → message.Numbered → Type 0
+  abbrev AreAfter : List Monitor → message.Upshot → Type 0
   AreAfter monitors told = AreWatchers (now_book asked) monitors (after_promise (request.Put verb name key) (now_book before).last.epoch told watchers)
 
   has : (after : Parties R) → after ≡ record now { monitors = after.monitors } → AreAfter after.monitors come.told
       → HasHanded digest_of value_of signature_of stream accepted verified before asked now (request.Put verb name key) watchers after
-  has after others are = record { others = others; are = subst (λ (told : message.Numbered). AreAfter after.monitors told) (sym told_is) are }
+  has after others are = record { others = others; are = subst (λ (told : message.Upshot). AreAfter after.monitors told) (sym told_is) are }
 
   -- where there was no promise, nothing is handed out
   pub nothing-handed : ((promised : SignedPromise) → may.was.said ≡ reply.Promised promised → ⊥) → HasHanded digest_of value_of signature_of stream accepted verified before asked now (request.Put verb name key) watchers now
@@ -188,7 +188,7 @@ module _ {R : Type 0} (digest_of : List ℕ → List ℕ) (value_of signature_of
       stays : (why : Refusal) → may.was.said ≡ reply.Refused why → now_book asked ≡ now_book before
       stays why is = (subst (λ (said : Reply). Turn by KeepsNothing NeverFails (now_book before) before.hub.service.keeper command said (now_book asked) asked.hub.service.keeper) is turn).0
 
-      by_told : (told : message.Numbered) → Comes by (now_book before) (now_book asked) command may.was.said told → AreAfter now.monitors told
+      by_told : (told : message.Upshot) → Comes by (now_book before) (now_book asked) command may.was.said told → AreAfter now.monitors told
       by_told (Ok answer) comes = let shown = shows-promise by (now_book asked) name _ answer may.was.said comes.0.0 comes.1 in absurd (none shown.0 shown.1)
       by_told (Err code) (why, is, numbered) =
           subst (λ (book : Book). AreWatchers book now.monitors watchers) (sym (stays why is))
@@ -212,7 +212,7 @@ module _ {R : Type 0} (digest_of : List ℕ → List ℕ) (value_of signature_of
       other : {why : Refusal} → reply.Promised promised ≡ reply.Refused why → ⊥
       other e = absurd cc
 
-      by_told : (told : message.Numbered) → come.told ≡ told → Comes by (now_book before) (now_book asked) command may.was.said told → IsGiven promised
+      by_told : (told : message.Upshot) → come.told ≡ told → Comes by (now_book before) (now_book asked) command may.was.said told → IsGiven promised
       by_told (Err code) told (why, refused, numbered) = absurd (other (sym is ∙ refused))
       by_told (Ok answer) told (does, shows) =
           let shown = subst (λ (said : Reply). Shows by (now_book asked) answer said) is shows in
@@ -230,7 +230,7 @@ module _ {R : Type 0} (digest_of : List ℕ → List ℕ) (value_of signature_of
   promise-handed promised is after others all =
       let given = is-given promised is in
       has after others
-      (subst (λ (told : message.Numbered). AreAfter after.monitors told) (sym given.told)
+      (subst (λ (told : message.Upshot). AreAfter after.monitors told) (sym given.told)
       (subst (λ (book : Book). AreWatchers book after.monitors (handed name (now_book before).last.epoch key watchers)) (sym given.book)
       (hands-all before.key (roots by (now_book before)) (now_book before) name key promised given.epoch given.bound before.monitors after.monitors watchers may.are
       (subst (λ (monitors : List Monitor). AllZip (IsHanded name promised) monitors after.monitors) monitors_are all))))
@@ -247,7 +247,7 @@ module _ {R : Type 0} (digest_of : List ℕ → List ℕ) (value_of signature_of
   pub was-promise : (body : List ℕ) → body ≡ (reply_frame may.was.said).body → length body ≢ 1 → (promised : SignedPromise) × (may.was.said ≡ reply.Promised promised)
   was-promise body is long = by_told come.told come.comes
     where
-      by_told : (told : message.Numbered) → Comes by (now_book before) (now_book asked) command may.was.said told → (promised : SignedPromise) × (may.was.said ≡ reply.Promised promised)
+      by_told : (told : message.Upshot) → Comes by (now_book before) (now_book asked) command may.was.said told → (promised : SignedPromise) × (may.was.said ≡ reply.Promised promised)
       by_told (Ok answer) comes = shows-promise by (now_book asked) name _ answer may.was.said comes.0.0 comes.1
       by_told (Err code) (why, refused, numbered) = absurd (long (ap length is ∙ ap (λ (said : Reply). length (reply_frame said).body) refused))
 

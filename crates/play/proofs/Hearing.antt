@@ -39,8 +39,8 @@ use Rattle.hub.specs.DeskRuns.{AreResponses, IsTurnedAway, Reaches, ShowReplies}
 use Rattle.hub.specs.Desks.{reply_frame, IsRead, IsResponseOf}
 use Rattle.hub.specs.Runs.{Line, asked_by}
 use Rattle.play.specs.Hearing.{response_text, HasFrameBytes, IsGranted, IsHeardAs, IsOfBytes, RunsAreHeard}
-use Rattle.play.specs.Lines.{answer_text, last_epoch, numbered_text}
-use Rattle.play.specs.Messages.{Numbered, asks, comes_of, numbered, reading_asks, request_asks}
+use Rattle.play.specs.Lines.{answer_text, last_epoch, upshot_text}
+use Rattle.play.specs.Messages.{Upshot, asks, comes_of, upshot_of, reading_asks, request_asks}
 use Rattle.play.specs.Played.{answered}
 use Rattle.play.specs.Scripts.{token}
 use Rattle.play.proofs.Calling.{rooted-epoch}
@@ -148,11 +148,11 @@ module _ (provider : Provider) where
       → (read : Spelled) → SpellsReply text read → read.body.epoch ≡ (if epoch == 0 then latest else epoch)
 
   -- what comes of a command, and the book after it
-  abbrev Comes : Book → Operation → Numbered × Book
+  abbrev Comes : Book → Operation → Upshot × Book
   Comes book asked = comes_of (index_of provider) book (Ok asked)
 
   comes-answer : (book after : Book) (asked : Operation) (answer : Answer) → step (index_of provider) book asked ≡ (Answers answer, after) → Comes book asked ≡ (Ok answer, after)
-  comes-answer book after asked answer is = ap (λ (now : Outcome × Book). (numbered now.0, now.1)) is
+  comes-answer book after asked answer is = ap (λ (now : Outcome × Book). (upshot_of now.0, now.1)) is
 
   -- the page of an answer with a page is the last one
   last-of : (book after : Book) (asked : Operation) (answer : Answer) (page : Page) → Does book asked answer after → answer ≡ Last page → page ≡ after.last
@@ -220,7 +220,7 @@ module _ (provider : Provider) where
     -- what a turn tells of the step, where it was granted
     pub record IsTurned (book : Book) (asked : Operation) (said : Reply) (after : Book) (responded : ResponseContent) : Type 0 where
       pub book_after : (Comes book asked).1 ≡ after
-      pub line : response_text responded ≡ numbered_text (answer_text after) (Comes book asked).0
+      pub line : response_text responded ≡ upshot_text (answer_text after) (Comes book asked).0
       pub latest : latest_after book.last.epoch asked said ≡ after.last.epoch
 
     turned-answer : (book after : Book) (asked : Operation) (said : Reply) (responded : ResponseContent) → AllPairs IsBefore (pages after) → (answer : Answer)
@@ -230,8 +230,8 @@ module _ (provider : Provider) where
         let done = (stepped (index_of provider) book asked answer after is).does in
         let comes = comes-answer book after asked answer is in
         record {
-          book_after = ap (λ (now : Numbered × Book). now.1) comes;
-          line = shows-text book after asked answer said responded up done shows responds of_pages ∙ ap (λ (now : Numbered × Book). numbered_text (answer_text after) now.0) (sym comes);
+          book_after = ap (λ (now : Upshot × Book). now.1) comes;
+          line = shows-text book after asked answer said responded up done shows responds of_pages ∙ ap (λ (now : Upshot × Book). upshot_text (answer_text after) now.0) (sym comes);
           latest = latest-now book after asked answer said done shows;
         }
 
@@ -251,10 +251,10 @@ module _ (provider : Provider) where
         by (Answers answer) is d = absurd (given-up keeper later why answer (kept_of book asked) granted d)
         by (Refuses due) is d =
             let all : step (index_of provider) book asked ≡ (Refuses due, book) = due_steps (index_of provider) book asked due (refused_due (index_of provider) book asked due is) in
-            let comes : Comes book asked ≡ (Err (book_refusal_number due), book) = ap (λ (now : Outcome × Book). (numbered now.0, now.1)) all in
+            let comes : Comes book asked ≡ (Err (book_refusal_number due), book) = ap (λ (now : Outcome × Book). (upshot_of now.0, now.1)) all in
             record {
-              book_after = ap (λ (now : Numbered × Book). now.1) comes ∙ sym stays;
-              line = rw responds (ap (λ (w : Refusal). codes "refused " ++ decimal (book_refusal_number w)) d.0) ∙ ap (λ (now : Numbered × Book). numbered_text (answer_text after) now.0) (sym comes);
+              book_after = ap (λ (now : Upshot × Book). now.1) comes ∙ sym stays;
+              line = rw responds (ap (λ (w : Refusal). codes "refused " ++ decimal (book_refusal_number w)) d.0) ∙ ap (λ (now : Upshot × Book). upshot_text (answer_text after) now.0) (sym comes);
               latest = refused-latest book.last.epoch asked why ∙ ap (λ (b : Book). b.last.epoch) (sym stays);
             }
 
@@ -277,9 +277,9 @@ module _ (provider : Provider) where
     Heard lines book after = ((answered (index_of provider) book (messages_of lines)).1 ≡ after) × AllZip IsHeardAs lines (answered (index_of provider) book (messages_of lines)).0
 
     -- a line and those behind it, by what comes of its message
-    abbrev HeardFrom : Line → List Line → Book → Numbered × Book → Type 0
+    abbrev HeardFrom : Line → List Line → Book → Upshot × Book → Type 0
     HeardFrom line more after now = ((answered (index_of provider) now.1 (messages_of more)).1 ≡ after)
-        × AllZip IsHeardAs (line ∷ more) (numbered_text (answer_text now.1) now.0 ∷ (answered (index_of provider) now.1 (messages_of more)).0)
+        × AllZip IsHeardAs (line ∷ more) (upshot_text (answer_text now.1) now.0 ∷ (answered (index_of provider) now.1 (messages_of more)).0)
 
     nothing-run : (commands : List Operation) (replies : List Reply) (book after : Book) (keeper later : K) → commands ≡ [] → replies ≡ [] → Run provider kept failed book keeper commands replies after later → book ≡ after
     nothing-run [] [] book after keeper later e f run = sym run.0

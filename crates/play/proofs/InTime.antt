@@ -20,7 +20,7 @@ use Rattle.book.proofs.Turning.{above-last, passed}
 use Rattle.play.specs.InTime.{AreInTime, IsInTime, MonitorsAreInTime, PromisesAreLater}
 use Rattle.play.specs.Laws.{after_lines, script_after_line}
 use Rattle.play.specs.Lines.{is_double, refused_proof}
-use Rattle.play.specs.Messages.{asks, comes_of, heard, numbered, request_asks}
+use Rattle.play.specs.Messages.{asks, comes_of, heard, upshot_of, request_asks}
 use Rattle.play.specs.Played as played
 use Rattle.play.specs.Played.{Stand, answered, line_played, opening, piece_events, watch_on, watcher_of}
 use Rattle.play.specs.Scripts.{ScriptLine, Pass, Ask, Watch as Watching, Piece, End, line_of}
@@ -121,7 +121,7 @@ module _ (index_of : List ℕ → List ℕ) where
     where
       by : (why : Option Refusal) → AreInTime (unless_refused why stand.book (Edit (Put verb name key))).1 stand.watchers
           → AreInTime (unless_refused why stand.book (Edit (Put verb name key))).1
-          (played.after_promise (request.Put verb name key) stand.book.last.epoch (numbered (unless_refused why stand.book (Edit (Put verb name key))).0)
+          (played.after_promise (request.Put verb name key) stand.book.last.epoch (upshot_of (unless_refused why stand.book (Edit (Put verb name key))).0)
           (watch_on index_of stand.book (unless_refused why stand.book (Edit (Put verb name key))).1 stand.watchers).1)
       by (Some why) kept = on-keeps stand.book stand.book stand.book stand.watchers kept
       by None kept =
@@ -155,7 +155,7 @@ monitors-in-time index_of salts lines = lines-in-time index_of lines (opening sa
 pub promises-later : PromisesAreLater
 promises-later index_of book verb name key answer changes is are = by (refusal index_of book (Edit (Put verb name key))) refl is
   where
-    by : (why : Option Refusal) → refusal index_of book (Edit (Put verb name key)) ≡ why → numbered (unless_refused why book (Edit (Put verb name key))).0 ≡ Ok answer
+    by : (why : Option Refusal) → refusal index_of book (Edit (Put verb name key)) ≡ why → upshot_of (unless_refused why book (Edit (Put verb name key))).0 ≡ Ok answer
         → AllByRecursion (λ (change : ℕ × List ℕ). change.0 < book.last.epoch) changes
     by (Some why) e f = absurd cc
     by None e f = each-so (IsInTime book name) (λ (change : ℕ × List ℕ). change.0 < book.last.epoch) lower changes are

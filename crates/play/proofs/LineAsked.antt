@@ -25,8 +25,8 @@ use Rattle.epochs.specs.DirectoryStates.{book as book_kept, provider as provider
 use Rattle.epochs.proofs.Running.{same_provider}
 use Rattle.play.specs.Checked.{line_of_reply, HasAskedKnowing}
 use Rattle.play.specs.Handed.{HasHanded, MayHand}
-use Rattle.play.specs.Lines.{as_lines, checked_text, numbered_text}
-use Rattle.play.specs.Messages.{comes_of, request_asks, Numbered}
+use Rattle.play.specs.Lines.{as_lines, checked_text, upshot_text}
+use Rattle.play.specs.Messages.{comes_of, request_asks, Upshot}
 use Rattle.play.specs.Parties.{book_of, chain_under, provider_of, AreAt, AreBehind, HasAsked, HaveDone, HaveTaken, HoldBytes, IsHub, IsWatcher, Parties}
 use Rattle.play.specs.Played.{after_promise, Stand}
 use Rattle.play.specs.Played as played
@@ -43,17 +43,17 @@ use Rattle.play.proofs.Pieces.{not_less, text_more}
 -- ---- the definition, by what comes of the request and whether pages came
 
 module _ (index : List ℕ → List ℕ) where
-  abbrev ask_by : Stand → RequestContent → Numbered × Book → Bool → List (List ℕ) × Stand
+  abbrev ask_by : Stand → RequestContent → Upshot × Book → Bool → List (List ℕ) × Stand
   ask_by stand requested now grows =
       let seen = cond grows (all_through index (pages now.1) stand.watchers) ([], stand.watchers) in (
-        numbered_text (checked_text index now.1) now.0 ∷ seen.0,
+        upshot_text (checked_text index now.1) now.0 ∷ seen.0,
         record stand { book = now.1; watchers = after_promise requested stand.book.last.epoch now.0 seen.1 },
       )
 
-  ask_is : (stand : Stand) (requested : RequestContent) (now : Numbered × Book) (grows : Bool) → comes_of index stand.book (request_asks requested) ≡ now
+  ask_is : (stand : Stand) (requested : RequestContent) (now : Upshot × Book) (grows : Bool) → comes_of index stand.book (request_asks requested) ≡ now
       → nat_lt (length (pages stand.book)) (length (pages now.1)) ≡ grows → played.ask index stand requested ≡ ask_by stand requested now grows
   ask_is stand requested now grows is more =
-      ap (λ (n : Numbered × Book). ask_by stand requested n (nat_lt (length (pages stand.book)) (length (pages n.1)))) is
+      ap (λ (n : Upshot × Book). ask_by stand requested n (nat_lt (length (pages stand.book)) (length (pages n.1)))) is
       ∙ ap (ask_by stand requested now) more
 
 -- ---- the parties
@@ -93,7 +93,7 @@ module _ {R : Type 0} (digest_of : List ℕ → List ℕ) (value_of signature_of
       }
 
       module _ (after : Parties R) (h : HasHanded digest_of value_of signature_of stream accepted verified before asked looked requested stand.watchers after) where
-        abbrev told : Numbered
+        abbrev told : Upshot
         told = (come digest_of value_of signature_of stream accepted verified before asked requested text a).told
 
         -- what comes of it, in the words of the definition
@@ -163,7 +163,7 @@ module _ {R : Type 0} (digest_of : List ℕ → List ℕ) (value_of signature_of
         watched =
             subst (λ (ws : List Watcher). AllZip (IsWatcher before.key taken (B asked)) after.monitors ws)
             (ap (λ (b : Book). after_promise requested b.last.epoch (comes_of (index_of (P before)) b (request_asks requested)).0 stand.watchers) are.hub.book
-            ∙ ap (λ (n : Numbered × Book). after_promise requested stand.book.last.epoch n.0 stand.watchers) comes)
+            ∙ ap (λ (n : Upshot × Book). after_promise requested stand.book.last.epoch n.0 stand.watchers) comes)
             (subst (λ (b : Book). AllZip (IsWatcher before.key (roots (P before) b) (B asked)) after.monitors
             (after_promise requested (B before).last.epoch (comes_of (index_of (P before)) (B before) (request_asks requested)).0 stand.watchers)) are.hub.book h.are)
 
@@ -186,7 +186,7 @@ module _ {R : Type 0} (digest_of : List ℕ → List ℕ) (value_of signature_of
         no_promise : length (pages stand.book) < length (pages (B asked)) → (ws : List Watcher) → after_promise requested stand.book.last.epoch told ws ≡ ws
         no_promise more = by requested a.is told (come digest_of value_of signature_of stream accepted verified before asked requested text a).comes
           where
-            by : (r : RequestContent) → command token r ≡ Some a.asked → (said : Numbered) → Comes (P before) (B before) (B asked) a.asked a.said said
+            by : (r : RequestContent) → command token r ≡ Some a.asked → (said : Upshot) → Comes (P before) (B before) (B asked) a.asked a.said said
                 → (ws : List Watcher) → after_promise r stand.book.last.epoch said ws ≡ ws
             by (request.Put verb name key) is (Ok answer) comes ws =
                 let put : a.asked ≡ Edit (asks.Put verb name key) = let e : Some (Edit (asks.Put verb name key)) ≡ Some a.asked = is in cc in
@@ -201,10 +201,10 @@ module _ {R : Type 0} (digest_of : List ℕ → List ℕ) (value_of signature_of
         index = index_of (P before)
 
         abbrev line : List ℕ
-        line = numbered_text (checked_text index (B asked)) told
+        line = upshot_text (checked_text index (B asked)) told
 
         line_is : line_of_reply digest_of value_of signature_of stream accepted verified before requested ≡ line
-        line_is = ap (λ (n : Numbered × Book). numbered_text (checked_text index n.1) n.0) (request-comes digest_of value_of signature_of stream accepted verified before asked requested text a)
+        line_is = ap (λ (n : Upshot × Book). upshot_text (checked_text index n.1) n.0) (request-comes digest_of value_of signature_of stream accepted verified before asked requested text a)
 
         abbrev IsDone : List ℕ → List ℕ → Parties R → List (List ℕ) × Stand → Type 0
         IsDone text0 text1 parties to = Done text0 to.0 to.1 text1 parties

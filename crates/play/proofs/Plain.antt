@@ -23,8 +23,8 @@ use Rattle.book.specs.Maps.{at, Map}
 use Rattle.book.specs.Refusals.{book_refusal_number}
 use Rattle.book.proofs.Members.{first-there, later-there}
 use Rattle.play.specs.Laws.{after_lines, is_plain, script_after_line, IsChecked, IsCheckedIn, IsPlain, IsQuestioned, IsRequested, LinesArePlain, NothingIsRefused}
-use Rattle.play.specs.Lines.{checked_text, is_double, of_session, refused_proof, root_text, roots_text, statement_text, numbered_text}
-use Rattle.play.specs.Messages.{Numbered, asks, comes_of, heard, numbered, or_not_operator, request_asks}
+use Rattle.play.specs.Lines.{checked_text, is_double, of_session, refused_proof, root_text, roots_text, statement_text, upshot_text}
+use Rattle.play.specs.Messages.{Upshot, asks, comes_of, heard, upshot_of, or_not_operator, request_asks}
 use Rattle.play.specs.Played.{Stand, after_promise, answered, line_played, opening, piece_events, watch_on, watcher_of}
 use Rattle.play.specs.Printing as printing
 use Rattle.play.specs.Printing.{played_from}
@@ -186,7 +186,7 @@ module _ (index_of : List ℕ → List ℕ) (after : Book) (P Q : List ℕ → T
 
   -- what a line that asks is told
   abbrev Said : Outcome × Book → Type 0
-  Said now = Q (numbered_text (checked_text index_of now.1) (numbered now.0))
+  Said now = Q (upshot_text (checked_text index_of now.1) (upshot_of now.0))
 
   abbrev Asks : Operation → List ℕ → Type 0
   Asks (Query question) name = IsQuestioned question name
@@ -216,7 +216,7 @@ module _ (index_of : List ℕ → List ℕ) (after : Book) (P Q : List ℕ → T
       by None = done-line book asked within named
 
   comes-line : (book : Book) (asked : Result Operation ℕ) → Within book → ((asks_this : Operation) → asked ≡ Ok asks_this → (name : List ℕ) → Asks asks_this name → P name)
-      → Q (numbered_text (checked_text index_of (comes_of index_of book asked).1) (comes_of index_of book asked).0)
+      → Q (upshot_text (checked_text index_of (comes_of index_of book asked).1) (comes_of index_of book asked).0)
   comes-line book (Ok asked) within named = step-line book asked within (named asked refl)
   comes-line book (Err code) within named = plain (codes "refused " ++ decimal code) refl
 
@@ -267,7 +267,7 @@ module _ (index_of : List ℕ → List ℕ) (after : Book) (P Q : List ℕ → T
       by true = named.0
       by false = named.0
 
-  promised-named : (requested : RequestContent) (epoch : ℕ) (said : Numbered) (watchers : List Watcher) → AreNamed watchers → AreNamed (after_promise requested epoch said watchers)
+  promised-named : (requested : RequestContent) (epoch : ℕ) (said : Upshot) (watchers : List Watcher) → AreNamed watchers → AreNamed (after_promise requested epoch said watchers)
   promised-named (request.Put verb name key) epoch (Ok answer) watchers named = handed-named name epoch key watchers named
   promised-named _ epoch said watchers named = named
 

@@ -1,5 +1,5 @@
 -- A script is played line by line.
-use Rattle.std.proofs.Common.{◌≡◌, ℕ, ◌+◌, List, [], ◌∷◌, ◌++◌, true, false, Option, Some, None, Ok, Err, refl, sym, ap, subst, ◌∙◌, arith, append_assoc, append-nil}
+use Rattle.std.proofs.Common.{◌≡◌, ℕ, ◌+◌, List, [], ◌∷◌, ◌++◌, Bool, true, false, Option, Some, None, Result, Ok, Err, inl, inr, refl, sym, ap, subst, ◌∙◌, arith, append_assoc, append-nil}
 use Rattle.std.specs.Prelude.{IfSome}
 use Rattle.std.specs.Io.KnownBytes.{Appends}
 use Rattle.std.proofs.KnownBytes.{Appends-nil, Appends-trans}
@@ -19,7 +19,7 @@ use Rattle.play.specs.Ends.{CannotRead, CannotWrite, Done, OutOfMemory, Plays, W
 use Rattle.play.specs.Lines.{as_lines}
 use Rattle.play.specs.Parties.{AreAt, Parties}
 use Rattle.play.specs.Played.{line_played, Stand}
-use Rattle.play.specs.PlayedLines.{PlaysLine}
+use Rattle.play.specs.PlayedLines.{PlaysLine, PlaysNext}
 use Rattle.play.specs.Plays.{PlaysTo}
 use Rattle.play.specs.Printing.{by_line, onto, played_from, text, Printout}
 use Rattle.play.specs.Reading.{TakesWholeLine}
@@ -269,3 +269,33 @@ module _ {R : Type 0} (digest_of : List ℕ → List ℕ) (value_of signature_of
       same = same_provider digest_of value_of signature_of stream KeepsNothing NeverFails now.hub.service.directory after.hub.service.directory plays.3 ∙ g.same;
       so = one_more (index_of (P first)) begin place g.stand line plays.0 plays.1 input old left later new waits wrote grown g.so takes is_text grows;
     }
+
+  -- ---- the next line is taken and played
+
+  module _ (first : Parties R) (begin : Stand) (input old : Option (List ℕ)) (place : ℕ) (now after : Parties R) (left later new : Option (List ℕ)) (waits grown : List ℕ)
+      (g : GoesOn first begin input old place now left new waits) where
+    abbrev Next : Result Bool ProgramFault → Type 0
+    Next result = PlaysNext digest_of value_of signature_of stream accepted verified now g.stand place left later waits result grown after
+
+    pub next_played : Next (Ok true) → GoesOn first begin input old (place + 1) after later new grown
+    next_played (line, said, takes, grows, plays) = goes_further first begin input old place now after left later new waits line [] said grown g takes refl grows plays
+
+    module _ (newer : Option (List ℕ)) where
+      -- what waits was written
+      all_written : grown ≡ waits → Appends new newer grown → SoFar (index_of (P first)) begin input old place g.stand left newer []
+      all_written same writes = writes_all (index_of (P first)) begin input old place g.stand left new newer waits g.so (subst (Appends new newer) same writes)
+
+      -- no line is left
+      pub next_none : Next (Ok false) → Appends new newer grown → PlaysTo (Whole first begin) input old newer (Ok tt)
+      next_none (line, takes, same) writes = all_played (index_of (P first)) begin input old place g.stand left later newer line (all_written same writes) takes
+
+      -- it was not played
+      pub next_stops : (why : ProgramFault) → Next (Err why) → Appends new newer grown → PlaysTo (Whole first begin) input old newer (Err why)
+      next_stops why (same, inl device) writes = device_ends (index_of (P first)) begin input old place g.stand left newer [] why device (all_written same writes)
+      next_stops why (same, inr (line, said, more, takes, plays)) writes =
+          line_ends first begin input old place now after left later newer line said more why
+          (record { stand = g.stand; at = g.at; same = g.same; so = all_written same writes }) takes plays
+
+      -- less of what waits was written
+      pub next_unwritten : grown ≡ waits → WritesBeginning new newer grown → Plays (Whole first begin) input old newer CannotWrite
+      next_unwritten same writes = write_ends first begin input old place now left new newer waits g (subst (WritesBeginning new newer) same writes)

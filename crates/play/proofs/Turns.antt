@@ -40,8 +40,8 @@ use Rattle.hub.specs.DeskRuns.{AreResponses, ShowReplies}
 use Rattle.hub.specs.Desks.{reply_frame, IsResponseOf}
 use Rattle.hub.specs.Runs.{Line}
 use Rattle.play.specs.Answering.{IsUnchecked}
-use Rattle.play.specs.Lines.{answer_text, last_epoch, numbered_text}
-use Rattle.play.specs.Messages.{asks, comes_of, numbered, Numbered}
+use Rattle.play.specs.Lines.{answer_text, last_epoch, upshot_text}
+use Rattle.play.specs.Messages.{asks, comes_of, upshot_of, Upshot}
 use Rattle.play.specs.Hearing.{response_text, IsOfBytes}
 use Rattle.play.specs.Played.{answered}
 use Rattle.play.specs.Scripts.{token}
@@ -141,13 +141,13 @@ module _ (provider : Provider) where
 
   -- what comes of a command, and that its text is the response's
   pub record IsTold (book : Book) (asked : Operation) (after : Book) (responded : ResponseContent) : Type 0 where
-    pub now : Numbered
+    pub now : Upshot
     pub comes : comes_of (index_of provider) book (Ok asked) ≡ (now, after)
-    pub text : numbered_text (answer_text after) now ≡ response_text responded
+    pub text : upshot_text (answer_text after) now ≡ response_text responded
 
   answers : (book after : Book) (asked : Operation) (responded : ResponseContent) (answer : Answer) → step (index_of provider) book asked ≡ (Answers answer, after) → answer_text after answer ≡ response_text responded
       → IsTold book asked after responded
-  answers book after asked responded answer steps text = record { now = Ok answer; comes = ap (λ (s : Outcome × Book). (numbered s.0, s.1)) steps; text = text }
+  answers book after asked responded answer steps text = record { now = Ok answer; comes = ap (λ (s : Outcome × Book). (upshot_of s.0, s.1)) steps; text = text }
 
   refuses : (book after : Book) (asked : Operation) (responded : ResponseContent) (why : Refusal) → (step (index_of provider) book asked).0 ≡ Refuses why → after ≡ book → responded ≡ response.Refused (book_refusal_number why)
       → IsTold book asked after responded
@@ -155,7 +155,7 @@ module _ (provider : Provider) where
       let steps = due_steps (index_of provider) book asked why (refused_due (index_of provider) book asked why refused) in
       record {
         now = Err (book_refusal_number why);
-        comes = ap (λ (s : Outcome × Book). (numbered s.0, s.1)) steps ∙ ap (λ (b : Book). (numbered (Refuses why), b)) (sym same);
+        comes = ap (λ (s : Outcome × Book). (upshot_of s.0, s.1)) steps ∙ ap (λ (b : Book). (upshot_of (Refuses why), b)) (sym same);
         text = ap response_text (sym is);
       }
 
@@ -218,11 +218,11 @@ module _ (provider : Provider) where
     pub told : HaveMemory heard → answered (index_of provider) book (messages_of lines) ≡ (map (λ one. response_text one.1) heard, after)
 
   -- by what comes of the first message
-  abbrev told_from : List Message → Numbered × Book → List (List ℕ) × Book
-  told_from more now = let later = answered (index_of provider) now.1 more in (numbered_text (answer_text now.1) now.0 ∷ later.0, later.1)
+  abbrev told_from : List Message → Upshot × Book → List (List ℕ) × Book
+  told_from more now = let later = answered (index_of provider) now.1 more in (upshot_text (answer_text now.1) now.0 ∷ later.0, later.1)
 
-  one_more : (line : Line) (lines : List Line) (book middle after : Book) (frame : Frame) (responded : ResponseContent) (now : Numbered) → line.reply ≡ frame_bytes frame → IsReadAs frame responded
-      → (responded ≢ response.Refused 14 → (comes_of (index_of provider) book (asks line.message) ≡ (now, middle)) × (numbered_text (answer_text middle) now ≡ response_text responded))
+  one_more : (line : Line) (lines : List Line) (book middle after : Book) (frame : Frame) (responded : ResponseContent) (now : Upshot) → line.reply ≡ frame_bytes frame → IsReadAs frame responded
+      → (responded ≢ response.Refused 14 → (comes_of (index_of provider) book (asks line.message) ≡ (now, middle)) × (upshot_text (answer_text middle) now ≡ response_text responded))
       → AreTold lines middle after → AreTold (line ∷ lines) book after
   one_more line lines book middle after frame responded now says read comes more = record {
     heard = (frame, responded) ∷ more.heard;
@@ -230,7 +230,7 @@ module _ (provider : Provider) where
     told = λ memory.
         let (is, text) = comes memory.0 in
         ap (told_from (messages_of lines)) is
-        ∙ ap (λ (later : List (List ℕ) × Book). (numbered_text (answer_text middle) now ∷ later.0, later.1)) (more.told memory.1)
+        ∙ ap (λ (later : List (List ℕ) × Book). (upshot_text (answer_text middle) now ∷ later.0, later.1)) (more.told memory.1)
         ∙ ap (λ (t : List ℕ). (t ∷ map (λ (one : HeardFrame). response_text one.1) more.heard, after)) text;
   }
 
@@ -257,7 +257,7 @@ module _ (provider : Provider) where
       let t = λ (some : responded ≢ response.Refused 14). turn_told provider book middle keeper between asked said responded grown.ascend sound_middle whole.2 responds some in
       one_more line more book middle after (reply_frame said) responded (comes_of (index_of provider) book (Ok asked)).0 says read
       (λ some. let it = t some in (
-        ap (comes_of (index_of provider) book) (reached-asks line.message asked small.0 reaches) ∙ ap (λ (b : Book). ((comes_of (index_of provider) book (Ok asked)).0, b)) (ap (λ (n : Numbered × Book). n.1) it.comes),
-        ap (λ (n : Numbered × Book). numbered_text (answer_text middle) n.0) it.comes ∙ it.text,
+        ap (comes_of (index_of provider) book) (reached-asks line.message asked small.0 reaches) ∙ ap (λ (b : Book). ((comes_of (index_of provider) book (Ok asked)).0, b)) (ap (λ (n : Upshot × Book). n.1) it.comes),
+        ap (λ (n : Upshot × Book). upshot_text (answer_text middle) n.0) it.comes ∙ it.text,
       ))
       (lines_told more later_commands others shown middle after between later grown.ascend sound small.1 whole.3 reads)

@@ -16,7 +16,7 @@ use Rattle.book.specs.Turns.{Turn}
 use Rattle.hub.specs.Desks.{IsResponseOf}
 use Rattle.play.specs.Checking.{IsShownIn}
 use Rattle.play.specs.Hearing.{response_text, IsGranted}
-use Rattle.play.specs.Lines.{checked_text, numbered_text}
+use Rattle.play.specs.Lines.{checked_text, upshot_text}
 use Rattle.play.specs.Messages.{comes_of}
 
 -- the reply is no reply to a look-up, which a client has to check
@@ -34,7 +34,7 @@ module _ (provider : Provider) {K : Type 0} (kept failed : K → Record → K �
       → IsSound (index_of provider) after → Turn provider kept failed book keeper asked said after later
       → IsGranted said → IsUnchecked said → IsResponseOf said responded
       → ((comes_of (index_of provider) book (Ok asked)).1 ≡ after)
-      × (response_text responded ≡ numbered_text (checked_text (index_of provider) after) (comes_of (index_of provider) book (Ok asked)).0)
+      × (response_text responded ≡ upshot_text (checked_text (index_of provider) after) (comes_of (index_of provider) book (Ok asked)).0)
 
   -- and to a look-up, it is the reply of the book of what the page has
   abbrev pub LookupsAreShown : Type 0

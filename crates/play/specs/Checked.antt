@@ -18,7 +18,7 @@ use Rattle.book.specs.Sound.{IsSound}
 use Rattle.client.specs.Looking.{Looks}
 use Rattle.client.specs.declared.client_refusal.Refusal.{Refusal}
 use Rattle.client.specs.declared.client_refusal.Refusal.TheVariants as client
-use Rattle.play.specs.Lines.{checked_text, numbered_text}
+use Rattle.play.specs.Lines.{checked_text, upshot_text}
 use Rattle.play.specs.Messages.{comes_of, request_asks}
 use Rattle.play.specs.Parties.{book_of, chain_under, provider_of, HasAsked, Parties}
 use Rattle.play.specs.Scripts.{ScriptLine, Pass, Ask, Watch, Piece, End}
@@ -58,7 +58,7 @@ module _ {R : Type 0} (digest_of : List ℕ → List ℕ) (value_of signature_of
   abbrev pub line_of_reply : Parties R → RequestContent → List ℕ
   line_of_reply before requested =
       let now = comes_of (index_of (provider_of digest_of value_of signature_of stream accepted verified before)) (book_of digest_of value_of signature_of stream accepted verified before) (request_asks requested) in
-      numbered_text (checked_text (index_of (provider_of digest_of value_of signature_of stream accepted verified before)) now.1) now.0
+      upshot_text (checked_text (index_of (provider_of digest_of value_of signature_of stream accepted verified before)) now.1) now.0
 
   -- a request was asked, where the client had the roots of all pages
   pub record HasAskedKnowing (before : Parties R) (requested : RequestContent) (text : List ℕ) (after : Parties R) : Type 0 where

@@ -58,9 +58,9 @@ checked_text index_of book (Last page) = answer_text book (Last page)
 -- ---- whole lines
 
 -- an answer by such a text, or a refusal by its number
-abbrev pub numbered_text : (Answer → List ℕ) → message.Numbered → List ℕ
-numbered_text text (Ok answer) = text answer
-numbered_text text (Err code) = codes "refused " ++ decimal code
+abbrev pub upshot_text : (Answer → List ℕ) → message.Upshot → List ℕ
+upshot_text text (Ok answer) = text answer
+upshot_text text (Err code) = codes "refused " ++ decimal code
 
 -- in front of what a session is told stands its number
 abbrev pub of_session : ℕ → List ℕ → List ℕ

@@ -39,17 +39,17 @@ asks BadFrame = Err (feed_refusal_number feed.BadFrame)
 
 -- ---- what comes of it
 
--- an answer, or the number of a refusal
-abbrev pub Numbered : Type 0
-Numbered = Result Answer ℕ
+-- what comes of a message: an answer, or the number of a refusal
+abbrev pub Upshot : Type 0
+Upshot = Result Answer ℕ
 
-abbrev pub numbered : Outcome → Numbered
-numbered (Answers answer) = Ok answer
-numbered (Refuses why) = Err (book_refusal_number why)
+abbrev pub upshot_of : Outcome → Upshot
+upshot_of (Answers answer) = Ok answer
+upshot_of (Refuses why) = Err (book_refusal_number why)
 
--- what comes of it, and the book after it
-abbrev pub comes_of : (List ℕ → List ℕ) → Book → Result Operation ℕ → Numbered × Book
-comes_of index_of book (Ok asked) = let now = step index_of book asked in (numbered now.0, now.1)
+-- the upshot of what is asked, and the book after it
+abbrev pub comes_of : (List ℕ → List ℕ) → Book → Result Operation ℕ → Upshot × Book
+comes_of index_of book (Ok asked) = let now = step index_of book asked in (upshot_of now.0, now.1)
 comes_of index_of book (Err code) = (Err code, book)
 
 -- ---- events of sessions

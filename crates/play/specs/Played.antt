@@ -8,8 +8,8 @@ use Rattle.book.specs.Books.{Book, pages}
 use Rattle.book.specs.Fresh as books
 use Rattle.hub.specs.Events.{BySession, Happening, Open, Bytes}
 use Rattle.hub.specs.Events as event
-use Rattle.play.specs.Lines.{answer_text, checked_text, last_epoch, of_session, numbered_text}
-use Rattle.play.specs.Messages.{Numbered, asks, comes_of, heard, held_after, request_asks}
+use Rattle.play.specs.Lines.{answer_text, checked_text, last_epoch, of_session, upshot_text}
+use Rattle.play.specs.Messages.{Upshot, asks, comes_of, heard, held_after, request_asks}
 use Rattle.play.specs.Scripts.{ScriptLine, Pass, Ask, Watch as Watching, Piece, End}
 use Rattle.play.specs.Watchers.{Watcher, all_through, handed, through}
 
@@ -24,7 +24,7 @@ abbrev pub opening : salt.Stream → Stand
 opening salts = record { book = books.fresh 1 (replicate 32 0) salts; sessions = (0, Rest []) ∷ []; watchers = [] }
 
 -- only a registration or a change hands out its promise
-abbrev pub after_promise : RequestContent → ℕ → Numbered → List Watcher → List Watcher
+abbrev pub after_promise : RequestContent → ℕ → Upshot → List Watcher → List Watcher
 after_promise (Put verb name key) epoch (Ok answer) watchers = handed name epoch key watchers
 after_promise requested epoch said watchers = watchers
 
@@ -47,7 +47,7 @@ module _ (index_of : List ℕ → List ℕ) where
   ask stand requested =
       let now = comes_of index_of stand.book (request_asks requested) in
       let seen = watch_on stand.book now.1 stand.watchers in (
-        numbered_text (checked_text index_of now.1) now.0 ∷ seen.0,
+        upshot_text (checked_text index_of now.1) now.0 ∷ seen.0,
         record stand { book = now.1; watchers = after_promise requested stand.book.last.epoch now.0 seen.1 },
       )
 
@@ -57,7 +57,7 @@ module _ (index_of : List ℕ → List ℕ) where
   answered book (message ∷ more) =
       let now = comes_of index_of book (asks message) in
       let later = answered now.1 more in
-      (numbered_text (answer_text now.1) now.0 ∷ later.0, later.1)
+      (upshot_text (answer_text now.1) now.0 ∷ later.0, later.1)
 
   -- a piece of a session: what is told to it, and then what the monitors say
   abbrev pub hear : Stand → ℕ → List ℕ → List (List ℕ) × Stand

@@ -1,5 +1,7 @@
 -- The lines of a script, as they are read.
 use Rattle.std.specs.Prelude.{◌≡◌, ℕ, List, [], ◌∷◌, ◌++◌, Bool, true, false, Option, Some, None, ⊤, ◌⊎◌, IsSomeAnd}
+use Rattle.std.specs.Io.{StopsAt}
+use Rattle.std.specs.Io.KnownBytes.{Consumes}
 use Rattle.textio.specs.Lines.{lines_of}
 
 -- known bytes lose their first line, which is this one without its LF, if there is one; at their end there is
@@ -8,6 +10,10 @@ abbrev pub TakesWholeLine : Option (List ℕ) → Option (List ℕ) → Bool →
 TakesWholeLine None left more line = ⊤
 TakesWholeLine (Some input) left false line = input ≡ []
 TakesWholeLine (Some input) left true line = IsSomeAnd left (λ rest. lines_of input ≡ line ∷ lines_of rest)
+
+-- known bytes lose these, which have no LF but at their end
+abbrev pub TakesPart : Option (List ℕ) → Option (List ℕ) → List ℕ → Type 0
+TakesPart input left part = Consumes input left part × StopsAt part 10
 
 -- without the LF at the end, if one is there
 abbrev pub IsTrimmed : List ℕ → List ℕ → Type 0

@@ -7,7 +7,7 @@ ghost use Rattle.book.specs.Shows.{index_of};
 ghost use Rattle.epochs.specs.DirectoryStates.{provider};
 ghost use Rattle.play.specs.Parties.{AreAt};
 ghost use Rattle.play.specs.Played.{Stand};
-ghost use Rattle.play.specs.PlayedLines.{PlaysLine};
+ghost use Rattle.play.specs.PlayedLines.{PlaysLine, PlaysNext};
 ghost use Rattle.play.specs.Plays.{PlaysTo};
 ghost use Rattle.play.specs.Beginnings.{script_index, script_salts};
 ghost use Rattle.play.specs.Printing.{played_from, printed};
@@ -22,11 +22,25 @@ use rand_core::Rng;
 use sigiface::Signer;
 use std::alloc::Global;
 use std::io::{BufRead, ErrorKind, Write};
+use std::mem;
 use textio::{ProgramFault, StreamFault, file_fault, write_text};
 use vrfiface::Vuf;
 
+/// So many bytes of text are written, though the reader has more lines.
+const FULL_TEXT: usize = 65_536;
+
+/// What is kept from one line to the next: room for the line, and for what it prints; and how many of the next
+/// bytes are whole lines which the reader has without a wait.
+#[derive(Drop)]
+struct Room {
+    line: Vec<u8>,
+    said: Vec<u8>,
+    ready: usize,
+}
+
 /// Plays the script that the reader has, and writes what it prints (CONIKS, sections 3 and 4: a directory,
-/// its users, the owners of names and an auditor).
+/// its users, the owners of names and an auditor). What the parties hold is not freed: whoever plays a script
+/// ends then.
 ///
 /// # Errors
 ///
@@ -40,7 +54,10 @@ pub fn play<R: BufRead, W: Write>(
     ensures { PlaysTo (printed script_index script_salts) (R.remaining reader.old) (W.contents writer.old) (W.contents writer.new) result }
 {
     let mut engine = begin(alloc)?;
-    play_lines(alloc, &mut engine, reader, writer)
+    let played = play_lines(alloc, &mut engine, reader, writer);
+    // To free the parties part by part would take a tenth of the time of a long script.
+    mem::forget(engine);
+    played
 }
 
 /// Plays the lines of the reader.
@@ -61,21 +78,22 @@ where
     ensures { (stand : Stand) → AreAt H.digest_of V.value_of S.signature_of R.stream V.accepted S.verified engine.old stand
         → PlaysTo (λ script. played_from (index_of (provider H.digest_of V.value_of S.signature_of (engine.old).hub.service.directory)) 1 stand (lines_of script)) (I.remaining reader.old) (W.contents writer.old) (W.contents writer.new) result }
 {
-    let mut line = Vec::new(alloc);
-    let mut said = Vec::new(alloc);
+    let mut room = Room {
+        line: Vec::new(alloc),
+        said: Vec::new(alloc),
+        ready: 0,
+    };
     let mut text = Vec::new(alloc);
-    let mut ready = 0;
     // Every loop of Rattle has an end: this one's is past any script.
     for number in 1..u64::MAX {
-        // What is played is written before a read that may wait.
-        write_if(ready == 0, writer, &mut text)?;
-        if !take_line(reader, &mut line, &mut ready)? {
-            write_text(writer, &text)?;
-            return Ok(());
-        }
-        said.clear();
-        match play_text(alloc, engine, number, &line, &mut said) {
-            Ok(()) => text.extend_from_slice(&said)?,
+        write_due(room.ready, writer, &mut text)?;
+        match play_next(alloc, engine, number, reader, &mut room, &mut text) {
+            Ok(true) => {}
+            Ok(false) => {
+                write_text(writer, &text)?;
+                return Ok(());
+            }
+            // What is played is written, whatever the fault.
             Err(why) => {
                 write_text(writer, &text)?;
                 return Err(why);
@@ -85,17 +103,46 @@ where
     Err(ProgramFault::CannotRead)
 }
 
-/// Writes the text and clears it, if it is due.
-fn write_if<W: Write>(is_due: bool, writer: &mut W, text: &mut Vec<u8>) -> Result<(), StreamFault>
+/// Writes the text and clears it, before a read that may wait, and if it is long.
+fn write_due<W: Write>(ready: usize, writer: &mut W, text: &mut Vec<u8>) -> Result<(), StreamFault>
     ensures ok { OnOk result (WritesBut (W.contents writer.old) (W.contents writer.new) text.old.items text.new.items) }
     ensures err { IfErr result (λ fault. (fault ≡ StreamFault.CannotWrite) × WritesBeginning (W.contents writer.old) (W.contents writer.new) text.old.items) }
 {
-    if !is_due {
+    if 0 < ready && text.len() < FULL_TEXT {
         return Ok(());
     }
     write_text(writer, text)?;
     text.clear();
     Ok(())
+}
+
+/// Takes the line of this number and plays it, and appends what it prints, all or nothing. Returns whether
+/// there was one.
+fn play_next<H, V, S, R, I>(
+    alloc: Global,
+    engine: &mut Engine<H, V, S, R>,
+    number: u64,
+    reader: &mut I,
+    room: &mut Room,
+    text: &mut Vec<u8>,
+) -> Result<bool, ProgramFault>
+where
+    H: NodeHash + Drop,
+    V: Vuf + Drop,
+    S: Signer + Drop,
+    R: Rng + Drop,
+    I: BufRead,
+    requires at { (stand : Stand) × AreAt H.digest_of V.value_of S.signature_of R.stream V.accepted S.verified engine.old stand }
+    ensures { (stand : Stand) → AreAt H.digest_of V.value_of S.signature_of R.stream V.accepted S.verified engine.old stand
+        → PlaysNext H.digest_of V.value_of S.signature_of R.stream V.accepted S.verified engine.old stand number (I.remaining reader.old) (I.remaining reader.new) text.old.items result text.new.items engine.new }
+{
+    if !take_line(reader, &mut room.line, &mut room.ready)? {
+        return Ok(false);
+    }
+    room.said.clear();
+    play_text(alloc, engine, number, &room.line, &mut room.said)?;
+    text.extend_from_slice(&room.said)?;
+    Ok(true)
 }
 
 /// Takes the next line, as `next_line` does. The bytes that are ready are whole lines which the reader has

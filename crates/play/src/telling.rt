@@ -1,7 +1,8 @@
 // The words of the lines that a script prints. Each function appends to the text; an `Err` says that memory
-// ran out, and the text then ends anywhere.
+// ran out, and the text then ends anywhere behind what it was.
 
-ghost use Rattle.std.specs.Prelude.{◌≡◌, ◌++◌, ◌∷◌, [], OnOk, codes, decimal};
+ghost use Rattle.std.specs.Prelude.{◌≡◌, ◌++◌, ◌∷◌, [], OnErr, OnOk, codes, decimal};
+ghost use Rattle.std.specs.Io.{StartsWith};
 ghost use Rattle.hex.specs.Hex.{encode_lower};
 ghost use Rattle.proofs.specs.Refusals.{reply_refusal_number};
 ghost use Rattle.proofs.specs.Views.{key_stated};
@@ -19,20 +20,46 @@ use monitor::Step;
 use proofs::Statement;
 use rootchain::RootList;
 use std::alloc::AllocError;
+use textio::{HASH_SIZE, hex_digits};
 use wire::Response;
 
 /// Appends a number in decimal digits.
 pub fn push_number(text: &mut Vec<u8>, number: u64) -> Result<(), AllocError>
-    ensures { OnOk result (text.new.items ≡ text.old.items ++ decimal number) }
+    ensures ok { OnOk result (text.new.items ≡ text.old.items ++ decimal number) }
+    ensures err { OnErr result (text.new.items ≡ text.old.items) }
 {
     let mut digits = Buffer::new();
     text.extend_from_slice(digits.format(number).as_bytes())
 }
 
-/// Appends bytes in hexadecimal digits.
-#[tactic(auto, unfolding(hex::specs::Hex::encode_with))]
+/// Appends a word, and a number in decimal digits.
+fn push_numbered(text: &mut Vec<u8>, word: &[u8], number: u64) -> Result<(), AllocError>
+    ensures ok { OnOk result (text.new.items ≡ text.old.items ++ word.now ++ decimal number) }
+    ensures grows { StartsWith text.new.items text.old.items }
+{
+    text.extend_from_slice(word)?;
+    push_number(text, number)
+}
+
+/// Appends bytes in hexadecimal digits, as many bytes at once as a hash has.
 pub fn push_hex(text: &mut Vec<u8>, bytes: &[u8]) -> Result<(), AllocError>
-    ensures { OnOk result (text.new.items ≡ text.old.items ++ encode_lower bytes.now) }
+    ensures ok { OnOk result (text.new.items ≡ text.old.items ++ encode_lower bytes.now) }
+    ensures grows { StartsWith text.new.items text.old.items }
+{
+    let mut rest = bytes;
+    while rest.len() >= HASH_SIZE {
+        let (front, behind) = rest.split_at(HASH_SIZE);
+        text.extend_from_slice(&hex_digits(front))?;
+        rest = behind;
+    }
+    push_each(text, rest)
+}
+
+/// Appends bytes in hexadecimal digits, one byte after another.
+#[tactic(auto, unfolding(hex::specs::Hex::encode_with))]
+fn push_each(text: &mut Vec<u8>, bytes: &[u8]) -> Result<(), AllocError>
+    ensures ok { OnOk result (text.new.items ≡ text.old.items ++ encode_lower bytes.now) }
+    ensures grows { StartsWith text.new.items text.old.items }
 {
     for byte in bytes {
         let mut digits = [0; 2];
@@ -45,42 +72,32 @@ pub fn push_hex(text: &mut Vec<u8>, bytes: &[u8]) -> Result<(), AllocError>
 
 /// Appends the line of a response.
 pub fn tell_response(text: &mut Vec<u8>, response: Response<'_>) -> Result<(), AllocError>
-    ensures { OnOk result (text.new.items ≡ text.old.items ++ response_text (response_seen response.entry) ++ 10 ∷ []) }
+    ensures ok { OnOk result (text.new.items ≡ text.old.items ++ response_text (response_seen response.entry) ++ 10 ∷ []) }
+    ensures grows { StartsWith text.new.items text.old.items }
 {
     match response {
-        Response::Promise(signed) => {
-            text.extend_from_slice(b"promise ")?;
-            push_number(text, signed.promise.epoch)?;
-        }
-        Response::Proof(reply) => {
-            text.extend_from_slice(b"proof ")?;
-            push_number(text, reply.body().epoch)?;
-        }
+        Response::Promise(signed) => push_numbered(text, b"promise ", signed.promise.epoch)?,
+        Response::Proof(reply) => push_numbered(text, b"proof ", reply.body().epoch)?,
         Response::Roots(roots) => tell_roots(text, roots)?,
         Response::Root(root) => {
-            text.extend_from_slice(b"root ")?;
-            push_number(text, root.body.epoch)?;
-            text.extend_from_slice(b" after ")?;
-            push_number(text, root.body.previous_epoch)?;
+            push_numbered(text, b"root ", root.body.epoch)?;
+            push_numbered(text, b" after ", root.body.previous_epoch)?;
         }
-        Response::Refused(code) => {
-            text.extend_from_slice(b"refused ")?;
-            push_number(text, u64::from(code))?;
-        }
+        Response::Refused(code) => push_numbered(text, b"refused ", u64::from(code))?,
     }
     text.push(b'\n')?;
     Ok(())
 }
 
 fn tell_roots(text: &mut Vec<u8>, roots: RootList<'_>) -> Result<(), AllocError>
-    ensures { OnOk result (text.new.items ≡ text.old.items ++ response_text (Roots roots.entry)) }
+    ensures ok { OnOk result (text.new.items ≡ text.old.items ++ response_text (Roots roots.entry)) }
+    ensures grows { StartsWith text.new.items text.old.items }
 {
     let mut roots = roots;
     text.extend_from_slice(b"roots")?;
     for _ in 0..roots.len() {
         if let Some(root) = roots.next() {
-            text.push(b' ')?;
-            push_number(text, root.body.epoch)?;
+            push_numbered(text, b" ", root.body.epoch)?;
         }
     }
     Ok(())
@@ -92,19 +109,16 @@ pub fn tell_statement(
     epoch: u64,
     statement: Statement<'_>,
 ) -> Result<(), AllocError>
-    ensures { OnOk result (text.new.items ≡ text.old.items ++ statement_text epoch (key_stated statement.entry) ++ 10 ∷ []) }
+    ensures ok { OnOk result (text.new.items ≡ text.old.items ++ statement_text epoch (key_stated statement.entry) ++ 10 ∷ []) }
+    ensures grows { StartsWith text.new.items text.old.items }
 {
     match statement {
         Statement::Present(key) => {
-            text.extend_from_slice(b"present ")?;
-            push_number(text, epoch)?;
+            push_numbered(text, b"present ", epoch)?;
             text.push(b' ')?;
             push_hex(text, key)?;
         }
-        Statement::Absent => {
-            text.extend_from_slice(b"absent ")?;
-            push_number(text, epoch)?;
-        }
+        Statement::Absent => push_numbered(text, b"absent ", epoch)?,
     }
     text.push(b'\n')?;
     Ok(())
@@ -117,7 +131,8 @@ pub fn tell_step(
     epoch: u64,
     step: Step<'_>,
 ) -> Result<(), AllocError>
-    ensures { OnOk result (text.new.items ≡ text.old.items ++ step_text name.now epoch step.entry ++ 10 ∷ []) }
+    ensures ok { OnOk result (text.new.items ≡ text.old.items ++ step_text name.now epoch step.entry ++ 10 ∷ []) }
+    ensures grows { StartsWith text.new.items text.old.items }
 {
     match step {
         Step::Kept => {
@@ -135,7 +150,8 @@ pub fn tell_step(
 
 /// Appends the end of an alarm's line: what was found.
 fn tell_found(text: &mut Vec<u8>, found: Statement<'_>) -> Result<(), AllocError>
-    ensures { OnOk result (text.new.items ≡ text.old.items ++ alarm_key (key_stated found.entry) ++ 10 ∷ []) }
+    ensures ok { OnOk result (text.new.items ≡ text.old.items ++ alarm_key (key_stated found.entry) ++ 10 ∷ []) }
+    ensures grows { StartsWith text.new.items text.old.items }
 {
     match found {
         Statement::Present(key) => push_hex(text, key)?,
@@ -146,12 +162,12 @@ fn tell_found(text: &mut Vec<u8>, found: Statement<'_>) -> Result<(), AllocError
 }
 
 fn tell_place(text: &mut Vec<u8>, word: &[u8], name: &[u8], epoch: u64) -> Result<(), AllocError>
-    ensures { OnOk result (text.new.items ≡ text.old.items ++ place_text word.now name.now epoch) }
+    ensures ok { OnOk result (text.new.items ≡ text.old.items ++ place_text word.now name.now epoch) }
+    ensures grows { StartsWith text.new.items text.old.items }
 {
     text.extend_from_slice(word)?;
     push_hex(text, name)?;
-    text.push(b' ')?;
-    push_number(text, epoch)
+    push_numbered(text, b" ", epoch)
 }
 
 /// Appends the line of a refusal of a look, of which no other comes than that of a proof.
@@ -173,8 +189,7 @@ pub(crate) fn tell_refusal(text: &mut Vec<u8>, why: client::Refusal) -> Result<(
 fn tell_refused(text: &mut Vec<u8>, why: proofs::Refusal) -> Result<(), AllocError>
     ensures { OnOk result (text.new.items ≡ text.old.items ++ codes "client refuses proof " ++ decimal (reply_refusal_number why) ++ 10 ∷ []) }
 {
-    text.extend_from_slice(b"client refuses proof ")?;
-    push_number(text, u64::from(why.number()))?;
+    push_numbered(text, b"client refuses proof ", u64::from(why.number()))?;
     text.push(b'\n')?;
     Ok(())
 }

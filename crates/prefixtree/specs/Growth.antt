@@ -1,12 +1,15 @@
 -- A place of a tree before and after some changes: what stands there, and how many nodes are made.
-use Rattle.std.specs.Prelude.{◌≡◌, ℕ, ◌+◌, ◌-◌, ◌<◌, List, [], ◌∷◌, ◌++◌, length}
+use Rattle.std.specs.Prelude.{◌≡◌, ℕ, ◌+◌, ◌-◌, ◌<◌, ◌≤◌, List, [], ◌∷◌, ◌++◌, length, Result, IfOk, OnOk}
+use Rattle.std.specs.declared.alloc.AllocError.{AllocError}
 use Rattle.encoding.specs.Bits.{cut, with_one}
 use Rattle.encoding.specs.Bytes.{Is32Bytes}
+use Rattle.nodehash.specs.Digests.{after_digests}
 use Rattle.prefixtree.specs.Placement.{Items, put_all}
 use Rattle.prefixtree.specs.Node.{half, node_count}
 use Rattle.prefixtree.specs.Under.{IsUnder}
 use Rattle.prefixtree.specs.Changes.{made_count}
 use Rattle.prefixtree.specs.Built.{contents, IsBuilt}
+use Rattle.prefixtree.specs.declared.node.Node.{Node}
 use Rattle.prefixtree.specs.declared.place.Before.{Before}
 use Rattle.prefixtree.specs.declared.place.Before.TheVariants.{Made, Moved, Nothing, Stale}
 use Rattle.prefixtree.specs.declared.place.Outcome.{Outcome}
@@ -42,6 +45,14 @@ module _ (of : List ℕ → List ℕ) (nonce : List ℕ) where
   pub record MayGrow (prefix : List ℕ) (level : ℕ) (before : Before) (changes : Items) : Type 0 where
     pub under : IsUnder prefix level changes
     pub stands : IsStanding prefix level before
+
+  -- What comes of it: the node that has the items after the changes, for one digest for each node that is made. Where
+  -- memory runs out, no more were taken.
+  pub record IsGrowth (prefix : List ℕ) (level : ℕ) (before : Before) (changes : Items) (result : Result Node AllocError) (digests digests' : ℕ) : Type 0 where
+    pub built : IfOk result (IsBuilt of nonce prefix level)
+    pub items : IfOk result (λ node. contents node ≡ grown before changes)
+    pub work : digests' ≤ digests + grown_count (256 - level) before changes
+    pub exact : OnOk result (digests' ≡ after_digests (grown_count (256 - level) before changes) digests)
 
   -- two sides that have, between them, what becomes of these items and changes, and the nodes made for it
   pub record AreSides (prefix : List ℕ) (level : ℕ) (items changes : Items) (count : ℕ) (zero_side one_side : Before) : Type 0 where

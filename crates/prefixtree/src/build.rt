@@ -2,12 +2,10 @@
 //! changes below it, or few nodes to make anew, is made level by level, with the digests of a level
 //! taken together. Else a place is split into its two sides: with many, so that rows stay short, and
 //! with the fewest, since rows would only cost time.
-ghost use Rattle.std.specs.Prelude.{◌≡◌, ◌+◌, ◌-◌, ◌<◌, ◌≤◌, ◌++◌, IfOk, OnOk};
-ghost use Rattle.nodehash.specs.Digests.{after_digests};
+ghost use Rattle.std.specs.Prelude.{◌≡◌, ◌<◌, ◌≤◌, ◌++◌};
 ghost use Rattle.prefixtree.specs.Node.{half};
 ghost use Rattle.prefixtree.specs.Under.{IsUnder};
-ghost use Rattle.prefixtree.specs.Built.{contents, IsBuilt};
-ghost use Rattle.prefixtree.specs.Growth.{grown, grown_count, MayGrow};
+ghost use Rattle.prefixtree.specs.Growth.{IsGrowth, MayGrow};
 
 use crate::Item;
 use crate::node::{Children, Node, empty, interior, leaf};
@@ -79,10 +77,7 @@ pub(crate) fn grow<H: NodeHash>(
 ) -> Result<Node, AllocError>
     requires level { level ≤ 256 }
     requires place { MayGrow H.digest_of nonce.now prefix.now level before changes.now }
-    ensures built { IfOk result (λ node. IsBuilt H.digest_of nonce.now prefix.now level node) }
-    ensures items { IfOk result (λ node. contents node ≡ grown before changes.now) }
-    ensures work { H.digests hash.new ≤ H.digests hash.old + grown_count (256 - level) before changes.now }
-    ensures exact { OnOk result (H.digests hash.new ≡ after_digests (grown_count (256 - level) before changes.now) (H.digests hash.old)) }
+    ensures { IsGrowth H.digest_of nonce.now prefix.now level before changes.now result (H.digests hash.old) (H.digests hash.new) }
 {
     if is_made_together(&before, changes, most) {
         return grow_together(alloc, hash, nonce, prefix, level, before, changes);

@@ -1,11 +1,11 @@
 //! The nodes of many places, made one level at a time, so that the digests of a level can be taken
 //! together. On the way down each row of places gives what is made at each and the row of their
 //! sides. On the way up the nodes of a row are made over those of the row below.
-ghost use Rattle.std.specs.Prelude.{◌≡◌, ℕ, List, [], ◌∷◌, ◌++◌, ◌+◌, ◌-◌, ◌<◌, ◌≤◌, length, map, drop, IfOk, OnOk};
+ghost use Rattle.std.specs.Prelude.{◌≡◌, ℕ, List, [], ◌∷◌, ◌++◌, ◌+◌, ◌<◌, ◌≤◌, length, map, drop, IfOk, OnOk};
 ghost use Rattle.std.specs.Vec.Iter.{into_iter_items};
 ghost use Rattle.nodehash.specs.Digests.{after_digests};
-ghost use Rattle.prefixtree.specs.Built.{contents, kept, IsBuilt};
-ghost use Rattle.prefixtree.specs.Growth.{grown, grown_count, MayGrow};
+ghost use Rattle.prefixtree.specs.Built.{kept};
+ghost use Rattle.prefixtree.specs.Growth.{IsGrowth, MayGrow};
 ghost use Rattle.prefixtree.specs.declared.row.Place.{Place};
 ghost use Rattle.prefixtree.specs.declared.row.Spot.{Spot};
 ghost use Rattle.prefixtree.specs.declared.node.Node.{Node};
@@ -314,10 +314,7 @@ pub(crate) fn grow_together<H: NodeHash>(
 ) -> Result<Node, AllocError>
     requires level { level ≤ 256 }
     requires place { MayGrow H.digest_of nonce.now prefix.now level before changes.now }
-    ensures built { IfOk result (λ node. IsBuilt H.digest_of nonce.now prefix.now level node) }
-    ensures items { IfOk result (λ node. contents node ≡ grown before changes.now) }
-    ensures work { H.digests hash.new ≤ H.digests hash.old + grown_count (256 - level) before changes.now }
-    ensures exact { OnOk result (H.digests hash.new ≡ after_digests (grown_count (256 - level) before changes.now) (H.digests hash.old)) }
+    ensures { IsGrowth H.digest_of nonce.now prefix.now level before changes.now result (H.digests hash.old) (H.digests hash.new) }
 {
     let place = Place {
         prefix: *prefix,

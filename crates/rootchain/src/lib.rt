@@ -49,5 +49,5 @@ pub use promise::Promise;
 pub use root_feed::RootFeed;
 pub use root_list::{MAX_LIST_LEN, MAX_ROOTS, RootList, list_len, write_list};
 pub use root_refusal::Refusal;
-pub use signed_promise::SignedPromise;
+pub use signed_promise::{MAX_SIGNED_PROMISE_LEN, SignedPromise, SignedPromiseText};
 pub use signed_root::{MAX_SIGNED_ROOT_LEN, SignedRoot, SignedRootText};

@@ -1,12 +1,11 @@
 -- A session that is served, piece by piece.
-use Rattle.std.proofs.Common.{◌≡◌, ◌≤◌, ℕ, List, [], ◌∷◌, ◌++◌, length, Option, Some, Result, Ok, Err, refl, sym, ap, subst, ◌∙◌, append_assoc, append-nil}
+use Rattle.std.proofs.Common.{◌≡◌, ◌≤◌, ℕ, List, [], ◌∷◌, ◌++◌, length, Option, Some, Result, Ok, Err, refl, sym, ap, subst, ◌∙◌, append-nil, arith}
 use Rattle.std.specs.Ordering.{nat_cmp}
 use Rattle.std.specs.BTreeMap.{is_at}
 use Rattle.std.specs.Map.{set_value}
 use Rattle.std.specs.Io.KnownBytes.{Appends, Consumes, IsAtEnd, Keeps}
 use Rattle.std.proofs.KnownBytes.{Appends-nil, Appends-trans, Consumes-kept, Consumes-nil, Consumes-trans}
 use Rattle.std.proofs.lemmas.Map.Steps.{set_value_same}
-use Rattle.textio.specs.Output.{WritesBut}
 use Rattle.wire.specs.Frames.{Frame, read_frame}
 use Rattle.wire.specs.Streams.{Remainder, Message, Rest, messages_within, with_more, IsSpent}
 use Rattle.hub.specs.Events.{BySession, HubState, at_session}
@@ -16,24 +15,15 @@ use Rattle.hub.proofs.Others.{set_found}
 use Rattle.hub.proofs.Steps.{exchanges_tell}
 use Rattle.hub.proofs.Streaming.{told_all, told_of}
 use Rattle.server.specs.declared.serve_fault.ServeFault.{ServeFault}
-use Rattle.server.specs.declared.serve_fault.ServeFault.TheVariants.{CannotRead, CannotWrite, OutOfMemory}
+use Rattle.server.specs.declared.serve_fault.ServeFault.TheVariants.{CannotRead, CannotWrite, OutOfMemory, OutOfMemoryAndCannotWrite}
 use Rattle.server.specs.declared.serving.TheConstants.{PIECE_SIZE}
 use Rattle.server.specs.Pieces.{AnswersPiece}
-use Rattle.server.specs.Serving.{exchange_messages, AllReplied, AnswersEach, AnswersFirst, Serves}
+use Rattle.server.specs.Serving.{exchange_messages, AllReplied, AnswersEach, AnswersFirst, AnswersPart, Serves}
 use Rattle.server.proofs.Opened.{set_twice}
 
 spent-none : IsSpent (Rest [])
 unfolding read_frame
 spent-none = refl
-
--- ---- what is written
-
-but_after : (old mid new : Option (List ℕ)) (text more rest : List ℕ) → Appends old mid text → WritesBut mid new more rest → WritesBut old new (text ++ more) rest
-but_after old mid new text more rest wrote (front, split, appended) = (
-  text ++ front,
-  ap (λ (t : List ℕ). text ++ t) split ∙ sym (append_assoc text front rest),
-  Appends-trans old mid new text front wrote appended,
-)
 
 module _ {S : Type 0} (answers : S → Frame → List ℕ → S → Type 0) where
   -- ---- messages
@@ -62,9 +52,14 @@ module _ {S : Type 0} (answers : S → Frame → List ℕ → S → Type 0) wher
     [],
     [],
     [],
+    [],
     Consumes-nil input,
-    first session before.service [] [] after.service (Rest []) (ap (λ (h : HubState S). h.service) same, refl),
-    ([], refl, Appends-nil written),
+    (
+      omega arith,
+      (whole session before.service [] [] before.service (Rest []) (refl, refl) spent-none).0,
+      first session before.service [] [] after.service (Rest []) (ap (λ (h : HubState S). h.service) same, refl),
+    ),
+    Appends-nil written,
   )
 
   -- ---- midway
@@ -130,6 +125,16 @@ module _ {S : Type 0} (answers : S → Frame → List ℕ → S → Type 0) wher
         subst (Appends written told) (sym (replies_append midway.1 ys)) (Appends-trans written text told (replies midway.1) (replies ys) midway.8 wrote),
       )
 
+      -- the first messages of the piece are answered
+      first_joined : (midway : Midway opened session service input written before left text) → length piece ≤ PIECE_SIZE → (held : Remainder) (ys : List Exchange) (last : Remainder)
+          → at_session before.sessions session ≡ Some held → Exchanges answers before.service (with_more held piece) ys after.service last
+          → AnswersPart (AllReplied answers session) service midway.0 piece midway.1 ys after.service
+      first_joined midway few held ys last there more = (
+        few,
+        (whole session service midway.0 midway.1 before.service midway.2 midway.3 midway.4).0,
+        first session service (midway.0 ++ piece) (midway.1 ++ ys) after.service last (joined midway held ys last there more),
+      )
+
       -- less is written, or fewer messages are answered
       pub faulted : Midway opened session service input written before left text → length piece ≤ PIECE_SIZE → (fault : ServeFault) → AnswersPiece answers before session piece text (Err fault) after told
           → Serves (AllReplied answers session) service input written (Err fault) after.service rest told × IsLeft after
@@ -150,14 +155,29 @@ module _ {S : Type 0} (answers : S → Frame → List ℕ → S → Type 0) wher
         ),
         (last, kept_by midway last put),
       )
-      faulted midway few OutOfMemory (held, ys, last, kept, unwritten, there, put, more, wrote) = (
+      faulted midway few OutOfMemory (held, ys, last, kept, (there, put, more), wrote) = (
         (
-          midway.0 ++ piece,
-          midway.1 ++ ys,
-          unwritten,
+          midway.0,
+          piece,
+          midway.1,
+          ys,
           Consumes-trans input left rest midway.0 piece midway.7 took,
-          first session service (midway.0 ++ piece) (midway.1 ++ ys) after.service last (joined midway held ys last there more),
-          subst (λ (t : List ℕ). WritesBut written told t unwritten) (sym (replies_append midway.1 ys)) (but_after written text told (replies midway.1) (replies ys) unwritten midway.8 wrote),
+          first_joined midway few held ys last there more,
+          subst (Appends written told) (sym (replies_append midway.1 ys)) (Appends-trans written text told (replies midway.1) (replies ys) midway.8 wrote),
+        ),
+        (kept, kept_by midway kept put),
+      )
+      faulted midway few OutOfMemoryAndCannotWrite (held, ys, last, kept, (there, put, more), wrote) = (
+        (
+          midway.0,
+          piece,
+          midway.1,
+          ys,
+          text,
+          Consumes-trans input left rest midway.0 piece midway.7 took,
+          first_joined midway few held ys last there more,
+          midway.8,
+          wrote,
         ),
         (kept, kept_by midway kept put),
       )
@@ -171,5 +191,7 @@ serves_also Replied Also before after also input written (Ok done) left told (by
 serves_also Replied Also before after also input written (Err CannotRead) left told (bytes, xs, took, (spelled, replied), wrote) = (bytes, xs, took, (spelled, also xs replied), wrote)
 serves_also Replied Also before after also input written (Err CannotWrite) left told (front, last, xs, ys, between, took, few, (spelled, replied), first, whole, wrote) =
     (front, last, xs, ys, between, took, few, (spelled, also (xs ++ ys) replied), first, whole, wrote)
-serves_also Replied Also before after also input written (Err OutOfMemory) left told (bytes, xs, unwritten, took, (later, spelled, replied), wrote) =
-    (bytes, xs, unwritten, took, (later, spelled, also xs replied), wrote)
+serves_also Replied Also before after also input written (Err OutOfMemory) left told (front, last, xs, ys, took, (few, first, (later, spelled, replied)), wrote) =
+    (front, last, xs, ys, took, (few, first, (later, spelled, also (xs ++ ys) replied)), wrote)
+serves_also Replied Also before after also input written (Err OutOfMemoryAndCannotWrite) left told (front, last, xs, ys, between, took, (few, first, (later, spelled, replied)), whole, wrote) =
+    (front, last, xs, ys, between, took, (few, first, (later, spelled, also (xs ++ ys) replied)), whole, wrote)

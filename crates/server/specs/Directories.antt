@@ -5,7 +5,7 @@ use Rattle.rand_core.specs.Steps.{steps_u32, stream_of}
 use Rattle.rand_chacha.specs.ChaCha.{ChaCha, next_word, of_seed}
 use Rattle.book.specs.Fresh.{fresh}
 use Rattle.epochs.specs.DirectoryStates.{book, DirectoryState}
-use Rattle.textio.specs.Digits.{hex32, nonce_of}
+use Rattle.textio.specs.Digits.{hex32, hex32_or_zeros}
 use Rattle.server.specs.DirectoryOptions.{DirectoryOptions}
 
 -- the keys of a directory and of its salts, the token of its operator, and how it begins
@@ -24,7 +24,7 @@ keys_if _ _ _ _ _ epoch = None
 
 -- what the texts give, where each is 64 hexadecimal digits
 abbrev pub keys_of : DirectoryOptions → Option DirectoryKeys
-keys_of asked = keys_if (hex32 asked.signing_key) (hex32 asked.vuf_key) (hex32 asked.salt_key) (hex32 asked.token) (nonce_of asked.nonce) asked.epoch
+keys_of asked = keys_if (hex32 asked.signing_key) (hex32 asked.vuf_key) (hex32 asked.salt_key) (hex32 asked.token) (hex32_or_zeros asked.nonce) asked.epoch
 
 -- the salts that a generator will give
 abbrev pub salts : ChaCha → Stream

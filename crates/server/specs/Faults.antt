@@ -5,7 +5,7 @@ use Rattle.textio.specs.declared.stream_fault.StreamFault.TheVariants as stream
 use Rattle.textio.specs.declared.program_fault.ProgramFault.{ProgramFault}
 use Rattle.textio.specs.declared.program_fault.ProgramFault.TheVariants as program
 use Rattle.server.specs.declared.serve_fault.ServeFault.{ServeFault}
-use Rattle.server.specs.declared.serve_fault.ServeFault.TheVariants.{CannotRead, CannotWrite, OutOfMemory}
+use Rattle.server.specs.declared.serve_fault.ServeFault.TheVariants.{CannotRead, CannotWrite, OutOfMemory, OutOfMemoryAndCannotWrite}
 
 abbrev pub serve_fault : StreamFault → ServeFault
 serve_fault stream.CannotRead = CannotRead
@@ -16,6 +16,7 @@ abbrev pub of_serving : ServeFault → ProgramFault
 of_serving CannotRead = program.CannotRead
 of_serving CannotWrite = program.CannotWrite
 of_serving OutOfMemory = program.OutOfMemory
+of_serving OutOfMemoryAndCannotWrite = program.CannotWrite
 
 -- the end of a session as that of the program
 abbrev pub outcome_of : Result (Unit {0}) ServeFault → Result (Unit {0}) ProgramFault

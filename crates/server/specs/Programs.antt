@@ -43,12 +43,14 @@ ServesFrom asked input written result left told = (keys : DirectoryKeys) × (beg
     × Serves (ServedReplied KeepsNothing NeverFails) begun input written result after left told
 
 -- What comes of an order without a journal, and an input: the texts are no keys, and nothing is done; or a session is
--- served, to its end or to its fault. Memory may run out before the directory begins.
+-- served, to its end or to its fault. Memory may run out before the directory begins. A failed write is told where
+-- memory ran out too.
 abbrev pub ServesUnkept : DirectoryOptions → Option (List ℕ) → Option (List ℕ) → Result (Unit {0}) ProgramFault → Option (List ℕ) → Option (List ℕ) → Type 0
 ServesUnkept asked input written (Ok done) left told = ServesFrom asked input written (Ok done) left told
 ServesUnkept asked input written (Err BadHex) left told = (keys_of asked ≡ None) × Keeps written told
 ServesUnkept asked input written (Err CannotRead) left told = ServesFrom asked input written (Err fault.CannotRead) left told
-ServesUnkept asked input written (Err CannotWrite) left told = ServesFrom asked input written (Err fault.CannotWrite) left told
+ServesUnkept asked input written (Err CannotWrite) left told =
+    ServesFrom asked input written (Err fault.CannotWrite) left told ⊎ ServesFrom asked input written (Err fault.OutOfMemoryAndCannotWrite) left told
 ServesUnkept asked input written (Err OutOfMemory) left told =
     ((keys : DirectoryKeys) × (keys_of asked ≡ Some keys) × Keeps input left × Keeps written told) ⊎ ServesFrom asked input written (Err fault.OutOfMemory) left told
 ServesUnkept asked input written (Err (BadItem line)) left told = ⊥

@@ -1,7 +1,7 @@
 -- One session, from a reader to a writer.
 use Rattle.std.specs.Prelude.{◌≡◌, ◌≤◌, ℕ, List, [], ◌∷◌, ◌++◌, length, flat_map, map, Option, Result, Ok, Err}
 use Rattle.std.specs.Io.KnownBytes.{Appends, Consumes, IsAtEnd}
-use Rattle.textio.specs.Output.{WritesBeginning, WritesBut}
+use Rattle.textio.specs.Output.{WritesBeginning}
 use Rattle.rand_core.specs.Stream.{Stream}
 use Rattle.wire.specs.Frames.{Frame}
 use Rattle.wire.specs.Streams.{Message, Rest, messages}
@@ -11,7 +11,7 @@ use Rattle.hub.specs.Desks.{DeskState, DeskAnswers}
 use Rattle.hub.specs.Exchanges.{Exchange, replies}
 use Rattle.hub.specs.Runs.{lines, AllAnswered, Line}
 use Rattle.server.specs.declared.serve_fault.ServeFault.{ServeFault}
-use Rattle.server.specs.declared.serve_fault.ServeFault.TheVariants.{CannotRead, CannotWrite, OutOfMemory}
+use Rattle.server.specs.declared.serve_fault.ServeFault.TheVariants.{CannotRead, CannotWrite, OutOfMemory, OutOfMemoryAndCannotWrite}
 use Rattle.server.specs.declared.serving.TheConstants.{PIECE_SIZE}
 
 -- the messages that these bytes spell
@@ -51,10 +51,15 @@ module _ {S : Type 0} (Replied : S → List Exchange → S → Type 0) where
   abbrev pub AnswersFirst : S → List ℕ → List Exchange → S → Type 0
   AnswersFirst service bytes exchanges after = (later : List Message) × (spelled bytes ≡ exchange_messages exchanges ++ later) × Replied service exchanges after
 
+  -- these are the messages of the first bytes with their replies, and of the last bytes, at most one read, the first ones
+  abbrev pub AnswersPart : S → List ℕ → List ℕ → List Exchange → List Exchange → S → Type 0
+  AnswersPart service front last earlier later after = (length last ≤ PIECE_SIZE) × (spelled front ≡ exchange_messages earlier)
+      × AnswersFirst service (front ++ last) (earlier ++ later) after
+
   -- What comes of the bytes that are read: all their messages are answered, and the replies written, up
   -- to the end of the input or to a failed read. Where a write fails, those to the last bytes, at most one
-  -- read, are not written whole, and all before them are. Where memory is wanting, the first messages are
-  -- answered, and a beginning of their replies is written.
+  -- read, are not written whole, and all before them are. Where memory is wanting, messages of the last bytes
+  -- may wait, and the replies to the others are written; if that write fails too, not whole.
   abbrev pub Serves : S → Option (List ℕ) → Option (List ℕ) → Result (Unit {0}) ServeFault → S → Option (List ℕ) → Option (List ℕ) → Type 0
   Serves before input written (Ok done) after left told = (bytes : List ℕ) × (exchanges : List Exchange)
       × Consumes input left bytes × IsAtEnd left × AnswersEach before bytes exchanges after × Appends written told (replies exchanges)
@@ -63,5 +68,8 @@ module _ {S : Type 0} (Replied : S → List Exchange → S → Type 0) where
   Serves before input written (Err CannotWrite) after left told = (front last : List ℕ) × (earlier later : List Exchange) × (between : Option (List ℕ))
       × Consumes input left (front ++ last) × (length last ≤ PIECE_SIZE) × AnswersEach before (front ++ last) (earlier ++ later) after × (spelled front ≡ exchange_messages earlier)
       × Appends written between (replies earlier) × WritesBeginning between told (replies later)
-  Serves before input written (Err OutOfMemory) after left told = (bytes : List ℕ) × (exchanges : List Exchange) × (unwritten : List ℕ)
-      × Consumes input left bytes × AnswersFirst before bytes exchanges after × WritesBut written told (replies exchanges) unwritten
+  Serves before input written (Err OutOfMemory) after left told = (front last : List ℕ) × (earlier later : List Exchange)
+      × Consumes input left (front ++ last) × AnswersPart before front last earlier later after × Appends written told (replies (earlier ++ later))
+  Serves before input written (Err OutOfMemoryAndCannotWrite) after left told = (front last : List ℕ) × (earlier later : List Exchange) × (between : Option (List ℕ))
+      × Consumes input left (front ++ last) × AnswersPart before front last earlier later after
+      × Appends written between (replies earlier) × WritesBeginning between told (replies later)

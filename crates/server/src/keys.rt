@@ -17,7 +17,7 @@ use sigiface::{KeyedSign, Signer};
 use std::alloc::{AllocError, Global};
 use std::marker::Model;
 use std::num::NonZeroU64;
-use textio::{HASH_SIZE, ProgramFault, option_hex32, option_nonce};
+use textio::{HASH_SIZE, ProgramFault, hex32_or_zeros, option_hex32};
 use vrfiface::{KeyedVuf, Vuf};
 
 /// The directory that the programs serve.
@@ -69,7 +69,7 @@ impl Keys {
             salt_key: option_hex32(order.salt_key)?,
             token: Hash32::new(option_hex32(order.token)?),
             epoch: order.epoch,
-            nonce: Hash32::new(option_nonce(order.nonce)?),
+            nonce: Hash32::new(hex32_or_zeros(order.nonce)?),
         })
     }
 

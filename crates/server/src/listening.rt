@@ -3,7 +3,7 @@
 // history that keeps the limits of the order. That the sockets had that very history is what the loop
 // (`answer_all` of `connections`) says of connections of which contracts know what they carry.
 // `scripts/listen.sh` covers the rest.
-ghost use Rattle.std.specs.Prelude.{◌≡◌, ◌≢◌, ◌↔◌, List, [], Err, IfErr, None};
+ghost use Rattle.std.specs.Prelude.{◌≡◌, ◌≢◌, ◌↔◌, ◌⊎◌, List, [], Err, IfErr, IsErr, None, false};
 ghost use Rattle.connections.specs.Fitting.{size_of, AreFree};
 ghost use Rattle.connections.specs.Histories.{History, of_connections};
 ghost use Rattle.connections.specs.Laws.{AlwaysWaitWithin};
@@ -102,6 +102,35 @@ fn most_open(order: ListenOrder<'_>) -> usize
     order.sessions.clamp(1, MAX_SESSIONS as u64) as usize
 }
 
+/// Answers connections as ordered, by the sessions of a hub that has none yet.
+fn answer_ordered<K, C, E>(
+    alloc: Global,
+    places: Places,
+    hub: Hub<ServedDesk<K>>,
+    connections: &mut C,
+    order: ListenOrder<'_>,
+    errors: &mut E,
+)
+where
+    K: Keeper + Drop,
+    C: Connections,
+    E: Write,
+    requires free { AreFree places }
+    requires size { size_of places ≡ most_open (connections_of order) }
+    requires none { hub.sessions ≡ [] }
+    ensures { C.has connections.old [] → AnswersConnections K.kept K.failed (connections_of order.entry) hub.service (E.contents errors.old) (E.contents errors.new) }
+{
+    let mut sessions = HubSessions::new(alloc, hub);
+    answer_crowd(
+        alloc,
+        places,
+        &mut sessions,
+        connections,
+        limits_of(order),
+        errors,
+    );
+}
+
 /// Listens on the address, and answers connections from the hub.
 fn listen_from<N, K, R, E>(
     alloc: Global,
@@ -120,26 +149,24 @@ where
     requires { hub.sessions ≡ [] }
     ensures good_hex { IfErr result (λ fault. fault ≢ BadHex) }
     ensures tells { TellsAddress (AnswersConnections K.kept K.failed (connections_of order.entry) hub.service) (E.contents errors.old) result (E.contents errors.new) }
+    ensures unread { (order.entry.until_eof ≡ false) ⊎ IsErr result → input.new ≡ input.old }
 {
     let count = most_open(order);
     let places = Places::free(alloc, count)?;
-    let mut sessions = HubSessions::new(alloc, hub);
-    let input = if order.until_eof { Some(input) } else { None };
-    let Ok(mut sockets) = Sockets::listen(alloc, system, order.address, count, disk, input) else {
+    let Ok(mut sockets) = Sockets::listen(alloc, system, order.address, count, disk) else {
         return Err(ProgramFault::CannotListen);
     };
     let Ok(address) = sockets.address() else {
         return Err(ProgramFault::CannotListen);
     };
     tell_address(alloc, address, errors)?;
-    answer_crowd(
-        alloc,
-        places,
-        &mut sessions,
-        &mut sockets,
-        limits_of(order),
-        errors,
-    );
+    // Two calls, so that the proof knows in which case the input is lent.
+    if order.until_eof {
+        sockets.stop_at_end_of(input);
+        answer_ordered(alloc, places, hub, &mut sockets, order, errors);
+        return Ok(());
+    }
+    answer_ordered(alloc, places, hub, &mut sockets, order, errors);
     Ok(())
 }
 
@@ -157,6 +184,7 @@ where
     E: Write,
     ensures bad_hex { (result ≡ Err BadHex) ↔ (keys_of (directory_values order.entry.directory) ≡ None) }
     ensures tells { TellsUnkept (directory_values order.entry.directory) (connections_of order.entry) (E.contents errors.old) result (E.contents errors.new) }
+    ensures unread { (order.entry.until_eof ≡ false) ⊎ IsErr result → input.new ≡ input.old }
 {
     let keys = Keys::read(&order.directory)?;
     let directory = keys.begin(alloc)?;
@@ -179,6 +207,7 @@ where
     E: Write,
     ensures bad_hex { (result ≡ Err BadHex) ↔ (keys_of (directory_values order.entry.directory) ≡ None) }
     ensures tells { TellsKept (directory_values order.entry.directory) (connections_of order.entry) (E.contents errors.old) result (E.contents errors.new) }
+    ensures unread { (order.entry.until_eof ≡ false) ⊎ IsErr result → input.new ≡ input.old }
 {
     let keys = Keys::read(&order.directory)?;
     let disk = open_file(system, path)?;
@@ -193,7 +222,8 @@ where
 /// from one that is kept in the order's journal. A journal is opened first, and a line to the errors says how
 /// many records were taken, and how many bytes were cut off, if any were. Once it listens, it writes a line
 /// to the errors: `listening on` and the address, with the port that the system chose if port 0 was asked
-/// for. A connection that is closed for want of memory is told of in a line behind it.
+/// for. A connection that is closed for want of memory is told of in a line behind it. The input is read
+/// only if its end is an order to stop, and not before the address is told.
 ///
 /// # Errors
 ///
@@ -214,6 +244,7 @@ where
     E: Write,
     ensures bad_hex { (result ≡ Err BadHex) ↔ (keys_of (directory_values order.entry.directory) ≡ None) }
     ensures tells { ListenTells (directory_values order.entry.directory) (connections_of order.entry) (E.contents errors.old) result (E.contents errors.new) }
+    ensures unread { (order.entry.until_eof ≡ false) ⊎ IsErr result → input.new ≡ input.old }
 {
     match order.directory.journal {
         None => listen_unkept(alloc, system, order, input, errors),

@@ -3,13 +3,13 @@ use thiserror::Error;
 
 /// Why the serving of a session stopped.
 #[derive(Clone, Copy, Debug, PartialEq, Eq, Error)]
+#[error("{}", ProgramFault::from(*self))]
 pub enum ServeFault {
-    #[error("cannot read")]
     CannotRead,
-    #[error("cannot write")]
     CannotWrite,
-    #[error("out of memory")]
     OutOfMemory,
+    /// Memory ran out, and then the replies made so far could not be written.
+    OutOfMemoryAndCannotWrite,
 }
 
 impl From<StreamFault> for ServeFault {
@@ -37,6 +37,7 @@ impl From<ServeFault> for ProgramFault {
             ServeFault::CannotRead => ProgramFault::CannotRead,
             ServeFault::CannotWrite => ProgramFault::CannotWrite,
             ServeFault::OutOfMemory => ProgramFault::OutOfMemory,
+            ServeFault::OutOfMemoryAndCannotWrite => ProgramFault::CannotWrite,
         }
     }
 }

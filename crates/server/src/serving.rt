@@ -41,6 +41,9 @@ fn answer_piece<S: Service + Drop, W: Write>(
     let heard = hub.event(&Event::Bytes(session, piece), &mut output);
     let written = write_answers(disk, writer, &output);
     if heard.is_err() {
+        if written.is_err() {
+            return Err(ServeFault::OutOfMemoryAndCannotWrite);
+        }
         return Err(ServeFault::OutOfMemory);
     }
     written?;
@@ -79,8 +82,9 @@ fn converse<S: Service + Drop, R: Read, W: Write>(
 ///
 /// # Errors
 ///
-/// `CannotRead` and `CannotWrite` if a read or a write failed; `OutOfMemory`. What was written is
-/// then a beginning of the session's output.
+/// `CannotRead` and `CannotWrite` if a read or a write failed; `OutOfMemory`, once the replies to all
+/// messages that were answered are written; `OutOfMemoryAndCannotWrite` if that write failed. What was
+/// written is then a beginning of the session's output.
 pub fn serve<H, V, S, G, K, R, W>(
     alloc: Global,
     hub: &mut Hub<Desk<H, V, S, G, K>>,
@@ -105,7 +109,7 @@ where
 }
 
 /// The same, where the records of a journal are put on their disk before the answers that tell of them
-/// leave. If that fails, the fault is `CannotWrite`, and none of these answers has left.
+/// leave. If that fails, so did the write of these answers, and none of them has left.
 pub(crate) fn serve_on<H, V, S, G, K, R, W>(
     alloc: Global,
     hub: &mut Hub<Desk<H, V, S, G, K>>,

@@ -188,21 +188,18 @@ fn millis_since<N: Clock>(clock: &N, start: Instant) -> io::Result<u64> {
 }
 
 impl<'a, N: Net + Clock, R: BufRead> Sockets<'a, N, R> {
-    /// Listens on the address, with places for so many connections. The input is read only if its end is
-    /// an order to stop.
+    /// Listens on the address, with places for so many connections.
     pub(crate) fn listen(
         alloc: Global,
         system: &'a N,
         address: &str,
         sessions: usize,
         disk: Option<&'a Disk>,
-        input: Option<&'a mut R>,
     ) -> io::Result<Self> {
         let poll = Poll::new(system)?;
         let mut listener = bind(system, address)?;
         poll.registry()
             .register(&mut listener, LISTENER, Interest::READABLE)?;
-        let stop = StopInput::new(poll.registry(), input);
         let mut places = Vec::with_capacity(alloc, sessions)?;
         for _ in 0..sessions {
             places.push(None)?;
@@ -216,8 +213,13 @@ impl<'a, N: Net + Clock, R: BufRead> Sockets<'a, N, R> {
             may_take: true,
             places,
             disk,
-            stop,
+            stop: StopInput::none(),
         })
+    }
+
+    /// Takes the end of an input as an order to stop.
+    pub(crate) fn stop_at_end_of(&mut self, input: &'a mut R) {
+        self.stop = StopInput::new(self.poll.registry(), input);
     }
 
     /// The address that it listens on, with the port that the system chose.

@@ -30,21 +30,28 @@ pub(crate) struct StopInput<'a, R> {
 }
 
 impl<'a, R: BufRead> StopInput<'a, R> {
-    pub(crate) fn new(registry: &Registry, input: Option<&'a mut R>) -> Self {
-        let mut readiness = Readiness::Reported;
-        if input.is_some() {
-            let registered = registry.register(
-                &mut SourceFd(&STANDARD_INPUT),
-                INPUT,
-                Interest::READABLE,
-            );
-            // The system reports no file.
-            if registered.is_err() {
-                readiness = Readiness::Always;
-            }
-        }
+    pub(crate) fn none() -> Self {
         StopInput {
-            input,
+            input: None,
+            readiness: Readiness::Reported,
+            may_read: false,
+        }
+    }
+
+    pub(crate) fn new(registry: &Registry, input: &'a mut R) -> Self {
+        let registered = registry.register(
+            &mut SourceFd(&STANDARD_INPUT),
+            INPUT,
+            Interest::READABLE,
+        );
+        // The system reports no file.
+        let readiness = if registered.is_err() {
+            Readiness::Always
+        } else {
+            Readiness::Reported
+        };
+        StopInput {
+            input: Some(input),
             readiness,
             may_read: readiness == Readiness::Always,
         }

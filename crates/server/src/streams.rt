@@ -68,7 +68,8 @@ fn serve_kept<F: Files<File = File>, R: Read, W: Write, E: Write>(
 /// `BadHex`, before anything is read, if a text of the order is not 64 hexadecimal digits. Then those of
 /// the journal: `BadRecord`, `OtherKeys`; `CannotRead` if it is there and cannot be read; `CannotWrite`
 /// if it cannot be made, written or cut, or if another process holds it. Then `CannotRead`, `CannotWrite`
-/// and `OutOfMemory`, where what was written is a beginning of the session's output.
+/// and `OutOfMemory`, where what was written is a beginning of the session's output; at `OutOfMemory` it has
+/// the replies to all messages that were answered.
 pub fn serve_directory<F: Files<File = File>, R: Read, W: Write, E: Write>(
     alloc: Global,
     files: &F,

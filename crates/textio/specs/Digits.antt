@@ -7,7 +7,7 @@ use Rattle.hex.specs.Hex.{decode_sized}
 abbrev pub hex32 : List ℕ → Option (List ℕ)
 hex32 text = result_ok (decode_sized text 32)
 
--- the nonce of an option: 32 zero bytes where none is given
-abbrev pub nonce_of : Option (List ℕ) → Option (List ℕ)
-nonce_of None = Some (replicate 32 0)
-nonce_of (Some text) = hex32 text
+-- 32 bytes from the text of an option that may be left out: zeros where it is
+abbrev pub hex32_or_zeros : Option (List ℕ) → Option (List ℕ)
+hex32_or_zeros None = Some (replicate 32 0)
+hex32_or_zeros (Some text) = hex32 text

@@ -1,6 +1,7 @@
 ghost use Rattle.std.specs.Prelude.{◌≡◌, length, MatchResult, None, Some, option_map};
 ghost use Rattle.hex.specs.Hex.{encode_lower};
-ghost use Rattle.textio.specs.Digits.{hex32, nonce_of};
+ghost use Rattle.textio.specs.declared.digits.TheConstants.{HASH_SIZE};
+ghost use Rattle.textio.specs.Digits.{hex32, hex32_or_zeros};
 
 use crate::program_fault::ProgramFault;
 use hex::FromHex;
@@ -13,7 +14,7 @@ pub const HASH_DIGITS: usize = 2 * HASH_SIZE;
 
 /// The 64 hexadecimal digits of 32 bytes, in lower case.
 pub fn hex_digits(bytes: &[u8]) -> [u8; HASH_DIGITS]
-    requires { length bytes.now ≡ 32 }
+    requires { length bytes.now ≡ HASH_SIZE }
     ensures { result ≡ encode_lower bytes.now }
 {
     let mut digits = [0; HASH_DIGITS];
@@ -44,14 +45,15 @@ pub fn option_hex32(text: &str) -> Result<[u8; HASH_SIZE], ProgramFault>
     }
 }
 
-/// The 32 bytes of the option that gives a nonce: zeros where it is not there.
+/// The 32 bytes of an option that may be left out, as the nonce or the operator's token: zeros where it
+/// is not there.
 ///
 /// # Errors
 ///
 /// `BadHex` where the text is not 64 hexadecimal digits.
-pub fn option_nonce(text: Option<&str>) -> Result<[u8; HASH_SIZE], ProgramFault>
-    ensures { MatchResult result (λ nonce. nonce_of (option_map (λ t. t.now) text.entry) ≡ Some nonce)
-        (λ fault. (fault ≡ ProgramFault.BadHex) × (nonce_of (option_map (λ t. t.now) text.entry) ≡ None)) }
+pub fn hex32_or_zeros(text: Option<&str>) -> Result<[u8; HASH_SIZE], ProgramFault>
+    ensures { MatchResult result (λ bytes. hex32_or_zeros (option_map (λ t. t.now) text.entry) ≡ Some bytes)
+        (λ fault. (fault ≡ ProgramFault.BadHex) × (hex32_or_zeros (option_map (λ t. t.now) text.entry) ≡ None)) }
 {
     match text {
         None => Ok([0; HASH_SIZE]),

@@ -23,7 +23,7 @@ mod some_bytes;
 mod stream_fault;
 mod whole;
 
-pub use digits::{HASH_DIGITS, HASH_SIZE, hex_digits, hex32, option_hex32, option_nonce};
+pub use digits::{HASH_DIGITS, HASH_SIZE, hex_digits, hex32, hex32_or_zeros, option_hex32};
 pub use line::next_line;
 pub use output::write_text;
 pub use program_fault::ProgramFault;

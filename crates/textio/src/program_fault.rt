@@ -1,5 +1,6 @@
 ghost use Rattle.std.specs.Prelude.{◌≡◌, ◌≤◌, ◌++◌, length, codes, decimal, OnOk, IfErr};
 ghost use Rattle.std.specs.Io.KnownBytes.{Appends};
+ghost use Rattle.textio.specs.declared.program_fault.TheConstants.{AFTER_NUMBER, FAULT_TEXT};
 ghost use Rattle.textio.specs.Faults.{fault_text};
 ghost use Rattle.textio.specs.Output.{WritesBeginning};
 
@@ -131,7 +132,7 @@ impl ProgramFault {
 }
 
 fn plain(said: &[u8]) -> FaultText
-    requires { length said.now ≤ 42 }
+    requires { length said.now ≤ FAULT_TEXT }
     ensures { result ≡ said.now }
 {
     let mut text = FaultText::new();
@@ -140,7 +141,7 @@ fn plain(said: &[u8]) -> FaultText
 }
 
 fn numbered(line: u64, said: &[u8]) -> FaultText
-    requires { length said.now ≤ 17 }
+    requires { length said.now ≤ AFTER_NUMBER }
     ensures { result ≡ codes "line " ++ decimal line ++ said.now }
 {
     let mut digits = Buffer::new();

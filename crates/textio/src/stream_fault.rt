@@ -1,15 +1,15 @@
 ghost use Rattle.std.specs.Prelude.{◌≡◌, ◌↔◌, IsOk, IfErr};
 ghost use Rattle.std.specs.IoError.{error_kind};
 
+use crate::ProgramFault;
 use std::io::{Error, ErrorKind};
 use thiserror::Error;
 
 /// Why a text was not read or written.
 #[derive(Clone, Copy, Debug, PartialEq, Eq, Error)]
+#[error("{}", ProgramFault::from(*self))]
 pub enum StreamFault {
-    #[error("cannot read")]
     CannotRead,
-    #[error("cannot write")]
     CannotWrite,
 }
 

@@ -42,7 +42,7 @@
 //! | | `Feed::new`, `feed`; `ready` and `next`, which call `front_of` | `new`; `feed` |
 //! | `journal` | `Journal::new`; `keep`, which calls `write_record` | `start`, `register`, `change`, `turn`, `rotate` |
 //! | | `records` | `records` |
-//! | `text` | `hex_digits`, `hex32`, `option_hex32`, `option_nonce` | `digits`, `hex32`, `option-hex`, `option-nonce` |
+//! | `text` | `hex_digits`, `hex32`, `option_hex32`, `hex32_or_zeros` | `digits`, `hex32`, `option-hex`, `hex32-or-zeros` |
 //! | | `ProgramFault::status`, `tell` | `fault` |
 //! | | the texts of refusals that only a device or a want of memory gives | `refusal` |
 //! | `items` | `root`, `prove` | `root`, `prove` |

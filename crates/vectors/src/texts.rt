@@ -2,7 +2,7 @@
 
 use questions::Case;
 use rootchain::{ListRefusal, Refusal};
-use textio::{ProgramFault, StreamFault, hex_digits, hex32, option_hex32, option_nonce};
+use textio::{ProgramFault, StreamFault, hex_digits, hex32, hex32_or_zeros, option_hex32};
 use wire::FeedRefusal;
 
 pub(crate) fn answer(case: &mut Case<'_>) {
@@ -10,7 +10,7 @@ pub(crate) fn answer(case: &mut Case<'_>) {
         b"digits" => digits(case),
         b"hex32" => bytes_of_digits(case),
         b"option-hex" => option_hex(case),
-        b"option-nonce" => nonce(case),
+        b"hex32-or-zeros" => bytes_or_zeros(case),
         b"fault" => fault(case),
         b"refusal" => refusal(case),
         _ => case.spoil(),
@@ -39,9 +39,9 @@ fn option_hex(case: &mut Case<'_>) {
     }
 }
 
-/// `option-nonce TEXT|none`
-fn nonce(case: &mut Case<'_>) {
-    match option_nonce(case.option_text()) {
+/// `hex32-or-zeros TEXT|none`
+fn bytes_or_zeros(case: &mut Case<'_>) {
+    match hex32_or_zeros(case.option_text()) {
         Ok(bytes) => case.say_bytes(&bytes),
         Err(fault) => say_fault(case, fault),
     }

@@ -10,7 +10,7 @@ ghost use Rattle.wire.specs.declared.answer.TheConstants.{MAX_ANSWER_LEN};
 ghost use Rattle.encoding.specs.declared.fixed_text.TheConstants.{PROOF_TEXT_ROOM};
 
 use crate::response::{PROMISED, PROOF, REFUSED, ROOT, ROOTS};
-use crate::writing::{append_frame, begin_frame, length_bytes};
+use crate::writing::begin_frame;
 use encoding::ProofText;
 use rootchain::{SignedPromise, SignedRoot, list_len, write_list};
 use std::alloc::AllocError;
@@ -72,17 +72,7 @@ fn append_promise(output: &mut Vec<u8>, promise: &SignedPromise) -> Result<(), A
     ensures room { vec_len output.old + 5 + length (signed_promise_bytes promise.now) ≤ vec_capacity output.old → IsOk result }
     ensures most { length (signed_promise_bytes promise.now) ≤ MAX_LIST_LEN }
 {
-    // `SignedPromise::write` would make a text with the room of the longest reply.
-    let text = promise.promise.write();
-    let signature = promise.signature.bytes();
-    append_frame(
-        output,
-        PROMISED,
-        text.bytes(),
-        &length_bytes(signature),
-        signature,
-        &[],
-    )
+    append_text(output, PROMISED, promise.write().bytes())
 }
 
 /// Appends the frame of a root.

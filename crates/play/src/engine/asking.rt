@@ -1,11 +1,10 @@
-ghost use Rattle.std.specs.Prelude.{◌≡◌, ◌≢◌, ◌++◌, ◌∷◌, [], IfOk, List, MatchOption, OnOk};
+ghost use Rattle.std.specs.Prelude.{◌≡◌, ◌≢◌, ◌==◌, ◌++◌, ◌∷◌, [], if◌then◌else◌, IfOk, List, OnOk};
 ghost use Rattle.commands.specs.declared.edit.Verb.{Verb};
-ghost use Rattle.proofs.specs.Replies.{Reply};
 ghost use Rattle.wire.specs.Frames.{frame_bytes, Frame, IsFrame};
 ghost use Rattle.wire.specs.FrameViews.{frame_seen};
 ghost use Rattle.wire.specs.Laws.{IsReadAs};
 ghost use Rattle.wire.specs.Requests.{Put};
-ghost use Rattle.wire.specs.Responses.{response_seen, Proof, Refused, ResponseContent};
+ghost use Rattle.wire.specs.Responses.{response_seen, Refused, ResponseContent};
 ghost use Rattle.book.specs.Books.{Page};
 ghost use Rattle.book.specs.Shows.{index_of};
 ghost use Rattle.epochs.specs.DirectoryStates.{provider, HasKeysOf};
@@ -27,10 +26,9 @@ use crate::ask::Ask;
 use crate::laws::honest;
 use crate::telling::{tell_refusal, tell_response, tell_statement};
 use book::{NoKeeper, Refusal};
-use encoding::{KeyData, Name};
+use encoding::Name;
 use hub::{Event, replies_are_honest};
 use nodehash::NodeHash;
-use proofs::ReplyView;
 use rand_core::Rng;
 use sigiface::Signer;
 use std::alloc::AllocError;
@@ -104,22 +102,7 @@ fn want_of_memory(frame: &FrameView<'_>) -> Result<(), AllocError>
     Ok(())
 }
 
-/// The reply to a look-up that a frame of the directory is, if it is one.
-fn proof_of<'a>(frame: &FrameView<'a>) -> Option<ReplyView<'a>>
-    requires { (responded : ResponseContent) × IsReadAs (frame_seen frame.now) responded }
-    ensures { (responded : ResponseContent) → IsReadAs (frame_seen frame.now) responded → MatchOption result ((proof : Reply) → responded ≢ Proof proof) (λ found. responded ≡ Proof found) }
-{
-    if frame.kind != PROOF {
-        return None;
-    }
-    match ReplyView::read(frame.body) {
-        Ok(found) => Some(found),
-        Err(_) => unreachable!(),
-    }
-}
-
 /// Appends the line of a frame that is no reply to a look-up. Of a promise no more is read than the epoch.
-#[inline(never)]
 fn tell_reply(frame: &FrameView<'_>, text: &mut Vec<u8>) -> Result<(), AllocError>
     requires { (responded : ResponseContent) × IsReadAs (frame_seen frame.now) responded }
     ensures { (responded : ResponseContent) → IsReadAs (frame_seen frame.now) responded → OnOk result ((text.new.items ≡ text.old.items ++ response_text responded ++ 10 ∷ []) × (responded ≢ Refused 14)) }
@@ -127,6 +110,15 @@ fn tell_reply(frame: &FrameView<'_>, text: &mut Vec<u8>) -> Result<(), AllocErro
     if frame.kind == PROMISED {
         return tell_promise(text, frame.body);
     }
+    tell_whole(frame, text)
+}
+
+/// The same, of which all is read. A function of its own, since a response is a large value.
+#[inline(never)]
+fn tell_whole(frame: &FrameView<'_>, text: &mut Vec<u8>) -> Result<(), AllocError>
+    requires { (responded : ResponseContent) × IsReadAs (frame_seen frame.now) responded }
+    ensures { (responded : ResponseContent) → IsReadAs (frame_seen frame.now) responded → OnOk result ((text.new.items ≡ text.old.items ++ response_text responded ++ 10 ∷ []) × (responded ≢ Refused 14)) }
+{
     tell_response(text, response_of(frame)?)
 }
 
@@ -206,15 +198,22 @@ where
         ensures told { (before : Parties R) (known : HasAskedKnowing H.digest_of V.value_of S.signature_of R.stream V.accepted S.verified before (ask_seen ask.now) reply.now self.old) → OnOk result ((text.new.items ≡ text.old.items ++ line_of_reply H.digest_of V.value_of S.signature_of R.stream V.accepted S.verified before (ask_seen ask.now) ++ 10 ∷ []) × HasChecked H.digest_of V.accepted self.old (ask_seen ask.now) known.asked.said self.new) }
     {
         let frame = frame_of(reply);
-        let Some(found) = proof_of(&frame) else {
+        if frame.kind != PROOF {
             return tell_reply(&frame, text);
-        };
-        let found_at = found.body().epoch;
+        }
         // A proof is the answer to a look-up alone.
         let Ask::Lookup { name, epoch } = ask else {
             unreachable!()
         };
+        let found_at = self.found_at(*epoch);
         self.tell_look(name, *epoch, found_at, body_of(reply), text)
+    }
+
+    /// The epoch of the page that a look-up at an epoch finds: for 0 the last one's.
+    fn found_at(&self, epoch: u64) -> u64
+        ensures { result ≡ (if epoch == 0 then (self.now).hub.service.directory.last.epoch else epoch) }
+    {
+        if epoch == 0 { self.latest() } else { epoch }
     }
 
     /// Appends the line of what the client says of a reply to a look-up, which is of the root of this epoch.
@@ -272,9 +271,6 @@ where
         if promise.len() == 1 {
             return Ok(());
         }
-        let Ok(key) = KeyData::new(key) else {
-            unreachable!()
-        };
-        hand_all(&mut self.monitors, &mut self.checks, name, &key, promise)
+        hand_all(&mut self.monitors, &mut self.checks, name, key, promise)
     }
 }

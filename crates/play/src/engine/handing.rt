@@ -1,9 +1,12 @@
 // A promise of a key goes to the monitors of its name.
 
-ghost use Rattle.std.specs.Prelude.{OnOk};
+ghost use Rattle.std.specs.Prelude.{◌≡◌, OnOk};
 ghost use Rattle.std.specs.List.{AllByRecursion, AllZip};
+ghost use Rattle.encoding.specs.Limits.{IsKeyData};
 ghost use Rattle.rootchain.specs.Promises.{SpellsPromise};
 ghost use Rattle.rootchain.specs.declared.signed_promise.SignedPromise.{SignedPromise};
+ghost use Rattle.monitor.specs.Expecting.{IsNewPromise};
+ghost use Rattle.monitor.specs.Monitors.{with_change};
 ghost use Rattle.play.specs.Handed.{IsHanded, MayBeHanded};
 
 use super::Checks;
@@ -20,10 +23,11 @@ pub(super) fn hand_all<H: NodeHash + Drop, V: Vuf + Drop, S: Signer + Drop>(
     monitors: &mut [Monitor<H, V, S>],
     checks: &mut Checks<H, V, S>,
     name: &[u8],
-    key: &KeyData,
+    key: &[u8],
     promise: &[u8],
 ) -> Result<(), AllocError>
-    requires { AllByRecursion (MayBeHanded H.digest_of S.verified name.now key.now promise.now) monitors.old }
+    requires key { IsKeyData key.now }
+    requires may { AllByRecursion (MayBeHanded H.digest_of S.verified name.now key.now promise.now) monitors.old }
     ensures { (promised : SignedPromise) → SpellsPromise promise.now promised → OnOk result (AllZip (IsHanded name.now promised) monitors.old monitors.new) }
 {
     for monitor in monitors.iter_mut() {
@@ -37,16 +41,35 @@ fn hand_to<H: NodeHash + Drop, V: Vuf + Drop, S: Signer + Drop>(
     monitor: &mut Monitor<H, V, S>,
     checks: &mut Checks<H, V, S>,
     name: &[u8],
-    key: &KeyData,
+    key: &[u8],
     promise: &[u8],
 ) -> Result<(), AllocError>
-    requires { MayBeHanded H.digest_of S.verified name.now key.now promise.now monitor.old }
+    requires key { IsKeyData key.now }
+    requires may { MayBeHanded H.digest_of S.verified name.now key.now promise.now monitor.old }
     ensures { (promised : SignedPromise) → SpellsPromise promise.now promised → OnOk result (IsHanded name.now promised monitor.old monitor.new) }
 {
     if monitor.name().bytes() != name {
         return Ok(());
     }
-    match monitor.expect_change(&mut checks.hash, &checks.verifier, key, promise) {
+    hand_key(monitor, checks, key, promise)
+}
+
+/// Gives a promise to a monitor of its name. A function of its own, since a key takes room.
+#[inline(never)]
+fn hand_key<H: NodeHash + Drop, V: Vuf + Drop, S: Signer + Drop>(
+    monitor: &mut Monitor<H, V, S>,
+    checks: &mut Checks<H, V, S>,
+    key: &[u8],
+    promise: &[u8],
+) -> Result<(), AllocError>
+    requires key { IsKeyData key.now }
+    requires new { (promised : SignedPromise) × IsNewPromise H.digest_of S.verified monitor.old key.now promise.now promised }
+    ensures { (promised : SignedPromise) → SpellsPromise promise.now promised → OnOk result (monitor.new ≡ with_change monitor.old promised) }
+{
+    let Ok(key) = KeyData::new(key) else {
+        unreachable!()
+    };
+    match monitor.expect_change(&mut checks.hash, &checks.verifier, &key, promise) {
         Ok(()) => Ok(()),
         Err(why) => Err(monitor_memory(why)),
     }

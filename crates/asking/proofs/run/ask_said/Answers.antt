@@ -2,7 +2,7 @@ use Rattle.std.proofs.Common.{ℕ, List, Option, inl, refl, subst}
 use Rattle.std.specs.Prelude.{OnOk}
 use Rattle.asking.specs.Exchanges.{ExchangesFrames}
 use Rattle.asking.specs.Joining.{BeginsWatch}
-use Rattle.asking.specs.Runs.{known_of}
+use Rattle.asking.specs.Runs.{background_of}
 use Rattle.asking.specs.Scenes.{scene}
 use Rattle.play.specs.Scripts.{ask_seen}
 use Rattle.asking.proofs.Ended.{asked_reaches, watched_reaches}
@@ -34,13 +34,13 @@ returns-in-Watch-clause-rises g c =
 
 pub returns-in-Ask-clause-reaches : goal.returns-in-Ask-clause-reaches
 returns-in-Ask-clause-reaches g c =
-    rw c.in-Ask.is (asked_reaches g.H.NodeHash.digest_of g.V.VufCheck.accepted g.S.Verifier.verified (ExchangesFrames g.T.Write.contents g.T.Read.remaining) (known_of c.args.asker.now) (ask_seen c.in-Ask.ask)
+    rw c.in-Ask.is (asked_reaches g.H.NodeHash.digest_of g.V.VufCheck.accepted g.S.Verifier.verified (ExchangesFrames g.T.Write.contents g.T.Read.remaining) (background_of c.args.asker.now) (ask_seen c.in-Ask.ask)
     c.args.asker.now.changes.items c.ask.new.self.changes.items c.ask.result (scene c.args.asker.now c.args.said.now c.args.stream.now) (scene c.ask.new.self c.ask.new.said c.ask.new.stream)
     c.ask.new.self c.ask.new.said refl c.ask.ensures.asks c.ask.ensures.stops c.ask.ensures.halts)
 
 pub returns-in-Watch-clause-reaches : goal.returns-in-Watch-clause-reaches
 returns-in-Watch-clause-reaches g c =
-    rw c.in-Watch.is (watched_reaches g.H.NodeHash.digest_of g.V.VufCheck.accepted g.S.Verifier.verified (ExchangesFrames g.T.Write.contents g.T.Read.remaining) (known_of c.args.asker.now) c.in-Watch.name _ _ c.watch.result
+    rw c.in-Watch.is (watched_reaches g.H.NodeHash.digest_of g.V.VufCheck.accepted g.S.Verifier.verified (ExchangesFrames g.T.Write.contents g.T.Read.remaining) (background_of c.args.asker.now) c.in-Watch.name _ _ c.watch.result
     (scene c.args.asker.now c.args.said.now c.args.stream.now) (scene c.watch.new.self c.watch.new.said c.watch.new.stream)
     c.watch.new.self c.watch.new.said c.as_ref.ensures.value refl c.watch.ensures.begins c.watch.ensures.halts)
 

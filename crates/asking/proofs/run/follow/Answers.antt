@@ -1,6 +1,6 @@
 use Rattle.std.proofs.Common.{Global, Vec, ap, refl, subst}
 use Rattle.asking.specs.Exchanges.{ExchangesFrames}
-use Rattle.asking.specs.Runs.{known_of}
+use Rattle.asking.specs.Runs.{background_of}
 use Rattle.asking.specs.Scenes.{scene}
 use Rattle.asking.specs.Visiting.{TestsAll}
 use Rattle.asking.specs.declared.asker.Mark.{Mark}
@@ -39,14 +39,14 @@ returns-clause-rises g c =
 
 pub returns-in_err-follow-clause-reaches : goal.returns-in_err-follow-clause-reaches
 returns-in_err-follow-clause-reaches g c =
-    taken_reaches g.H.NodeHash.digest_of g.V.VufCheck.accepted g.S.Verifier.verified (ExchangesFrames g.T.Write.contents g.T.Read.remaining) (known_of c.args.asker.now) c.follow.result
+    taken_reaches g.H.NodeHash.digest_of g.V.VufCheck.accepted g.S.Verifier.verified (ExchangesFrames g.T.Write.contents g.T.Read.remaining) (background_of c.args.asker.now) c.follow.result
     (scene c.args.asker.now c.args.said.now c.args.stream.now) (scene c.follow.new.self c.follow.new.said c.follow.new.stream) c.follow.new.self c.follow.new.said refl
     c.follow.ensures.follows c.follow.ensures.stops c.follow.ensures.halts
 
 pub returns-clause-reaches : goal.returns-clause-reaches
 returns-clause-reaches g c =
     let follows = c.in_ok-follow.ensures.follows in
-    tested_reaches g.H.NodeHash.digest_of g.V.VufCheck.accepted g.S.Verifier.verified (ExchangesFrames g.T.Write.contents g.T.Read.remaining) (known_of c.args.asker.now) c.follow.new.self.marks.items c.test_promises.result follows.0
+    tested_reaches g.H.NodeHash.digest_of g.V.VufCheck.accepted g.S.Verifier.verified (ExchangesFrames g.T.Write.contents g.T.Read.remaining) (background_of c.args.asker.now) c.follow.new.self.marks.items c.test_promises.result follows.0
     (scene c.args.asker.now c.args.said.now c.args.stream.now) (scene c.follow.new.self c.follow.new.said c.follow.new.stream)
     (scene c.test_promises.new.self c.test_promises.new.said c.test_promises.new.stream) c.test_promises.new.self c.test_promises.new.said refl
     (ap (λ (all : Vec Mark Global). all.items) c.in_ok-follow.ensures.stays.2) follows.1 c.test_promises.ensures.tests c.test_promises.ensures.halts

@@ -1,7 +1,7 @@
 use Rattle.std.proofs.Common.{◌≡◌, ℕ, List, Result}
 use Rattle.std.proofs.KnownBytes.{Keeps-refl}
 use Rattle.textio.specs.declared.program_fault.ProgramFault.{ProgramFault}
-use Rattle.textio.specs.Digits.{hex32, nonce_of}
+use Rattle.textio.specs.Digits.{hex32, hex32_or_zeros}
 use Rattle.items.specs.Prove.{Proves}
 use Rattle.items.specs.Root.{root_answer}
 use Rattle.items.specs.TreeOptions.{tree_values}
@@ -18,7 +18,7 @@ pub returns-in-Prove : goal.returns-in-Prove
 returns-in-Prove g c =
     let contents = g.W.Write.contents in
     let asked = tree_values c.in-Prove.order.root in
-    let says = Proves asked.hash (nonce_of asked.nonce) (hex32 c.in-Prove.order.index.now) in
+    let says = Proves asked.hash (hex32_or_zeros asked.nonce) (hex32 c.in-Prove.order.index.now) in
     rw (c.in-Prove.is, c.done-in-Prove.ensures) (ends_with_zero says _ (contents c.args.writer.now) (contents c.prove.new.writer) c.prove.result c.prove.ensures.ends, Keeps-refl _)
 
 pub returns-in-Audit : goal.returns-in-Audit

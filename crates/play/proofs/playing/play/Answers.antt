@@ -13,10 +13,10 @@ returns-in_err-engine g c =
     let passed : c.from_residual.result ≡ Err fault.OutOfMemory = search rules in
     rw passed (device_ends script_index (opening script_salts) _ _ 1 (opening script_salts) _ _ [] fault.OutOfMemory tt (at_first script_index (opening script_salts) _ _))
 
-pub play_lines-requires : goal.play_lines-requires
-play_lines-requires g c = record { at = (opening script_salts, c.in_ok-engine.ensures.at) }
+pub play_lines-played-requires : goal.play_lines-played-requires
+play_lines-played-requires g c = record { at = (opening script_salts, c.in_ok-engine.ensures.at) }
 
 pub returns : goal.returns
 returns g c =
-    subst (λ (index : List ℕ → List ℕ). PlaysTo (λ script. played_from index 1 (opening script_salts) (lines_of script)) (g.R.Read.remaining c.args.reader.now) (g.W.Write.contents c.args.writer.now) (g.W.Write.contents c.play_lines.new.writer) c.play_lines.result)
-    c.in_ok-engine.ensures.index (c.play_lines.ensures (opening script_salts) c.in_ok-engine.ensures.at)
+    subst (λ (index : List ℕ → List ℕ). PlaysTo (λ script. played_from index 1 (opening script_salts) (lines_of script)) (g.R.Read.remaining c.args.reader.now) (g.W.Write.contents c.args.writer.now) (g.W.Write.contents c.play_lines-played.new.writer) c.play_lines-played.result)
+    c.in_ok-engine.ensures.index (c.play_lines-played.ensures (opening script_salts) c.in_ok-engine.ensures.at)

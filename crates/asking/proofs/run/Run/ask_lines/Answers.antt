@@ -1,6 +1,6 @@
 use Rattle.std.proofs.Common.{◌≡◌, ◌∙◌, Err, arith, refl, rules, subst}
 use Rattle.asking.specs.Exchanges.{ExchangesFrames}
-use Rattle.asking.specs.Runs.{AsksLine, Known, known_of, Writes}
+use Rattle.asking.specs.Runs.{AsksLine, Background, background_of, Writes}
 use Rattle.asking.specs.Reports.{report_of}
 use Rattle.asking.specs.Scenes.{scene}
 use Rattle.asking.proofs.Ended.{err_so, leaves_same, line_known, part_here, part_line}
@@ -11,7 +11,7 @@ use Rattle.asking.proofs.run.Run.ask_lines.Goals as goal
 
 pub returns-then-not-branch-clause-asks : goal.returns-then-not-branch-clause-asks
 returns-then-not-branch-clause-asks g c =
-    leads_out g.H.NodeHash.digest_of g.V.VufCheck.accepted g.S.Verifier.verified (ExchangesFrames g.T.Write.contents g.T.Read.remaining) (known_of c.args.asker.now)
+    leads_out g.H.NodeHash.digest_of g.V.VufCheck.accepted g.S.Verifier.verified (ExchangesFrames g.T.Write.contents g.T.Read.remaining) (background_of c.args.asker.now)
     (scene c.args.asker.now c.args.self.now.said c.args.stream.now) (scene c.loop-number.asker c.loop-number.self.said c.loop-number.stream)
     (g.R.Read.remaining c.args.reader.now) (g.W.Write.contents c.args.writer.now) (g.R.Read.remaining c.loop-number.reader) (g.R.Read.remaining c.next_line.new.reader) (g.W.Write.contents c.loop-number.writer)
     c.next_line.new.line.items c.loop-number.invariant.asks (rw c.if-not-branch.true at c.in_ok-next_line.ensures.ok)
@@ -21,23 +21,23 @@ loop-number-preserved g c =
     let takes = rw (c.if-not-branch.false, ← c.deref.ensures.value) at c.in_ok-next_line.ensures.ok in
     let here = scene c.loop-number.asker c.loop-number.self.said c.loop-number.stream in
     let next = scene c.ask_line.new.asker c.ask_line.new.self.said c.ask_line.new.stream in
-    let writes = subst (λ (known : Known). Writes (AsksLine g.H.NodeHash.digest_of g.V.VufCheck.accepted g.S.Verifier.verified (ExchangesFrames g.T.Write.contents g.T.Read.remaining) known c.deref.result.now)
+    let writes = subst (λ (background : Background). Writes (AsksLine g.H.NodeHash.digest_of g.V.VufCheck.accepted g.S.Verifier.verified (ExchangesFrames g.T.Write.contents g.T.Read.remaining) background c.deref.result.now)
     here (g.W.Write.contents c.loop-number.writer) (g.W.Write.contents c.ask_line.new.writer) next) c.loop-number.invariant.same c.in_ok-ask_line.ensures.asks in
     record {
-      asks = leads_next g.H.NodeHash.digest_of g.V.VufCheck.accepted g.S.Verifier.verified (ExchangesFrames g.T.Write.contents g.T.Read.remaining) (known_of c.args.asker.now)
+      asks = leads_next g.H.NodeHash.digest_of g.V.VufCheck.accepted g.S.Verifier.verified (ExchangesFrames g.T.Write.contents g.T.Read.remaining) (background_of c.args.asker.now)
           (scene c.args.asker.now c.args.self.now.said c.args.stream.now) here next
           (g.R.Read.remaining c.args.reader.now) (g.W.Write.contents c.args.writer.now) (g.R.Read.remaining c.loop-number.reader) (g.R.Read.remaining c.next_line.new.reader)
           (g.W.Write.contents c.loop-number.writer) (g.W.Write.contents c.ask_line.new.writer) c.deref.result.now c.loop-number.invariant.asks takes writes;
       same = c.in_ok-ask_line.ensures.stays ∙ c.loop-number.invariant.same;
       counts = counts_next (g.R.Read.remaining c.args.reader.now) (g.R.Read.remaining c.loop-number.reader) (g.R.Read.remaining c.next_line.new.reader) c.loop-number.number c.deref.result.now c.loop-number.invariant.counts takes
-          (asked_can g.H.NodeHash.digest_of g.V.VufCheck.accepted g.S.Verifier.verified (ExchangesFrames g.T.Write.contents g.T.Read.remaining) (known_of c.args.asker.now) here next (g.W.Write.contents c.loop-number.writer) (g.W.Write.contents c.ask_line.new.writer) c.deref.result.now writes);
+          (asked_can g.H.NodeHash.digest_of g.V.VufCheck.accepted g.S.Verifier.verified (ExchangesFrames g.T.Write.contents g.T.Read.remaining) (background_of c.args.asker.now) here next (g.W.Write.contents c.loop-number.writer) (g.W.Write.contents c.ask_line.new.writer) c.deref.result.now writes);
       grows = grows_on (g.W.Write.contents c.args.writer.now) (g.W.Write.contents c.loop-number.writer) (g.W.Write.contents c.ask_line.new.writer) c.loop-number.invariant.grows c.in_ok-ask_line.ensures.grows;
       rises = rises_on c.args.self.now.said.status c.loop-number.self.said.status c.ask_line.new.self.said.status c.loop-number.invariant.rises c.in_ok-ask_line.ensures.rises;
     }
 
 pub loop-number-init : goal.loop-number-init
 loop-number-init g c = record {
-  asks = leads_first g.H.NodeHash.digest_of g.V.VufCheck.accepted g.S.Verifier.verified (ExchangesFrames g.T.Write.contents g.T.Read.remaining) (known_of c.args.asker.now)
+  asks = leads_first g.H.NodeHash.digest_of g.V.VufCheck.accepted g.S.Verifier.verified (ExchangesFrames g.T.Write.contents g.T.Read.remaining) (background_of c.args.asker.now)
       (scene c.args.asker.now c.args.self.now.said c.args.stream.now) (g.R.Read.remaining c.args.reader.now) (g.W.Write.contents c.args.writer.now);
   same = refl;
   counts = counts_first (g.R.Read.remaining c.args.reader.now);
@@ -58,18 +58,18 @@ returns-in_err-ask_line-clause-grows g c =
 
 pub returns-in_err-next_line-clause-part : goal.returns-in_err-next_line-clause-part
 returns-in_err-next_line-clause-part g c =
-    err_so _ (part_here g.H.NodeHash.digest_of g.V.VufCheck.accepted g.S.Verifier.verified (ExchangesFrames g.T.Write.contents g.T.Read.remaining) (known_of c.args.asker.now) (scene c.args.asker.now c.args.self.now.said c.args.stream.now) (scene c.loop-number.asker c.loop-number.self.said c.loop-number.stream) (g.R.Read.remaining c.args.reader.now) (g.W.Write.contents c.args.writer.now) (g.R.Read.remaining c.loop-number.reader) (g.W.Write.contents c.loop-number.writer) (g.W.Write.contents c.loop-number.writer) c.loop-number.self.said c.loop-number.invariant.asks
+    err_so _ (part_here g.H.NodeHash.digest_of g.V.VufCheck.accepted g.S.Verifier.verified (ExchangesFrames g.T.Write.contents g.T.Read.remaining) (background_of c.args.asker.now) (scene c.args.asker.now c.args.self.now.said c.args.stream.now) (scene c.loop-number.asker c.loop-number.self.said c.loop-number.stream) (g.R.Read.remaining c.args.reader.now) (g.W.Write.contents c.args.writer.now) (g.R.Read.remaining c.loop-number.reader) (g.W.Write.contents c.loop-number.writer) (g.W.Write.contents c.loop-number.writer) c.loop-number.self.said c.loop-number.invariant.asks
     (leaves_same (g.W.Write.contents c.loop-number.writer) c.loop-number.self.said (report_of c.loop-number.self.said) refl))
 
 pub returns-clause-part : goal.returns-clause-part
 returns-clause-part g c =
-    part_here g.H.NodeHash.digest_of g.V.VufCheck.accepted g.S.Verifier.verified (ExchangesFrames g.T.Write.contents g.T.Read.remaining) (known_of c.args.asker.now) (scene c.args.asker.now c.args.self.now.said c.args.stream.now) (scene c.loop-number.asker c.loop-number.self.said c.loop-number.stream) (g.R.Read.remaining c.args.reader.now) (g.W.Write.contents c.args.writer.now) (g.R.Read.remaining c.loop-number.reader) (g.W.Write.contents c.loop-number.writer) (g.W.Write.contents c.loop-number.writer) c.loop-number.self.said c.loop-number.invariant.asks
+    part_here g.H.NodeHash.digest_of g.V.VufCheck.accepted g.S.Verifier.verified (ExchangesFrames g.T.Write.contents g.T.Read.remaining) (background_of c.args.asker.now) (scene c.args.asker.now c.args.self.now.said c.args.stream.now) (scene c.loop-number.asker c.loop-number.self.said c.loop-number.stream) (g.R.Read.remaining c.args.reader.now) (g.W.Write.contents c.args.writer.now) (g.R.Read.remaining c.loop-number.reader) (g.W.Write.contents c.loop-number.writer) (g.W.Write.contents c.loop-number.writer) c.loop-number.self.said c.loop-number.invariant.asks
     (leaves_same (g.W.Write.contents c.loop-number.writer) c.loop-number.self.said (report_of c.loop-number.self.said) refl)
 
 pub returns-in_err-ask_line-clause-part : goal.returns-in_err-ask_line-clause-part
 returns-in_err-ask_line-clause-part g c =
     let takes = rw (c.if-not-branch.false, ← c.deref.ensures.value) at c.in_ok-next_line.ensures.ok in
-    let part = line_known g.H.NodeHash.digest_of g.V.VufCheck.accepted g.S.Verifier.verified (ExchangesFrames g.T.Write.contents g.T.Read.remaining) (known_of c.args.asker.now) (known_of c.loop-number.asker) c.deref.result.now (scene c.loop-number.asker c.loop-number.self.said c.loop-number.stream) (g.W.Write.contents c.loop-number.writer) (g.W.Write.contents c.ask_line.new.writer) c.ask_line.new.self.said
+    let part = line_known g.H.NodeHash.digest_of g.V.VufCheck.accepted g.S.Verifier.verified (ExchangesFrames g.T.Write.contents g.T.Read.remaining) (background_of c.args.asker.now) (background_of c.loop-number.asker) c.deref.result.now (scene c.loop-number.asker c.loop-number.self.said c.loop-number.stream) (g.W.Write.contents c.loop-number.writer) (g.W.Write.contents c.ask_line.new.writer) c.ask_line.new.self.said
     c.loop-number.invariant.same c.in_err-ask_line.ensures.part in
-    err_so _ (part_line g.H.NodeHash.digest_of g.V.VufCheck.accepted g.S.Verifier.verified (ExchangesFrames g.T.Write.contents g.T.Read.remaining) (known_of c.args.asker.now) (scene c.args.asker.now c.args.self.now.said c.args.stream.now) (scene c.loop-number.asker c.loop-number.self.said c.loop-number.stream) (g.R.Read.remaining c.args.reader.now) (g.W.Write.contents c.args.writer.now) (g.R.Read.remaining c.loop-number.reader) (g.R.Read.remaining c.next_line.new.reader) (g.W.Write.contents c.loop-number.writer) (g.W.Write.contents c.ask_line.new.writer) c.deref.result.now c.ask_line.new.self.said
+    err_so _ (part_line g.H.NodeHash.digest_of g.V.VufCheck.accepted g.S.Verifier.verified (ExchangesFrames g.T.Write.contents g.T.Read.remaining) (background_of c.args.asker.now) (scene c.args.asker.now c.args.self.now.said c.args.stream.now) (scene c.loop-number.asker c.loop-number.self.said c.loop-number.stream) (g.R.Read.remaining c.args.reader.now) (g.W.Write.contents c.args.writer.now) (g.R.Read.remaining c.loop-number.reader) (g.R.Read.remaining c.next_line.new.reader) (g.W.Write.contents c.loop-number.writer) (g.W.Write.contents c.ask_line.new.writer) c.deref.result.now c.ask_line.new.self.said
     c.loop-number.invariant.asks takes part)

@@ -1,7 +1,7 @@
 use Rattle.asking.specs.Ending.{PreparesSome}
 use Rattle.asking.specs.Exchanges.{ExchangesFrames}
 use Rattle.asking.specs.Reports.{report_of}
-use Rattle.asking.specs.Runs.{known_of, Prepares}
+use Rattle.asking.specs.Runs.{background_of, Prepares}
 use Rattle.asking.specs.Scenes.{scene}
 use Rattle.asking.proofs.Ended.{reaches_so}
 use Rattle.asking.proofs.Ran.{ok_before, written_so}
@@ -9,12 +9,12 @@ use Rattle.asking.proofs.run.Run.prepare.Goals as goal
 
 pub returns-clause-prepares : goal.returns-clause-prepares
 returns-clause-prepares g c =
-    written_so c.settle.result (Prepares g.H.NodeHash.digest_of g.V.VufCheck.accepted g.S.Verifier.verified (ExchangesFrames g.T.Write.contents g.T.Read.remaining) (known_of c.args.asker.now))
+    written_so c.settle.result (Prepares g.H.NodeHash.digest_of g.V.VufCheck.accepted g.S.Verifier.verified (ExchangesFrames g.T.Write.contents g.T.Read.remaining) (background_of c.args.asker.now))
     (scene c.args.asker.now c.args.self.now.said c.args.stream.now) c.follow-followed.new.asker c.follow-followed.new.said c.settle.new.self.said c.follow-followed.new.stream
     (g.W.Write.contents c.args.writer.now) (g.W.Write.contents c.settle.new.writer)
     (ok_before _ c.settle.result c.follow-followed.result tt c.settle.ensures.asked c.follow-followed.ensures.prepares) c.settle.ensures.writes
 
 pub returns-clause-part : goal.returns-clause-part
 returns-clause-part g c =
-    reaches_so c.settle.result (PreparesSome g.H.NodeHash.digest_of g.V.VufCheck.accepted g.S.Verifier.verified (ExchangesFrames g.T.Write.contents g.T.Read.remaining) (known_of c.args.asker.now) (scene c.args.asker.now c.args.self.now.said c.args.stream.now))
+    reaches_so c.settle.result (PreparesSome g.H.NodeHash.digest_of g.V.VufCheck.accepted g.S.Verifier.verified (ExchangesFrames g.T.Write.contents g.T.Read.remaining) (background_of c.args.asker.now) (scene c.args.asker.now c.args.self.now.said c.args.stream.now))
     (report_of c.follow-followed.new.said) (g.W.Write.contents c.args.writer.now) (g.W.Write.contents c.settle.new.writer) c.settle.new.self.said c.follow-followed.ensures.reaches c.settle.ensures.leaves

@@ -1,4 +1,4 @@
-use Rattle.std.proofs.Common.{ap, sym, subst, ◌≡◌, ◌∙◌, true, false, length, ℕ, List}
+use Rattle.std.proofs.Common.{ap, sym, subst, ◌≡◌, ◌∙◌, length, List}
 use Rattle.std.specs.List.{AllByRecursion, AllZip}
 use Rattle.std.proofs.lemmas.List.{with_items_is}
 use Rattle.std.proofs.lemmas.Slice.Zip.{AllZip-long}
@@ -22,18 +22,6 @@ returns-then-promise-eq1 g c = λ before asked verb watchers may.
     let body = c.body_of-promise.ensures (reply_frame may.was.said) may.was.read.0 may.was.frame in
     nothing-handed g.H.NodeHash.digest_of g.V.Vuf.value_of g.S.Signer.signature_of g.R.Rng.stream g.V.VufCheck.accepted g.S.Verifier.verified before asked c.args.self.now verb c.args.name.now c.args.key.now c.args.reply.now watchers may (no-promise g.H.NodeHash.digest_of g.V.Vuf.value_of g.S.Signer.signature_of g.R.Rng.stream g.V.VufCheck.accepted g.S.Verifier.verified before asked c.args.self.now verb c.args.name.now c.args.key.now c.args.reply.now watchers may c.body_of-promise.result.now body c.if-promise-eq1.true)
 
-pub unreachable-requires : goal.unreachable-requires
-unreachable-requires g c =
-    let before = c.requires.asked.0 in
-    let asked = c.requires.asked.1 in
-    let verb = c.requires.asked.2 in
-    let watchers = c.requires.asked.3 in
-    let may = c.requires.asked.4 in
-    let (promised, said) = was-promise g.H.NodeHash.digest_of g.V.Vuf.value_of g.S.Signer.signature_of g.R.Rng.stream g.V.VufCheck.accepted g.S.Verifier.verified before asked c.args.self.now verb c.args.name.now c.args.key.now c.args.reply.now watchers may c.body_of-promise.result.now (c.body_of-promise.ensures (reply_frame may.was.said) may.was.read.0 may.was.frame) c.if-promise-eq1.false in
-    let fits = key-fits g.H.NodeHash.digest_of g.V.Vuf.value_of g.S.Signer.signature_of g.R.Rng.stream g.V.VufCheck.accepted g.S.Verifier.verified before asked c.args.self.now verb c.args.name.now c.args.key.now c.args.reply.now watchers may promised said in
-    let never : false ≡ true = c.in_default.ensures.limits.1 fits in
-    absurd cc
-
 pub hand_all-requires : goal.hand_all-requires
 hand_all-requires g c =
     let (before, asked, verb, watchers, may) = c.requires.asked in
@@ -41,8 +29,10 @@ hand_all-requires g c =
     let spells = spells-promise g.H.NodeHash.digest_of g.V.Vuf.value_of g.S.Signer.signature_of g.R.Rng.stream g.V.VufCheck.accepted g.S.Verifier.verified before asked c.args.self.now verb c.args.name.now c.args.key.now c.args.reply.now watchers may promised said c.body_of-promise.result.now c.body_of-promise.ensures in
     let were : c.deref_mut.result.now ≡ c.args.self.now.monitors = c.deref_mut.ensures.value ∙ ap (λ (p : Parties g.row.R.Denot). p.monitors) c.self.view_is in
     let may_all = may-be-handed g.H.NodeHash.digest_of g.V.Vuf.value_of g.S.Signer.signature_of g.R.Rng.stream g.V.VufCheck.accepted g.S.Verifier.verified before asked c.args.self.now verb c.args.name.now c.args.key.now c.args.reply.now watchers may promised said c.body_of-promise.result.now spells in
-    subst (λ (own : List ℕ). AllByRecursion (MayBeHanded g.H.NodeHash.digest_of g.S.Verifier.verified c.args.name.now own c.body_of-promise.result.now) c.deref_mut.result.now) (sym c.in-Ok.ensures.value)
-    (subst (AllByRecursion (MayBeHanded g.H.NodeHash.digest_of g.S.Verifier.verified c.args.name.now c.args.key.now c.body_of-promise.result.now)) (sym were) may_all)
+    record {
+      key = key-fits g.H.NodeHash.digest_of g.V.Vuf.value_of g.S.Signer.signature_of g.R.Rng.stream g.V.VufCheck.accepted g.S.Verifier.verified before asked c.args.self.now verb c.args.name.now c.args.key.now c.args.reply.now watchers may promised said;
+      may = subst (AllByRecursion (MayBeHanded g.H.NodeHash.digest_of g.S.Verifier.verified c.args.name.now c.args.key.now c.body_of-promise.result.now)) (sym were) may_all;
+    }
 
 pub returns : goal.returns
 returns g c = λ before asked verb watchers may.

@@ -55,7 +55,7 @@ returns g c = λ page found same.
       | in-Ok-look w ↦
           let right : LooksSo by page c.args.name.now (Ok w.in-Ok-look.statement) = subst (LooksSo by page c.args.name.now) w.in-Ok-look.is so in
           on_ok c.match-look.result (c.match-look.text.items ≡ c.args.text.now.items ++ statement_text c.args.found_at (key_stated w.in-Ok-look.statement) ++ 10 ∷ []) _
-          (rw (w.result-is, w.text-is) w.tell_statement.ensures)
+          (rw (w.result-is, w.text-is) w.tell_statement.ensures.ok)
           (λ wrote. (told_stated by page c.args.name.now c.args.text.now.items c.match-look.text.items c.args.found_at w.in-Ok-look.statement same right wrote, looked (stated-fine c.look.result w.in-Ok-look.statement w.in-Ok-look.is)))
       | in-Err w ↦
           let so_refused : LooksSo by page c.args.name.now (Err w.in-Err.why) = subst (LooksSo by page c.args.name.now) w.in-Err.is so in
