@@ -1,5 +1,18 @@
+ghost use Rattle.std.specs.Prelude.{◌≡◌};
 ghost use Rattle.encoding.specs.BitLaws.{BitsOfCut, BitsOfWithOne, AgreementOfBits};
 ghost use Rattle.encoding.specs.Fields.{BytesAreField, ByteIsField, NumbersAreFields, CountedAreFields};
+ghost use Rattle.encoding.specs.declared.bounded.TheConstants.{MIN_LEN};
+ghost use Rattle.encoding.specs.declared.key_data.TheConstants.{MAX_KEY_DATA_LEN};
+ghost use Rattle.encoding.specs.declared.name.TheConstants.{MAX_NAME_LEN};
+ghost use Rattle.encoding.specs.declared.small.TheConstants.{MAX_SMALL_LEN};
+
+/// A name has 1 to 255 bytes, a key 1 to 2,048, and a signature or the value of a verifiable function 1 to 256.
+pub fn limits_have_their_values()
+    ensures least { MIN_LEN ≡ 1 }
+    ensures name { MAX_NAME_LEN ≡ 255 }
+    ensures key { MAX_KEY_DATA_LEN ≡ 2048 }
+    ensures small { MAX_SMALL_LEN ≡ 256 }
+{}
 
 /// The first `n` bits of a prefix are the index's, the others zero.
 pub fn bits_of_cut()

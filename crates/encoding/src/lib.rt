@@ -38,7 +38,7 @@ pub use index::Index;
 pub use key_data::{KeyData, MAX_KEY_DATA_LEN};
 pub use laws::{
     agreement_of_bits, bits_of_cut, bits_of_with_one, byte_is_read, bytes_are_read,
-    counted_are_read, numbers_are_read,
+    counted_are_read, limits_have_their_values, numbers_are_read,
 };
 pub use name::{MAX_NAME_LEN, Name};
 pub use small::{MAX_SMALL_LEN, Small};

@@ -27,8 +27,8 @@ mod way;
 
 pub use items::{Item, placed, placed_within};
 pub use laws::{
-    changes_join, made_at_most_all, made_for_one_change, path_ends, path_is_unique, path_is_way,
-    way_is_fold, worked_roots,
+    changes_join, limit_has_its_value, made_at_most_all, made_for_one_change, path_ends,
+    path_is_unique, path_is_way, way_is_fold, worked_roots,
 };
 pub use path::{End, MAX_SIBLINGS, Path};
 pub use tree::{MAX_SIBLINGS_LEN, Tree};
