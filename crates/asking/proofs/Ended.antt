@@ -10,7 +10,7 @@ use Rattle.vrfiface.specs.StandIns.{KeyedAccepts}
 use Rattle.sigiface.specs.StandIn.{KeyedVerifies}
 use Rattle.rootchain.specs.declared.signed_promise.SignedPromise.{SignedPromise}
 use Rattle.textio.specs.Lines.{lines_of}
-use Rattle.textio.specs.Output.{WritesBeginning}
+use Rattle.textio.specs.Output.{WritesBeginning, WritesSome}
 use Rattle.textio.specs.declared.stream_fault.StreamFault.{StreamFault}
 use Rattle.textio.specs.declared.stream_fault.StreamFault.TheVariants as device
 use Rattle.wire.specs.Frames.{Frame}
@@ -27,7 +27,7 @@ use Rattle.asking.specs.declared.run.RunEnd.TheVariants.{Whole, Stopped}
 use Rattle.asking.specs.declared.said.Said.{Said}
 use Rattle.asking.specs.AskOptions.{AskOptions, ask_keys_of, ask_values}
 use Rattle.asking.specs.Asking.{AsksDirectory, AsksSome, StopsAsking}
-use Rattle.asking.specs.Ending.{AsksNext, AsksOverSocket, AsksPart, AsksSomeLine, BeginsNone, DoesSome, end_status, EndsEarly, FailsAs, FailsOverSocket, Leaves, PreparesSome, RunsAs, stopped_status, WritesSome}
+use Rattle.asking.specs.Ending.{AsksNext, AsksOverSocket, AsksPart, AsksSomeLine, BeginsNone, DoesSome, end_status, EndsEarly, FailsAs, FailsOverSocket, Leaves, PreparesSome, RunsAs, stopped_status}
 use Rattle.asking.specs.Exchanges.{ExchangesFrames}
 use Rattle.asking.specs.Following.{Follows, StopsAfter, TakesSome}
 use Rattle.asking.specs.Joining.{BeginsSome, BeginsWatch}

@@ -6,7 +6,7 @@ use Rattle.nodehash.specs.Sha256.{sha256}
 use Rattle.vrfiface.specs.StandIns.{KeyedAccepts}
 use Rattle.sigiface.specs.StandIn.{KeyedVerifies}
 use Rattle.rootchain.specs.declared.signed_promise.SignedPromise.{SignedPromise}
-use Rattle.textio.specs.Output.{WritesBut}
+use Rattle.textio.specs.Output.{WritesSome}
 use Rattle.wire.specs.Frames.{Frame}
 use Rattle.wire.specs.Requests.{RequestContent}
 use Rattle.play.specs.Scripts.{ScriptLine, Pass, Ask, Watch, Piece, End, line_of}
@@ -31,10 +31,6 @@ end_status (Stopped status) = status
 -- the status of a run that was stopped: that of an alarm, if one was told, or else that of a refusal
 abbrev pub stopped_status : ℕ → ℕ
 stopped_status told = if nat_lt told 3 then 1 else 3
-
--- a text is written, or a beginning of it
-abbrev pub WritesSome : Option (List ℕ) → Option (List ℕ) → List ℕ → Type 0
-WritesSome old new text = (rest : List ℕ) × WritesBut old new text rest
 
 -- of what was told a beginning is written, and a part behind it is still said
 abbrev pub Leaves : Option (List ℕ) → Said → Report → Option (List ℕ) → Type 0

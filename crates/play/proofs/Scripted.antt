@@ -10,12 +10,12 @@ use Rattle.textio.specs.declared.program_fault.ProgramFault.{ProgramFault}
 use Rattle.textio.specs.declared.program_fault.ProgramFault.TheVariants as fault
 use Rattle.textio.specs.Faults.{IsDeviceFault}
 use Rattle.textio.specs.Lines.{lines_of}
-use Rattle.textio.specs.Output.{WritesBeginning, WritesBut}
+use Rattle.textio.specs.Output.{WritesBeginning, WritesBut, WritesSome}
 use Rattle.book.specs.Keeps.{KeepsNothing, NeverFails}
 use Rattle.book.specs.Shows.{Provider, index_of}
 use Rattle.epochs.specs.DirectoryStates.{provider}
 use Rattle.epochs.proofs.Running.{same_provider}
-use Rattle.play.specs.Ends.{CannotRead, CannotWrite, Done, OutOfMemory, Plays, WritesSome}
+use Rattle.play.specs.Ends.{CannotRead, CannotWrite, Done, OutOfMemory, Plays}
 use Rattle.play.specs.Lines.{as_lines}
 use Rattle.play.specs.Parties.{AreAt, Parties}
 use Rattle.play.specs.Played.{line_played, Stand}

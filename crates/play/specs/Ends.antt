@@ -1,7 +1,7 @@
 -- How playing a script ends, and what it has then written.
 use Rattle.std.specs.Prelude.{◌≡◌, ℕ, List, Option, Some, None, IfSome}
 use Rattle.std.specs.Io.KnownBytes.{Appends}
-use Rattle.textio.specs.Output.{WritesBut, WritesBeginning}
+use Rattle.textio.specs.Output.{WritesBeginning, WritesSome}
 use Rattle.play.specs.Printing.{Printout, text}
 
 pub data Ending : Type 0 where
@@ -12,10 +12,6 @@ pub data Ending : Type 0 where
   CannotRead : Ending
   CannotWrite : Ending
   OutOfMemory : Ending
-
--- a beginning of the text was written, perhaps the whole
-abbrev pub WritesSome : Option (List ℕ) → Option (List ℕ) → List ℕ → Type 0
-WritesSome old new text = (rest : List ℕ) × WritesBut old new text rest
 
 -- What a script prints is written whole, up to the first line that is no command. If a write failed, less
 -- of it was written; if a read failed or memory ran out, a beginning.

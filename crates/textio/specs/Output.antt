@@ -9,6 +9,10 @@ use Rattle.textio.specs.Faults.{IsTold}
 abbrev pub WritesBut : Option (List ℕ) → Option (List ℕ) → List ℕ → List ℕ → Type 0
 WritesBut old new text rest = (front : List ℕ) × (text ≡ front ++ rest) × Appends old new front
 
+-- a beginning of the text was written, perhaps the whole
+abbrev pub WritesSome : Option (List ℕ) → Option (List ℕ) → List ℕ → Type 0
+WritesSome old new text = (rest : List ℕ) × WritesBut old new text rest
+
 -- a beginning of the text was written, but not the whole
 abbrev pub WritesBeginning : Option (List ℕ) → Option (List ℕ) → List ℕ → Type 0
 WritesBeginning old new text = (rest : List ℕ) × (0 < length rest) × WritesBut old new text rest
