@@ -1,6 +1,7 @@
-ghost use Rattle.std.specs.Prelude.{◌≡◌, ◌+◌, ◌<◌, ◌≤◌, ◌^◌, [], length, IfSome};
+ghost use Rattle.std.specs.Prelude.{◌≡◌, ◌+◌, ◌<◌, ◌≤◌, ◌^◌, [], length, MatchOption};
 ghost use Rattle.nodehash.specs.Digests.{one_more};
 ghost use Rattle.commit.specs.Commitments.{commitment_bytes};
+ghost use Rattle.commit.specs.declared.commitment.TheConstants.{LEN_BESIDE, SHORT_LEN};
 
 use encoding::{FixedText, Hash32, KeyData, Name, Text};
 use nodehash::{LEAF_LEN, NodeHash, NodeText};
@@ -12,25 +13,26 @@ const COMMITMENT: u8 = 0x43;
 const VERSION: u8 = 1;
 
 /// The bytes of a text beside those of the name and the key.
-const LEN_BESIDE: usize = 38;
+pub const LEN_BESIDE: usize = 38;
 
-/// The most bytes of a name and its key together whose text fits where that of a node does.
-const SHORT_LEN: usize = LEAF_LEN - LEN_BESIDE;
+/// The most bytes of a name and its key together whose text is no longer than that of a leaf.
+pub const SHORT_LEN: usize = LEAF_LEN - LEN_BESIDE;
 
 /// The text of the commitment that binds a key to a name under a salt: 38 bytes beside those of the
 /// name and the key.
 pub fn commit_text(salt: &Hash32, name: &Name, key: &KeyData) -> Text
     ensures value { result ≡ commitment_bytes salt.now name.now key.now }
-    ensures len { length result ≡ 38 + length name.now + length key.now }
+    ensures len { length result ≡ LEN_BESIDE + length name.now + length key.now }
 {
     let mut text = Text::new();
     write_commitment(&mut text, salt, name.bytes(), key.bytes());
     text
 }
 
-/// The text of the commitment that binds a key to a name under a salt, if it is no longer than that of a node.
+/// The text of the commitment that binds a key to a name under a salt, unless it is longer than that of a leaf,
+/// of 101 bytes.
 pub fn short_commit_text(salt: &Hash32, name: &[u8], key: &[u8]) -> Option<NodeText>
-    ensures { IfSome result (λ text. text ≡ commitment_bytes salt.now name.now key.now) }
+    ensures { MatchOption result (SHORT_LEN < length name.now + length key.now) (λ text. text ≡ commitment_bytes salt.now name.now key.now) }
 {
     if name.len() > SHORT_LEN {
         return None;
@@ -53,9 +55,9 @@ fn write_commitment<const ROOM: usize>(
     requires empty { text.old ≡ [] }
     requires short_name { length name.now < 2 ^ 16 }
     requires short_key { length key.now < 2 ^ 16 }
-    requires room { 38 + length name.now + length key.now ≤ ROOM }
+    requires room { LEN_BESIDE + length name.now + length key.now ≤ ROOM }
     ensures value { text.new ≡ commitment_bytes salt.now name.now key.now }
-    ensures len { length text.new ≡ 38 + length name.now + length key.now }
+    ensures len { length text.new ≡ LEN_BESIDE + length name.now + length key.now }
 {
     text.push(COMMITMENT);
     text.push(VERSION);

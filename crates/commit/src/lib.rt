@@ -15,5 +15,5 @@
 mod commitment;
 mod laws;
 
-pub use commitment::{commit, commit_text, short_commit_text};
+pub use commitment::{LEN_BESIDE, SHORT_LEN, commit, commit_text, short_commit_text};
 pub use laws::equal_texts_open_alike;
