@@ -5,6 +5,7 @@ use Rattle.audits.specs.Files.{evidence_text}
 use Rattle.client.specs.Refusals.{client_refusal_number}
 use Rattle.client.specs.declared.client_refusal.Refusal.{Refusal}
 use Rattle.client.specs.declared.client_refusal.Refusal.TheVariants.{Root, Proof, UnknownRoot, RootDiffers, Memory, NoPromise}
+use Rattle.asking.specs.declared.said.TheConstants.{OTHER_REPLY}
 use Rattle.asking.specs.Reports.{Report, refused}
 
 -- that the client refuses a root, a promise, a proof or a reply, and the number of the refusal
@@ -13,7 +14,7 @@ refuses_text what number = what ++ codes " " ++ decimal number
 
 -- a reply that does not answer what was asked
 abbrev pub other_reply : Report
-other_reply = refused (refuses_text (codes "client refuses reply") 25)
+other_reply = refused (refuses_text (codes "client refuses reply") OTHER_REPLY)
 
 -- the roots of a refusal that is evidence
 abbrev pub evidence_before : Refusal → List ℕ

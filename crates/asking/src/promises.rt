@@ -6,6 +6,7 @@ ghost use Rattle.asking.specs.Exchanges.{ExchangesFrames};
 ghost use Rattle.asking.specs.Refused.{refuses_text};
 ghost use Rattle.asking.specs.Scenes.{scene, HaltsAfter, HaltsIn, StaysWhole};
 ghost use Rattle.asking.specs.Testing.{TellsDue};
+ghost use Rattle.asking.specs.declared.said.TheConstants.{OTHER_INDEX};
 ghost use Rattle.asking.specs.Reports.{refused, report_of, Tells};
 ghost use Rattle.asking.specs.Visiting.{AwaitsMonitor, HasMonitor, IsMarked, TestsAll, TestsName, TestsSome, Visits};
 ghost use Rattle.asking.specs.declared.ask_fault.AskFault.TheVariants.{Stopped};
@@ -162,7 +163,7 @@ fn tell_broken(
 
 /// Tells that a name has another index than its promise says.
 fn tell_other_index(said: &mut Said) -> Result<(), AllocError>
-    ensures { OnOk result (Tells said.old (refused (refuses_text (codes "client refuses promise") 26)) said.new) }
+    ensures { OnOk result (Tells said.old (refused (refuses_text (codes "client refuses promise") OTHER_INDEX)) said.new) }
 {
     said.refuse(
         b"client refuses promise",

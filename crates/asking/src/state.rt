@@ -68,7 +68,11 @@ fn fault_of(why: &client::Refusal, number: u64) -> ProgramFault
 {
     match why {
         client::Refusal::Memory => ProgramFault::OutOfMemory,
-        _ => ProgramFault::BadItem(number),
+        client::Refusal::Root(_)
+        | client::Refusal::Proof(_)
+        | client::Refusal::UnknownRoot
+        | client::Refusal::RootDiffers(_)
+        | client::Refusal::NoPromise => ProgramFault::BadItem(number),
     }
 }
 

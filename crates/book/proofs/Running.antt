@@ -14,7 +14,7 @@ use Rattle.book.specs.declared.reply.Reply.TheVariants as reply
 use Rattle.book.specs.declared.directory_refusal.Refusal.{Refusal}
 use Rattle.book.specs.declared.directory_refusal.Refusal.TheVariants.{BadName, NoSuchEpoch, EpochNotLater}
 use Rattle.book.specs.Steps.{Answer, has_length_within, Promised, Found, Told, refusal, page_range, with_pending, Answers, step}
-use Rattle.commands.specs.Operations.{Operation, IsCommand, Question, Query, Edit, Put, Promise, Lookup, History, Head, MayRead, IsAny}
+use Rattle.commands.specs.Operations.{Operation, IsCommand, Question, Query, Edit, Put, Promise, Lookup, History, Head, MayRead}
 use Rattle.commands.specs.Operations as ask
 use Rattle.book.specs.Books.{Binding, Book, Page, page_at, pages}
 use Rattle.book.specs.Honest.{latest_after, AreConsecutive, IsAskedBy, IsPromisedBy, IsSaid, IsSaidAt}
@@ -97,7 +97,7 @@ module _ (provider : Provider) where
             subst (IsPromisedBy asked other) (ap (λ (x : Binding). x.key) b) (subst (λ (x : List ℕ). IsPromisedBy asked x key) n by),
           )
 
-  queried : (book : Book) (question : Question) (answer : Answer) → IsSound book → MayRead IsBytes IsAny question → refusal (index_of provider) book (Query question) ≡ None → Finds book question answer
+  queried : (book : Book) (question : Question) (answer : Answer) → IsSound book → MayRead question → refusal (index_of provider) book (Query question) ≡ None → Finds book question answer
       → Answered book book (Query question) answer
   queried book (Promise name) answer sound are none finds = record {
     goes = goes-nowhere provider book sound;
@@ -120,7 +120,7 @@ module _ (provider : Provider) where
         let at_epoch : epoch ≡ also = cc in
         let b : at (finds.0).bindings name ≡ binding = cc in (
           sym m ∙ n,
-          subst IsName n (is-name name (two-passed (not (has_length_within 1 255 name)) (is_none (page_at book epoch)) BadName NoSuchEpoch [] none).0 are.1),
+          subst IsName n (is-name name (two-passed (not (has_length_within 1 255 name)) (is_none (page_at book epoch)) BadName NoSuchEpoch [] none).0 are),
           subst (λ (x : Page). IsAskedBy book.last.epoch also x) p (subst (λ (k : ℕ). IsAskedBy book.last.epoch k finds.0) at_epoch (asked-page book epoch finds.0 finds.1)),
           sym b ∙ ap (λ (x : Page). at x.bindings name) p ∙ ap (at page.bindings) n,
         );

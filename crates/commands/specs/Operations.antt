@@ -43,32 +43,19 @@ abbrev pub asked : Command → Operation
 asked (command.Query query) = Query (question query)
 asked (command.Edit edit) = Edit (revision edit)
 
--- a number that fits in so many bits
-abbrev pub FitsIn : ℕ → ℕ → Type 0
-FitsIn bits number = number < 2 ^ bits
+-- a question names bytes, of any length
+abbrev pub MayRead : Question → Type 0
+MayRead (Promise name) = IsBytes name
+MayRead (Lookup name epoch) = IsBytes name
+MayRead (History from count) = ⊤
+MayRead Head = ⊤
 
--- any number
-abbrev pub IsAny : ℕ → ℕ → Type 0
-IsAny bits number = ⊤
+-- names and keys are bytes, of any length, the epoch of a new page fits in eight bytes, and its nonce has 32
+abbrev pub MayChange : Revision → Type 0
+MayChange (Put verb name key) = IsBytes name × IsBytes key
+MayChange (Turn epoch nonce) = (epoch < 2 ^ 64) × IfSome nonce Is32Bytes
 
--- What may be asked, where this holds of names and keys, and this of the numbers of a query. The epoch of a
--- new page fits in eight bytes, and its nonce has 32.
-module _ (OfText : List ℕ → Type 0) (OfNumber : ℕ → ℕ → Type 0) where
-  abbrev pub MayRead : Question → Type 0
-  MayRead (Promise name) = OfText name
-  MayRead (Lookup name epoch) = OfNumber 64 epoch × OfText name
-  MayRead (History from count) = OfNumber 64 from × OfNumber 16 count
-  MayRead Head = ⊤
-
-  abbrev pub MayChange : Revision → Type 0
-  MayChange (Put verb name key) = OfText name × OfText key
-  MayChange (Turn epoch nonce) = FitsIn 64 epoch × IfSome nonce Is32Bytes
-
-  abbrev pub MayAsk : Operation → Type 0
-  MayAsk (Query read) = MayRead read
-  MayAsk (Edit change) = MayChange change
-
--- names and keys are bytes, of any length, the epoch of a new page fits in eight bytes, and its nonce has 32.
--- What a run shows rests on nothing more: a query may have any numbers
+-- what a run shows rests on nothing more: a query may have any numbers
 abbrev pub IsCommand : Operation → Type 0
-IsCommand = MayAsk IsBytes IsAny
+IsCommand (Query read) = MayRead read
+IsCommand (Edit change) = MayChange change

@@ -6,6 +6,7 @@ use Rattle.clap.specs.declared.builder.value_parser.ValueParser.TheVariants.{Nam
 use Rattle.clap.specs.declared.error.Error.{Error}
 use Rattle.clap.specs.declared.error.kind.ErrorKind.{ErrorKind}
 use Rattle.clap.specs.declared.error.kind.ErrorKind.TheVariants.{DisplayHelp, DisplayVersion}
+use Rattle.directoryd.specs.declared.order.tables.TheConstants.{MOST_SESSIONS}
 use Rattle.clap.specs.Words.{App, IsAmong, Rule, Text, fault_of, kind_of, new_app, new_rule, takes, with_rule, with_subcommand}
 
 -- the parser takes the names of the hash functions
@@ -92,7 +93,7 @@ serve_app = with_directory (new_app (codes "serve"))
 abbrev pub listen_app : App
 listen_app =
     with_rule (with_rule (with_rule (with_rule (with_rule (with_directory (new_app (codes "listen")))
-    (number_rule (codes "count") 0 (codes "0"))) (bounded_rule (codes "sessions") 1 1024 (codes "1000"))) (number_rule (codes "idle") 0 (codes "60")))
+    (number_rule (codes "count") 0 (codes "0"))) (bounded_rule (codes "sessions") 1 MOST_SESSIONS (codes "1000"))) (number_rule (codes "idle") 0 (codes "60")))
     (flag_rule (codes "until-eof"))) (positional_rule (codes "address"))
 
 abbrev pub ask_app : App

@@ -6,7 +6,7 @@ use Rattle.rand_core.specs.Stream.{Stream}
 use Rattle.book.specs.declared.record.Record.{Record}
 use Rattle.book.specs.declared.reply.Reply.{Reply}
 use Rattle.encoding.specs.Bytes.{IsBytes}
-use Rattle.commands.specs.Operations.{Operation, Question, Query, Edit, Put, Turn, Promise, Lookup, History, Head, IsAny, IsCommand, MayRead}
+use Rattle.commands.specs.Operations.{Operation, Question, Query, Edit, Put, Turn, Promise, Lookup, History, Head, IsCommand, MayRead}
 use Rattle.book.specs.Fresh.{KeepsLaws}
 use Rattle.book.specs.Salts.{GivesSalts}
 use Rattle.book.specs.Shows.{Provider, index_of}
@@ -24,10 +24,10 @@ use Rattle.hub.proofs.DeskRunning.{lines_show_run}
 use Rattle.hub.proofs.Readable.{lines_read, run_for}
 
 -- a request that is a command holds names, keys and epochs within their limits
-question_is : (question : Question) → request.IsAsked (request.Query question) → MayRead IsBytes IsAny question
+question_is : (question : Question) → request.IsAsked (request.Query question) → MayRead question
 question_is (Promise name) of_name = of_name.2
-question_is (Lookup name epoch) (of_epoch, of_name) = (tt, of_name.2)
-question_is (History from count) are = (tt, tt)
+question_is (Lookup name epoch) (of_epoch, of_name) = of_name.2
+question_is (History from count) are = tt
 question_is Head are = tt
 
 request_is : (token : List ℕ) (requested : request.RequestContent) (asked : Operation) → request.IsAsked requested → command token requested ≡ Some asked → IsCommand asked

@@ -6,7 +6,9 @@ use Rattle.book.specs.declared.record.Record.{Record}
 use Rattle.book.specs.declared.reply.Reply.{Reply}
 use Rattle.commands.specs.Operations.{Operation}
 use Rattle.book.specs.Fresh.{KeepsLaws}
+use Rattle.book.specs.declared.directory_refusal.Refusal.TheVariants.{Memory, KeepFailed}
 use Rattle.book.specs.Honest.{IsHonestRun}
+use Rattle.book.specs.Refusals.{book_refusal_number}
 use Rattle.book.specs.Shows.{index_of}
 use Rattle.book.specs.Sound.{IsSound}
 use Rattle.book.specs.Turns.{Run}
@@ -20,6 +22,7 @@ use Rattle.wire.specs.Responses as response
 use Rattle.wire.specs.Responses.{response_frame}
 use Rattle.wire.specs.Streams.{Message, Whole, BadFrame}
 use Rattle.hub.specs.Desks.{command, reply_frame, DeskState, IsRead, IsResponseOf}
+use Rattle.hub.specs.declared.desk.TheConstants.{NOT_OPERATOR}
 use Rattle.hub.specs.Exchanges.{refused_frame}
 use Rattle.hub.specs.Runs.{Line}
 
@@ -33,7 +36,7 @@ Reaches token BadFrame asked = ⊥
 abbrev pub IsTurnedAway : List ℕ → Message → ℕ → Type 0
 IsTurnedAway token (Whole frame) code =
     ((refusal : ReadRefusal) × IsRead frame (Err refusal) × (code ≡ read_refusal_number refusal))
-    ⊎ ((requested : request.RequestContent) × IsRead frame (Ok requested) × (command token requested ≡ None) × (code ≡ 12))
+    ⊎ ((requested : request.RequestContent) × IsRead frame (Ok requested) × (command token requested ≡ None) × (code ≡ NOT_OPERATOR))
 IsTurnedAway token BadFrame code = code ≡ 1
 
 -- the messages that reach the directory ask these commands and are told these replies; the others are refused
@@ -54,7 +57,8 @@ AreResponses token (line ∷ more) commands replies (inr (asked, told, later, ot
 
 -- neither reply refuses because memory ran out; and both refuse because a record was not kept, or neither does
 abbrev pub RefuseAlike : Line → Line → Type 0
-RefuseAlike line other = (line.reply ≢ refused_frame 14) × (other.reply ≢ refused_frame 14) × ((line.reply ≡ refused_frame 19) ↔ (other.reply ≡ refused_frame 19))
+RefuseAlike line other = (line.reply ≢ refused_frame (book_refusal_number Memory)) × (other.reply ≢ refused_frame (book_refusal_number Memory))
+    × ((line.reply ≡ refused_frame (book_refusal_number KeepFailed)) ↔ (other.reply ≡ refused_frame (book_refusal_number KeepFailed)))
 
 -- what the types keep of each desk: its book is sound, and the functions of its provider keep their laws
 pub record IsSoundDesk {R K : Type 0} (digest_of : List ℕ → List ℕ) (value_of signature_of : List ℕ → List ℕ → List ℕ) (stream : R → Stream) (accepted verified : List ℕ → List ℕ → List ℕ → Type 0) (desk : DeskState R K) : Type 0 where

@@ -28,6 +28,9 @@ use std::marker::Model;
 use vrfiface::Vuf;
 use wire::{Answer, Request, begin_proof, end_proof};
 
+/// The number of the refusal of a closing without the operator's token.
+pub const NOT_OPERATOR: u8 = 12;
+
 /// A directory with its keeper and the token of its operator, who alone may close an epoch.
 #[derive(Drop)]
 pub struct Desk<H: NodeHash, V: Vuf, S: Signer, R: Rng, K: Keeper> {
@@ -167,7 +170,7 @@ impl<H: NodeHash, V: Vuf, S: Signer, R: Rng, K: Keeper> Desk<H, V, S, R, K> {
             × (output.new.items ≡ output.old.items ++ reply) }
     {
         if *token != self.token {
-            return write_refused(12, output);
+            return write_refused(NOT_OPERATOR, output);
         }
         write_root(self.directory.turn(&mut self.keeper, epoch, nonce), output)
     }

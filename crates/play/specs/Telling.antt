@@ -2,6 +2,8 @@
 use Rattle.std.specs.Prelude.{◌≡◌, ◌≢◌, ℕ, List, ◌++◌, map, codes, decimal}
 use Rattle.std.specs.List.{flat_map, AllByRecursion}
 use Rattle.hex.specs.Hex.{encode_lower}
+use Rattle.book.specs.declared.directory_refusal.Refusal.TheVariants.{Memory}
+use Rattle.book.specs.Refusals.{book_refusal_number}
 use Rattle.wire.specs.Frames.{Frame, frame_bytes}
 use Rattle.wire.specs.Laws.{IsReadAs}
 use Rattle.wire.specs.Responses.{ResponseContent, Refused}
@@ -33,7 +35,7 @@ AreFramesOf bytes heard = (bytes ≡ flat_map (λ one. frame_bytes one.0) heard)
 
 -- no frame says that memory ran out
 abbrev pub HaveMemory : List HeardFrame → Type 0
-HaveMemory = AllByRecursion (λ one. one.1 ≢ Refused 14)
+HaveMemory = AllByRecursion (λ one. one.1 ≢ Refused (book_refusal_number Memory))
 
 -- the lines of a session
 abbrev pub session_lines : ℕ → List HeardFrame → List (List ℕ)

@@ -1,4 +1,5 @@
 ghost use Rattle.std.specs.Prelude.{◌≡◌, ◌≢◌, ◌+◌, ◌≤◌, length};
+ghost use Rattle.nodehash.specs.declared.node_text.TheConstants.{INTERIOR_LEN};
 ghost use Rattle.proofs.specs.Accepts.{stated, Accepts, IsAccepted};
 ghost use Rattle.proofs.specs.Comparisons.{opened, IsOnceAccepted};
 ghost use Rattle.proofs.specs.PathEnds.{end_text};
@@ -124,7 +125,7 @@ impl<'a, H: NodeHash, V: VufCheck> Accepted<'a, H, V> {
     /// The text of the node at the end of the reply's way.
     pub(crate) fn end_text(&self, hash: &mut H) -> NodeText
         ensures value { result ≡ end_text H.digest_of self.now.reply.body.nonce self.now.name (H.digest_of self.now.reply.value) (length self.now.reply.siblings) self.now.reply.end }
-        ensures no_interior { length result ≢ 64 }
+        ensures no_interior { length result ≢ INTERIOR_LEN }
     {
         let nonce = &self.view.body().nonce;
         let level = self.view.hashes().len();

@@ -2,6 +2,7 @@
 //! the reply's end to the root, with one digest for each sibling, and compares.
 ghost use Rattle.std.specs.Prelude.{◌≡◌, ◌≢◌, ◌↔◌, ◌+◌, ◌≤◌, ℕ, List, Option, length, IfErr, IfOk, IsOkAnd, IsTrue};
 ghost use Rattle.prefixtree.specs.declared.path.TheConstants.{MAX_SIBLINGS};
+ghost use Rattle.nodehash.specs.declared.node_text.TheConstants.{INTERIOR_LEN};
 ghost use Rattle.proofs.specs.Accepts.{stated, Accepts};
 ghost use Rattle.proofs.specs.Comparisons.{IsAcceptedReply, Refuses};
 ghost use Rattle.proofs.specs.PathEnds.{end_of_path, end_text};
@@ -64,10 +65,10 @@ pub(crate) fn node_at_end<H: NodeHash>(
     level: usize,
     end: EndView<'_>,
 ) -> NodeText
-    requires level { level ≤ 256 }
+    requires level { level ≤ MAX_SIBLINGS }
     requires end { IsEnd (end_seen end) }
     ensures value { result ≡ end_text H.digest_of nonce.now name.now index.now level (end_seen end.entry) }
-    ensures no_interior { length result ≢ 64 }
+    ensures no_interior { length result ≢ INTERIOR_LEN }
     ensures counted { H.digests hash.new ≤ H.digests hash.old + 1 }
 {
     end_text(nonce, index, level, end_of_path(hash, name, end))

@@ -3,6 +3,7 @@
 //! nearest to the root: the texts above it are equal, so the two have one digest. If no texts differ,
 //! the ends open two commitment texts with one digest.
 ghost use Rattle.std.specs.Prelude.{◌≡◌, ◌≢◌, ◌⊎◌, ◌≤◌, ℕ, List, Option, length, IsOkAnd, IsSomeAnd, MatchOption};
+ghost use Rattle.nodehash.specs.declared.node_text.TheConstants.{INTERIOR_LEN};
 ghost use Rattle.proofs.specs.Accepts.{Accepts, HasIndex};
 ghost use Rattle.proofs.specs.Comparisons.{texts_of, Answers, AreOpposed, Compares, HaveOneIndex, IsOneBindingOr};
 ghost use Rattle.proofs.specs.Replies.{AreSiblings};
@@ -68,8 +69,8 @@ fn first_to_differ<H: NodeHash>(
 ) -> Option<Pair>
     requires first_siblings { AreSiblings first_siblings.now }
     requires second_siblings { AreSiblings second_siblings.now }
-    requires first_end { length first_end ≢ 64 }
-    requires second_end { length second_end ≢ 64 }
+    requires first_end { length first_end ≢ INTERIOR_LEN }
+    requires second_end { length second_end ≢ INTERIOR_LEN }
     ensures { MatchOption result
         (way_texts H.digest_of index.now 0 first_siblings.now first_end ≡ way_texts H.digest_of index.now 0 second_siblings.now second_end)
         (λ pair. AreFirstToDiffer (way_texts H.digest_of index.now 0 first_siblings.now first_end) (way_texts H.digest_of index.now 0 second_siblings.now second_end) pair.0 pair.1) }

@@ -2,7 +2,8 @@ ghost use Rattle.std.specs.Prelude.{◌≡◌, ◌+◌, ◌*◌, ◌≤◌, ◌+
 ghost use Rattle.rootchain.specs.Bodies.{IsWellFormed};
 ghost use Rattle.proofs.specs.Replies.{front_bytes, reply_end_bytes, reply_bytes, sibling_bytes, AreSiblings, IsEnd, IsReply};
 ghost use Rattle.proofs.specs.Views.{end_given};
-ghost use Rattle.proofs.specs.declared.making.TheConstants.{FRONT_ROOM};
+ghost use Rattle.proofs.specs.declared.making.TheConstants.{END_LEN, FRONT_ROOM};
+ghost use Rattle.prefixtree.specs.declared.path.TheConstants.{MAX_SIBLINGS};
 ghost use Rattle.encoding.specs.declared.fixed_text.TheConstants.{PROOF_TEXT_ROOM};
 
 use crate::End;
@@ -30,7 +31,7 @@ pub const FRONT_ROOM: usize = 2500;
 
 /// Appends a reply up to its siblings, with the number of these, into room that is there.
 pub fn write_front(output: &mut Vec<u8>, body: &Body, value: &Small, end: &End<'_>, siblings: usize)
-    requires few { siblings ≤ 256 }
+    requires few { siblings ≤ MAX_SIBLINGS }
     requires room { vec_len output.old + FRONT_ROOM ≤ vec_capacity output.old }
     ensures value { output.new.items ≡ output.old.items ++ front_bytes body.now value.now (end_given end.now) siblings }
     ensures len { vec_len output.new ≤ vec_len output.old + FRONT_ROOM }
@@ -45,11 +46,14 @@ pub fn write_front(output: &mut Vec<u8>, body: &Body, value: &Small, end: &End<'
     prove!(written);
 }
 
+/// The bytes of the longest end: its kind, a salt, and a key of 2,048 bytes behind its length.
+const END_LEN: usize = 2083;
+
 /// Appends an end.
 fn push_end<const ROOM: usize>(text: &mut FixedText<ROOM>, end: &End<'_>)
-    requires { length text.old + 2083 ≤ ROOM }
+    requires { length text.old + END_LEN ≤ ROOM }
     ensures value { text.new ≡ text.old ++ reply_end_bytes (end_given end.now) }
-    ensures len { length text.new ≤ length text.old + 2083 }
+    ensures len { length text.new ≤ length text.old + END_LEN }
     ensures form { IsEnd (end_given end.now) }
 {
     match end {
@@ -69,7 +73,7 @@ fn push_end<const ROOM: usize>(text: &mut FixedText<ROOM>, end: &End<'_>)
 
 /// Appends the siblings behind their number.
 fn push_siblings(text: &mut ProofText, siblings: &[Hash32])
-    requires few { length siblings.now ≤ 256 }
+    requires few { length siblings.now ≤ MAX_SIBLINGS }
     requires room { length text.old + 2 + 32 * length siblings.now ≤ PROOF_TEXT_ROOM }
     ensures value { text.new ≡ text.old ++ sibling_bytes siblings.now }
     ensures form { AreSiblings siblings.now }

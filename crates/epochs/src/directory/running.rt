@@ -1,6 +1,6 @@
 ghost use Rattle.std.specs.Prelude.{◌≡◌, ◌<◌, ◌^◌, ℕ, List, IfOk, IfSome, OnErr, OnOk, map, take};
 ghost use Rattle.encoding.specs.Bytes.{Is32Bytes, IsBytes};
-ghost use Rattle.commands.specs.Operations.{asked, question, revision, IsAny, IsCommand, MayChange, MayRead, Edit as EditOf, Put as PutOf, Query as QueryOf};
+ghost use Rattle.commands.specs.Operations.{asked, question, revision, IsCommand, MayChange, MayRead, Edit as EditOf, Put as PutOf, Query as QueryOf};
 ghost use Rattle.book.specs.declared.reply.Reply.{Reply};
 ghost use Rattle.book.specs.Honest.{IsHonestRun};
 ghost use Rattle.book.specs.Turns.{ReadsOnly, Run, Turn};
@@ -120,7 +120,7 @@ fn is_command(command: &Command<'_>)
 
 /// What the type of a query says of it.
 fn is_query(query: &Query<'_>)
-    ensures { MayRead IsBytes IsAny (question query.now) }
+    ensures { MayRead (question query.now) }
 {
     match *query {
         Query::Promise { name } | Query::Lookup { name, .. } => are_bytes(name),
@@ -130,7 +130,7 @@ fn is_query(query: &Query<'_>)
 
 /// What the type of an edit says of it.
 fn is_edit(edit: &Edit<'_>)
-    ensures { MayChange IsBytes IsAny (revision edit.now) }
+    ensures { MayChange (revision edit.now) }
 {
     match edit {
         Edit::Put(put) => is_put(put),

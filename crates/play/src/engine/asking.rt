@@ -6,6 +6,8 @@ ghost use Rattle.wire.specs.Laws.{IsReadAs};
 ghost use Rattle.wire.specs.Requests.{Put};
 ghost use Rattle.wire.specs.Responses.{response_seen, Refused, ResponseContent};
 ghost use Rattle.book.specs.Books.{Page};
+ghost use Rattle.book.specs.declared.directory_refusal.Refusal.TheVariants.{Memory};
+ghost use Rattle.book.specs.Refusals.{book_refusal_number};
 ghost use Rattle.book.specs.Shows.{index_of};
 ghost use Rattle.epochs.specs.DirectoryStates.{provider, HasKeysOf};
 ghost use Rattle.play.specs.Checked.{line_of_reply, HasAnswered, HasAskedKnowing, HasChecked, HasLooked, HasLookedUp};
@@ -67,7 +69,7 @@ pub(super) fn body_of<'a>(bytes: &'a [u8]) -> &'a [u8]
 #[inline(never)]
 pub(super) fn response_of<'a>(frame: &FrameView<'a>) -> Result<Response<'a>, AllocError>
     requires { (responded : ResponseContent) × IsReadAs (frame_seen frame.now) responded }
-    ensures { (responded : ResponseContent) → IsReadAs (frame_seen frame.now) responded → IfOk result (λ response. (response_seen response ≡ responded) × (responded ≢ Refused 14)) }
+    ensures { (responded : ResponseContent) → IsReadAs (frame_seen frame.now) responded → IfOk result (λ response. (response_seen response ≡ responded) × (responded ≢ Refused (book_refusal_number Memory))) }
 {
     match read_response(frame.kind, frame.body) {
         Ok(Response::Refused(code)) if code == Refusal::Memory.number() => Err(AllocError),
@@ -83,7 +85,7 @@ pub(super) fn response_of<'a>(frame: &FrameView<'a>) -> Result<Response<'a>, All
 /// `AllocError` if it says so.
 fn had_memory(frame: &FrameView<'_>) -> Result<(), AllocError>
     requires { (responded : ResponseContent) × IsReadAs (frame_seen frame.now) responded }
-    ensures { (responded : ResponseContent) → IsReadAs (frame_seen frame.now) responded → OnOk result (responded ≢ Refused 14) }
+    ensures { (responded : ResponseContent) → IsReadAs (frame_seen frame.now) responded → OnOk result (responded ≢ Refused (book_refusal_number Memory)) }
 {
     // Only a refusal has a body of one byte, and the others are long to read.
     if frame.body.len() != 1 {
@@ -96,7 +98,7 @@ fn had_memory(frame: &FrameView<'_>) -> Result<(), AllocError>
 #[inline(never)]
 fn want_of_memory(frame: &FrameView<'_>) -> Result<(), AllocError>
     requires { (responded : ResponseContent) × IsReadAs (frame_seen frame.now) responded }
-    ensures { (responded : ResponseContent) → IsReadAs (frame_seen frame.now) responded → OnOk result (responded ≢ Refused 14) }
+    ensures { (responded : ResponseContent) → IsReadAs (frame_seen frame.now) responded → OnOk result (responded ≢ Refused (book_refusal_number Memory)) }
 {
     response_of(frame)?;
     Ok(())
@@ -105,7 +107,7 @@ fn want_of_memory(frame: &FrameView<'_>) -> Result<(), AllocError>
 /// Appends the line of a frame that is no reply to a look-up. Of a promise no more is read than the epoch.
 fn tell_reply(frame: &FrameView<'_>, text: &mut Vec<u8>) -> Result<(), AllocError>
     requires { (responded : ResponseContent) × IsReadAs (frame_seen frame.now) responded }
-    ensures { (responded : ResponseContent) → IsReadAs (frame_seen frame.now) responded → OnOk result ((text.new.items ≡ text.old.items ++ response_text responded ++ 10 ∷ []) × (responded ≢ Refused 14)) }
+    ensures { (responded : ResponseContent) → IsReadAs (frame_seen frame.now) responded → OnOk result ((text.new.items ≡ text.old.items ++ response_text responded ++ 10 ∷ []) × (responded ≢ Refused (book_refusal_number Memory))) }
 {
     if frame.kind == PROMISED {
         return tell_promise(text, frame.body);
@@ -117,7 +119,7 @@ fn tell_reply(frame: &FrameView<'_>, text: &mut Vec<u8>) -> Result<(), AllocErro
 #[inline(never)]
 fn tell_whole(frame: &FrameView<'_>, text: &mut Vec<u8>) -> Result<(), AllocError>
     requires { (responded : ResponseContent) × IsReadAs (frame_seen frame.now) responded }
-    ensures { (responded : ResponseContent) → IsReadAs (frame_seen frame.now) responded → OnOk result ((text.new.items ≡ text.old.items ++ response_text responded ++ 10 ∷ []) × (responded ≢ Refused 14)) }
+    ensures { (responded : ResponseContent) → IsReadAs (frame_seen frame.now) responded → OnOk result ((text.new.items ≡ text.old.items ++ response_text responded ++ 10 ∷ []) × (responded ≢ Refused (book_refusal_number Memory))) }
 {
     tell_response(text, response_of(frame)?)
 }

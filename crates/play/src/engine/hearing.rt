@@ -3,6 +3,8 @@ ghost use Rattle.std.specs.Int.NonZero.{non_zero_u32_get};
 ghost use Rattle.wire.specs.FrameViews.{frame_seen};
 ghost use Rattle.wire.specs.Laws.{IsReadAs};
 ghost use Rattle.wire.specs.Responses.{Refused, ResponseContent};
+ghost use Rattle.book.specs.declared.directory_refusal.Refusal.TheVariants.{Memory};
+ghost use Rattle.book.specs.Refusals.{book_refusal_number};
 ghost use Rattle.book.specs.Shows.{index_of};
 ghost use Rattle.epochs.specs.DirectoryStates.{provider, HasKeysOf};
 ghost use Rattle.hub.specs.Events.{event_seen, End};
@@ -115,7 +117,7 @@ fn tell_output(session: u32, output: &[u8], text: &mut Vec<u8>) -> Result<(), Al
 /// Appends the line of a frame that a session hears.
 fn tell_frame(session: u32, frame: &FrameView<'_>, text: &mut Vec<u8>) -> Result<(), AllocError>
     requires { (responded : ResponseContent) × IsReadAs (frame_seen frame.now) responded }
-    ensures { (responded : ResponseContent) → IsReadAs (frame_seen frame.now) responded → OnOk result ((text.new.items ≡ text.old.items ++ (of_session session (response_text responded) ++ 10 ∷ [])) × (responded ≢ Refused 14)) }
+    ensures { (responded : ResponseContent) → IsReadAs (frame_seen frame.now) responded → OnOk result ((text.new.items ≡ text.old.items ++ (of_session session (response_text responded) ++ 10 ∷ [])) × (responded ≢ Refused (book_refusal_number Memory))) }
 {
     let response = response_of(frame)?;
     push_number(text, u64::from(session))?;

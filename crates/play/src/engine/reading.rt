@@ -11,12 +11,9 @@ ghost use Rattle.wire.specs.declared.response.TheConstants.{PROMISED, PROOF};
 use crate::telling::push_number;
 use encoding::{Cursor, Fault};
 use proofs::ReplyView;
-use rootchain::SignedPromise;
+use rootchain::{PROMISE_HEAD, SignedPromise};
 use std::alloc::AllocError;
 use wire::{PROMISED, PROOF, ReadRefusal, Response};
-
-/// The first bytes of a promise.
-const PROMISE_HEAD: [u8; 2] = [0x50, 1];
 
 /// The response that a frame of this kind with this body is, as `Response::read` reads it.
 pub(super) fn read_response<'a>(kind: u8, body: &'a [u8]) -> Result<Response<'a>, ReadRefusal>
