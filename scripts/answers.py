@@ -928,10 +928,10 @@ class Answers(Lines):
         except ProgramFault as fault:
             return self.stopped(fault)
 
-    def text_option_nonce(self, w):
-        """`option-nonce TEXT`, or `none`"""
+    def text_hex32_or_zeros(self, w):
+        """`hex32-or-zeros TEXT`, or `none`"""
         try:
-            return [told(option_nonce(w.optional(w.text)))]
+            return [told(hex32_or_zeros(w.optional(w.text)))]
         except ProgramFault as fault:
             return self.stopped(fault)
 

@@ -1284,7 +1284,7 @@ def option_hex32(text):
     return value
 
 
-def option_nonce(text):
+def hex32_or_zeros(text):
     """Zeros where the option is not given."""
     return ZERO32 if text is None else option_hex32(text)
 
@@ -1316,13 +1316,13 @@ def root_line(root):
 
 def root_text(digest, nonce, data):
     """What `root` writes for this nonce (a text or None) and this input."""
-    nonce = option_nonce(nonce)
+    nonce = hex32_or_zeros(nonce)
     return root_line(Tree(digest, nonce, read_items(data)).root())
 
 
 def prove_text(digest, nonce, index, data):
     """What `prove` writes for this nonce (a text or None), this index (a text) and this input."""
-    nonce, index = option_nonce(nonce), option_hex32(index)
+    nonce, index = hex32_or_zeros(nonce), option_hex32(index)
     tree = Tree(digest, nonce, read_items(data))
     siblings, end = tree.path(index)
     word = type(end).__name__.lower()

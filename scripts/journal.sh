@@ -10,38 +10,9 @@
 set -uo pipefail
 cd "$(dirname "$0")/.." || exit 1
 . scripts/library.sh
-
-if [ -z "${JOURNAL_LIMIT:-}" ]; then
-    JOURNAL_LIMIT=300 exec timeout --kill-after=10 300 "scripts/journal.sh"
-fi
+begin
 
 program=${DIRECTORYD:-crates/directoryd/out/directoryd}
-folder=$(mktemp -d)
-passed=0
-failed=0
-
-finish() {
-    rm -rf "$folder"
-    echo "$passed passed, $failed failed"
-    [ "$failed" = 0 ]
-    exit
-}
-
-fails() {
-    failed=$((failed + 1))
-    echo "$1"
-}
-
-trap 'fails "out of time"; finish' TERM
-
-# Compares what was got with what is wanted: same WHAT WANTED GOT
-same() {
-    if [ "$3" = "$2" ]; then
-        passed=$((passed + 1))
-    else
-        fails "$1: wanted '${2:0:80}', got '${3:0:80}'"
-    fi
-}
 
 # Runs the program over a file to its end, and compares status, output in hex and errors: ends WHAT STATUS
 # OUTPUT ERRORS INPUT WORD..
@@ -54,22 +25,12 @@ ends() {
     same "$what, errors" "$errors" "$(cat "$folder/err")"
 }
 
-# Runs a command that has to end with status 0, and shows what it prints where it does not: well WHAT WORD..
+# Runs a command that has to end with status 0: well WHAT WORD..
 well() {
-    local what=$1
-    shift
-    if timeout --foreground 290 "$@" >"$folder/printed" 2>&1; then
-        passed=$((passed + 1))
-    else
-        fails "$what: status $?"
-        cat "$folder/printed"
-    fi
+    well_in 290 "$@"
 }
 
-if [ ! -x "$program" ]; then
-    fails "there is no program $program: build it with (cd crates/directoryd && rt run)"
-    finish
-fi
+needs directoryd "$program"
 keys=$(scripts/formats.py --keys)
 zeros=$(printf '0%.0s' {1..64})
 scripts/formats.py --requests >"$folder/requests"

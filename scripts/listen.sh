@@ -10,52 +10,15 @@
 # after five minutes whatever happens.
 set -uo pipefail
 cd "$(dirname "$0")/.." || exit 1
-
-if [ -z "${LISTEN_LIMIT:-}" ]; then
-    LISTEN_LIMIT=300 exec timeout --kill-after=10 300 "scripts/listen.sh"
-fi
+. scripts/library.sh
+begin
 
 program=${DIRECTORYD:-crates/directoryd/out/directoryd}
 example=${EXAMPLE_CLIENT:-crates/example_client/out/example_client}
-folder=$(mktemp -d)
-server=
-passed=0
-failed=0
 
-finish() {
-    [ -z "$server" ] || kill "$server" 2>/dev/null
-    rm -rf "$folder"
-    echo "$passed passed, $failed failed"
-    [ "$failed" = 0 ]
-    exit
-}
-
-fails() {
-    failed=$((failed + 1))
-    echo "$1"
-}
-
-trap 'fails "out of time"; finish' TERM
-
-# Compares what was got with what is wanted: same WHAT WANTED GOT
-same() {
-    if [ "$3" = "$2" ]; then
-        passed=$((passed + 1))
-    else
-        fails "$1: wanted '${2:0:80}', got '${3:0:80}'"
-    fi
-}
-
-# Runs a command that has to end with status 0, and shows what it prints where it does not: well WHAT WORD..
+# Runs a command that has to end with status 0: well WHAT WORD..
 well() {
-    local what=$1
-    shift
-    if timeout --foreground 60 "$@" >"$folder/printed" 2>&1; then
-        passed=$((passed + 1))
-    else
-        fails "$what: status $?"
-        cat "$folder/printed"
-    fi
+    well_in 60 "$@"
 }
 
 # Runs the program over an input to its end, and compares status, output in hex and the first line of the
@@ -113,12 +76,8 @@ stops() {
     same "$1: output" "" "$(cat "$folder/server_out")"
 }
 
-for built in "$program" "$example"; do
-    if [ ! -x "$built" ]; then
-        fails "there is no program $built: build it with (cd crates/$(basename "$built") && rt run)"
-        finish
-    fi
-done
+needs directoryd "$program"
+needs example_client "$example"
 keys=$(scripts/formats.py --keys)
 well "the document has the frames that are computed" scripts/formats.py --in docs/OPERATING.md
 

@@ -71,6 +71,7 @@ from formats import (
     commitment_text,
     compare_chains,
     evidence_json,
+    hex32_or_zeros,
     index_of,
     is_cut_record,
     is_cut_start,
@@ -78,7 +79,6 @@ from formats import (
     lines_of,
     opened,
     option_hex32,
-    option_nonce,
     read_front,
     read_list,
     read_request,
@@ -525,7 +525,7 @@ class SeenHub(Hub):
 def serve_directory(signing_key, vuf_key, salt_key, token, epoch, nonce, stream):
     """The output of one session of a new directory. Keys, token and nonce are texts; the nonce may be None."""
     signing_key, vuf_key, salt_key, token = map(option_hex32, (signing_key, vuf_key, salt_key, token))
-    hub = Hub(keyed_directory(epoch, option_nonce(nonce), signing_key, vuf_key, salt_key), token)
+    hub = Hub(keyed_directory(epoch, hex32_or_zeros(nonce), signing_key, vuf_key, salt_key), token)
     hub.open(1)
     return hub.bytes(1, stream)
 

@@ -10,34 +10,11 @@
 # happens.
 set -uo pipefail
 cd "$(dirname "$0")/.." || exit 1
-
-if [ -z "${STATUSES_LIMIT:-}" ]; then
-    STATUSES_LIMIT=300 exec timeout --kill-after=10 300 "scripts/statuses.sh"
-fi
+. scripts/library.sh
+begin
 
 program=${DIRECTORYD:-crates/directoryd/out/directoryd}
-folder=$(mktemp -d)
-passed=0
-failed=0
-
-finish() {
-    rm -rf "$folder"
-    echo "$passed passed, $failed failed"
-    [ "$failed" = 0 ]
-    exit
-}
-
-fails() {
-    failed=$((failed + 1))
-    echo "$1"
-}
-
-trap 'fails "out of time"; finish' TERM
-
-if [ ! -x "$program" ]; then
-    fails "there is no program $program: build it with (cd crates/directoryd && rt run)"
-    finish
-fi
+needs directoryd "$program"
 
 # clap's texts have the program's name as it is called.
 ln -s "$(realpath "$program")" "$folder/directoryd"

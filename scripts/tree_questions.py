@@ -228,9 +228,9 @@ def of_texts(q, rng):
     ]:
         q.ask("text hex32", text)
         q.ask("text option-hex", text)
-        q.ask("text option-nonce", text)
+        q.ask("text hex32-or-zeros", text)
     q.ask("text hex32", b"\xff" * 64)
-    q.ask("text option-nonce", "none")
+    q.ask("text hex32-or-zeros", "none")
     for name in ["bad-hex", "not-evidence", "bad-record", "other-keys", "cannot-read", "cannot-write", "cannot-listen", "out-of-memory"]:
         q.ask("text fault", name)
     for number in [1, 2, 9, 10, 99, 2**32, TOP]:
