@@ -1,3 +1,4 @@
+pub mod Askers
 pub mod Answering
 pub mod Asking
 pub mod AskOptions

@@ -4,6 +4,7 @@ ghost use Rattle.wire.specs.Frames.{Frame};
 ghost use Rattle.wire.specs.FrameViews.{frame_seen};
 ghost use Rattle.wire.specs.Responses.{response_seen};
 ghost use Rattle.play.specs.Scripts.{ask_seen};
+ghost use Rattle.asking.specs.Askers.{changes_of, marks_of, token_of};
 ghost use Rattle.asking.specs.Answering.{with_token};
 ghost use Rattle.asking.specs.Asking.{response_epoch, AsksDirectory, AsksSome, CatchesSome, CatchesUp, GoesOnAbove, GoesSomeAbove, Hands, Notes, SpeaksOf, StopsAsking, StopsBelow};
 ghost use Rattle.asking.specs.Checking.{HearsFrame};
@@ -70,11 +71,11 @@ where
         ask: &Ask,
         said: &mut Said,
     ) -> Result<(), AskFault>
-        ensures asks { OnOk result (AsksDirectory H.digest_of V.accepted S.verified (ExchangesFrames T.contents T.remaining) (self.old).marks.items (self.old).token (ask_seen ask.now) (self.old).changes.items (self.new).changes.items (scene self.old said.old stream.old) (scene self.new said.new stream.new)) }
+        ensures asks { OnOk result (AsksDirectory H.digest_of V.accepted S.verified (ExchangesFrames T.contents T.remaining) (marks_of self.old) (token_of self.old) (ask_seen ask.now) (changes_of self.old) (changes_of self.new) (scene self.old said.old stream.old) (scene self.new said.new stream.new)) }
         ensures stays { Remains self.old self.new }
-        ensures unnoted { result ≡ Err Stopped → (self.new).changes ≡ (self.old).changes }
-        ensures stops { result ≡ Err Stopped → StopsAsking H.digest_of V.accepted S.verified (ExchangesFrames T.contents T.remaining) (self.old).token (ask_seen ask.now) (scene self.old said.old stream.old) (scene self.new said.new stream.new) }
-        ensures halts { IfErr result (λ fault. fault ≢ Stopped → HaltsAfter (AsksSome H.digest_of V.accepted S.verified (ExchangesFrames T.contents T.remaining) (self.old).marks.items (self.old).token (ask_seen ask.now) (self.old).changes.items (self.new).changes.items (scene self.old said.old stream.old)) fault self.new said.new) }
+        ensures unnoted { result ≡ Err Stopped → changes_of self.new ≡ changes_of self.old }
+        ensures stops { result ≡ Err Stopped → StopsAsking H.digest_of V.accepted S.verified (ExchangesFrames T.contents T.remaining) (token_of self.old) (ask_seen ask.now) (scene self.old said.old stream.old) (scene self.new said.new stream.new) }
+        ensures halts { IfErr result (λ fault. fault ≢ Stopped → HaltsAfter (AsksSome H.digest_of V.accepted S.verified (ExchangesFrames T.contents T.remaining) (marks_of self.old) (token_of self.old) (ask_seen ask.now) (changes_of self.old) (changes_of self.new) (scene self.old said.old stream.old)) fault self.new said.new) }
     {
         let head = self.head();
         let reply = self.request(stream, ask)?;
